@@ -1,10 +1,12 @@
 -- The texts for refused files, and for pages.
-use Rattle.std.proofs.Common.{◌≡◌, ℕ, Bool, true, false, List, ◌++◌, Result, Ok, Err, OnOk, IfOk, append_assoc, inr, refl, ◌∙◌, ap}
+use Rattle.std.proofs.Common.{◌≡◌, ℕ, Bool, true, false, List, Result, Ok, Err, OnOk, IfOk, inr, refl, ◌∙◌, ap}
 use Rattle.std.specs.Prelude.{◌≢◌}
 use Rattle.std.specs.declared.alloc.AllocError.{AllocError}
 use Rattle.dvi_ops.specs.File.{IsFile}
 use Rattle.dvi_ops.specs.Instruction.{Units}
-use Rattle.boxglue_print.specs.Faults.{fault_line}
+use Rattle.std.specs.Fmt.{digits}
+use Rattle.boxglue_program.specs.Texts.{refusal_line, refusal_text}
+use Rattle.boxglue_print.specs.Faults.{KnownLines, fault_line}
 use Rattle.boxglue_print.specs.Outputs.{IsListed, Paints, RefusesFile, ShowsPage}
 use Rattle.boxglue_print.specs.declared.output.Output.{Output}
 use Rattle.dvi_read.specs.Opened.{HasUnitsOf, IsNoFile, Opened}
@@ -50,8 +52,7 @@ paints files bytes page dpi width height dvi picture text file units shows text_
   accepted_is = refl;
 }
 
--- Three texts appended to what is there.
-pub three_parts : {A E : Type 0} (r : Result A E) (old one two new a b c : List ℕ) → one ≡ old ++ a → two ≡ one ++ b → OnOk r (new ≡ two ++ c) → OnOk r (new ≡ old ++ (a ++ (b ++ c)))
-three_parts (Ok x) old one two new a b c h i j =
-    j ∙ (ap (λ (l : List ℕ). l ++ c) (i ∙ ap (λ (l : List ℕ). l ++ b) h) ∙ (append_assoc (old ++ a) b c ∙ append_assoc old a (b ++ c)))
-three_parts (Err e) old one two new a b c h i j = tt
+-- The known lines, computed by the definitions.
+pub known_lines : KnownLines
+unfolding fault_line refusal_line refusal_text digits
+known_lines = (refl, refl, refl, refl, refl)

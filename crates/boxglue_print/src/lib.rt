@@ -3,9 +3,10 @@
 #![tactic(auto)]
 
 mod faults;
+pub mod laws;
 mod output;
 
 pub use dvi_read::{Dvi, DviFault, Lines, PART};
-pub use output::{Output, PaintFault, list_text, page_bitmap, paint_text, refusal};
+pub use output::{BitmapSize, Output, PaintFault, list_text, page_bitmap, paint_text, refusal};
 pub use raster_core::{Bitmap, PbmText, ROW_TEXT};
 pub use tfm_core::FontFile;

@@ -93,6 +93,10 @@ costs_text overhang demerits = codes " overhang " ++ (signed_decimal overhang ++
 unfoldable pub refusal_text : Refusal → List ℕ
 refusal_text refusal = codes "refused " ++ (decimal (refusal_row refusal).0 ++ (codes " " ++ (refusal_row refusal).1))
 
+-- The line of a refusal.
+unfoldable pub refusal_line : Refusal → List ℕ
+refusal_line refusal = refusal_text refusal ++ line_feed
+
 -- An answer to a command.
 unfoldable pub answer_text : Answer → List ℕ
 answer_text Done = codes "ok"

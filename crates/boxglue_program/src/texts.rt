@@ -2,57 +2,15 @@
 
 ghost use Rattle.std.specs.Prelude.{◌≡◌, ◌++◌, ◌+◌, ◌*◌, ◌<◌, ℕ, List, decimal, OnOk, OnErr, IfOk, IfSome};
 ghost use Rattle.std.specs.Fmt.{signed_decimal};
-ghost use Rattle.boxglue_program.specs.Texts.{refusal_row, metric_refusal_name, cause_name, kind_name, points_text, sizes_text, rest_text, lines_text, costs_text, refusal_text, answer_text, reply_text, answer_line, summary_text, end_line, script_refusal_text};
+ghost use Rattle.boxglue_program.specs.Texts.{cause_name, kind_name, points_text, sizes_text, rest_text, lines_text, costs_text, answer_text, reply_text, answer_line, summary_text, end_line, script_refusal_text};
 
+use crate::refusals::{push_number, push_refusal, push_text};
 use boxglue_script::Cause;
 use itoa::Buffer;
-use job_core::{Answer, Refusal, Reply, Sizes, Summary, TfmCause};
+use job_core::{Answer, Refusal, Reply, Sizes, Summary};
 use node_core::Kind;
 use scaled_core::{Dimen, print_dimen};
 use std::alloc::{AllocError, Global};
-
-/// The name of the refusal of a metric file, with its cause.
-fn metric_refusal_name(cause: TfmCause) -> &'static str
-    ensures { result.now ≡ metric_refusal_name cause }
-{
-    match cause {
-        TfmCause::TooShort => "BadTfm TooShort",
-        TfmCause::Counts => "BadTfm Counts",
-        TfmCause::DesignSize => "BadTfm DesignSize",
-        TfmCause::CharInfo => "BadTfm CharInfo",
-        TfmCause::FixWord => "BadTfm FixWord",
-        TfmCause::LigKern => "BadTfm LigKern",
-    }
-}
-
-/// The number and the name of a refusal. 2 is the number of a bad script, and 20 that of a DVI file that is refused.
-fn refusal_row(refusal: Refusal) -> (u32, &'static str)
-    ensures number { result.0 ≡ (refusal_row refusal).0 }
-    ensures name { result.1.now ≡ (refusal_row refusal).1 }
-{
-    match refusal {
-        Refusal::OutOfMemory => (1, "OutOfMemory"),
-        Refusal::DimensionTooLarge => (3, "DimensionTooLarge"),
-        Refusal::NoFont => (4, "NoFont"),
-        Refusal::BadTfm(cause) => (5, metric_refusal_name(cause)),
-        Refusal::SlotTaken => (6, "SlotTaken"),
-        Refusal::NoOpenList => (7, "NoOpenList"),
-        Refusal::WrongMode => (8, "WrongMode"),
-        Refusal::WrongKind => (9, "WrongKind"),
-        Refusal::ListTooLong => (10, "ListTooLong"),
-        Refusal::TooDeep => (11, "TooDeep"),
-        Refusal::InfiniteShrink => (12, "InfiniteShrink"),
-        Refusal::TooManyBreaks => (13, "TooManyBreaks"),
-        Refusal::HugePage => (14, "HugePage"),
-        Refusal::TooManyPages => (15, "TooManyPages"),
-        Refusal::TooMuchShipped => (16, "TooMuchShipped"),
-        Refusal::ListsOpen => (17, "ListsOpen"),
-        Refusal::Device => (18, "Device"),
-        Refusal::JobOver => (19, "JobOver"),
-        Refusal::VoidBox => (21, "VoidBox"),
-        Refusal::TooMuchSpecial => (22, "TooMuchSpecial"),
-    }
-}
 
 /// The name of the cause that makes a script bad.
 fn cause_name(cause: Cause) -> &'static str
@@ -77,23 +35,6 @@ fn kind_name(kind: Kind) -> &'static str
         Kind::Horizontal => "hbox",
         Kind::Vertical => "vbox",
     }
-}
-
-/// Appends a text. If memory is refused, nothing was appended.
-fn push_text(text: &str, out: &mut Vec<u8>) -> Result<(), AllocError>
-    ensures ok { OnOk result (out.new.items ≡ out.old.items ++ text.now) }
-    ensures err { OnErr result (out.new.items ≡ out.old.items) }
-{
-    out.extend_from_slice(text.as_bytes())
-}
-
-/// Appends a number in decimal. If memory is refused, nothing was appended.
-fn push_number(number: u64, out: &mut Vec<u8>) -> Result<(), AllocError>
-    ensures ok { OnOk result (out.new.items ≡ out.old.items ++ decimal number) }
-    ensures err { OnErr result (out.new.items ≡ out.old.items) }
-{
-    let mut buffer = Buffer::new();
-    out.extend_from_slice(buffer.format(number).as_bytes())
 }
 
 /// Appends a number in decimal, with a minus sign if it is negative. If memory is refused, nothing was appended.
@@ -124,18 +65,6 @@ fn push_sizes(sizes: &Sizes, out: &mut Vec<u8>) -> Result<(), AllocError>
     push_points(sizes.height, out)?;
     push_text(" ", out)?;
     push_points(sizes.depth, out)
-}
-
-/// Appends a refusal with its number and name.
-#[tactic(auto, unfolding(crate::specs::Texts::refusal_text))]
-fn push_refusal(refusal: Refusal, out: &mut Vec<u8>) -> Result<(), AllocError>
-    ensures { OnOk result (out.new.items ≡ out.old.items ++ refusal_text refusal) }
-{
-    let (number, name) = refusal_row(refusal);
-    push_text("refused ", out)?;
-    push_number(u64::from(number), out)?;
-    push_text(" ", out)?;
-    push_text(name, out)
 }
 
 /// Appends the answer to a packed box: sizes and badness.

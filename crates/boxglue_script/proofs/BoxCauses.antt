@@ -7,7 +7,7 @@ use Rattle.boxglue_script.specs.declared.cause.Cause.TheVariants.{Word, Missing,
 use Rattle.boxglue_script.specs.declared.name.Name.TheVariants as names
 use Rattle.boxglue_script.specs.Grammar.{register_count, taking_text}
 use Rattle.boxglue_script.specs.Causes.{IsWord, IsFieldCause}
-use Rattle.boxglue_script.specs.Reading.{number_of, number_first, dimension_first, last_dimension, map_ok, append, shift_of, append_of, command_named, command_of}
+use Rattle.boxglue_script.specs.Reading.{number_of, last_dimension, map_ok, append, shift_of, append_of, command_named, command_of, last_value, value_first}
 use Rattle.boxglue_script.proofs.FieldLaws.{same_bytes}
 use Rattle.boxglue_script.proofs.NameLaws.{named}
 use Rattle.boxglue_script.proofs.CauseForms.{missing, has_bad_elsewhere, as_cause, not_made, zero_text, zero_names, zero_dimension, shift_is_word, letter, letter_no_number, no_number_cause, dimension_cause}
@@ -18,15 +18,15 @@ module _ (taking : Transfer) where
   append_reads rest = named (names.Append taking) rest
 
   register_lacks : command_of (taking_text taking ∷ []) ≡ Err Missing
-  unfolding append_of number_first
+  unfolding append_of value_first
   register_lacks = append_reads []
 
   no_register : (r : List ℕ) (rest : List (List ℕ)) → number_of register_count r ≡ None → command_of (taking_text taking ∷ r ∷ rest) ≡ Err Number
-  unfolding append_of number_first
+  unfolding append_of value_first
   no_register r rest e = append_reads (r ∷ rest) ∙ (rw e refl)
 
   behind_register : (r : List ℕ) (n : ℕ) (rest : List (List ℕ)) → number_of register_count r ≡ Some n → command_of (taking_text taking ∷ r ∷ rest) ≡ map_ok (append taking n) (shift_of rest)
-  unfolding append_of number_first
+  unfolding append_of value_first
   behind_register r n rest e = append_reads (r ∷ rest) ∙ (rw e refl)
 
   register_alone : (r : List ℕ) (n : ℕ) → number_of register_count r ≡ Some n → command_of (taking_text taking ∷ r ∷ []) ≡ Ok (append taking n (pos 0))
@@ -42,7 +42,7 @@ module _ (taking : Transfer) where
   behind_shift r n rest e = behind_register r n (codes "shift" ∷ rest) e
 
   zero_shift : (r : List ℕ) (n : ℕ) → number_of register_count r ≡ Some n → command_of (taking_text taking ∷ r ∷ codes "shift" ∷ codes "0sp" ∷ []) ≡ Ok (append taking n (pos 0))
-  unfolding last_dimension dimension_first
+  unfolding last_value value_first
   zero_shift r n e = behind_shift r n (codes "0sp" ∷ []) e ∙ (rw zero_dimension refl)
 
   by_word : (r : List ℕ) (n : ℕ) (w : List ℕ) (rest : List (List ℕ)) (b : Bool) (cause : Cause) → number_of register_count r ≡ Some n → bytes_eq w (codes "shift") ≡ b → command_of (taking_text taking ∷ r ∷ w ∷ rest) ≡ Err cause → IsFieldCause cause (taking_text taking ∷ r ∷ w ∷ rest)

@@ -10,7 +10,7 @@ use Rattle.boxglue_script.specs.declared.cause.Cause.{Cause}
 use Rattle.boxglue_script.specs.declared.cause.Cause.TheVariants.{Missing, Extra, Number, Dimension}
 use Rattle.boxglue_script.specs.Grammar.{register_count, IsName}
 use Rattle.boxglue_script.specs.Causes.{SaysSome, Begins, IsWord, GivesNumber, GivesDimension, GivesSize, HasBad, LacksField, HasExtra, TakesNames, HasBadElsewhere, IsFieldCause}
-use Rattle.boxglue_script.specs.Reading.{some_or, number_of, number_first, last_number, penalty_of, penalty_first, last_penalty, dimension_or, dimension_first, last_dimension, no_amount, before_unit, amount_in, amount_of, amount_first, last_amount, map_ok, no_field_left, and_right, is_name, size_of, command_of}
+use Rattle.boxglue_script.specs.Reading.{some_or, number_of, last_number, penalty_of, last_penalty, dimension_or, last_dimension, no_amount, before_unit, amount_in, amount_of, last_amount, map_ok, no_field_left, and_right, is_name, size_of, command_of, last_value, value_first}
 use Rattle.scaled_core.specs.declared.fault.DimenFault.{DimenFault}
 use Rattle.scaled_core.specs.declared.fault.DimenFault.TheVariants.{NotADimension}
 use Rattle.scaled_core.specs.Rounding.{nearest}
@@ -250,28 +250,28 @@ module _ (A : Type 0) (front : List (List ℕ)) (make : A → Command) (last : L
 
 -- The cause if one number and nothing else belongs there.
 pub number_cause : (count : ℕ) → 0 < count → (front : List (List ℕ)) (make : ℕ → Command) → ((rest : List (List ℕ)) → command_of (front ++ rest) ≡ map_ok make (last_number count rest)) → (rest : List (List ℕ)) (cause : Cause) → last_number count rest ≡ Err cause → IsFieldCause cause (front ++ rest)
-unfolding last_number number_first
+unfolding last_value value_first
 number_cause count some front make reads rest cause h =
     last_cause ℕ front make (last_number count) (λ field. some_or Number (number_of count field)) refl (λ field rest. refl) reads zero_text 0 (rw (zero_names count some) refl) Number (rw (letter_no_number count) refl)
     (λ field rest cause e wanted fails unnamed. no_number_cause count front field rest [] (make 0) cause e wanted fails unnamed) rest cause h
 
 -- The cause if one number of a penalty and nothing else belongs there.
 pub penalty_cause : (front : List (List ℕ)) (make : ℤ → Command) → ((rest : List (List ℕ)) → command_of (front ++ rest) ≡ map_ok make (last_penalty rest)) → (rest : List (List ℕ)) (cause : Cause) → last_penalty rest ≡ Err cause → IsFieldCause cause (front ++ rest)
-unfolding last_penalty penalty_first
+unfolding last_value value_first
 penalty_cause front make reads rest cause h =
     last_cause ℤ front make last_penalty (λ field. some_or Number (penalty_of field)) refl (λ field rest. refl) reads zero_text (pos 0) (rw zero_penalty refl) Number (rw letter_no_penalty refl)
     (λ field rest cause e wanted fails unnamed. no_penalty_cause front field rest [] (make (pos 0)) cause e wanted fails unnamed) rest cause h
 
 -- The cause if one dimension and nothing else belongs there.
 pub dimension_cause : (front : List (List ℕ)) (make : ℤ → Command) → ((rest : List (List ℕ)) → command_of (front ++ rest) ≡ map_ok make (last_dimension rest)) → (rest : List (List ℕ)) (cause : Cause) → last_dimension rest ≡ Err cause → IsFieldCause cause (front ++ rest)
-unfolding last_dimension dimension_first
+unfolding last_value value_first
 dimension_cause front make reads rest cause h =
     last_cause ℤ front make last_dimension (λ field. dimension_or (read_dimension field)) refl (λ field rest. refl) reads (codes "0sp") (pos 0) (rw zero_dimension refl) Dimension (rw letter_no_dimension refl)
     (λ field rest cause e wanted fails unnamed. no_dimension_cause front field rest [] (make (pos 0)) cause e wanted fails unnamed) rest cause h
 
 -- The cause if one amount of stretch or shrink and nothing else belongs there.
 pub amount_cause : (front : List (List ℕ)) (make : Amount → Command) → ((rest : List (List ℕ)) → command_of (front ++ rest) ≡ map_ok make (last_amount rest)) → (rest : List (List ℕ)) (cause : Cause) → last_amount rest ≡ Err cause → IsFieldCause cause (front ++ rest)
-unfolding last_amount amount_first
+unfolding last_value value_first
 amount_cause front make reads rest cause h =
     last_cause Amount front make last_amount amount_of refl (λ field rest. refl) reads (codes "0sp") no_amount zero_amount Dimension letter_no_amount
     (λ field rest cause e wanted fails unnamed. no_amount_cause front field rest [] (make no_amount) cause e wanted fails unnamed) rest cause h

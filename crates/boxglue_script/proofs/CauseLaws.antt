@@ -12,7 +12,7 @@ use Rattle.boxglue_script.specs.declared.name.Name.TheVariants as names
 use Rattle.boxglue_script.specs.Names.{box_name, register_name, item_name, name_of}
 use Rattle.boxglue_script.specs.Grammar.{register_count, slot_count, character_count}
 use Rattle.boxglue_script.specs.Causes.{IsWord, GivesSize, IsFieldCause}
-use Rattle.boxglue_script.specs.Reading.{dimension_or, map_ok, size_of, size_first, no_field_left, last_number, last_dimension, last_penalty, right_and, unboxing, rule_of, command_named, named_by, command_of}
+use Rattle.boxglue_script.specs.Reading.{dimension_or, map_ok, size_of, no_field_left, last_number, last_dimension, last_penalty, right_and, unboxing, rule_of, command_named, named_by, command_of, value_first}
 use Rattle.scaled_core.specs.declared.fault.DimenFault.{DimenFault}
 use Rattle.scaled_core.specs.ParsedTexts.{read_dimension}
 use Rattle.boxglue_script.proofs.NameLaws.{name_text, name_written, named}
@@ -50,35 +50,35 @@ rule_reads rest = named names.Rule rest
 
 rule_right : (w h d : List ℕ) (width height depth : RuleSize) → size_of w ≡ Ok width → size_of h ≡ Ok height → size_of d ≡ Ok depth
     → command_of (codes "rule" ∷ w ∷ h ∷ d ∷ []) ≡ Ok (Rule (record { width = width; height = height; depth = depth }))
-unfolding rule_of size_first
+unfolding rule_of value_first
 rule_right w h d width height depth a b c = rule_reads (w ∷ h ∷ d ∷ []) ∙ (rw (a, b, c) refl)
 
 rule_lacks_1 : command_of (codes "rule" ∷ []) ≡ Err Missing
-unfolding rule_of size_first
+unfolding rule_of value_first
 rule_lacks_1 = rule_reads []
 
 rule_lacks_2 : (w : List ℕ) (width : RuleSize) → size_of w ≡ Ok width → command_of (codes "rule" ∷ w ∷ []) ≡ Err Missing
-unfolding rule_of size_first
+unfolding rule_of value_first
 rule_lacks_2 w width a = rule_reads (w ∷ []) ∙ (rw a refl)
 
 rule_lacks_3 : (w h : List ℕ) (width height : RuleSize) → size_of w ≡ Ok width → size_of h ≡ Ok height → command_of (codes "rule" ∷ w ∷ h ∷ []) ≡ Err Missing
-unfolding rule_of size_first
+unfolding rule_of value_first
 rule_lacks_3 w h width height a b = rule_reads (w ∷ h ∷ []) ∙ (rw (a, b) refl)
 
 no_width : (w : List ℕ) (rest : List (List ℕ)) (cause : Cause) → size_of w ≡ Err cause → command_of (codes "rule" ∷ w ∷ rest) ≡ Err cause
-unfolding rule_of size_first
+unfolding rule_of value_first
 no_width w rest cause a = rule_reads (w ∷ rest) ∙ (rw a refl)
 
 no_height : (w h : List ℕ) (rest : List (List ℕ)) (width : RuleSize) (cause : Cause) → size_of w ≡ Ok width → size_of h ≡ Err cause → command_of (codes "rule" ∷ w ∷ h ∷ rest) ≡ Err cause
-unfolding rule_of size_first
+unfolding rule_of value_first
 no_height w h rest width cause a b = rule_reads (w ∷ h ∷ rest) ∙ (rw (a, b) refl)
 
 no_depth : (w h d : List ℕ) (rest : List (List ℕ)) (width height : RuleSize) (cause : Cause) → size_of w ≡ Ok width → size_of h ≡ Ok height → size_of d ≡ Err cause → command_of (codes "rule" ∷ w ∷ h ∷ d ∷ rest) ≡ Err cause
-unfolding rule_of size_first
+unfolding rule_of value_first
 no_depth w h d rest width height cause a b c = rule_reads (w ∷ h ∷ d ∷ rest) ∙ (rw (a, b, c) refl)
 
 rule_extra : (w h d f : List ℕ) (rest : List (List ℕ)) (width height depth : RuleSize) → size_of w ≡ Ok width → size_of h ≡ Ok height → size_of d ≡ Ok depth → command_of (codes "rule" ∷ w ∷ h ∷ d ∷ f ∷ rest) ≡ Err Extra
-unfolding rule_of size_first
+unfolding rule_of value_first
 rule_extra w h d f rest width height depth a b c = rule_reads (w ∷ h ∷ d ∷ f ∷ rest) ∙ (rw (a, b, c) refl)
 
 fixed_fault : (r : Result ℤ DimenFault) (cause : Cause) → map_ok Fixed (dimension_or r) ≡ Err cause → cause ≡ Dimension

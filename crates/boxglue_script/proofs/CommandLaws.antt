@@ -22,7 +22,7 @@ use Rattle.boxglue_script.specs.declared.parameter.NumberParameter.TheVariants a
 use Rattle.boxglue_script.specs.Names.{name_of}
 use Rattle.boxglue_script.specs.ParameterNames.{size_name, skip_name, number_name, names_first_lines, with_size, with_skip, with_number}
 use Rattle.boxglue_script.specs.Grammar.{register_count, slot_count, character_count, count_count, first_lines_count, IsNumberAmong, IsCount, IsPenalty, IsDimension, form_text, IsTarget, taking_text, unboxing_text, IsGlue, SaysCommand}
-use Rattle.boxglue_script.specs.Reading.{rest_of, some_or, count_of, count_first, last_count, counting, counting_of, number_first, dimension_first, map_ok, no_field_left, last_number, last_dimension, right_and, font_of, rule_of, last_penalty, opening, opening_with_register, opening_into, opening_with_size, opening_of, append, shift_of, append_of, unboxing, split, split_into, split_height, split_to, split_of, glue_of, parameter_by, parameter_of, command_named, named_by, command_of}
+use Rattle.boxglue_script.specs.Reading.{rest_of, some_or, count_of, last_count, counting, counting_of, number_first, dimension_first, map_ok, no_field_left, last_number, last_dimension, right_and, font_of, rule_of, last_penalty, opening, opening_with_register, opening_into, opening_with_size, opening_of, append, shift_of, append_of, unboxing, split, split_into, split_height, split_to, split_of, glue_of, parameter_by, parameter_of, command_named, named_by, command_of, last_value, value_first}
 use Rattle.boxglue_script.proofs.FieldLaws.{same_bytes}
 use Rattle.boxglue_script.proofs.CountNumbers.{writes_count}
 use Rattle.boxglue_script.proofs.NameLaws.{name_text, name_written}
@@ -153,7 +153,7 @@ count_in_field f (Some y) z e h = writes_count f z (cc)
 
 -- One count and nothing else was read.
 count_last : (rest : List (List ℕ)) (z : ℤ) → last_count rest ≡ Ok z → (f : List ℕ) × (rest ≡ f ∷ []) × IsCount f z
-unfolding last_count count_first
+unfolding last_value value_first
 count_last [] z h = absurd (cc)
 count_last (f ∷ rest) z h =
     let after = nothing_after (some_or Number (count_of f)) rest z h in

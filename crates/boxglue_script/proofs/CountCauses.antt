@@ -6,7 +6,7 @@ use Rattle.boxglue_script.specs.declared.cause.Cause.TheVariants.{Missing, Numbe
 use Rattle.boxglue_script.specs.declared.name.Name.TheVariants as names
 use Rattle.boxglue_script.specs.Grammar.{count_count}
 use Rattle.boxglue_script.specs.Causes.{GivesNumber, IsFieldCause}
-use Rattle.boxglue_script.specs.Reading.{some_or, number_of, number_first, count_of, count_first, last_count, map_ok, counting, counting_of, command_named, command_of}
+use Rattle.boxglue_script.specs.Reading.{some_or, number_of, count_of, last_count, map_ok, counting, counting_of, command_named, command_of, last_value, value_first}
 use Rattle.boxglue_script.proofs.NameLaws.{named}
 use Rattle.boxglue_script.proofs.CauseForms.{AllFail, Wanted, missing, has_bad_elsewhere, as_cause, not_made, zero_text, zero_names, zero_number, letter, letter_no_number, no_number_cause, last_cause}
 
@@ -23,19 +23,19 @@ unfolding count_of
 letter_no_count = refl
 
 number_lacks : command_of (codes "count" ∷ []) ≡ Err Missing
-unfolding counting_of number_first
+unfolding counting_of value_first
 number_lacks = count_reads []
 
 no_number : (r : List ℕ) (rest : List (List ℕ)) → number_of count_count r ≡ None → command_of (codes "count" ∷ r ∷ rest) ≡ Err Number
-unfolding counting_of number_first
+unfolding counting_of value_first
 no_number r rest e = count_reads (r ∷ rest) ∙ (rw e refl)
 
 behind_number : (r : List ℕ) (n : ℕ) (rest : List (List ℕ)) → number_of count_count r ≡ Some n → command_of (codes "count" ∷ r ∷ rest) ≡ map_ok (counting n) (last_count rest)
-unfolding counting_of number_first
+unfolding counting_of value_first
 behind_number r n rest e = count_reads (r ∷ rest) ∙ (rw e refl)
 
 zero_behind : (r : List ℕ) (n : ℕ) → number_of count_count r ≡ Some n → command_of (codes "count" ∷ r ∷ zero_text ∷ []) ≡ Ok (counting n (pos 0))
-unfolding last_count count_first
+unfolding last_value value_first
 zero_behind r n e = behind_number r n (zero_text ∷ []) e ∙ (rw zero_count refl)
 
 zero_read : command_of (codes "count" ∷ zero_text ∷ zero_text ∷ []) ≡ Ok (counting 0 (pos 0))
@@ -50,7 +50,7 @@ no_count_by front field rest more command (Some n) cause e wanted fails unnamed 
 -- The cause if one count and nothing else belongs there.
 value_cause : (front : List (List ℕ)) (make : ℤ → Command) → ((rest : List (List ℕ)) → command_of (front ++ rest) ≡ map_ok make (last_count rest)) → (rest : List (List ℕ)) (cause : Cause) → last_count rest ≡ Err cause
     → IsFieldCause cause (front ++ rest)
-unfolding last_count count_first
+unfolding last_value value_first
 value_cause front make reads rest cause h =
     last_cause ℤ front make last_count (λ field. some_or Number (count_of field)) refl (λ field rest. refl) reads zero_text (pos 0) (rw zero_count refl) Number (rw letter_no_count refl)
     (λ field rest cause e wanted fails unnamed. no_count_by front field rest [] (make (pos 0)) (count_of field) cause e wanted fails unnamed) rest cause h

@@ -15,7 +15,7 @@ use Rattle.boxglue_script.specs.declared.cause.Cause.TheVariants.{Word, Missing,
 use Rattle.boxglue_script.specs.declared.name.Name.TheVariants as names
 use Rattle.boxglue_script.specs.Grammar.{slot_count, IsName}
 use Rattle.boxglue_script.specs.Causes.{IsWord, GivesNumber, GivesSizeOfFont, GivesSize, IsFieldCause}
-use Rattle.boxglue_script.specs.Reading.{number_of, number_first, size_of_font, size_of_font_first, dimension_first, is_name, name_first, chosen_size_of, font_by, font_of, map_ok, command_named, command_of}
+use Rattle.boxglue_script.specs.Reading.{number_of, size_of_font, size_of_font_first, is_name, name_first, chosen_size_of, font_by, font_of, map_ok, command_named, command_of, value_first}
 use Rattle.boxglue_script.proofs.FieldLaws.{same_bytes, reads_dimension, font_named, is_size_of_font}
 use Rattle.boxglue_script.proofs.NameLaws.{named}
 use Rattle.boxglue_script.proofs.CommandLaws.{sound}
@@ -46,19 +46,19 @@ one_size_of_font =
 
 -- Fields after `font` that are missing or wrong.
 slot_lacks : command_of (codes "font" ∷ []) ≡ Err Missing
-unfolding font_of number_first
+unfolding font_of value_first
 slot_lacks = font_reads []
 
 no_slot : (s : List ℕ) (rest : List (List ℕ)) → number_of slot_count s ≡ None → command_of (codes "font" ∷ s ∷ rest) ≡ Err Number
-unfolding font_of number_first
+unfolding font_of value_first
 no_slot s rest e = font_reads (s ∷ rest) ∙ (rw e refl)
 
 name_lacks : (s : List ℕ) (n : ℕ) → number_of slot_count s ≡ Some n → command_of (codes "font" ∷ s ∷ []) ≡ Err Missing
-unfolding font_of number_first name_first
+unfolding font_of value_first name_first
 name_lacks s n e = font_reads (s ∷ []) ∙ (rw e refl)
 
 no_name : (s : List ℕ) (n : ℕ) (name : List ℕ) (rest : List (List ℕ)) → number_of slot_count s ≡ Some n → is_name name ≡ false → command_of (codes "font" ∷ s ∷ name ∷ rest) ≡ Err causes.Name
-unfolding font_of number_first name_first
+unfolding font_of value_first name_first
 no_name s n name rest e f = font_reads (s ∷ name ∷ rest) ∙ (rw (e, f) refl)
 
 sized : (slot : ℕ) (name : List ℕ) (r : Result (Option ℤ) Cause) → font_by (Ok slot) (Ok name) r ≡ map_ok (load slot name) r
@@ -66,12 +66,12 @@ sized slot name (Err cause) = refl
 sized slot name (Ok size) = refl
 
 behind_name : (s : List ℕ) (n : ℕ) (name : List ℕ) (rest : List (List ℕ)) → number_of slot_count s ≡ Some n → is_name name ≡ true → command_of (codes "font" ∷ s ∷ name ∷ rest) ≡ map_ok (load n name) (chosen_size_of rest)
-unfolding font_of number_first name_first
+unfolding font_of value_first name_first
 behind_name s n name rest e f = font_reads (s ∷ name ∷ rest) ∙ (rw (e, f) (sized n name (chosen_size_of rest)))
 
 -- Fields after the name of a font that are missing or wrong.
 at_given : chosen_size_of (codes "at" ∷ one ∷ []) ≡ Ok (Some (pos 1))
-unfolding chosen_size_of size_of_font_first dimension_first
+unfolding chosen_size_of size_of_font_first value_first
 at_given = rw one_dimension refl
 
 nothing_given : chosen_size_of [] ≡ Ok None
@@ -83,23 +83,23 @@ unfolding chosen_size_of
 no_at w rest e = rw e refl
 
 at_lacks : chosen_size_of (codes "at" ∷ []) ≡ Err Missing
-unfolding chosen_size_of size_of_font_first dimension_first
+unfolding chosen_size_of size_of_font_first value_first
 at_lacks = refl
 
 no_dimension : (d : List ℕ) (rest : List (List ℕ)) (fault : DimenFault) → read_dimension d ≡ Err fault → chosen_size_of (codes "at" ∷ d ∷ rest) ≡ Err Dimension
-unfolding chosen_size_of size_of_font_first dimension_first
+unfolding chosen_size_of size_of_font_first value_first
 no_dimension d rest fault e = rw e refl
 
 no_size : (d : List ℕ) (rest : List (List ℕ)) (z : ℤ) → read_dimension d ≡ Ok z → size_of_font z ≡ None → chosen_size_of (codes "at" ∷ d ∷ rest) ≡ Err Number
-unfolding chosen_size_of size_of_font_first dimension_first
+unfolding chosen_size_of size_of_font_first value_first
 no_size d rest z e f = rw (e, f) refl
 
 at_size : (d : List ℕ) (z y : ℤ) → read_dimension d ≡ Ok z → size_of_font z ≡ Some y → chosen_size_of (codes "at" ∷ d ∷ []) ≡ Ok (Some y)
-unfolding chosen_size_of size_of_font_first dimension_first
+unfolding chosen_size_of size_of_font_first value_first
 at_size d z y e f = rw (e, f) refl
 
 at_more : (d f : List ℕ) (rest : List (List ℕ)) (z y : ℤ) → read_dimension d ≡ Ok z → size_of_font z ≡ Some y → chosen_size_of (codes "at" ∷ d ∷ f ∷ rest) ≡ Err Extra
-unfolding chosen_size_of size_of_font_first dimension_first
+unfolding chosen_size_of size_of_font_first value_first
 at_more d f rest z y e g = rw (e, g) refl
 
 -- After a slot and a name.

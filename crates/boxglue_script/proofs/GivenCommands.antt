@@ -13,7 +13,7 @@ use Rattle.boxglue_script.specs.declared.name.Name.TheVariants as names
 use Rattle.boxglue_script.specs.declared.amounts.Amount.{Amount}
 use Rattle.boxglue_script.specs.Grammar.{register_count, slot_count, character_count, count_count, first_lines_count, IsFirstLines, IsCountNumber, IsCount, IsNumberAmong, IsRegister, IsChosenSize, IsTarget, IsDestination, IsShift, IsDimension, IsAmount, IsGluePart, IsGlue, SaysCommand}
 use Rattle.boxglue_script.specs.ParameterNames.{size_name, skip_name, number_name, names_first_lines}
-use Rattle.boxglue_script.specs.Reading.{count_first, last_count, counting, counting_of, number_first, dimension_first, size_of_font_first, name_first, map_ok, size_first, last_number, last_dimension, chosen_size_of, font_of, rule_of, penalty_first, last_penalty, amount, amount_first, last_amount, opening, opening_with_register, opening_into, opening_with_size, opening_of, append, shift_of, append_of, unboxing, split, split_into, split_height, split_to, split_of, no_amount, glue, last_shrink_of, shrink_of, parts_of, glue_of, parameter_of, command_named, command_of}
+use Rattle.boxglue_script.specs.Reading.{counting, counting_of, size_of_font_first, name_first, map_ok, last_number, chosen_size_of, font_of, rule_of, amount, last_amount, opening, opening_with_register, opening_into, opening_with_size, opening_of, append, shift_of, append_of, unboxing, split, split_into, split_height, split_to, split_of, no_amount, glue, last_shrink_of, shrink_of, parts_of, glue_of, parameter_of, command_named, command_of, last_value, value_first}
 use Rattle.boxglue_script.proofs.AmountLaws.{amount_given}
 use Rattle.boxglue_script.proofs.FieldLaws.{number_written, penalty_written, dimension_read, size_given, font_named, size_of_font_is}
 use Rattle.boxglue_script.proofs.CountNumbers.{count_written}
@@ -21,12 +21,12 @@ use Rattle.boxglue_script.proofs.NameLaws.{named}
 
 -- A number that is the last field.
 pub number_alone : (count : ℕ) (make : ℕ → Command) (r : List ℕ) (n : ℕ) → IsNumberAmong count r n → map_ok make (last_number count (r ∷ [])) ≡ Ok (make n)
-unfolding last_number number_first
+unfolding last_value value_first
 number_alone count make r n h = rw (number_written count r n h) refl
 
 -- The size after the name of a font.
 pub chosen_size_given : (fields : List (List ℕ)) (size : Option ℤ) → IsChosenSize fields size → chosen_size_of fields ≡ Ok size
-unfolding chosen_size_of size_of_font_first dimension_first
+unfolding chosen_size_of size_of_font_first value_first
 chosen_size_given fields None h = rw h refl
 chosen_size_given fields (Some z) (d, e, h) = rw (e, dimension_read d z h.dimension, size_of_font_is z h.size) refl
 
@@ -43,31 +43,31 @@ natural_given form fields (Some n) (r, e, h) = rw e (number_alone register_count
 
 -- A size and what follows it.
 opening_given : (form : BoxForm) (size : List (List ℕ)) (target : Target) (fields : List (List ℕ)) (into : Option ℕ) → IsTarget size target → IsDestination fields into → opening_of form (size ++ fields) ≡ Ok (opening form target into)
-unfolding opening_of opening_with_size dimension_first
+unfolding opening_of opening_with_size value_first
 opening_given form size Natural fields into e h = rw e (natural_given form fields into h)
 opening_given form size (To z) fields into (d, e, is) h = rw (e, dimension_read d z is) (destination_given form (To z) fields into h)
 opening_given form size (Spread z) fields into (d, e, is) h = rw (e, dimension_read d z is) (destination_given form (Spread z) fields into h)
 
 shift_given : (fields : List (List ℕ)) (z : ℤ) → IsShift fields z → shift_of fields ≡ Ok z
-unfolding shift_of last_dimension dimension_first
+unfolding shift_of last_value value_first
 shift_given fields z (inl h) = rw (h.0, h.1) refl
 shift_given fields z (inr (d, e, h)) = rw (e, dimension_read d z h) refl
 
 append_given : (taking : Transfer) (r : List ℕ) (n : ℕ) (fields : List (List ℕ)) (z : ℤ) → IsRegister r n → IsShift fields z → append_of taking (r ∷ fields) ≡ Ok (append taking n z)
-unfolding append_of number_first
+unfolding append_of value_first
 append_given taking r n fields z h is = rw (number_written register_count r n h, shift_given fields z is) refl
 
 split_given : (r : List ℕ) (n : ℕ) (d : List ℕ) (z : ℤ) (q : List ℕ) (m : ℕ) → IsRegister r n → IsDimension d z → IsRegister q m
     → split_of (r ∷ codes "to" ∷ d ∷ codes "into" ∷ q ∷ []) ≡ Ok (split n z m)
-unfolding split_of split_to split_height split_into number_first dimension_first
+unfolding split_of split_to split_height split_into value_first
 split_given r n d z q m h is at = rw (number_written register_count r n h, dimension_read d z is) (number_alone register_count (split n z) q m at)
 
 counting_given : (i : List ℕ) (count : ℕ) (n : List ℕ) (value : ℤ) → IsCountNumber i count → IsCount n value → counting_of (i ∷ n ∷ []) ≡ Ok (counting count value)
-unfolding counting_of number_first last_count count_first
+unfolding counting_of value_first last_value
 counting_given i count n value h is = rw (number_written count_count i count h, count_written n value is) refl
 
 last_amount_given : (make : Amount → glues.Glue) (x : List ℕ) (order : Order) (z : ℤ) → IsAmount x order z → map_ok make (last_amount (x ∷ [])) ≡ Ok (make (amount order z))
-unfolding last_amount amount_first
+unfolding last_value value_first
 last_amount_given make x order z h = rw (amount_given x order z h) refl
 
 -- The shrink of a glue.
@@ -85,22 +85,22 @@ shrink_alone width minus order z (inr (x, e, h)) = rw e (last_amount_given (glue
 parts_given : (width : ℤ) (plus minus : List (List ℕ)) (stretch_order : Order) (stretch : ℤ) (shrink_order : Order) (shrink : ℤ)
     → IsGluePart (codes "plus") plus stretch_order stretch → IsGluePart (codes "minus") minus shrink_order shrink
     → parts_of width (plus ++ minus) ≡ Ok (glue width (amount stretch_order stretch) (amount shrink_order shrink))
-unfolding parts_of amount_first
+unfolding parts_of value_first
 parts_given width plus minus so s mo m (inl h) is = rw (h.0, h.1, h.2) (shrink_alone width minus mo m is)
 parts_given width plus minus so s mo m (inr (x, e, h)) is = rw (e, amount_given x so s h) (shrink_given width (amount so s) minus mo m is)
 
 glue_given : (fields : List (List ℕ)) (g : glues.Glue) → IsGlue fields g → glue_of fields ≡ Ok g
-unfolding glue_of dimension_first
+unfolding glue_of value_first
 glue_given fields g (d, plus, minus, e, width, stretch, shrink) =
     rw (e, dimension_read d g.width width) (parts_given g.width plus minus g.stretch_order g.stretch g.shrink_order g.shrink stretch shrink)
 
 first_lines_given : (l : List ℕ) (n : ℕ) → IsFirstLines l n → map_ok Set (map_ok FirstLines (last_number first_lines_count (l ∷ []))) ≡ Ok (Set (FirstLines n))
-unfolding last_number number_first
+unfolding last_value value_first
 first_lines_given l n h = rw (number_written first_lines_count l n h) refl
 
 -- The fields of a command are read as this command.
 pub complete : (fields : List (List ℕ)) (command : Command) → SaysCommand fields command → command_of fields ≡ Ok command
-unfolding command_named font_of number_first name_first rule_of parameter_of size_name skip_name number_name names_first_lines size_first last_dimension dimension_first last_penalty penalty_first
+unfolding command_named font_of value_first name_first rule_of parameter_of size_name skip_name number_name names_first_lines last_value
 complete fields (LoadFont load) (s, more, e, slot, name, size) =
     rw e (named names.Font (s ∷ load.name ∷ more) ∙ (rw (number_written slot_count s load.slot slot, font_named load.name name, chosen_size_given more load.size size) refl))
 complete fields (UseFont n) (s, e, h) = rw e (named names.Use (s ∷ []) ∙ number_alone slot_count UseFont s n h)

@@ -11,7 +11,7 @@ use Rattle.boxglue_script.specs.declared.cause.Cause.{Cause}
 use Rattle.boxglue_script.specs.declared.cause.Cause.TheVariants.{Word, Missing, Dimension}
 use Rattle.boxglue_script.specs.declared.name.Name.TheVariants as names
 use Rattle.boxglue_script.specs.Causes.{IsWord, IsFieldCause}
-use Rattle.boxglue_script.specs.Reading.{dimension_first, amount_of, amount_first, last_amount, map_ok, no_amount, glue, last_shrink_of, shrink_of, parts_of, glue_of, command_named, command_of}
+use Rattle.boxglue_script.specs.Reading.{amount_of, last_amount, map_ok, no_amount, glue, last_shrink_of, shrink_of, parts_of, glue_of, command_named, command_of, last_value, value_first}
 use Rattle.boxglue_script.proofs.FieldLaws.{same_bytes}
 use Rattle.boxglue_script.proofs.NameLaws.{named}
 use Rattle.boxglue_script.proofs.CauseForms.{missing, has_bad_elsewhere, as_cause, not_made, twice, zero_dimension, zero_amount, plus_is_word, minus_is_word, letter, letter_no_dimension, letter_no_amount, no_dimension_cause, no_amount_cause, amount_cause}
@@ -28,15 +28,15 @@ unfolding command_named
 glue_reads rest = named names.Glue rest
 
 width_lacks : command_of (codes "glue" ∷ []) ≡ Err Missing
-unfolding glue_of dimension_first
+unfolding glue_of value_first
 width_lacks = glue_reads []
 
 no_width : (d : List ℕ) (rest : List (List ℕ)) (fault : DimenFault) → read_dimension d ≡ Err fault → command_of (codes "glue" ∷ d ∷ rest) ≡ Err Dimension
-unfolding glue_of dimension_first
+unfolding glue_of value_first
 no_width d rest fault e = glue_reads (d ∷ rest) ∙ (rw e refl)
 
 behind_width : (d : List ℕ) (z : ℤ) (rest : List (List ℕ)) → read_dimension d ≡ Ok z → command_of (codes "glue" ∷ d ∷ rest) ≡ map_ok Glue (parts_of z rest)
-unfolding glue_of dimension_first
+unfolding glue_of value_first
 behind_width d z rest e = glue_reads (d ∷ rest) ∙ (rw e refl)
 
 -- After a width.
@@ -54,15 +54,15 @@ module _ (d : List ℕ) (z : ℤ) (is : read_dimension d ≡ Ok z) where
   behind_minus rest = behind_width d z (codes "minus" ∷ rest) is ∙ twice Glue (glue z no_amount) (last_amount rest)
 
   stretch_lacks : command_of (codes "glue" ∷ d ∷ codes "plus" ∷ []) ≡ Err Missing
-  unfolding parts_of amount_first
+  unfolding parts_of value_first
   stretch_lacks = behind_width d z (codes "plus" ∷ []) is
 
   no_stretch : (x : List ℕ) (rest : List (List ℕ)) (cause : Cause) → amount_of x ≡ Err cause → command_of (codes "glue" ∷ d ∷ codes "plus" ∷ x ∷ rest) ≡ Err cause
-  unfolding parts_of amount_first
+  unfolding parts_of value_first
   no_stretch x rest cause e = behind_width d z (codes "plus" ∷ x ∷ rest) is ∙ (rw e refl)
 
   behind_stretch : (x : List ℕ) (a : Amount) (rest : List (List ℕ)) → amount_of x ≡ Ok a → command_of (codes "glue" ∷ d ∷ codes "plus" ∷ x ∷ rest) ≡ map_ok Glue (shrink_of z a rest)
-  unfolding parts_of amount_first
+  unfolding parts_of value_first
   behind_stretch x a rest e = behind_width d z (codes "plus" ∷ x ∷ rest) is ∙ (rw e refl)
 
   stretch_alone : (x : List ℕ) (a : Amount) → amount_of x ≡ Ok a → command_of (codes "glue" ∷ d ∷ codes "plus" ∷ x ∷ []) ≡ Ok (said z a no_amount)
@@ -78,7 +78,7 @@ module _ (d : List ℕ) (z : ℤ) (is : read_dimension d ≡ Ok z) where
   behind_both x a rest e = behind_stretch x a (codes "minus" ∷ rest) e ∙ twice Glue (glue z a) (last_amount rest)
 
   last_read : (make : Amount → Command) → map_ok make (last_amount (zero ∷ [])) ≡ Ok (make no_amount)
-  unfolding last_amount amount_first
+  unfolding last_value value_first
   last_read make = rw zero_amount refl
 
   -- The shrink after a stretch.

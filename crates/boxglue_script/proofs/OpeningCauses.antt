@@ -13,7 +13,7 @@ use Rattle.boxglue_script.specs.declared.cause.Cause.TheVariants.{Word, Missing,
 use Rattle.boxglue_script.specs.declared.name.Name.TheVariants as names
 use Rattle.boxglue_script.specs.Grammar.{register_count, form_text}
 use Rattle.boxglue_script.specs.Causes.{IsWord, IsFieldCause}
-use Rattle.boxglue_script.specs.Reading.{number_first, last_number, dimension_first, map_ok, opening, opening_with_register, opening_into, opening_with_size, opening_of, command_named, command_of}
+use Rattle.boxglue_script.specs.Reading.{last_number, map_ok, opening, opening_with_register, opening_into, opening_with_size, opening_of, command_named, command_of, last_value, value_first}
 use Rattle.boxglue_script.proofs.FieldLaws.{same_bytes}
 use Rattle.boxglue_script.proofs.NameLaws.{named}
 use Rattle.boxglue_script.proofs.CauseForms.{missing, has_bad_elsewhere, as_cause, not_made, zero_text, zero_names, zero_dimension, into_is_word, letter, letter_no_dimension, no_dimension_cause, number_cause}
@@ -47,21 +47,21 @@ unfolding opening_into
 no_into form target w rest e = rw e refl
 
 zero_read : (form : BoxForm) (target : Target) → opening_with_register form target (zero_text ∷ []) ≡ Ok (for_register form target 0)
-unfolding opening_with_register last_number number_first
+unfolding opening_with_register last_value value_first
 zero_read form target = rw (zero_names register_count (omega arith)) refl
 
 -- After `to` or `spread`.
 module _ (form : BoxForm) (word : List ℕ) (sized : ℤ → Target) (reads : (rest : List (List ℕ)) → command_of (form_text form ∷ word ∷ rest) ≡ opening_with_size form sized rest) where
   size_lacks : command_of (form_text form ∷ word ∷ []) ≡ Err Missing
-  unfolding opening_with_size dimension_first
+  unfolding opening_with_size value_first
   size_lacks = reads []
 
   no_size : (d : List ℕ) (rest : List (List ℕ)) (fault : DimenFault) → read_dimension d ≡ Err fault → command_of (form_text form ∷ word ∷ d ∷ rest) ≡ Err Dimension
-  unfolding opening_with_size dimension_first
+  unfolding opening_with_size value_first
   no_size d rest fault e = reads (d ∷ rest) ∙ (rw e refl)
 
   behind_size : (d : List ℕ) (z : ℤ) (rest : List (List ℕ)) → read_dimension d ≡ Ok z → command_of (form_text form ∷ word ∷ d ∷ rest) ≡ opening_into form (sized z) rest
-  unfolding opening_with_size dimension_first
+  unfolding opening_with_size value_first
   behind_size d z rest e = reads (d ∷ rest) ∙ (rw e refl)
 
   size_alone : (d : List ℕ) (z : ℤ) → read_dimension d ≡ Ok z → command_of (form_text form ∷ word ∷ d ∷ []) ≡ Ok (for_list form (sized z))

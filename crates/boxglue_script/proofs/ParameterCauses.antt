@@ -14,7 +14,7 @@ use Rattle.boxglue_script.specs.declared.parameter.NumberParameter.{NumberParame
 use Rattle.boxglue_script.specs.Grammar.{first_lines_count}
 use Rattle.boxglue_script.specs.Causes.{IsWord, IsFieldCause}
 use Rattle.boxglue_script.specs.ParameterNames.{size_name, skip_name, number_name, names_first_lines, with_size, with_skip, with_number}
-use Rattle.boxglue_script.specs.Reading.{dimension_first, last_dimension, last_number, last_penalty, map_ok, no_amount, glue, parts_of, glue_of, parameter_of, command_named, command_of}
+use Rattle.boxglue_script.specs.Reading.{last_dimension, last_number, last_penalty, map_ok, no_amount, glue, parts_of, glue_of, parameter_of, command_named, command_of, last_value, value_first}
 use Rattle.boxglue_script.proofs.NameLaws.{named}
 use Rattle.boxglue_script.proofs.ParameterNameLaws.{size_text, skip_text, number_text, size_written, skip_written, number_written, size_read, skip_read, number_read, skip_no_size, number_no_size, number_no_skip, first_lines_text, first_lines_written, first_lines_no_size, first_lines_no_skip, first_lines_no_number, first_lines_read}
 use Rattle.boxglue_script.proofs.CauseForms.{missing, has_bad_elsewhere, as_cause, not_made, twice, zero_dimension, depth_is_word, letter, dimension_cause, penalty_cause}
@@ -60,7 +60,7 @@ unfolding parameter_of
 size_reads name rest = set_reads (size_text name ∷ rest) ∙ (rw (size_read name) (twice Set (with_size name) (last_dimension rest)))
 
 depth_zero : command_of (codes "set" ∷ codes "boxmaxdepth" ∷ codes "0sp" ∷ []) ≡ Ok (set_size sizes.BoxMaxDepth (pos 0))
-unfolding last_dimension dimension_first
+unfolding last_value value_first
 depth_zero = size_reads sizes.BoxMaxDepth (codes "0sp" ∷ []) ∙ (rw zero_dimension refl)
 
 size_cause : (name : SizeParameter) (rest : List (List ℕ)) (cause : Cause) → command_of (codes "set" ∷ size_text name ∷ rest) ≡ Err cause → IsFieldCause cause (codes "set" ∷ size_text name ∷ rest)
@@ -104,7 +104,7 @@ unfolding parameter_of
 skip_reads name rest = set_reads (skip_text name ∷ rest) ∙ (rw (skip_no_size name, skip_read name) (twice Set (with_skip name) (glue_of rest)))
 
 zero_glue : glue_of (codes "0sp" ∷ []) ≡ Ok (glue (pos 0) no_amount no_amount)
-unfolding glue_of dimension_first parts_of
+unfolding glue_of value_first parts_of
 zero_glue = rw zero_dimension refl
 
 -- A cause that makes some fields no glue holds of them after `glue`.

@@ -10,7 +10,7 @@ use Rattle.boxglue_script.specs.declared.cause.Cause.TheVariants as causes
 use Rattle.boxglue_script.specs.declared.cause.Cause.TheVariants.{Word, Number}
 use Rattle.boxglue_script.specs.declared.amounts.Amount.{Amount}
 use Rattle.boxglue_script.specs.Grammar.{IsNumberAmong, IsPenalty, IsDimension, IsRuleSizeField, IsName, IsSizeOfFont, IsChosenSize, IsShift, IsAmount, IsGluePart, IsGlue}
-use Rattle.boxglue_script.specs.Reading.{rest_of, some_or, number_of, number_first, dimension_or, dimension_first, size_of_font, as_size_of_font, size_of_font_first, is_name, as_name, name_first, map_ok, size_first, no_field_left, and_right, last_number, last_dimension, chosen_size_of, font_by, rule_by, penalty_of, penalty_first, last_penalty, amount_of, amount_first, last_amount, and_then, shift_of, no_amount, glue, last_shrink_of, shrink_of, parts_of, glue_of}
+use Rattle.boxglue_script.specs.Reading.{rest_of, some_or, number_of, number_first, dimension_or, dimension_first, size_of_font, as_size_of_font, size_of_font_first, is_name, as_name, name_first, map_ok, size_first, no_field_left, and_right, last_number, last_dimension, chosen_size_of, font_by, rule_by, penalty_of, last_penalty, amount_of, amount_first, last_amount, and_then, shift_of, no_amount, glue, last_shrink_of, shrink_of, parts_of, glue_of, last_value, value_first}
 use Rattle.scaled_core.specs.declared.fault.DimenFault.{DimenFault}
 use Rattle.scaled_core.specs.ParsedTexts.{read_dimension}
 use Rattle.boxglue_script.proofs.AmountLaws.{gives_amount}
@@ -28,7 +28,7 @@ number_in count r (Some m) n e h = writes_number count r n (cc)
 
 -- One number and nothing else was read.
 pub number_last : (count : ℕ) (rest : List (List ℕ)) (n : ℕ) → last_number count rest ≡ Ok n → (r : List ℕ) × (rest ≡ r ∷ []) × IsNumberAmong count r n
-unfolding last_number number_first
+unfolding last_value value_first
 number_last count [] n h = absurd (cc)
 number_last count (r ∷ rest) n h =
     let after = nothing_after (some_or Number (number_of count r)) rest n h in
@@ -40,7 +40,7 @@ dimension_in d (Ok y) z e h = reads_dimension d z (cc)
 
 -- One dimension and nothing else was read.
 pub dimension_last : (rest : List (List ℕ)) (z : ℤ) → last_dimension rest ≡ Ok z → (d : List ℕ) × (rest ≡ d ∷ []) × IsDimension d z
-unfolding last_dimension dimension_first
+unfolding last_value value_first
 dimension_last [] z h = absurd (cc)
 dimension_last (d ∷ rest) z h =
     let after = nothing_after (dimension_or (read_dimension d)) rest z h in
@@ -48,7 +48,7 @@ dimension_last (d ∷ rest) z h =
 
 -- A number was read.
 pub number_read : (count : ℕ) (fields : List (List ℕ)) (n : ℕ) → number_first count fields ≡ Ok n → (s : List ℕ) × (fields ≡ s ∷ rest_of fields) × IsNumberAmong count s n
-unfolding number_first
+unfolding value_first
 number_read count [] n h = absurd (cc)
 number_read count (s ∷ rest) n h = (s, refl, number_in count s (number_of count s) n refl h)
 
@@ -81,7 +81,7 @@ size_of_dimension d z (Ok y) e h = size_in d y z (size_of_font y) e refl h
 
 -- The size of a font and nothing else was read.
 size_of_font_last : (fields : List (List ℕ)) (z : ℤ) → and_right (size_of_font_first fields) (no_field_left (rest_of fields)) ≡ Ok z → (d : List ℕ) × (fields ≡ d ∷ []) × IsSizeOfFont d z
-unfolding size_of_font_first dimension_first
+unfolding size_of_font_first value_first
 size_of_font_last [] z h = absurd (cc)
 size_of_font_last (d ∷ rest) z h =
     let after = nothing_after (as_size_of_font (dimension_or (read_dimension d))) rest z h in
@@ -118,7 +118,7 @@ chosen_size_read (word ∷ rest) size h = at_by word rest size (bytes_eq word (c
 
 -- One size was read.
 pub size_read : (fields : List (List ℕ)) (size : RuleSize) → size_first fields ≡ Ok size → (field : List ℕ) × (fields ≡ field ∷ rest_of fields) × IsRuleSizeField field size
-unfolding size_first
+unfolding value_first
 size_read [] size h = absurd (cc)
 size_read (field ∷ rest) size h = (field, refl, gives_size field size h)
 
@@ -171,7 +171,7 @@ then_read (Ok x) more y h = (x, refl, h)
 
 -- A dimension was read.
 pub dimension_first_read : (fields : List (List ℕ)) (z : ℤ) → dimension_first fields ≡ Ok z → (d : List ℕ) × (fields ≡ d ∷ rest_of fields) × IsDimension d z
-unfolding dimension_first
+unfolding value_first
 dimension_first_read [] z h = absurd (cc)
 dimension_first_read (d ∷ rest) z h = (d, refl, dimension_in d (read_dimension d) z refl h)
 
@@ -189,7 +189,7 @@ shift_read (w ∷ rest) z h = shift_by w rest z (bytes_eq w (codes "shift")) ref
 
 -- One amount and nothing else was read.
 amount_last : (rest : List (List ℕ)) (a : Amount) → last_amount rest ≡ Ok a → (x : List ℕ) × (rest ≡ x ∷ []) × IsAmount x a.order a.size
-unfolding last_amount amount_first
+unfolding last_value value_first
 amount_last [] a h = absurd (cc)
 amount_last (x ∷ rest) a h =
     let after = nothing_after (amount_of x) rest a h in
@@ -197,7 +197,7 @@ amount_last (x ∷ rest) a h =
 
 -- An amount was read.
 amount_first_read : (fields : List (List ℕ)) (a : Amount) → amount_first fields ≡ Ok a → (x : List ℕ) × (fields ≡ x ∷ rest_of fields) × IsAmount x a.order a.size
-unfolding amount_first
+unfolding value_first
 amount_first_read [] a h = absurd (cc)
 amount_first_read (x ∷ rest) a h = (x, refl, gives_amount x a h)
 
@@ -261,7 +261,7 @@ penalty_in p None z e h = absurd (cc)
 penalty_in p (Some y) z e h = writes_penalty p z (cc)
 
 pub penalty_last : (rest : List (List ℕ)) (z : ℤ) → last_penalty rest ≡ Ok z → (p : List ℕ) × (rest ≡ p ∷ []) × IsPenalty p z
-unfolding last_penalty penalty_first
+unfolding last_value value_first
 penalty_last [] z h = absurd (cc)
 penalty_last (p ∷ rest) z h =
     let after = nothing_after (some_or Number (penalty_of p)) rest z h in

@@ -10,7 +10,7 @@ use Rattle.boxglue_script.specs.declared.cause.Cause.TheVariants.{Word, Missing,
 use Rattle.boxglue_script.specs.declared.name.Name.TheVariants as names
 use Rattle.boxglue_script.specs.Grammar.{register_count}
 use Rattle.boxglue_script.specs.Causes.{IsWord, IsFieldCause}
-use Rattle.boxglue_script.specs.Reading.{number_of, number_first, last_number, dimension_first, map_ok, split, split_into, split_height, split_to, split_of, command_named, command_of}
+use Rattle.boxglue_script.specs.Reading.{number_of, last_number, map_ok, split, split_into, split_height, split_to, split_of, command_named, command_of, last_value, value_first}
 use Rattle.boxglue_script.proofs.FieldLaws.{same_bytes}
 use Rattle.boxglue_script.proofs.NameLaws.{named}
 use Rattle.boxglue_script.proofs.CauseForms.{missing, has_bad_elsewhere, as_cause, not_made, zero_text, zero_names, zero_dimension, to_is_word, into_is_word, letter, letter_no_number, letter_no_dimension, no_number_cause, no_dimension_cause, number_cause}
@@ -30,16 +30,16 @@ split_reads rest = named names.Split rest
 
 -- The first register.
 register_lacks : command_of (vsplit ∷ []) ≡ Err Missing
-unfolding split_of number_first
+unfolding split_of value_first
 register_lacks = split_reads []
 
 no_register : (r : List ℕ) (rest : List (List ℕ)) → number_of register_count r ≡ None → command_of (vsplit ∷ r ∷ rest) ≡ Err Number
-unfolding split_of number_first
+unfolding split_of value_first
 no_register r rest e = split_reads (r ∷ rest) ∙ (rw e refl)
 
 module _ (r : List ℕ) (n : ℕ) (is : number_of register_count r ≡ Some n) where
   behind_register : (rest : List (List ℕ)) → command_of (vsplit ∷ r ∷ rest) ≡ split_to n rest
-  unfolding split_of number_first
+  unfolding split_of value_first
   behind_register rest = split_reads (r ∷ rest) ∙ (rw is refl)
 
   -- The word after it.
@@ -57,15 +57,15 @@ module _ (r : List ℕ) (n : ℕ) (is : number_of register_count r ≡ Some n) w
 
   -- The height.
   height_lacks : command_of (vsplit ∷ r ∷ to ∷ []) ≡ Err Missing
-  unfolding split_height dimension_first
+  unfolding split_height value_first
   height_lacks = behind_to []
 
   no_height : (d : List ℕ) (rest : List (List ℕ)) (fault : DimenFault) → read_dimension d ≡ Err fault → command_of (vsplit ∷ r ∷ to ∷ d ∷ rest) ≡ Err Dimension
-  unfolding split_height dimension_first
+  unfolding split_height value_first
   no_height d rest fault e = behind_to (d ∷ rest) ∙ (rw e refl)
 
   behind_height : (d : List ℕ) (z : ℤ) (rest : List (List ℕ)) → read_dimension d ≡ Ok z → command_of (vsplit ∷ r ∷ to ∷ d ∷ rest) ≡ split_into n z rest
-  unfolding split_height dimension_first
+  unfolding split_height value_first
   behind_height d z rest e = behind_to (d ∷ rest) ∙ (rw e refl)
 
   module _ (d : List ℕ) (z : ℤ) (reads : read_dimension d ≡ Ok z) where
@@ -84,7 +84,7 @@ module _ (r : List ℕ) (n : ℕ) (is : number_of register_count r ≡ Some n) w
     behind_into rest = behind_height d z (into ∷ rest) reads
 
     whole : command_of (vsplit ∷ r ∷ to ∷ d ∷ into ∷ zero_text ∷ []) ≡ Ok (split n z 0)
-    unfolding last_number number_first
+    unfolding last_value value_first
     whole = behind_into (zero_text ∷ []) ∙ (rw (zero_names register_count (omega arith)) refl)
 
     by_into : (w : List ℕ) (rest : List (List ℕ)) (b : Bool) (cause : Cause) → bytes_eq w into ≡ b → command_of (vsplit ∷ r ∷ to ∷ d ∷ w ∷ rest) ≡ Err cause → IsFieldCause cause (vsplit ∷ r ∷ to ∷ d ∷ w ∷ rest)

@@ -72,6 +72,15 @@ abbrev pub some_or : {A : Type 0} → Cause → Option A → Result A Cause
 some_or cause None = Err cause
 some_or cause (Some x) = Ok x
 
+-- What follows, by what was read before it, if that is right.
+abbrev pub and_then : {A B : Type 0} → Result A Cause → (A → Result B Cause) → Result B Cause
+and_then (Err cause) more = Err cause
+and_then (Ok x) more = more x
+
+-- The first of some fields, read as a value of its kind; the cause is Missing if there is no field.
+unfoldable pub value_first : {A : Type 0} → (List ℕ → Result A Cause) → List (List ℕ) → Result A Cause
+value_first reading fields = and_then (first_of fields) reading
+
 -- Whether there are digits, and nothing else.
 abbrev pub is_numeral : List ℕ → Bool
 is_numeral digits = nat_lt 0 (length digits) && list_all (λ c. nat_lt (digit_value c) 10) digits
@@ -102,46 +111,42 @@ count_value (negsuc n) = if nat_lt n 2147483648 then Some (negsuc n) else None
 unfoldable pub count_of : List ℕ → Option ℤ
 count_of field = if is_numeral (without_leading_sign field) then count_value (signed_digits_value 10 field) else None
 
--- A field as a count of a page; the cause is Number if it is none, and stays if there is no field.
-abbrev pub as_count : Result (List ℕ) Cause → Result ℤ Cause
-as_count (Err cause) = Err cause
-as_count (Ok field) = some_or Number (count_of field)
+-- A field as a count of a page; the cause is Number if it is none.
+abbrev pub count_field : List ℕ → Result ℤ Cause
+count_field field = some_or Number (count_of field)
 
 -- The first of some fields as a count of a page.
-unfoldable pub count_first : List (List ℕ) → Result ℤ Cause
-count_first fields = as_count (first_of fields)
+abbrev pub count_first : List (List ℕ) → Result ℤ Cause
+count_first fields = value_first count_field fields
 
--- A field as a number below the count; the cause is Number if it is none, and stays if there is no field.
-abbrev pub as_number : ℕ → Result (List ℕ) Cause → Result ℕ Cause
-as_number count (Err cause) = Err cause
-as_number count (Ok field) = some_or Number (number_of count field)
+-- A field as a number below the count; the cause is Number if it is none.
+abbrev pub number_field : ℕ → List ℕ → Result ℕ Cause
+number_field count field = some_or Number (number_of count field)
 
 -- The first of some fields as a number below the count.
-unfoldable pub number_first : ℕ → List (List ℕ) → Result ℕ Cause
-number_first count fields = as_number count (first_of fields)
+abbrev pub number_first : ℕ → List (List ℕ) → Result ℕ Cause
+number_first count fields = value_first (number_field count) fields
 
--- A field as the number of a penalty; the cause is Number if it is none, and stays if there is no field.
-abbrev pub as_penalty : Result (List ℕ) Cause → Result ℤ Cause
-as_penalty (Err cause) = Err cause
-as_penalty (Ok field) = some_or Number (penalty_of field)
+-- A field as the number of a penalty; the cause is Number if it is none.
+abbrev pub penalty_field : List ℕ → Result ℤ Cause
+penalty_field field = some_or Number (penalty_of field)
 
 -- The first of some fields as the number of a penalty.
-unfoldable pub penalty_first : List (List ℕ) → Result ℤ Cause
-penalty_first fields = as_penalty (first_of fields)
+abbrev pub penalty_first : List (List ℕ) → Result ℤ Cause
+penalty_first fields = value_first penalty_field fields
 
 -- A dimension that was read; the cause is Dimension if there is none or it does not fit.
 abbrev pub dimension_or : Result ℤ DimenFault → Result ℤ Cause
 dimension_or (Err fault) = Err Dimension
 dimension_or (Ok z) = Ok z
 
--- A field as a dimension; the cause is Dimension if it is none or does not fit, and stays if there is no field.
-abbrev pub as_dimension : Result (List ℕ) Cause → Result ℤ Cause
-as_dimension (Err cause) = Err cause
-as_dimension (Ok field) = dimension_or (read_dimension field)
+-- A field as a dimension; the cause is Dimension if it is none or does not fit.
+abbrev pub dimension_field : List ℕ → Result ℤ Cause
+dimension_field field = dimension_or (read_dimension field)
 
 -- The first of some fields as a dimension.
-unfoldable pub dimension_first : List (List ℕ) → Result ℤ Cause
-dimension_first fields = as_dimension (first_of fields)
+abbrev pub dimension_first : List (List ℕ) → Result ℤ Cause
+dimension_first fields = value_first dimension_field fields
 
 -- The size of a font that a dimension is: 1 sp to 2^27 - 1 sp.
 abbrev pub size_of_font : ℤ → Option ℤ
@@ -183,14 +188,9 @@ map_ok f (Ok x) = Ok (f x)
 unfoldable pub size_of : List ℕ → Result RuleSize Cause
 size_of field = if bytes_eq field (codes "*") then Ok Running else map_ok Fixed (dimension_or (read_dimension field))
 
--- A field as a size of a rule; the cause stays if there is no field.
-abbrev pub as_size : Result (List ℕ) Cause → Result RuleSize Cause
-as_size (Err cause) = Err cause
-as_size (Ok field) = size_of field
-
 -- The first of some fields as a size of a rule.
-unfoldable pub size_first : List (List ℕ) → Result RuleSize Cause
-size_first fields = as_size (first_of fields)
+abbrev pub size_first : List (List ℕ) → Result RuleSize Cause
+size_first fields = value_first size_of fields
 
 -- What comes before a unit, if a field ends with it.
 unfoldable pub before_unit : List ℕ → List ℕ → Option (List ℕ)
@@ -221,14 +221,9 @@ amount_of field =
     (amount_or Fil (before_unit (codes "fil") field)
     (amount_in Normal field)))
 
--- A field as an amount of stretch or shrink; the cause stays if there is no field.
-abbrev pub as_amount : Result (List ℕ) Cause → Result Amount Cause
-as_amount (Err cause) = Err cause
-as_amount (Ok field) = amount_of field
-
 -- The first of some fields as an amount of stretch or shrink.
-unfoldable pub amount_first : List (List ℕ) → Result Amount Cause
-amount_first fields = as_amount (first_of fields)
+abbrev pub amount_first : List (List ℕ) → Result Amount Cause
+amount_first fields = value_first amount_of fields
 
 -- No field is left.
 abbrev pub no_field_left : List (List ℕ) → Result (Unit {0}) Cause
@@ -241,35 +236,34 @@ and_right (Err cause) after = Err cause
 and_right (Ok x) (Err cause) = Err cause
 and_right (Ok x) (Ok u) = Ok x
 
+-- The first of some fields, which is the last one too, read as a value of its kind.
+unfoldable pub last_value : {A : Type 0} → (List ℕ → Result A Cause) → List (List ℕ) → Result A Cause
+last_value reading fields = and_right (value_first reading fields) (no_field_left (rest_of fields))
+
 -- The first of some fields, which is the last one too, as a number below the count.
-unfoldable pub last_number : ℕ → List (List ℕ) → Result ℕ Cause
-last_number count fields = and_right (number_first count fields) (no_field_left (rest_of fields))
+abbrev pub last_number : ℕ → List (List ℕ) → Result ℕ Cause
+last_number count fields = last_value (number_field count) fields
 
 -- The first of some fields, which is the last one too, as a dimension.
-unfoldable pub last_dimension : List (List ℕ) → Result ℤ Cause
-last_dimension fields = and_right (dimension_first fields) (no_field_left (rest_of fields))
+abbrev pub last_dimension : List (List ℕ) → Result ℤ Cause
+last_dimension fields = last_value dimension_field fields
 
 -- What follows, if what comes before it is right.
 abbrev pub right_and : {A : Type 0} → Result (Unit {0}) Cause → Result A Cause → Result A Cause
 right_and (Err cause) after = Err cause
 right_and (Ok u) after = after
 
--- What follows, by what was read before it, if that is right.
-abbrev pub and_then : {A B : Type 0} → Result A Cause → (A → Result B Cause) → Result B Cause
-and_then (Err cause) more = Err cause
-and_then (Ok x) more = more x
-
 -- The first of some fields, which is the last one too, as the number of a penalty.
-unfoldable pub last_penalty : List (List ℕ) → Result ℤ Cause
-last_penalty fields = and_right (penalty_first fields) (no_field_left (rest_of fields))
+abbrev pub last_penalty : List (List ℕ) → Result ℤ Cause
+last_penalty fields = last_value penalty_field fields
 
 -- The first of some fields, which is the last one too, as a count of a page.
-unfoldable pub last_count : List (List ℕ) → Result ℤ Cause
-last_count fields = and_right (count_first fields) (no_field_left (rest_of fields))
+abbrev pub last_count : List (List ℕ) → Result ℤ Cause
+last_count fields = last_value count_field fields
 
 -- The first of some fields, which is the last one too, as an amount of stretch or shrink.
-unfoldable pub last_amount : List (List ℕ) → Result Amount Cause
-last_amount fields = and_right (amount_first fields) (no_field_left (rest_of fields))
+abbrev pub last_amount : List (List ℕ) → Result Amount Cause
+last_amount fields = last_value amount_of fields
 
 -- The command that opens a list of that form and size, whose box goes into that register or to the enclosing list.
 abbrev pub opening : BoxForm → Target → Option ℕ → Command

@@ -48,10 +48,8 @@ pub fn amount_of(field: &[u8]) -> Result<Amount, Cause>
 fn number_in_points(order: Order, number: &[u8]) -> Result<Amount, Cause>
     ensures { result ≡ number_in_points order number.now }
 {
-    match parse_points(number) {
-        Ok(size) => Ok(Amount { size, order }),
-        Err(_) => Err(Cause::Dimension),
-    }
+    let size = parse_points(number)?;
+    Ok(Amount { size, order })
 }
 
 /// The amount of that order whose value is that of a dimension.
@@ -59,8 +57,6 @@ fn number_in_points(order: Order, number: &[u8]) -> Result<Amount, Cause>
 fn amount_in(order: Order, text: &[u8]) -> Result<Amount, Cause>
     ensures { result ≡ amount_in order text.now }
 {
-    match parse_dimen(text) {
-        Ok(size) => Ok(Amount { size, order }),
-        Err(_) => Err(Cause::Dimension),
-    }
+    let size = parse_dimen(text)?;
+    Ok(Amount { size, order })
 }

@@ -1,5 +1,10 @@
 //! The causes that make a line of a script bad.
 
+ghost use Rattle.std.specs.Prelude.{◌≡◌};
+ghost use Rattle.boxglue_script.specs.declared.cause.Cause.TheVariants.{Dimension};
+
+use scaled_core::DimenFault;
+
 /// Why a line gives no command. At the first bad field from the left, this is the cause.
 #[derive(Clone, Copy, Debug, PartialEq, Eq)]
 pub enum Cause {
@@ -17,4 +22,12 @@ pub enum Cause {
     Dimension,
     /// A field is not the name of a font.
     Name,
+}
+
+impl From<DimenFault> for Cause {
+    ghost from_gives = { λ _ cause. cause ≡ Dimension };
+
+    fn from(_fault: DimenFault) -> Cause {
+        Cause::Dimension
+    }
 }

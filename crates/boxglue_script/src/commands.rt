@@ -15,10 +15,10 @@ use crate::parameter::{
     names_first_lines, number_name, size_name, skip_name, with_number, with_size, with_skip,
 };
 use job_commands::{
-    AppendBox, BoxForm, Command, Counting, FontLoad, FontName, FontSize, Opening, Parameter,
-    Register, Splitting, Target, Transfer, Unboxing,
+    AppendBox, BoxForm, Command, CountNumber, Counting, FontLoad, FontName, FontSize, Opening,
+    Parameter, Register, Splitting, Target, Transfer, Unboxing,
 };
-use node_core::{FirstLines, Glue, Kind, Rule};
+use node_core::{FirstLines, Glue, IntParameter, Kind, Rule, RuleSize};
 use scaled_core::Dimen;
 use std::alloc::{AllocError, Global};
 
@@ -46,7 +46,7 @@ impl<'a> Fields<'a> {
         ensures some { IfOk result (λ words. IsFontName words.name.now) }
         ensures err { IfErr result (λ cause. font_of (fields_of self.old.rest.now) ≡ Err cause) }
     {
-        let slot = self.slot()?;
+        let slot = self.value::<u8>()?;
         let name = self.name()?;
         let size = self.chosen_size()?;
         Ok(FontWords { slot, name, size })
@@ -70,11 +70,11 @@ impl<'a> Fields<'a> {
         match self.field() {
             Ok(b"into") => self.opening_with_register(form, Target::Natural),
             Ok(b"to") => {
-                let size = self.dimen()?;
+                let size = self.value::<Dimen>()?;
                 self.opening_into(form, Target::To(size))
             }
             Ok(b"spread") => {
-                let more = self.dimen()?;
+                let more = self.value::<Dimen>()?;
                 self.opening_into(form, Target::Spread(more))
             }
             Ok(_) => Err(Cause::Word),
@@ -99,7 +99,7 @@ impl<'a> Fields<'a> {
     fn opening_with_register(&mut self, form: BoxForm, target: Target) -> Result<Command, Cause>
         ensures { result ≡ opening_with_register form target (fields_of self.old.rest.now) }
     {
-        let register = self.last_register()?;
+        let register = self.last_value::<Register>()?;
         Ok(opening(form, target, Some(register)))
     }
 
@@ -108,7 +108,7 @@ impl<'a> Fields<'a> {
     fn append(&mut self, taking: Transfer) -> Result<Command, Cause>
         ensures { result ≡ append_of taking (fields_of self.old.rest.now) }
     {
-        let register = self.register()?;
+        let register = self.value::<Register>()?;
         let shift = self.shift()?;
         Ok(Command::Append(AppendBox {
             register,
@@ -123,7 +123,7 @@ impl<'a> Fields<'a> {
         ensures { result ≡ shift_of (fields_of self.old.rest.now) }
     {
         match self.field() {
-            Ok(b"shift") => self.last_dimen(),
+            Ok(b"shift") => self.last_value::<Dimen>(),
             Ok(_) => Err(Cause::Word),
             Err(_) => Ok(Dimen::ZERO),
         }
@@ -133,7 +133,7 @@ impl<'a> Fields<'a> {
     fn unboxing(&mut self, kind: Kind, taking: Transfer) -> Result<Command, Cause>
         ensures { result ≡ map_ok (unboxing kind taking) (last_number register_count (fields_of self.old.rest.now)) }
     {
-        let register = self.last_register()?;
+        let register = self.last_value::<Register>()?;
         Ok(Command::Unbox(Unboxing {
             kind,
             register,
@@ -146,7 +146,7 @@ impl<'a> Fields<'a> {
     fn split(&mut self) -> Result<Command, Cause>
         ensures { result ≡ split_of (fields_of self.old.rest.now) }
     {
-        let register = self.register()?;
+        let register = self.value::<Register>()?;
         self.split_to(register)
     }
 
@@ -155,10 +155,9 @@ impl<'a> Fields<'a> {
     fn split_to(&mut self, register: Register) -> Result<Command, Cause>
         ensures { result ≡ split_to register (fields_of self.old.rest.now) }
     {
-        match self.field() {
-            Ok(b"to") => self.split_height(register),
-            Ok(_) => Err(Cause::Word),
-            Err(cause) => Err(cause),
+        match self.field()? {
+            b"to" => self.split_height(register),
+            _ => Err(Cause::Word),
         }
     }
 
@@ -167,7 +166,7 @@ impl<'a> Fields<'a> {
     fn split_height(&mut self, register: Register) -> Result<Command, Cause>
         ensures { result ≡ split_height register (fields_of self.old.rest.now) }
     {
-        let height = self.dimen()?;
+        let height = self.value::<Dimen>()?;
         self.split_into(register, height)
     }
 
@@ -176,17 +175,16 @@ impl<'a> Fields<'a> {
     fn split_into(&mut self, register: Register, height: Dimen) -> Result<Command, Cause>
         ensures { result ≡ split_into register height (fields_of self.old.rest.now) }
     {
-        match self.field() {
-            Ok(b"into") => {
-                let into = self.last_register()?;
+        match self.field()? {
+            b"into" => {
+                let into = self.last_value::<Register>()?;
                 Ok(Command::Split(Splitting {
                     register,
                     height,
                     into,
                 }))
             }
-            Ok(_) => Err(Cause::Word),
-            Err(cause) => Err(cause),
+            _ => Err(Cause::Word),
         }
     }
 
@@ -195,7 +193,7 @@ impl<'a> Fields<'a> {
     fn glue(&mut self) -> Result<Glue, Cause>
         ensures { result ≡ glue_of (fields_of self.old.rest.now) }
     {
-        let width = self.dimen()?;
+        let width = self.value::<Dimen>()?;
         self.glue_parts(width)
     }
 
@@ -206,7 +204,7 @@ impl<'a> Fields<'a> {
     {
         match self.field() {
             Ok(b"plus") => {
-                let stretch = self.amount()?;
+                let stretch = self.value::<Amount>()?;
                 self.shrink(width, stretch)
             }
             Ok(b"minus") => self.last_shrink(width, Amount::none()),
@@ -232,7 +230,7 @@ impl<'a> Fields<'a> {
     fn last_shrink(&mut self, width: Dimen, stretch: Amount) -> Result<Glue, Cause>
         ensures { result ≡ last_shrink_of width stretch (fields_of self.old.rest.now) }
     {
-        let shrink = self.last_amount()?;
+        let shrink = self.last_value::<Amount>()?;
         Ok(glue(width, stretch, shrink))
     }
 
@@ -243,7 +241,7 @@ impl<'a> Fields<'a> {
     {
         let word = self.field()?;
         if let Some(name) = size_name(word) {
-            let size = self.last_dimen()?;
+            let size = self.last_value::<Dimen>()?;
             return Ok(with_size(name, size));
         }
         if let Some(name) = skip_name(word) {
@@ -251,13 +249,13 @@ impl<'a> Fields<'a> {
             return Ok(with_skip(name, glue));
         }
         if let Some(name) = number_name(word) {
-            let number = self.last_penalty()?;
+            let number = self.last_value::<IntParameter>()?;
             return Ok(with_number(name, number));
         }
         if !names_first_lines(word) {
             return Err(Cause::Word);
         }
-        let lines = self.last_first_lines()?;
+        let lines = self.last_value::<FirstLines>()?;
         Ok(Parameter::FirstLines(lines))
     }
 
@@ -266,8 +264,8 @@ impl<'a> Fields<'a> {
     fn counting(&mut self) -> Result<Command, Cause>
         ensures { result ≡ counting_of (fields_of self.old.rest.now) }
     {
-        let count = self.count_number()?;
-        let value = self.last_count()?;
+        let count = self.value::<CountNumber>()?;
+        let value = self.last_value::<i32>()?;
         Ok(Command::Count(Counting { count, value }))
     }
 
@@ -276,9 +274,9 @@ impl<'a> Fields<'a> {
     fn rule(&mut self) -> Result<Command, Cause>
         ensures { result ≡ rule_of (fields_of self.old.rest.now) }
     {
-        let width = self.size()?;
-        let height = self.size()?;
-        let depth = self.size()?;
+        let width = self.value::<RuleSize>()?;
+        let height = self.value::<RuleSize>()?;
+        let depth = self.value::<RuleSize>()?;
         self.end()?;
         Ok(Command::Rule(Rule {
             width,
@@ -298,24 +296,24 @@ impl<'a> Fields<'a> {
     {
         match name {
             Name::Font => self.font(alloc),
-            Name::Use => Ok(self.last_slot().map(Command::UseFont)),
+            Name::Use => Ok(self.last_value::<u8>().map(Command::UseFont)),
             Name::Open(form) => Ok(self.opening(form)),
             Name::Paragraph => Ok(self.end().map(|()| Command::Paragraph)),
             Name::End => Ok(self.end().map(|()| Command::End)),
-            Name::Character => Ok(self.last_character().map(Command::Character)),
+            Name::Character => Ok(self.last_value::<u8>().map(Command::Character)),
             Name::Rule => Ok(self.rule()),
-            Name::Kern => Ok(self.last_dimen().map(Command::Kern)),
+            Name::Kern => Ok(self.last_value::<Dimen>().map(Command::Kern)),
             Name::Glue => Ok(self.glue().map(Command::Glue)),
-            Name::Penalty => Ok(self.last_penalty().map(Command::Penalty)),
+            Name::Penalty => Ok(self.last_value::<IntParameter>().map(Command::Penalty)),
             Name::Append(taking) => Ok(self.append(taking)),
             Name::Unbox(kind, taking) => Ok(self.unboxing(kind, taking)),
-            Name::LastBox => Ok(self.last_register().map(Command::LastBox)),
+            Name::LastBox => Ok(self.last_value::<Register>().map(Command::LastBox)),
             Name::Split => Ok(self.split()),
-            Name::Measure => Ok(self.last_register().map(Command::Measure)),
-            Name::Void => Ok(self.last_register().map(Command::Void)),
+            Name::Measure => Ok(self.last_value::<Register>().map(Command::Measure)),
+            Name::Void => Ok(self.last_value::<Register>().map(Command::Void)),
             Name::Set => Ok(self.parameter().map(Command::Set)),
             Name::Count => Ok(self.counting()),
-            Name::Ship => Ok(self.last_register().map(Command::Ship)),
+            Name::Ship => Ok(self.last_value::<Register>().map(Command::Ship)),
         }
     }
 

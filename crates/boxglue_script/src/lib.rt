@@ -7,6 +7,7 @@
 mod amounts;
 mod cause;
 mod commands;
+mod field_value;
 mod fields;
 pub mod laws;
 mod lines;

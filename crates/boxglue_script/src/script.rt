@@ -3,12 +3,13 @@
 ghost use Rattle.std.specs.Prelude.{◌≡◌, ◌⊎◌, List, IfOk, OnOk, IfErr};
 ghost use Rattle.boxglue_script.specs.Script.{IsScript, Explains};
 ghost use Rattle.boxglue_script.specs.Reading.{line_of, ReadsOn, StopsAtLine};
+ghost use Rattle.boxglue_script.specs.declared.script.ScriptFault.TheVariants.{OutOfMemory};
 
 use crate::cause::Cause;
 use crate::fields::Fields;
 use crate::lines::{field_and_text, first_line, is_passed_over, is_printable};
 use job_commands::{Characters, Command};
-use std::alloc::{AllocError, Global};
+use std::alloc::{AllocError, AllocFailed, Global};
 use thiserror::Error;
 
 /// A line of a script, and the command that it gives.
@@ -28,6 +29,22 @@ pub enum ScriptFault {
     BadScript { line: usize, cause: Cause },
 }
 
+impl From<AllocError> for ScriptFault {
+    ghost from_gives = { λ _ fault. fault ≡ OutOfMemory };
+
+    fn from(_error: AllocError) -> ScriptFault {
+        ScriptFault::OutOfMemory
+    }
+}
+
+impl<T: Drop> From<AllocFailed<T>> for ScriptFault {
+    ghost from_gives = { λ _ fault. fault ≡ OutOfMemory };
+
+    fn from(_failed: AllocFailed<T>) -> ScriptFault {
+        ScriptFault::OutOfMemory
+    }
+}
+
 /// Reads the text of a script into its commands, each with the number of its line. A line feed ends a line, and one carriage return directly before it belongs
 /// to this end. A line that is empty or begins with `%` gives no command, but is counted.
 ///
@@ -42,10 +59,10 @@ pub fn read_script(alloc: Global, text: &[u8]) -> Result<Vec<Line>, ScriptFault>
     let mut rest = text;
     let mut number = 0;
     while !rest.is_empty() {
-        let (line, behind) = first_line(rest);
+        let (line, after) = first_line(rest);
         number += 1;
         read_line(alloc, number, line, &mut found)?;
-        rest = behind;
+        rest = after;
     }
     Ok(found)
 }
@@ -63,14 +80,8 @@ fn read_line(
     if is_passed_over(line) {
         return Ok(());
     }
-    let Ok(read) = command_of(alloc, line) else {
-        return Err(ScriptFault::OutOfMemory);
-    };
-    match read {
-        Ok(command) => match found.push(Line { number, command }) {
-            Ok(()) => Ok(()),
-            Err(_) => Err(ScriptFault::OutOfMemory),
-        },
+    match command_of(alloc, line)? {
+        Ok(command) => Ok(found.push(Line { number, command })?),
         Err(cause) => Err(ScriptFault::BadScript {
             line: number,
             cause,

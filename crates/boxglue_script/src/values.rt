@@ -4,7 +4,7 @@ ghost use Rattle.std.specs.Prelude.{◌≡◌, ℤ, Ok, Err, IfNone, IfSome, IsT
 ghost use Rattle.std.specs.Int.{w64};
 ghost use Rattle.std.specs.List.{list_all};
 ghost use Rattle.tfm_core.specs.NamedBytes.{IsFontName};
-ghost use Rattle.boxglue_script.specs.Grammar.{register_count, slot_count, character_count, count_count, first_lines_count, IsInteger, is_name_byte};
+ghost use Rattle.boxglue_script.specs.Grammar.{register_count, slot_count, count_count, first_lines_count, IsInteger, is_name_byte};
 ghost use Rattle.boxglue_script.specs.Reading.{number_among, number_of, count_value, count_of, size_of_font, is_short, is_name, size_of, penalty_of};
 
 use crate::cause::Cause;
@@ -57,10 +57,7 @@ pub(crate) fn size_of(field: &[u8]) -> Result<RuleSize, Cause>
 {
     match field {
         b"*" => Ok(RuleSize::Running),
-        _ => match parse_dimen(field) {
-            Ok(size) => Ok(RuleSize::Fixed(size)),
-            Err(_) => Err(Cause::Dimension),
-        },
+        _ => Ok(RuleSize::Fixed(parse_dimen(field)?)),
     }
 }
 
@@ -85,30 +82,19 @@ pub(crate) fn register_numbered(number: i64) -> Option<Register>
     Register::try_new(number as u64)
 }
 
-/// The slot for a font whose number a field writes.
+/// The byte that a field writes: the number of a slot for a font, or the code of a character.
 #[tactic(auto, using(crate::proofs::Numbers::numbers))]
-pub(crate) fn slot_of(field: &[u8]) -> Option<u8>
+pub(crate) fn byte_of(field: &[u8]) -> Option<u8>
     ensures { result ≡ number_of slot_count field.now }
 {
     match integer_of(field) {
-        Some(number) => byte_of(number),
-        None => None,
-    }
-}
-
-/// The character whose code a field writes.
-#[tactic(auto, using(crate::proofs::Numbers::numbers))]
-pub(crate) fn character_of(field: &[u8]) -> Option<u8>
-    ensures { result ≡ number_of character_count field.now }
-{
-    match integer_of(field) {
-        Some(number) => byte_of(number),
+        Some(number) => byte_numbered(number),
         None => None,
     }
 }
 
 /// A number as a byte; None if it is out of range.
-pub(crate) fn byte_of(number: i64) -> Option<u8>
+pub(crate) fn byte_numbered(number: i64) -> Option<u8>
     ensures { result ≡ number_among 256 number }
 {
     u8::try_from(number).ok()

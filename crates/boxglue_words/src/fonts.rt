@@ -1,5 +1,9 @@
 //! Fonts by path, and faults of a command line.
 
+ghost use Rattle.std.specs.Prelude.{◌≡◌};
+ghost use Rattle.boxglue_words.specs.declared.fonts.WordFault.TheVariants.{Memory};
+
+use std::alloc::{AllocError, AllocFailed};
 use tfm_core::FontName;
 use thiserror::Error;
 
@@ -26,4 +30,20 @@ pub enum WordFault<'a> {
     /// A growth was refused.
     #[error("out of memory")]
     Memory,
+}
+
+impl From<AllocError> for WordFault<'_> {
+    ghost from_gives = { λ _ fault. fault ≡ Memory };
+
+    fn from(_error: AllocError) -> Self {
+        WordFault::Memory
+    }
+}
+
+impl<T: Drop> From<AllocFailed<T>> for WordFault<'_> {
+    ghost from_gives = { λ _ fault. fault ≡ Memory };
+
+    fn from(_failed: AllocFailed<T>) -> Self {
+        WordFault::Memory
+    }
 }

@@ -26,9 +26,7 @@ fn cut_word<'a>(alloc: Global, word: &'a str) -> Result<PairParts<'a>, WordFault
     let Some((name, path)) = word.split_once('=') else {
         return Err(WordFault::NotPair(word));
     };
-    let Ok(bytes) = Vec::from_slice(alloc, name.as_bytes()) else {
-        return Err(WordFault::Memory);
-    };
+    let bytes = Vec::from_slice(alloc, name.as_bytes())?;
     let Some(font) = FontName::try_new(bytes) else {
         return Err(WordFault::NotPair(word));
     };
@@ -60,9 +58,7 @@ fn push_pair<'a>(
     if is_named(fonts, parts.name) {
         return Err(WordFault::NameTwice(parts.name));
     }
-    let Ok(()) = fonts.push(parts.font) else {
-        return Err(WordFault::Memory);
-    };
+    fonts.push(parts.font)?;
     Ok(())
 }
 

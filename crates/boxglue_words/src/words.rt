@@ -169,9 +169,7 @@ pub fn read_words<'a>(alloc: Global, words: &'a [String]) -> Result<Task<'a>, Wo
     ensures ok { IfOk result (IsTask (map string_bytes words.now)) }
     ensures err { IfErr result (IsRefused (map string_bytes words.now)) }
 {
-    let Ok(line) = command_line(alloc) else {
-        return Err(WordFault::Memory);
-    };
+    let line = command_line(alloc)?;
     match line.try_get_matches_from(words) {
         Ok(matches) => read_matches(alloc, &matches),
         Err(error) => read_error(alloc, &error),

@@ -14,5 +14,5 @@ pub returns-clause-ok : goal.returns-clause-ok
 returns-clause-ok c = λ before fonts.
     let ok = c.in_ok-parts.ensures.ok in
     let there = rw (ok.1, c.deref.ensures.value) at c.is_named.ensures in
-    rw c.in-Ok.ensures.items
+    rw c.in_ok-push.ensures.items
     (fonts_push before c.args.fonts.now.items c.args.word.now c.in_ok-parts.parts.font fonts ok.0 ok.2 ok.3 (sym there ∙ c.if-is_named.false))

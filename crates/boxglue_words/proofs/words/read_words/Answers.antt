@@ -8,21 +8,21 @@ use Rattle.boxglue_words.specs.Tasks.{IsTask}
 use Rattle.boxglue_words.proofs.TaskLemmas.{boxglue_has_matches, boxglue_is_simple, error_refused, refused_of, task_of, version_asked}
 use Rattle.boxglue_words.proofs.words.read_words.Goals as goal
 
-pub returns-in-Ok-try_get_matches_from-clause-ok : goal.returns-in-Ok-try_get_matches_from-clause-ok
-returns-in-Ok-try_get_matches_from-clause-ok c =
+pub returns-in-Ok-clause-ok : goal.returns-in-Ok-clause-ok
+returns-in-Ok-clause-ok c =
     let words : List Text = map string_bytes c.args.words.now in
-    let line : app_of c.in-Ok.line ≡ boxglue = c.in-Ok.ensures in
-    let met = c.in-Ok-try_get_matches_from in
+    let line : app_of c.in_ok-line.line ≡ boxglue = c.in_ok-line.ensures in
+    let met = c.in-Ok in
     let accepted : fault_of boxglue words ≡ [] = subst (λ a. fault_of a words ≡ []) line (met.ensures.kinds (ap is_simple_and_free line ∙ boxglue_is_simple)) in
     let same : subcommand_rows_of met.matches ≡ subcommand_of boxglue words =
     (met.ensures.matches (ap is_simple line ∙ boxglue_has_matches)).1 ∙ ap (λ a. subcommand_of a words) line in
     IfOk-weaker c.read_matches.result _ _ (λ task h. task_of met.matches words task accepted same h) c.read_matches.ensures.ok
 
-pub returns-in-Ok-try_get_matches_from-clause-err : goal.returns-in-Ok-try_get_matches_from-clause-err
-returns-in-Ok-try_get_matches_from-clause-err c =
+pub returns-in-Ok-clause-err : goal.returns-in-Ok-clause-err
+returns-in-Ok-clause-err c =
     let words : List Text = map string_bytes c.args.words.now in
-    let line : app_of c.in-Ok.line ≡ boxglue = c.in-Ok.ensures in
-    let met = c.in-Ok-try_get_matches_from in
+    let line : app_of c.in_ok-line.line ≡ boxglue = c.in_ok-line.ensures in
+    let met = c.in-Ok in
     let accepted : fault_of boxglue words ≡ [] = subst (λ a. fault_of a words ≡ []) line (met.ensures.kinds (ap is_simple_and_free line ∙ boxglue_is_simple)) in
     let same : subcommand_rows_of met.matches ≡ subcommand_of boxglue words =
     (met.ensures.matches (ap is_simple line ∙ boxglue_has_matches)).1 ∙ ap (λ a. subcommand_of a words) line in
@@ -31,7 +31,7 @@ returns-in-Ok-try_get_matches_from-clause-err c =
 pub returns-in-Err-clause-ok : goal.returns-in-Err-clause-ok
 returns-in-Err-clause-ok c =
     let words : List Text = map string_bytes c.args.words.now in
-    let line : app_of c.in-Ok.line ≡ boxglue = c.in-Ok.ensures in
+    let line : app_of c.in_ok-line.line ≡ boxglue = c.in_ok-line.ensures in
     let kinds : HasKind (fault_of boxglue words) c.in-Err.error =
     subst (λ a. HasKind (fault_of a words) c.in-Err.error) line (c.in-Err.ensures.kinds (ap is_simple_and_free line ∙ boxglue_is_simple)) in
     IfOk-weaker c.read_error.result _ _ (λ task h. subst (IsTask words) (sym h.0) (version_asked words c.in-Err.error kinds h.1)) c.read_error.ensures.ok
@@ -39,7 +39,7 @@ returns-in-Err-clause-ok c =
 pub returns-in-Err-clause-err : goal.returns-in-Err-clause-err
 returns-in-Err-clause-err c =
     let words : List Text = map string_bytes c.args.words.now in
-    let line : app_of c.in-Ok.line ≡ boxglue = c.in-Ok.ensures in
+    let line : app_of c.in_ok-line.line ≡ boxglue = c.in_ok-line.ensures in
     let kinds : HasKind (fault_of boxglue words) c.in-Err.error =
     subst (λ a. HasKind (fault_of a words) c.in-Err.error) line (c.in-Err.ensures.kinds (ap is_simple_and_free line ∙ boxglue_is_simple)) in
     error_refused words c.in-Err.error c.read_error.result kinds c.read_error.ensures.line c.read_error.ensures.memory c.read_error.ensures.other
