@@ -6,7 +6,7 @@ use Rattle.dvi_scan.specs.declared.fault.DviCause.TheVariants.{Trailer, Version,
 use Rattle.dvi_read.specs.declared.fault.DviFault.{DviFault}
 use Rattle.dvi_read.specs.declared.fault.DviFault.TheVariants.{OutOfMemory, Bad, NoFont, BadTfm, DimensionTooLarge}
 use Rattle.tfm_core.specs.declared.fault.TfmCause.TheVariants.{TooShort, LigKern}
-use Rattle.job_commands.specs.declared.command.Refusal.TheVariants as refusals
+use Rattle.job_commands.specs.declared.replies.Refusal.TheVariants as refusals
 use Rattle.boxglue_program.specs.Texts.{refusal_line}
 
 -- The name of a rule of a DVI file.
