@@ -14,7 +14,7 @@ use std::alloc::AllocError;
 #[tactic(auto, using(crate::proofs::TextLemmas::prefixes))]
 fn space_count(text: &[u8]) -> usize
     ensures value { result ≡ prefix_len is_space text.now }
-    ensures within { result ≤ length text.now }
+    ensures length_bounded { result ≤ length text.now }
 {
     text.iter().take_while(|c| **c == b' ').count()
 }
@@ -23,7 +23,7 @@ fn space_count(text: &[u8]) -> usize
 #[tactic(auto, using(crate::proofs::TextLemmas::prefixes))]
 fn word_length(text: &[u8]) -> usize
     ensures value { result ≡ prefix_len is_other text.now }
-    ensures within { result ≤ length text.now }
+    ensures length_bounded { result ≤ length text.now }
 {
     text.iter().take_while(|c| **c != b' ').count()
 }
@@ -33,8 +33,8 @@ fn word_length(text: &[u8]) -> usize
 fn part_length(text: &[u8]) -> usize
     requires { 0 < length text.now }
     ensures value { result ≡ part_length text.now }
-    ensures some { 0 < result }
-    ensures within { result ≤ length text.now }
+    ensures not_empty { 0 < result }
+    ensures length_bounded { result ≤ length text.now }
 {
     if text[0] == b' ' {
         return space_count(text);

@@ -5,7 +5,7 @@ ghost use Rattle.node_core.specs.declared.tree.Node.{Node};
 ghost use Rattle.shape_core.specs.Shaping.{Shaping, glyph_node, items_from, missing_from, outcome_at, outcome_items, outcome_missing, outcome_next, outcome_of, shaped_items, shaped_missing};
 
 use crate::metrics::Metrics;
-use node_core::{Glyph, Node, Rule, RuleSize};
+use node_core::{Glyph, Node};
 use scaled_core::Dimen;
 use std::alloc::AllocError;
 use tfm_core::{GlyphSize, Step};
@@ -93,9 +93,6 @@ pub(crate) fn push(node: Node, nodes: &mut Vec<Node>) -> Result<(), AllocError>
     ensures ok { OnOk result (nodes.new.items ≡ nodes.old.items ++ node ∷ []) }
     ensures err { OnErr result (nodes.new.items ≡ nodes.old.items) }
 {
-    // These two unused locals are for the prover: it needs each type that occurs in a node, and finds only the types that this function names.
-    let _size: Option<RuleSize> = None;
-    let _rule: Option<Rule> = None;
     nodes.push(node)?;
     Ok(())
 }

@@ -1,5 +1,10 @@
 //! Why there is no metric file, or no font.
 
+ghost use Rattle.std.specs.Prelude.{◌≡◌};
+ghost use Rattle.tfm_core.specs.declared.fault.FontFault.TheVariants as font_faults;
+ghost use Rattle.tfm_core.specs.declared.fault.TfmFault.TheVariants as tfm_faults;
+
+use std::alloc::AllocError;
 use thiserror::Error;
 
 /// The first rule that the bytes break, in the order of the variants.
@@ -45,4 +50,28 @@ pub enum FontFault {
     /// Out of memory: an allocation was refused.
     #[error("out of memory")]
     OutOfMemory,
+}
+
+impl From<AllocError> for TfmFault {
+    ghost from_gives = { λ _ fault. fault ≡ tfm_faults.OutOfMemory };
+
+    fn from(_error: AllocError) -> TfmFault {
+        TfmFault::OutOfMemory
+    }
+}
+
+impl From<TfmCause> for TfmFault {
+    ghost from_gives = { λ cause fault. fault ≡ tfm_faults.Bad cause };
+
+    fn from(cause: TfmCause) -> TfmFault {
+        TfmFault::Bad(cause)
+    }
+}
+
+impl From<AllocError> for FontFault {
+    ghost from_gives = { λ _ fault. fault ≡ font_faults.OutOfMemory };
+
+    fn from(_error: AllocError) -> FontFault {
+        FontFault::OutOfMemory
+    }
 }

@@ -127,10 +127,7 @@ impl Font {
         if !fits_at(tfm.entries(), size) {
             return Err(FontFault::DimensionTooLarge);
         }
-        match font_at(alloc, tfm.entries(), size) {
-            Ok(font) => Ok(font),
-            Err(_) => Err(FontFault::OutOfMemory),
-        }
+        Ok(font_at(alloc, tfm.entries(), size)?)
     }
 
     /// The size of the font, in scaled points.

@@ -80,11 +80,7 @@ impl Tfm {
         ensures refused { (cause : TfmCause) → result ≡ Err (Bad cause) → metric_file bytes.now ≡ Err cause }
         ensures early { result ≡ Err OutOfMemory → broken_in_front bytes.now ≡ None }
     {
-        match file_in(alloc, bytes) {
-            Ok(Ok(tfm)) => Ok(tfm),
-            Ok(Err(cause)) => Err(TfmFault::Bad(cause)),
-            Err(_) => Err(TfmFault::OutOfMemory),
-        }
+        Ok(file_in(alloc, bytes)??)
     }
 }
 
