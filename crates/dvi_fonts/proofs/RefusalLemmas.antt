@@ -1,5 +1,5 @@
 -- A refused font has no widths; a good metric file breaks no rule; an error that `?` passes on.
-use Rattle.std.proofs.Common.{◌≡◌, ◌≢◌, List, ℕ, ℤ, Option, None, Some, Result, Ok, Err, refl, sym, ◌∙◌, subst}
+use Rattle.std.proofs.Common.{◌≡◌, ◌≢◌, List, ℕ, ℤ, Option, None, Some, Result, Ok, Err, false, refl, sym, ◌∙◌, subst}
 use Rattle.std.specs.Result.{IfErr, IsErrAnd}
 use Rattle.dvi_ops.specs.Instruction.{Definition}
 use Rattle.dvi_fonts.specs.Widths.{IsFontRefusal, IsSizedRefusal, of_read}
@@ -8,6 +8,7 @@ use Rattle.dvi_fonts.specs.declared.widths.FontRefusal.TheVariants.{OutOfMemory,
 use Rattle.tfm_core.specs.declared.reading.FontReadFault.{FontReadFault}
 use Rattle.tfm_core.specs.declared.reading.FontReadFault.TheVariants as reads
 use Rattle.tfm_core.specs.FontReads.{IsReadRefusal}
+use Rattle.tfm_core.specs.Fonts.{fits_at}
 use Rattle.tfm_core.specs.FileWidths.{file_widths, widths_by, widths_of_file}
 use Rattle.tfm_core.specs.MetricFile.{MetricFile}
 use Rattle.tfm_core.specs.NamedBytes.{NamedBytes, file_named}

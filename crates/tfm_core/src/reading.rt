@@ -54,11 +54,7 @@ impl Font {
     /// A fault gives its reason: the first broken rule of a metric file, or a dimension that does not fit. `OutOfMemory` is returned if an allocation
     /// is refused; the rules that need no table are tested before anything is allocated.
     #[tactic(auto, using(crate::proofs::FontReading::front_holds))]
-    pub fn read(
-        alloc: Global,
-        bytes: &[u8],
-        size: Option<FontSize>,
-    ) -> Result<Font, FontReadFault>
+    pub fn read(alloc: Global, bytes: &[u8], size: Option<FontSize>) -> Result<Font, FontReadFault>
         ensures ok { IfOk result (IsFontIn bytes.now size) }
         ensures numbers { IfOk result HasNumbers }
         ensures refused { IfErr result (IsReadRefusal bytes.now size) }
