@@ -1,5 +1,9 @@
 //! Why there is no bitmap.
 
+ghost use Rattle.std.specs.Prelude.{◌≡◌};
+ghost use Rattle.raster_core.specs.declared.fault.BitmapFault.TheVariants.{OutOfMemory};
+
+use std::alloc::AllocError;
 use thiserror::Error;
 
 /// Why a bitmap was not made.
@@ -11,4 +15,12 @@ pub enum BitmapFault {
     /// A growth of memory was refused.
     #[error("out of memory")]
     OutOfMemory,
+}
+
+impl From<AllocError> for BitmapFault {
+    ghost from_gives = { λ _ fault. fault ≡ OutOfMemory };
+
+    fn from(_error: AllocError) -> BitmapFault {
+        BitmapFault::OutOfMemory
+    }
 }

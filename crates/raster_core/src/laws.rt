@@ -8,7 +8,7 @@ ghost use Rattle.raster_core.specs.Pictures.{PixelGrid, drawn, is_black, painted
 pub fn drawn_pixels()
     ensures width { (w h : ℕ) (black : ℕ → ℕ → Bool) → (drawn w h black).width ≡ w }
     ensures height { (w h : ℕ) (black : ℕ → ℕ → Bool) → (drawn w h black).height ≡ h }
-    ensures within { (w h : ℕ) (black : ℕ → ℕ → Bool) (x y : ℕ) → x < w → y < h → is_black (drawn w h black) x y ≡ black x y }
+    ensures inside { (w h : ℕ) (black : ℕ → ℕ → Bool) (x y : ℕ) → x < w → y < h → is_black (drawn w h black) x y ≡ black x y }
     ensures right { (w h : ℕ) (black : ℕ → ℕ → Bool) (x y : ℕ) → w ≤ x → is_black (drawn w h black) x y ≡ false }
     ensures below { (w h : ℕ) (black : ℕ → ℕ → Bool) (x y : ℕ) → h ≤ y → is_black (drawn w h black) x y ≡ false }
 {}
@@ -16,5 +16,5 @@ pub fn drawn_pixels()
 /// The length of a rule in pixels is the least number of pixels that is not shorter.
 pub fn lengths_in_pixels()
     ensures long { (s : Scale) (n : ℕ) → 0 < s.den → n * s.num ≤ s.den * pixels s (pos n) }
-    ensures short { (s : Scale) (n : ℕ) → 0 < s.den → s.den * pixels s (pos n) < n * s.num + s.den }
+    ensures least { (s : Scale) (n : ℕ) → 0 < s.den → s.den * pixels s (pos n) < n * s.num + s.den }
 {}

@@ -57,10 +57,7 @@ impl Bitmap {
         if width < 1 || width > 10_000 || height < 1 || height > 10_000 {
             return Err(BitmapFault::DimensionTooLarge);
         }
-        match white(alloc, width as usize, height as usize) {
-            Ok(bitmap) => Ok(bitmap),
-            Err(AllocError) => Err(BitmapFault::OutOfMemory),
-        }
+        Ok(white(alloc, width as usize, height as usize)?)
     }
 
     /// Makes the pixels black that the rules of a page cover, for positive units and at most 10,000 pixels an inch. The pixel of column 0 and row 0
@@ -73,13 +70,16 @@ impl Bitmap {
         ensures { self.new ≡ painted (is_covered (scale_of (units_of units) dpi) (marked_page page.now).marks) self.old }
     {
         let scale = Scale::new(units, dpi);
+        let window = Window {
+            scale,
+            width: self.width,
+            height: self.height,
+        };
         paint_marks(
             &mut self.words,
             &mut self.mask,
             &mut self.full,
-            self.width,
-            self.height,
-            scale,
+            &window,
             &page.marks,
         );
     }
@@ -132,24 +132,30 @@ fn white(alloc: Global, width: usize, height: usize) -> Result<Bitmap, AllocErro
     })
 }
 
-/// Paints a mark into the pixels of a bitmap of this size. A bit of `full` is 1 only where a word is black.
+/// The part of a page that a bitmap shows: the scale of its pixels, and the number of columns and rows.
+#[derive(Clone, Copy, Debug)]
+struct Window {
+    scale: Scale,
+    width: usize,
+    height: usize,
+}
+
+/// Paints a mark into the pixels of a bitmap that shows this part of a page. A bit of `full` is 1 only where a word is black.
 fn paint_mark(
     words: &mut [u64],
     mask: &mut [u64],
     full: &mut [u64],
-    width: usize,
-    height: usize,
-    scale: Scale,
+    window: &Window,
     mark: Mark<'_>,
 )
-    requires columns { width ≤ 64 * length mask.old }
-    requires rows { height * length mask.old ≤ length words.old }
+    requires columns { window.now.width ≤ 64 * length mask.old }
+    requires rows { window.now.height * length mask.old ≤ length words.old }
     requires mask_bounded { length mask.old ≤ 157 }
-    requires full_rows { height * 3 ≤ length full.old }
+    requires full_rows { window.now.height * 3 ≤ length full.old }
     requires full { AreFull full.old words.old (length mask.old) }
     ensures full { AreFull full.new words.new (length mask.old) }
-    ensures pixels { (x y : ℕ) → x < width → y < height
-        → in_rows words.new (length mask.old) x y ≡ (in_rows words.old (length mask.old) x y || covers scale (mark_of mark.entry) x y) }
+    ensures pixels { (x y : ℕ) → x < window.now.width → y < window.now.height
+        → in_rows words.new (length mask.old) x y ≡ (in_rows words.old (length mask.old) x y || covers window.now.scale (mark_of mark.entry) x y) }
 {
     if let Mark::Rule {
         h,
@@ -158,8 +164,8 @@ fn paint_mark(
         width: wide,
     } = mark
     {
-        let columns = scale.columns(h, wide, width);
-        let rows = scale.rows(v, high, height);
+        let columns = window.scale.columns(h, wide, window.width);
+        let rows = window.scale.rows(v, high, window.height);
         blacken(words, mask, full, columns, rows);
     }
 }
@@ -170,20 +176,19 @@ fn paint_marks(
     words: &mut [u64],
     mask: &mut [u64],
     full: &mut [u64],
-    width: usize,
-    height: usize,
-    scale: Scale,
+    window: &Window,
     marks: &[Mark<'_>],
 )
-    requires columns { width ≤ 64 * length mask.old }
-    requires rows { height * length mask.old ≤ length words.old }
+    requires columns { window.now.width ≤ 64 * length mask.old }
+    requires rows { window.now.height * length mask.old ≤ length words.old }
     requires mask_bounded { length mask.old ≤ 157 }
-    requires full_rows { height * 3 ≤ length full.old }
-    ensures { (x y : ℕ) → x < width → y < height
-        → in_rows words.new (length mask.old) x y ≡ (in_rows words.old (length mask.old) x y || is_covered scale (map mark_of marks.now) x y) }
+    requires full_rows { window.now.height * 3 ≤ length full.old }
+    ensures { (x y : ℕ) → x < window.now.width → y < window.now.height
+        → in_rows words.new (length mask.old) x y
+        ≡ (in_rows words.old (length mask.old) x y || is_covered window.now.scale (map mark_of marks.now) x y) }
 {
     full.fill(0);
     for mark in marks {
-        paint_mark(words, mask, full, width, height, scale, *mark);
+        paint_mark(words, mask, full, window, *mark);
     }
 }

@@ -71,7 +71,7 @@ impl Scale {
     /// The columns of a rule with its corner at `h`, cut to those from 0 and below `limit`.
     #[tactic(auto, unfolding(crate::specs::Pixels::in_columns))]
     pub fn columns(&self, h: i32, width: i32, limit: usize) -> Range<usize>
-        ensures within { result.end ≤ limit }
+        ensures end_bounded { result.end ≤ limit }
         ensures exact { (x : ℕ) → x < limit → between result.start result.end x ≡ in_columns self.now h width x }
     {
         let first = self.place(h);
@@ -81,7 +81,7 @@ impl Scale {
     /// The rows of a rule with its corner at `v`, cut to those from 0 and below `limit`.
     #[tactic(auto, unfolding(crate::specs::Pixels::in_rows))]
     pub fn rows(&self, v: i32, height: i32, limit: usize) -> Range<usize>
-        ensures within { result.end ≤ limit }
+        ensures end_bounded { result.end ≤ limit }
         ensures exact { (y : ℕ) → y < limit → between result.start result.end y ≡ in_rows self.now v height y }
     {
         let last = self.place(v);
@@ -100,7 +100,7 @@ fn times(at: i32, num: u128) -> i128
 
 /// The count of the numbers from 0 and below `limit` that are below `place`.
 fn count_below(place: i128, limit: usize) -> usize
-    ensures within { result ≤ limit }
+    ensures value_bounded { result ≤ limit }
     ensures exact { (x : ℕ) → x < limit → nat_lt x result ≡ int_lt (pos x) place }
 {
     if place < 0 {
@@ -114,7 +114,7 @@ fn count_below(place: i128, limit: usize) -> usize
 
 /// The count of the numbers from 0 and below `limit` that are at most `place`.
 fn count_up_to(place: i128, limit: usize) -> usize
-    ensures within { result ≤ limit }
+    ensures value_bounded { result ≤ limit }
     ensures exact { (x : ℕ) → x < limit → nat_lt x result ≡ int_le (pos x) place }
 {
     if place < 0 {
@@ -128,7 +128,7 @@ fn count_up_to(place: i128, limit: usize) -> usize
 
 /// The numbers from `first` to `last` (included), cut to those from 0 and below `limit`.
 fn cut(first: i128, last: i128, limit: usize) -> Range<usize>
-    ensures within { result.end ≤ limit }
+    ensures end_bounded { result.end ≤ limit }
     ensures exact { (x : ℕ) → x < limit → between result.start result.end x ≡ spans first last x }
 {
     count_below(first, limit)..count_up_to(last, limit)

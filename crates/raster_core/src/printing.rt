@@ -43,7 +43,7 @@ fn append_number(out: &mut Vec<u8>, number: usize)
 
 /// Appends the header, within the capacity of `out`.
 pub fn append_header(out: &mut Vec<u8>, width: usize, height: usize)
-    requires narrow { width ≤ 10000 }
+    requires width_bounded { width ≤ 10000 }
     requires height_bounded { height ≤ 10000 }
     requires room { vec_len out.old + MAX_HEADER ≤ vec_capacity out.old }
     ensures text { out.new.items ≡ out.old.items ++ header_text width height }
@@ -93,7 +93,7 @@ fn put_row(words: &[u64], stride: usize, y: usize, row: &mut [u8])
 
 /// Appends a line of a row, within the capacity of `out`: its digits and a line feed.
 fn append_line(out: &mut Vec<u8>, row: &[u8], width: usize, line: usize)
-    requires within { 70 * line < width }
+    requires line { 70 * line < width }
     requires columns { width ≤ length row.now }
     requires room { vec_len out.old + (min (width - 70 * line) 70 + 1) ≤ vec_capacity out.old }
     ensures text { (black : ℕ → Bool) → row.now ≡ digits black 0 (length row.now) → out.new.items ≡ out.old.items ++ line_text width black line }

@@ -12,9 +12,9 @@ pub struct Rows<'a> {
     pub height: usize,
     ghost columns: { width ≤ 64 * stride },
     ghost rows: { height * stride ≤ length words.now },
-    ghost short: { stride ≤ 157 },
-    ghost narrow: { width ≤ 10000 },
-    ghost few: { height ≤ 10000 },
+    ghost stride_bounded: { stride ≤ 157 },
+    ghost width_bounded: { width ≤ 10000 },
+    ghost height_bounded: { height ≤ 10000 },
 }
 
 impl Rows<'_> {

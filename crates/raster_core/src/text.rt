@@ -71,7 +71,7 @@ impl<'a> PbmText<'a> {
         requires { ROW_TEXT ≤ vec_capacity piece.old }
         ensures all { pbm_text_ahead self.old ≡ piece.new.items ++ pbm_text_ahead self.new }
         ensures none { result ≡ false → pbm_text_ahead self.old ≡ [] }
-        ensures some { IsTrue result → 0 < length piece.new.items }
+        ensures piece_nonempty { IsTrue result → 0 < length piece.new.items }
         ensures capacity { vec_capacity piece.old ≤ vec_capacity piece.new }
     {
         piece.clear();

@@ -7,67 +7,55 @@ use crate::lanes::{has_row, or_row};
 use crate::masks::fill;
 use std::ops::Range;
 
-/// Makes the pixels `first` to `last` (excluded) of a row black. `mask` has these pixels, and `inner` the words that they fill. Where these words are
-/// known to be black, only the first and the last word of the pixels are written.
-fn blacken_row(
-    words: &mut [u64],
-    mask: &[u64],
-    full: &mut [u64],
-    inner: &[u64],
+/// A run of black pixels in a row: the pixels `first` to `last` (excluded), a mask of these pixels, and the words that they fill.
+#[derive(Clone, Copy, Debug)]
+struct Run<'a> {
     first: usize,
     last: usize,
-    row: usize,
-)
-    requires some { first < last }
-    requires columns { last ≤ 64 * length mask.now }
-    requires mask_bounded { length mask.now ≤ 192 }
-    requires room { row * length mask.now + length mask.now ≤ length words.old }
+    mask: &'a [u64],
+    inner: &'a [u64],
+    ghost nonempty: { first < last },
+    ghost columns: { last ≤ 64 * length mask.now },
+    ghost mask_bounded: { length mask.now ≤ 192 },
+    ghost inner_words: { length inner.now ≡ 3 },
+    ghost run: { IsRun mask.now inner.now first last },
+}
+
+/// Makes a run of pixels of a row black. Where the words that it fills are known to be black, only the first and the last word of the run are written.
+fn blacken_row(words: &mut [u64], full: &mut [u64], run: Run<'_>, row: usize)
+    requires room { row * length run.mask.now + length run.mask.now ≤ length words.old }
     requires full_room { row * 3 + 3 ≤ length full.old }
-    requires inner { length inner.now ≡ 3 }
-    requires run { IsRun mask.now inner.now first last }
-    requires full { AreFull full.old words.old (length mask.now) }
-    ensures full { AreFull full.new words.new (length mask.now) }
-    ensures pixels { let stride = length mask.now in
-        (x y : ℕ) → x < 64 * stride → in_rows words.new stride x y ≡ (in_rows words.old stride x y || ((y == row) && between first last x)) }
+    requires full { AreFull full.old words.old (length run.mask.now) }
+    ensures full { AreFull full.new words.new (length run.entry.mask.now) }
+    ensures pixels { let stride = length run.entry.mask.now in
+        (x y : ℕ) → x < 64 * stride → in_rows words.new stride x y
+        ≡ (in_rows words.old stride x y || ((y == row) && between run.entry.first run.entry.last x)) }
 {
-    let at = row * mask.len();
-    let from = first / 64;
-    let to = last.div_ceil(64);
-    if has_row(full, row * 3, inner, 0, 3) {
-        or_row(words, at, mask, from, from + 1);
-        or_row(words, at, mask, to - 1, to);
+    let at = row * run.mask.len();
+    let from = run.first / 64;
+    let to = run.last.div_ceil(64);
+    if has_row(full, row * 3, run.inner, 0, 3) {
+        or_row(words, at, run.mask, from, from + 1);
+        or_row(words, at, run.mask, to - 1, to);
     } else {
-        or_row(words, at, mask, from, to);
-        or_row(full, row * 3, inner, 0, 3);
+        or_row(words, at, run.mask, from, to);
+        or_row(full, row * 3, run.inner, 0, 3);
     }
 }
 
-/// Makes the pixels of these columns black in the rows `top` to `bottom` (excluded).
-fn blacken_rows(
-    words: &mut [u64],
-    mask: &[u64],
-    full: &mut [u64],
-    inner: &[u64],
-    columns: Range<usize>,
-    top: usize,
-    bottom: usize,
-)
-    requires some { columns.start < columns.end }
-    requires columns { columns.end ≤ 64 * length mask.now }
-    requires mask_bounded { length mask.now ≤ 192 }
-    requires rows { top ≤ bottom }
-    requires room { bottom * length mask.now ≤ length words.old }
-    requires full_room { bottom * 3 ≤ length full.old }
-    requires inner { length inner.now ≡ 3 }
-    requires run { IsRun mask.now inner.now columns.start columns.end }
-    requires full { AreFull full.old words.old (length mask.now) }
-    ensures full { AreFull full.new words.new (length mask.now) }
-    ensures pixels { let stride = length mask.now in
+/// Makes a run of pixels black in each of these rows.
+fn blacken_rows(words: &mut [u64], full: &mut [u64], run: Run<'_>, rows: Range<usize>)
+    requires rows { rows.start ≤ rows.end }
+    requires room { rows.end * length run.mask.now ≤ length words.old }
+    requires full_room { rows.end * 3 ≤ length full.old }
+    requires full { AreFull full.old words.old (length run.mask.now) }
+    ensures full { AreFull full.new words.new (length run.entry.mask.now) }
+    ensures pixels { let stride = length run.entry.mask.now in
         (x y : ℕ) → x < 64 * stride → in_rows words.new stride x y
-        ≡ (in_rows words.old stride x y || (between top bottom y && between columns.start columns.end x)) }
+        ≡ (in_rows words.old stride x y || (between rows.start rows.end y && between run.entry.first run.entry.last x)) }
 {
-    for row in top..bottom {
-        blacken_row(words, mask, full, inner, columns.start, columns.end, row);
+    for row in rows.start..rows.end {
+        blacken_row(words, full, run, row);
     }
 }
 
@@ -98,7 +86,13 @@ pub fn blacken(
     fill(mask, first / 64, last.div_ceil(64), first, last);
     let mut inner = [0; 3];
     fill(&mut inner, 0, 3, first.div_ceil(64), last / 64);
-    blacken_rows(words, mask, full, &inner, columns, rows.start, rows.end);
+    let run = Run {
+        first,
+        last,
+        mask,
+        inner: &inner,
+    };
+    blacken_rows(words, full, run, rows);
 }
 
 /// Whether the pixel of bit i in a word is black.

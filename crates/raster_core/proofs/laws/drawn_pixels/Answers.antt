@@ -8,7 +8,7 @@ unfolding drawn
 returns c = record {
   width = λ w h black. refl;
   height = λ w h black. refl;
-  within = drawn_pixel;
+  inside = drawn_pixel;
   right = drawn_right;
   below = drawn_below;
 }

@@ -16,5 +16,5 @@ pub returns : goal.returns
 unfolding pixels
 returns c = record {
   long = λ s n h. (rounded_up (n * s.num) s.den (n * s.num / s.den) (n * s.num % s.den) (div-add-mod' (n * s.num) s.den) (mod_below (n * s.num) s.den h)).0;
-  short = λ s n h. (rounded_up (n * s.num) s.den (n * s.num / s.den) (n * s.num % s.den) (div-add-mod' (n * s.num) s.den) (mod_below (n * s.num) s.den h)).1;
+  least = λ s n h. (rounded_up (n * s.num) s.den (n * s.num / s.den) (n * s.num % s.den) (div-add-mod' (n * s.num) s.den) (mod_below (n * s.num) s.den h)).1;
 }

@@ -7,7 +7,7 @@ use Rattle.raster_core.proofs.painting.paint_marks.Given as goal
 abbrev pub invariant-loop-mark : goal.invariant-loop-mark
 invariant-loop-mark l = record {
   full : AreFull l.full l.words (length l.fn.mask);
-  pixels : (x y : ℕ) → x < l.width → y < l.height
+  pixels : (x y : ℕ) → x < l.window.width → y < l.window.height
       → in_rows l.words (length l.fn.mask) x y
-      ≡ (in_rows l.fn.words (length l.fn.mask) x y || is_covered l.scale (take l.mark-index (map mark_of l.marks)) x y);
+      ≡ (in_rows l.fn.words (length l.fn.mask) x y || is_covered l.window.scale (take l.mark-index (map mark_of l.marks)) x y);
 }

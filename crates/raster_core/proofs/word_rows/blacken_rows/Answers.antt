@@ -7,7 +7,7 @@ pub loop-row-preserved : goal.loop-row-preserved
 loop-row-preserved c = record {
   full = c.blacken_row.ensures.full;
   pixels =
-      rows_more c.args.words.now c.loop-row.words c.blacken_row.new.words (length c.args.mask.now) c.args.top c.loop-row.row (between c.args.columns.start c.args.columns.end)
+      rows_more c.args.words.now c.loop-row.words c.blacken_row.new.words (length c.args.run.mask.now) c.args.rows.start c.loop-row.row (between c.args.run.first c.args.run.last)
       (omega arith)
       c.loop-row.invariant.pixels
       c.blacken_row.ensures.pixels;

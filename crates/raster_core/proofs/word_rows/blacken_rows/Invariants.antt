@@ -4,7 +4,7 @@ use Rattle.raster_core.proofs.word_rows.blacken_rows.Given as goal
 
 abbrev pub invariant-loop-row : goal.invariant-loop-row
 invariant-loop-row l = record {
-  full : AreFull l.full l.words (length l.mask);
-  pixels : (x y : ℕ) → x < 64 * length l.mask
-      → in_rows l.words (length l.mask) x y ≡ (in_rows l.fn.words (length l.mask) x y || (between l.top l.row y && between l.columns.start l.columns.end x));
+  full : AreFull l.full l.words (length l.run.mask.now);
+  pixels : (x y : ℕ) → x < 64 * length l.run.mask.now
+      → in_rows l.words (length l.run.mask.now) x y ≡ (in_rows l.fn.words (length l.run.mask.now) x y || (between l.fn.rows.start l.row y && between l.run.first l.run.last x));
 }
