@@ -15,6 +15,7 @@ use crate::registers::sizes_of;
 use job_commands::{Answer, AppendBox, Refusal, Register, Reply, Splitting, Transfer, Unboxing};
 use job_lists::open_lists::{room_for_box, room_for_items};
 use node_core::BoxNode;
+use node_core::limits::MAX_ITEMS;
 use scaled_core::Dimen;
 use std::alloc::AllocError;
 

@@ -18,7 +18,7 @@ use job_commands::{Answer, Opening, Refusal, Register, Reply};
 use job_lists::open_lists::room_for_box;
 use job_machine::ListPurpose;
 use node_core::BoxNode;
-use node_core::limits::{MAX_DEPTH, MAX_OPEN_LISTS};
+use node_core::limits::{MAX_DEPTH, MAX_ITEMS, MAX_OPEN_LISTS};
 use pack_core::Packed;
 use std::alloc::AllocError;
 

@@ -2,7 +2,7 @@ use Rattle.std.proofs.Common.{refl, ap}
 use Rattle.job_state.specs.contracts.job_state.JobState as a_kept
 use Rattle.job_state.proofs.EndedParagraphs.{par_state}
 use Rattle.job_state.specs.JobStateView.{before_shipping}
-use Rattle.job_state.proofs.job_state.lists.JobState.open_paragraph.Goals as goal
+use Rattle.job_state.proofs.job_state.JobState.open_paragraph.Goals as goal
 
 pub returns-clause-state : goal.returns-clause-state
 returns-clause-state c =

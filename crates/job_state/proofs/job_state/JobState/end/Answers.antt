@@ -9,7 +9,7 @@ use Rattle.job_machine.specs.Machine.{state_by}
 use Rattle.job_lists.proofs.Nests.{put_back, end_refused, on_err}
 use Rattle.job_state.proofs.EndedParagraphs.{end_state}
 use Rattle.job_state.specs.JobStateView.{JobStateView, before_shipping}
-use Rattle.job_state.proofs.job_state.lists.JobState.end.Goals as goal
+use Rattle.job_state.proofs.job_state.JobState.end.Goals as goal
 
 pub returns-in-Some-refusal_of-clause-state : goal.returns-in-Some-refusal_of-clause-state
 returns-in-Some-refusal_of-clause-state c =

@@ -3,7 +3,7 @@ use Rattle.std.specs.Option.{option_copied}
 use Rattle.job_machine.specs.State.{held_in}
 use Rattle.job_state.specs.JobStateView.{JobStateView, before_shipping}
 use Rattle.job_state.proofs.TakenBoxes.{none_unboxed}
-use Rattle.job_state.proofs.job_state.boxes.JobState.copy_items.Goals as goal
+use Rattle.job_state.proofs.job_state.JobState.copy_items.Goals as goal
 
 pub returns-then-is_empty-clause-ok : goal.returns-then-is_empty-clause-ok
 returns-then-is_empty-clause-ok c =

@@ -3,7 +3,7 @@ use Rattle.std.specs.Option.{option_copied}
 use Rattle.job_machine.specs.State.{innermost}
 use Rattle.job_machine.proofs.ListElements.{none_last}
 use Rattle.job_state.specs.JobStateView.{JobStateView}
-use Rattle.job_state.proofs.job_state.appending.JobState.append_special.Goals as goal
+use Rattle.job_state.proofs.job_state.JobState.append_rule.Goals as goal
 
 pub returns-in_default-clause-reply : goal.returns-in_default-clause-reply
 returns-in_default-clause-reply c =

@@ -1,12 +1,12 @@
 use Rattle.std.proofs.Common.{◌≡◌, ◌∙◌, List, length, ap, sym, refl}
 use Rattle.std.specs.Option.{option_copied}
-use Rattle.job_commands.specs.declared.command.Command.TheVariants.{Text}
+use Rattle.job_commands.specs.declared.command.Command.TheVariants.{Character}
 use Rattle.job_commands.specs.declared.replies.Refusal.TheVariants.{JobOver}
 use Rattle.dvi_layout.specs.Fonts.{font_in}
 use Rattle.node_core.specs.Items.{Items}
 use Rattle.node_core.specs.Nodes.{nodes_of}
 use Rattle.job_machine.specs.declared.OpenList.{OpenList}
-use Rattle.job_machine.specs.FontSlots.{text_items_in, text_shaped}
+use Rattle.job_machine.specs.FontSlots.{character_in, character_shaped}
 use Rattle.job_machine.specs.State.{innermost, items_in}
 use Rattle.job_machine.specs.Checks.{character_checks, length_checks, room_checks, first_refusal}
 use Rattle.job_machine.specs.Answers.{answer_of}
@@ -18,20 +18,20 @@ use Rattle.job_lists.proofs.ShapedTexts.{put_more, put_back_all}
 use Rattle.std.specs.Prelude.{Some}
 use Rattle.job_state.specs.contracts.job_state.JobState as a_kept
 use Rattle.job_state.specs.JobStateView.{JobStateView, before_shipping}
-use Rattle.job_state.proofs.ShapedItems.{on_ok, on_err, text_state}
-use Rattle.job_state.proofs.job_state.appending.JobState.append_text.Goals as goal
+use Rattle.job_state.proofs.ShapedItems.{on_ok, on_err, character_state}
+use Rattle.job_state.proofs.job_state.JobState.append_character.Goals as goal
 
 pub returns-in-Err-clause-reply : goal.returns-in-Err-clause-reply
 returns-in-Err-clause-reply c =
     let s = before_shipping c.args.self.now in
-    sym (ap (λ found. reply_by found (answer_of s (Text c.args.text.now)))
-    (first_refused s.over (character_checks s) (length_checks s (text_shaped s.fonts s.current c.args.text.now).items) JobOver c.in-Err.refusal refl c.in-Err.ensures.err))
+    sym (ap (λ found. reply_by found (answer_of s (Character c.args.code)))
+    (first_refused s.over (character_checks s) (length_checks s (character_shaped s.fonts s.current c.args.code).items) JobOver c.in-Err.refusal refl c.in-Err.ensures.err))
 
 pub returns-in-Err-clause-state : goal.returns-in-Err-clause-state
 returns-in-Err-clause-state c =
     let s = before_shipping c.args.self.now in
-    sym (ap (λ found. state_by found s (after s (Text c.args.text.now)))
-    (first_refused s.over (character_checks s) (length_checks s (text_shaped s.fonts s.current c.args.text.now).items) JobOver c.in-Err.refusal refl c.in-Err.ensures.err))
+    sym (ap (λ found. state_by found s (after s (Character c.args.code)))
+    (first_refused s.over (character_checks s) (length_checks s (character_shaped s.fonts s.current c.args.code).items) JobOver c.in-Err.refusal refl c.in-Err.ensures.err))
 
 pub returns-clause-state : goal.returns-clause-state
 returns-clause-state c =
@@ -41,29 +41,29 @@ returns-clause-state c =
     let nest : List OpenList = c.self.inside.nest in
     let bare : List OpenList = c.take_items-items.new.self in
     let taken = c.take_items-items.result.items in
-    let found = text_items_in (Some loaded) slot c.codes.result.now in
+    let found = character_in (Some loaded) slot c.args.code in
     let same : nest ≡ s.nest = ap (λ (t : JobStateView). t.nest) c.self.view_is in
     let font : font_in s.fonts slot ≡ Some loaded =
     ap (λ (t : JobStateView). font_in t.fonts slot) (sym c.self.view_is) ∙ (sym c.get.ensures ∙ ap option_copied c.in-Some.is) in
     let count : length taken ≡ length (nodes_of (items_in (innermost s.nest))) =
     ap length c.take_items-items.ensures.items ∙ ap (λ (n : List OpenList). length (nodes_of (items_in (innermost n)))) same in
-    on_ok c.append_text-reply.result
+    on_ok c.append_character-reply.result
     (λ are.
     ap (λ (t : JobStateView). record (before_shipping t) { nest = c.refill.new.self }) c.self.view_is
-    ∙ text_state s slot loaded refl c.in-Ok.ensures.slot font c.in-Ok.ensures.ok c.refill.new.self c.args.text.now c.codes.result.now (length taken) c.codes.ensures count
-    (put_more nest bare c.refill.new.self taken c.append_text-reply.new.items.items found.items (first_refusal (room_checks (length taken) found.items)) c.take_items-items.ensures.emptied
+    ∙ character_state s slot loaded refl c.in-Ok.ensures.slot font c.in-Ok.ensures.ok c.refill.new.self c.args.code (length taken) count
+    (put_more nest bare c.refill.new.self taken c.append_character-reply.new.items.items found.items (first_refusal (room_checks (length taken) found.items)) c.take_items-items.ensures.emptied
     c.take_items-items.ensures.items are (c.refill.ensures ∙ ap (λ (i : Items). refilled_nest bare i (innermost bare)) c.from_vec.ensures.items)
     ∙ ap (λ (n : List OpenList). state_by (first_refusal (room_checks (length taken) found.items)) n (with_nodes n found.items (innermost n))) same))
-    c.append_text-reply.ensures.items
+    c.append_character-reply.ensures.items
 
 pub returns-clause-err : goal.returns-clause-err
 returns-clause-err c =
     let nest : List OpenList = c.self.inside.nest in
     let bare : List OpenList = c.take_items-items.new.self in
-    on_err c.append_text-reply.result
+    on_err c.append_character-reply.result
     (λ are.
     ap (λ (lists : List OpenList). a_kept.the_view (record (c.self.inside) { nest = lists }))
-    (put_back_all nest bare c.refill.new.self c.take_items-items.result.items c.append_text-reply.new.items.items c.take_items-items.ensures.emptied c.take_items-items.ensures.items are
+    (put_back_all nest bare c.refill.new.self c.take_items-items.result.items c.append_character-reply.new.items.items c.take_items-items.ensures.emptied c.take_items-items.ensures.items are
     (c.refill.ensures ∙ ap (λ (i : Items). refilled_nest bare i (innermost bare)) c.from_vec.ensures.items))
     ∙ c.self.view_is)
-    c.append_text-reply.ensures.err
+    c.append_character-reply.ensures.err

@@ -11,8 +11,8 @@ use Rattle.job_machine.specs.OpenLists.{opened_list}
 use Rattle.job_machine.specs.Checks.{open_checks, first_refusal}
 use Rattle.job_machine.specs.Machine.{state_after}
 use Rattle.job_state.specs.JobStateView.{JobStateView, before_shipping}
-use Rattle.job_state.proofs.job_state.lists.JobState.open_list.Goals as goal
-use Rattle.job_state.proofs.job_state.lists.JobState.open_list.Goals.{else-is_none-via-then-is_none+else-count-eq0, else-is_none-via-else-is_none}
+use Rattle.job_state.proofs.job_state.JobState.open_list.Goals as goal
+use Rattle.job_state.proofs.job_state.JobState.open_list.Goals.{else-is_none-via-then-is_none+else-count-eq0, else-is_none-via-else-is_none}
 
 -- No check refuses a list that is opened.
 opened_free : (nest : List OpenList) (into : Option ℕ) (count : ℕ) → count ≡ length nest → (is_none into && (count == 0)) ≡ false → nat_le MAX_OPEN_LISTS count ≡ false
