@@ -80,9 +80,7 @@ pub fn read_fonts<'a, H: Host>(
 {
     let mut files = Vec::new(alloc);
     for font in fonts {
-        if let Err(fault) = push_font(alloc, host, font, &mut files) {
-            return Err(fault);
-        }
+        push_font(alloc, host, font, &mut files)?;
     }
     Ok(files)
 }
