@@ -63,17 +63,14 @@ fn painted(
     dvi: &[u8],
     fonts: &[Font<'_>],
     page: u32,
-    dpi: u32,
-    width: u32,
-    height: u32,
+    size: BitmapSize,
 ) -> Result<Output, PaintFault>
     requires named { are_named fonts.now ≡ true }
-    requires range { is_in_range page dpi width height ≡ true }
-    ensures ok { IfOk result (λ output. IsPainted (files_of fonts.now) dvi.now page dpi width height output.text.items output.accepted) }
+    requires range { is_in_range page size.dpi size.width size.height ≡ true }
+    ensures ok { IfOk result (λ output. IsPainted (files_of fonts.now) dvi.now page size.dpi size.width size.height output.text.items output.accepted) }
     ensures missing { result ≡ Err NoSuchPage → LacksPage (files_of fonts.now) dvi.now page }
 {
     let files = font_files(alloc, fonts)?;
-    let size = BitmapSize { dpi, width, height };
     paint_text(alloc, dvi, &files, page, size)
 }
 
@@ -108,7 +105,8 @@ pub fn paint(
     if !is_in_range(page, dpi, width, height) {
         return OUT_OF_RANGE;
     }
-    match painted(alloc, dvi, fonts, page, dpi, width, height) {
+    let bitmap_size = BitmapSize { dpi, width, height };
+    match painted(alloc, dvi, fonts, page, bitmap_size) {
         Ok(output) => {
             *size = output.text.len();
             hand_over(&output.text, text, file_status(output.accepted))

@@ -7,7 +7,7 @@ use Rattle.dvi_device.specs.Written.{written_then}
 use Rattle.tfm_core.specs.NamedBytes.{NamedBytes}
 use Rattle.boxglue_words.specs.declared.fonts.NamedPath.{NamedPath}
 use Rattle.boxglue_host.specs.declared.font_files.Unread.{Unread}
-use Rattle.boxglue_host.specs.Hosts.{AreFilesOf, IsFileOf, IsUnread, IsUnreadOf, begun, written_to_file}
+use Rattle.boxglue_host.specs.Hosts.{AreFilesOf, IsFileOf, IsUnread, IsUnreadOf, just_created, written_to_file}
 
 -- One more font and its file.
 pub files_push : (contents : List ℕ → Option (Option (List ℕ))) (fonts : List NamedPath) (files : List NamedBytes) (font : NamedPath) (file : NamedBytes)
@@ -38,9 +38,9 @@ first_unread contents fonts i font files fault lt at read unread = record {
 }
 
 -- Before a file is created, its known bytes are those of a file that was just created.
-pub begun_twice : (written : Option (List ℕ)) → begun (begun written) ≡ begun written
-begun_twice None = refl
-begun_twice (Some bytes) = refl
+pub created_twice : (written : Option (List ℕ)) → just_created (just_created written) ≡ just_created written
+created_twice None = refl
+created_twice (Some bytes) = refl
 
 -- A new device has reported no byte.
 pub nothing_written : (written : Option (List ℕ)) → IfSome (written_to_file false written) (λ bytes. bytes ≡ [])

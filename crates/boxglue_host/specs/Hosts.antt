@@ -7,13 +7,13 @@ use Rattle.boxglue_host.specs.declared.font_files.Unread.{Unread}
 use Rattle.boxglue_host.specs.declared.font_files.Unread.TheVariants.{OutOfMemory as WantsMemory, File}
 
 -- The bytes of a file that was just created: none, if they are known.
-abbrev pub begun : Option (List ℕ) → Option (List ℕ)
-begun None = None
-begun (Some bytes) = Some []
+abbrev pub just_created : Option (List ℕ) → Option (List ℕ)
+just_created None = None
+just_created (Some bytes) = Some []
 
 -- What a file device reports: the bytes that the created file took; before its creation, no byte.
 abbrev pub written_to_file : Bool → Option (List ℕ) → Option (List ℕ)
-written_to_file is_open written = if is_open then written else begun written
+written_to_file is_open written = if is_open then written else just_created written
 
 -- Whether a host has failed between two counts of its failures.
 abbrev pub has_failed : (before now : ℕ) → Bool

@@ -5,7 +5,7 @@ ghost use Rattle.std.specs.Option.{ForSome};
 ghost use Rattle.dvi_device.specs.Written.{written_then};
 ghost use Rattle.boxglue_host.specs.Hosts.{written_to_file};
 
-use crate::host::Host;
+use crate::host::{Host, HostFault};
 use dvi_device::{Device, DeviceFault, Snapshot};
 
 /// A device that writes a file at a path of its host. It creates the file at its first write, so a script that ships nothing leaves an existing file alone.
@@ -57,6 +57,12 @@ impl<'a, H: Host> FileDevice<'a, H> {
     }
 }
 
+impl From<HostFault> for DeviceFault {
+    fn from(_fault: HostFault) -> DeviceFault {
+        DeviceFault
+    }
+}
+
 /// Creates the file of a host, unless it was created before.
 fn open<H: Host>(host: &mut H, path: &str, is_open: &mut bool) -> Result<(), DeviceFault>
     ensures bytes_written { written_to_file is_open.new (H.written host.new) ≡ written_to_file is_open.old (H.written host.old) }
@@ -68,13 +74,9 @@ fn open<H: Host>(host: &mut H, path: &str, is_open: &mut bool) -> Result<(), Dev
     if *is_open {
         return Ok(());
     }
-    match host.create(path) {
-        Ok(()) => {
-            *is_open = true;
-            Ok(())
-        }
-        Err(_) => Err(DeviceFault),
-    }
+    host.create(path)?;
+    *is_open = true;
+    Ok(())
 }
 
 /// Creates the file of a host, unless it was created before, and writes a piece.
@@ -84,8 +86,8 @@ fn put<H: Host>(
     is_open: &mut bool,
     piece: &[u8],
 ) -> Result<usize, DeviceFault>
-    requires some { 0 < length piece.now }
-    ensures within { IfOk result (λ n. (1 ≤ n) × (n ≤ length piece.now)) }
+    requires piece_not_empty { 0 < length piece.now }
+    ensures count_bounded { IfOk result (λ n. (1 ≤ n) × (n ≤ length piece.now)) }
     ensures taken { IfOk result (λ n. written_to_file is_open.new (H.written host.new) ≡ written_then (written_to_file is_open.old (H.written host.old)) (take n piece.now)) }
     ensures none_taken { OnErr result (written_to_file is_open.new (H.written host.new) ≡ written_to_file is_open.old (H.written host.old)) }
     ensures used { OnOk result (ForSome (H.written host.new) (λ bytes. bytes ≢ [])) }
@@ -94,10 +96,8 @@ fn put<H: Host>(
     ensures counted { OnErr result (H.failures host.new ≡ H.failures host.old + 1) }
 {
     open(host, path, is_open)?;
-    match host.write(piece) {
-        Ok(count) => Ok(count),
-        Err(_) => Err(DeviceFault),
-    }
+    let count = host.write(piece)?;
+    Ok(count)
 }
 
 impl<H: Host> Device for FileDevice<'_, H> {

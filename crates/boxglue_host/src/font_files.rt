@@ -1,11 +1,12 @@
 //! The font files that a command line names.
 
-ghost use Rattle.std.specs.Prelude.{◌++◌, ◌∷◌, [], List, IfOk, IfErr, OnOk};
+ghost use Rattle.std.specs.Prelude.{◌≡◌, ◌++◌, ◌∷◌, [], List, IfOk, IfErr, OnOk};
 ghost use Rattle.boxglue_host.specs.Hosts.{AreFilesOf, IsFileOf, IsUnread, IsUnreadOf};
+ghost use Rattle.boxglue_host.specs.declared.font_files.Unread.TheVariants.{OutOfMemory};
 
 use crate::host::{Host, HostFault};
 use boxglue_words::NamedPath;
-use std::alloc::Global;
+use std::alloc::{AllocError, AllocFailed, Global};
 use tfm_core::FontFile;
 
 /// Why font files were not read.
@@ -15,6 +16,22 @@ pub enum Unread<'a> {
     OutOfMemory,
     /// The file at this path could not be read.
     File(&'a str),
+}
+
+impl From<AllocError> for Unread<'_> {
+    ghost from_gives = { λ _ fault. fault ≡ OutOfMemory };
+
+    fn from(_error: AllocError) -> Self {
+        Unread::OutOfMemory
+    }
+}
+
+impl<T: Drop> From<AllocFailed<T>> for Unread<'_> {
+    ghost from_gives = { λ _ fault. fault ≡ OutOfMemory };
+
+    fn from(_failed: AllocFailed<T>) -> Self {
+        Unread::OutOfMemory
+    }
 }
 
 /// The file of a font.
@@ -31,10 +48,8 @@ fn read_font<'a, H: Host>(
         Err(HostFault::OutOfMemory) => return Err(Unread::OutOfMemory),
         Err(HostFault::Failed) => return Err(Unread::File(font.path)),
     };
-    match font.name.copy(alloc) {
-        Ok(name) => Ok(FontFile::new(name, bytes)),
-        Err(_) => Err(Unread::OutOfMemory),
-    }
+    let name = font.name.copy(alloc)?;
+    Ok(FontFile::new(name, bytes))
 }
 
 /// Appends the file of a font.
@@ -48,9 +63,7 @@ fn push_font<'a, H: Host>(
     ensures err { IfErr result (IsUnreadOf (H.file host.now) font.now) }
 {
     let file = read_font(alloc, host, font)?;
-    let Ok(()) = files.push(file) else {
-        return Err(Unread::OutOfMemory);
-    };
+    files.push(file)?;
     Ok(())
 }
 
@@ -67,9 +80,7 @@ pub fn read_fonts<'a, H: Host>(
 {
     let mut files = Vec::new(alloc);
     for font in fonts {
-        if let Err(fault) = push_font(alloc, host, font, &mut files) {
-            return Err(fault);
-        }
+        push_font(alloc, host, font, &mut files)?;
     }
     Ok(files)
 }

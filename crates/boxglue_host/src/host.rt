@@ -1,8 +1,9 @@
 //! What the program needs from its host.
 
 ghost use Rattle.std.specs.Prelude.{◌≡◌};
+ghost use Rattle.boxglue_host.specs.declared.host.HostFault.TheVariants.{OutOfMemory};
 
-use std::alloc::Global;
+use std::alloc::{AllocError, Global};
 use thiserror::Error;
 
 /// The greatest number of bytes of one reading, and of the calls that it may take. It bounds the loop that reads.
@@ -24,13 +25,21 @@ pub enum HostFault {
     Failed,
 }
 
+impl From<AllocError> for HostFault {
+    ghost from_gives = { λ _ fault. fault ≡ OutOfMemory };
+
+    fn from(_error: AllocError) -> HostFault {
+        HostFault::OutOfMemory
+    }
+}
+
 /// A host has files by their paths, standard input, and one file that it creates and writes. Contracts may know what these hold; of the host of a real
 /// program they know nothing. A reading is whole, and fails over `READ_LIMIT` bytes.
 pub trait Host {
     ghost use Rattle.std.specs.Prelude.{◌≡◌, ◌≤◌, ◌<◌, ◌+◌, ℕ, List, Option, Err, length, take, IfOk, IfSome, OnOk, OnErr};
     ghost use Rattle.dvi_device.specs.Written.{written_then};
     ghost use Rattle.boxglue_host.specs.Readings.{IsFileReading, IsReadable, IsReadableFile, IsReading, IsUnreadable, IsUnreadableFile};
-    ghost use Rattle.boxglue_host.specs.Hosts.{begun};
+    ghost use Rattle.boxglue_host.specs.Hosts.{just_created};
 
     /// The file at a path, if it is known: that there is none, or its bytes. With one case for both, a host in memory could give any bytes for a missing file.
     ghost file: { Self → List ℕ → Option (Option (List ℕ)) };
@@ -59,7 +68,7 @@ pub trait Host {
     /// Makes the file at a path an empty one, to which `write` appends. After an error the bytes of the created
     /// file are as before, and the failure is counted.
     fn create(&mut self, path: &str) -> Result<(), HostFault>
-        ensures empty { OnOk result (written self.new ≡ begun (written self.old)) }
+        ensures empty { OnOk result (written self.new ≡ just_created (written self.old)) }
         ensures none { OnErr result (written self.new ≡ written self.old) }
         ensures stands { OnOk result (failures self.new ≡ failures self.old) }
         ensures counted { OnErr result (failures self.new ≡ failures self.old + 1) };
@@ -67,8 +76,8 @@ pub trait Host {
     /// Appends a piece or a beginning of it to the created file, and returns how many bytes it took, at least one. After an error it took none, and
     /// the failure is counted.
     fn write(&mut self, piece: &[u8]) -> Result<usize, HostFault>
-        requires some { 0 < length piece.now }
-        ensures within { IfOk result (λ n. (1 ≤ n) × (n ≤ length piece.now)) }
+        requires piece_not_empty { 0 < length piece.now }
+        ensures count_bounded { IfOk result (λ n. (1 ≤ n) × (n ≤ length piece.now)) }
         ensures taken { IfOk result (λ n. written self.new ≡ written_then (written self.old) (take n piece.now)) }
         ensures none_taken { OnErr result (written self.new ≡ written self.old) }
         ensures stands { OnOk result (failures self.new ≡ failures self.old) }

@@ -130,10 +130,7 @@ fn copy(alloc: Global, bytes: &[u8]) -> Result<Vec<u8>, HostFault>
     if bytes.len() > READ_LIMIT {
         return Err(HostFault::Failed);
     }
-    match Vec::from_slice(alloc, bytes) {
-        Ok(read) => Ok(read),
-        Err(_) => Err(HostFault::OutOfMemory),
-    }
+    Ok(Vec::from_slice(alloc, bytes)?)
 }
 
 /// The bytes of the first file at a path, if there is one.
@@ -177,7 +174,7 @@ impl Host for MemoryHost {
     }
 
     fn write(&mut self, piece: &[u8]) -> Result<usize, HostFault>
-        requires some { 0 < length piece.now }
+        requires piece_not_empty { 0 < length piece.now }
         ensures all { IfOk result (λ n. n ≡ length piece.now) }
         ensures kept { OnOk result (self.new ≡ record self.old { written = self.old.written ++ piece.now }) }
         ensures unchanged { OnErr result (self.new ≡ record self.old { failures = self.old.failures + 1 }) }

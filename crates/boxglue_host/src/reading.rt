@@ -19,7 +19,7 @@ const BUFFER: usize = 65_536;
 pub fn read_all<R: Read>(alloc: Global, reader: &mut R) -> Result<Vec<u8>, HostFault>
     ensures all { IfOk result (λ bytes. Consumes (R.remaining reader.old) (R.remaining reader.new) bytes.items) }
     ensures end { IfOk result (λ bytes. IsAtEnd (R.remaining reader.new)) }
-    ensures within { IfOk result (λ bytes. length bytes.items ≤ READ_LIMIT) }
+    ensures length_bounded { IfOk result (λ bytes. length bytes.items ≤ READ_LIMIT) }
 {
     let mut bytes = Vec::new(alloc);
     let mut buffer = [0u8; BUFFER];
@@ -37,17 +37,15 @@ pub fn read_all<R: Read>(alloc: Global, reader: &mut R) -> Result<Vec<u8>, HostF
 fn push_piece(bytes: &mut Vec<u8>, piece: &[u8]) -> Result<(), HostFault>
     requires bytes_bounded { length bytes.old.items ≤ READ_LIMIT }
     ensures ok { OnOk result (bytes.new.items ≡ bytes.old.items ++ piece.now) }
-    ensures within { OnOk result (length bytes.new.items ≤ READ_LIMIT) }
+    ensures length_bounded { OnOk result (length bytes.new.items ≤ READ_LIMIT) }
     ensures failed { result ≡ Err HostFault.Failed → READ_LIMIT < length bytes.old.items + length piece.now }
     ensures memory { result ≡ Err HostFault.OutOfMemory → length bytes.old.items + length piece.now ≤ READ_LIMIT }
 {
     if piece.len() > READ_LIMIT - bytes.len() {
         return Err(HostFault::Failed);
     }
-    match bytes.extend_from_slice(piece) {
-        Ok(()) => Ok(()),
-        Err(_) => Err(HostFault::OutOfMemory),
-    }
+    bytes.extend_from_slice(piece)?;
+    Ok(())
 }
 
 /// Reports that a call failed, unless it was only interrupted.

@@ -11,8 +11,8 @@ use std::io::Write;
 ///
 /// The error is Failed, and nothing was taken: the writer failed, or took no byte. Without the latter a piece would be offered for ever.
 pub fn write_some<W: Write>(writer: &mut W, piece: &[u8]) -> Result<usize, HostFault>
-    requires some { 0 < length piece.now }
-    ensures within { IfOk result (λ n. (1 ≤ n) × (n ≤ length piece.now)) }
+    requires piece_not_empty { 0 < length piece.now }
+    ensures count_bounded { IfOk result (λ n. (1 ≤ n) × (n ≤ length piece.now)) }
     ensures taken { IfOk result (λ n. Appends (W.contents writer.old) (W.contents writer.new) (take n piece.now)) }
     ensures none_taken { OnErr result (Keeps (W.contents writer.old) (W.contents writer.new)) }
 {

@@ -29,10 +29,7 @@ pub fn read_script_inputs<'a, H: Host>(
     ensures files { IfOk result (λ read. AreFilesOf (H.file host.now) fonts.now read.files.items) }
     ensures err { IfErr result (IsUnreadScript (H.file host.now) (H.input host.now) fonts.now) }
 {
-    let files = match read_fonts(alloc, host, fonts) {
-        Ok(files) => files,
-        Err(fault) => return Err(fault),
-    };
+    let files = read_fonts(alloc, host, fonts)?;
     match host.read_input(alloc) {
         Ok(bytes) => Ok(Inputs { bytes, files }),
         Err(HostFault::OutOfMemory) => Err(Unread::OutOfMemory),
@@ -58,8 +55,6 @@ pub fn read_dvi_inputs<'a, H: Host>(
         Err(HostFault::OutOfMemory) => return Err(Unread::OutOfMemory),
         Err(HostFault::Failed) => return Err(Unread::File(dvi)),
     };
-    match read_fonts(alloc, host, fonts) {
-        Ok(files) => Ok(Inputs { bytes, files }),
-        Err(fault) => Err(fault),
-    }
+    let files = read_fonts(alloc, host, fonts)?;
+    Ok(Inputs { bytes, files })
 }

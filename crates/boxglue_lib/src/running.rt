@@ -6,7 +6,7 @@ ghost use Rattle.boxglue_lib.specs.Parts.{HasRanges};
 ghost use Rattle.boxglue_lib.specs.Programs.{HasDone, HasRun, RefusesWords};
 
 use crate::tasks::{list, paint, run_input, typeset};
-use crate::telling::{finish, print_version, say, tell};
+use crate::telling::{finish, print_version, say, say_out_of_memory, tell};
 use boxglue_host::Host;
 use boxglue_words::{Task, WordFault, read_words};
 use std::alloc::Global;
@@ -23,7 +23,7 @@ fn refuse_words<W: Write, E: Write>(
 {
     match fault {
         WordFault::Memory => {
-            say(output, b"refused 1 OutOfMemory\n");
+            say_out_of_memory(output);
             return 1;
         }
         WordFault::Line(text) => say(errors, text.as_bytes()),

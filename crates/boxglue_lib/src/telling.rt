@@ -2,12 +2,12 @@
 
 ghost use Rattle.std.specs.Prelude.{◌≡◌, ◌++◌, codes, IfOk, OnOk, OnErr};
 ghost use Rattle.std.specs.Io.KnownBytes.{Appends};
-ghost use Rattle.boxglue_program.specs.Runs.{WritesFront};
+ghost use Rattle.boxglue_program.specs.Runs.{WritesFront, memory_line};
 ghost use Rattle.boxglue_lib.specs.Ends.{PrintsVersion, TakesText, TellsErrors, line_of, status_of};
 ghost use Rattle.boxglue_lib.specs.Parts.{TellsOutput};
 
 use crate::task_end::TaskEnd;
-use boxglue_program::{Unwritten, write_text};
+use boxglue_program::{Unwritten, refuse_memory, write_text};
 use boxglue_words::VERSION_LINE;
 use std::alloc::{AllocError, Global};
 use std::io::Write;
@@ -17,6 +17,13 @@ pub fn say<W: Write>(writer: &mut W, text: &[u8])
     ensures { TakesText (W.contents writer.old) (W.contents writer.new) text.now }
 {
     let _ = write_text(writer, text);
+}
+
+/// Writes the line for a refused growth of memory. It takes no memory.
+pub fn say_out_of_memory<W: Write>(writer: &mut W)
+    ensures { TakesText (W.contents writer.old) (W.contents writer.new) memory_line }
+{
+    let _ = refuse_memory(writer);
 }
 
 /// A line of two parts.
@@ -86,7 +93,7 @@ pub fn finish<W: Write, E: Write>(
         TaskEnd::Printed(true) => 0,
         TaskEnd::Printed(false) | TaskEnd::Unwritten => 1,
         TaskEnd::OutOfMemory => {
-            say(output, b"refused 1 OutOfMemory\n");
+            say_out_of_memory(output);
             1
         }
         TaskEnd::Unreadable(path) => {

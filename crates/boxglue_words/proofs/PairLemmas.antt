@@ -1,5 +1,6 @@
 -- Words NAME=TFM, read one after the other.
-use Rattle.std.proofs.Common.{◌≡◌, ◌++◌, ◌||◌, [], ◌∷◌, List, ℕ, Bool, true, false, length, map, refl, sym, ap, ap₂, ◌∙◌, arith, ◌<◌, zero, suc, take, drop, get_or}
+use Rattle.std.proofs.Common.{◌≡◌, ◌++◌, ◌||◌, [], ◌∷◌, List, ℕ, Bool, true, false, length, map, refl, sym, ap, ap₂, ◌∙◌, arith, ◌<◌, zero, suc, take, drop, get_or, Result, Ok, Err, subst}
+use Rattle.std.specs.Result.{IfErr, IsErrAnd}
 use Rattle.std.specs.List.{AllByRecursion, IsDistinct, list_any, position_or_len}
 use Rattle.std.specs.Str.{bytes_eq}
 use Rattle.std.proofs.lemmas.List.Elements.{All-push, All-nil}
@@ -89,3 +90,8 @@ first_fault words before word after (NotPair named) split pairs faulty =
     record { before = before; word = word; after = after; split = split; pairs = pairs; faulty = faulty }
 first_fault words before word after (NameTwice name) split pairs faulty =
     record { before = before; word = word; after = after; split = split; pairs = pairs; faulty = faulty }
+
+-- What holds of an error holds of the one that `?` returns.
+pub handed_on : {A E : Type 0} (P : E → Type 0) (r : Result A E) (e : E) → IsErrAnd r (λ y. y ≡ e) → P e → IfErr r P
+handed_on P (Ok x) e given p = tt
+handed_on P (Err y) e given p = subst P (sym given) p

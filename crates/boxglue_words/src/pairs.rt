@@ -72,9 +72,7 @@ pub fn read_pairs<'a>(alloc: Global, words: &[&'a str]) -> Result<Vec<NamedPath<
 {
     let mut fonts = Vec::new(alloc);
     for word in words {
-        if let Err(fault) = push_pair(alloc, word, &mut fonts) {
-            return Err(fault);
-        }
+        push_pair(alloc, word, &mut fonts)?;
     }
     Ok(fonts)
 }

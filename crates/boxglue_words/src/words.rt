@@ -59,10 +59,8 @@ fn typesets<'a>(alloc: Global, matches: &ArgMatches<'a>) -> Result<Task<'a>, Wor
     let Some(out) = matches.get_str("OUT") else {
         return Err(no_line(alloc));
     };
-    match fonts(alloc, matches) {
-        Ok(fonts) => Ok(Task::Typeset { out, fonts }),
-        Err(fault) => Err(fault),
-    }
+    let fonts = fonts(alloc, matches)?;
+    Ok(Task::Typeset { out, fonts })
 }
 
 /// The task of `list`.
@@ -73,10 +71,8 @@ fn lists<'a>(alloc: Global, matches: &ArgMatches<'a>) -> Result<Task<'a>, WordFa
     let Some(dvi) = matches.get_str("DVI") else {
         return Err(no_line(alloc));
     };
-    match fonts(alloc, matches) {
-        Ok(fonts) => Ok(Task::Listing { dvi, fonts }),
-        Err(fault) => Err(fault),
-    }
+    let fonts = fonts(alloc, matches)?;
+    Ok(Task::Listing { dvi, fonts })
 }
 
 /// The task of `paint`.
@@ -90,10 +86,8 @@ fn paints<'a>(alloc: Global, matches: &ArgMatches<'a>) -> Result<Task<'a>, WordF
     let Some(dvi) = matches.get_str("DVI") else {
         return Err(no_line(alloc));
     };
-    match fonts(alloc, matches) {
-        Ok(fonts) => Ok(Task::Painting { sheet, dvi, fonts }),
-        Err(fault) => Err(fault),
-    }
+    let fonts = fonts(alloc, matches)?;
+    Ok(Task::Painting { sheet, dvi, fonts })
 }
 
 /// The task of the subcommand with this name.

@@ -1,5 +1,6 @@
 use Rattle.boxglue_host.proofs.HostLemmas.{grown_used}
 use Rattle.boxglue_host.proofs.file_device.put.Goals as goal
 
-pub returns-in-Ok-clause-used : goal.returns-in-Ok-clause-used
-returns-in-Ok-clause-used g c = grown_used _ _ c.in-Ok.count c.args.piece.now c.in-Ok.ensures.taken c.in-Ok.ensures.within.0 c.in-Ok.ensures.within.1
+pub returns-clause-used : goal.returns-clause-used
+returns-clause-used g c =
+    grown_used _ _ c.in_ok-count.count c.args.piece.now c.in_ok-count.ensures.taken c.in_ok-count.ensures.count_bounded.0 c.in_ok-count.ensures.count_bounded.1
