@@ -9,7 +9,7 @@ ghost use Rattle.boxglue_print.specs.declared.output.PaintFault.TheVariants.{NoS
 use crate::buffers::hand_over;
 use crate::given::{Font, are_named, font_files};
 use crate::status::{ACCEPTED, BAD_FONT_NAME, NO_SUCH_PAGE, OUT_OF_MEMORY, OUT_OF_RANGE, REFUSED};
-use boxglue_print::{Output, PaintFault, list_text, paint_text};
+use boxglue_print::{BitmapSize, Output, PaintFault, list_text, paint_text};
 use std::alloc::{AllocError, Global};
 
 /// The status of a DVI file that was read.
@@ -73,7 +73,8 @@ fn painted(
     ensures missing { result ≡ Err NoSuchPage → LacksPage (files_of fonts.now) dvi.now page }
 {
     let files = font_files(alloc, fonts)?;
-    paint_text(alloc, dvi, &files, page, dpi, width, height)
+    let size = BitmapSize { dpi, width, height };
+    paint_text(alloc, dvi, &files, page, size)
 }
 
 /// Paints the rules of a page of a DVI file with these fonts. Pages are counted from 1. The bitmap as plain PBM, or the line of the refusal, goes into `text`, and the

@@ -10,7 +10,7 @@ ghost use Rattle.raster_core.specs.declared.text.TheConstants.{ROW_TEXT};
 ghost use Rattle.boxglue_program.specs.Runs.{WritesFront};
 ghost use Rattle.boxglue_lib.specs.declared.printing.PrintFault.TheVariants.{OutOfMemory, Unwritten};
 
-use boxglue_print::{Bitmap, Dvi, Output, PaintFault, page_bitmap, refusal};
+use boxglue_print::{Bitmap, BitmapSize, Dvi, Output, PaintFault, page_bitmap, refusal};
 use boxglue_program::{FontFile, Unwritten, write_text};
 use boxglue_words::PaintOptions;
 use std::alloc::{AllocError, Global};
@@ -150,7 +150,8 @@ pub fn paint_file<W: Write>(
             return Ok(accepted);
         }
     };
-    let bitmap = match page_bitmap(alloc, &opened, page, dpi, width, height) {
+    let size = BitmapSize { dpi, width, height };
+    let bitmap = match page_bitmap(alloc, &opened, page, size) {
         Ok(bitmap) => bitmap,
         Err(PaintFault::OutOfMemory) => return Err(PrintFault::OutOfMemory),
         Err(PaintFault::NoSuchPage) => return Err(PrintFault::NoSuchPage),

@@ -6,6 +6,6 @@ mod faults;
 mod output;
 
 pub use dvi_read::{Dvi, DviFault, Lines, PART};
-pub use output::{Output, PaintFault, list_text, page_bitmap, paint_text, refusal};
+pub use output::{BitmapSize, Output, PaintFault, list_text, page_bitmap, paint_text, refusal};
 pub use raster_core::{Bitmap, PbmText, ROW_TEXT};
 pub use tfm_core::FontFile;

@@ -46,7 +46,7 @@ impl From<AllocError> for PaintFault {
 }
 
 /// Whether a file is refused because memory was refused.
-fn wants_memory(fault: DviFault) -> bool
+fn is_out_of_memory(fault: DviFault) -> bool
     ensures { IsTrue result ↔ fault ≡ DviFault.OutOfMemory }
 {
     match fault {
@@ -62,7 +62,7 @@ pub fn refusal(alloc: Global, fault: DviFault) -> Result<Output, AllocError>
     ensures refused { IfOk result (λ output. output.accepted ≡ false) }
     ensures other { OnOk result (fault ≢ DviFault.OutOfMemory) }
 {
-    if wants_memory(fault) {
+    if is_out_of_memory(fault) {
         return Err(AllocError);
     }
     let mut text = Vec::new(alloc);
@@ -89,41 +89,45 @@ pub fn list_text(alloc: Global, dvi: &[u8], files: &[FontFile]) -> Result<Output
     })
 }
 
+/// The size of a bitmap in pixels, and the pixels an inch.
+#[derive(Clone, Copy, Debug, PartialEq, Eq)]
+pub struct BitmapSize {
+    pub dpi: u32,
+    pub width: u32,
+    pub height: u32,
+}
+
 /// The bitmap of a page.
 fn painted_page(
     alloc: Global,
     page: &Page<'_>,
     units: Units,
-    dpi: u32,
-    width: u32,
-    height: u32,
+    size: BitmapSize,
 ) -> Result<Bitmap, AllocError>
     requires units { AreUnits (units_of units) }
-    requires dpi { dpi ≤ 10000 }
-    ensures { IfOk result (λ bitmap. bitmap ≡ painted (is_covered (scale_of (units_of units) dpi) (marked_page page.now).marks) (white width height)) }
+    requires dpi { size.dpi ≤ 10000 }
+    ensures { IfOk result (λ bitmap. bitmap
+        ≡ painted (is_covered (scale_of (units_of units) size.dpi) (marked_page page.now).marks) (white size.width size.height)) }
 {
-    let Ok(mut bitmap) = Bitmap::new(alloc, width, height) else {
+    let Ok(mut bitmap) = Bitmap::new(alloc, size.width, size.height) else {
         return Err(AllocError);
     };
-    bitmap.paint(page, units, dpi);
+    bitmap.paint(page, units, size.dpi);
     Ok(bitmap)
 }
 
-/// The bitmap of a page of an opened DVI file, with `width` columns and `height` rows of `dpi` pixels an inch. Pages are counted from 1. The fault is
-/// NoSuchPage or OutOfMemory.
+/// The bitmap of a page of an opened DVI file. Pages are counted from 1. The fault is NoSuchPage or OutOfMemory.
 pub fn page_bitmap(
     alloc: Global,
     opened: &Dvi<'_>,
     page: u32,
-    dpi: u32,
-    width: u32,
-    height: u32,
+    size: BitmapSize,
 ) -> Result<Bitmap, PaintFault>
     requires page { 1 ≤ page }
-    requires dpi { dpi ≤ 10000 }
-    requires width { (1 ≤ width) × (width ≤ 10000) }
-    requires height { (1 ≤ height) × (height ≤ 10000) }
-    ensures ok { IfOk result (ShowsPage opened.now page dpi width height) }
+    requires dpi { size.dpi ≤ 10000 }
+    requires width { (1 ≤ size.width) × (size.width ≤ 10000) }
+    requires height { (1 ≤ size.height) × (size.height ≤ 10000) }
+    ensures ok { IfOk result (ShowsPage opened.now page size.dpi size.width size.height) }
     ensures missing { result ≡ Err PaintFault.NoSuchPage → length opened.now.pages < page }
 {
     let index = page as usize - 1;
@@ -131,33 +135,30 @@ pub fn page_bitmap(
         return Err(PaintFault::NoSuchPage);
     }
     let shown = opened.page(index);
-    Ok(painted_page(alloc, shown, opened.units(), dpi, width, height)?)
+    Ok(painted_page(alloc, shown, opened.units(), size)?)
 }
 
-/// The bitmap of a page of a DVI file with these metric files, with `width` columns and `height` rows of `dpi` pixels an inch; or the line of the
-/// file's refusal. Pages are counted from 1. The whole file is checked before NoSuchPage is returned. Where memory is refused, the fault is
-/// OutOfMemory.
+/// The bitmap of a page of a DVI file with these metric files, or the line of the file's refusal. Pages are counted from 1. The whole file is checked
+/// before NoSuchPage is returned. Where memory is refused, the fault is OutOfMemory.
 pub fn paint_text(
     alloc: Global,
     dvi: &[u8],
     files: &[FontFile],
     page: u32,
-    dpi: u32,
-    width: u32,
-    height: u32,
+    size: BitmapSize,
 ) -> Result<Output, PaintFault>
     requires page { 1 ≤ page }
-    requires dpi { dpi ≤ 10000 }
-    requires width { (1 ≤ width) × (width ≤ 10000) }
-    requires height { (1 ≤ height) × (height ≤ 10000) }
-    ensures ok { IfOk result (λ output. IsPainted files.now dvi.now page dpi width height output.text.items output.accepted) }
+    requires dpi { size.dpi ≤ 10000 }
+    requires width { (1 ≤ size.width) × (size.width ≤ 10000) }
+    requires height { (1 ≤ size.height) × (size.height ≤ 10000) }
+    ensures ok { IfOk result (λ output. IsPainted files.now dvi.now page size.dpi size.width size.height output.text.items output.accepted) }
     ensures missing { result ≡ Err PaintFault.NoSuchPage → LacksPage files.now dvi.now page }
 {
     let opened = match Dvi::open(alloc, dvi, files) {
         Ok(opened) => opened,
         Err(fault) => return Ok(refusal(alloc, fault)?),
     };
-    let bitmap = page_bitmap(alloc, &opened, page, dpi, width, height)?;
+    let bitmap = page_bitmap(alloc, &opened, page, size)?;
     let mut text = Vec::new(alloc);
     bitmap.write_pbm(&mut text)?;
     Ok(Output {

@@ -12,5 +12,5 @@ returns-in-Err-clause-ok c =
 pub returns-clause-ok : goal.returns-clause-ok
 returns-clause-ok c =
     let text_is : c.write_pbm.new.out.items ≡ pbm c.in_ok-bitmap.bitmap = search rules in
-    inl (paints c.args.files.now c.args.dvi.now c.args.page c.args.dpi c.args.width c.args.height c.in-Ok.opened c.in_ok-bitmap.bitmap _
+    inl (paints c.args.files.now c.args.dvi.now c.args.page c.args.size.dpi c.args.size.width c.args.size.height c.in-Ok.opened c.in_ok-bitmap.bitmap _
     c.in-Ok.ensures.ok c.in-Ok.ensures.units c.in_ok-bitmap.ensures.ok text_is)
