@@ -9,5 +9,6 @@ pub mod SetLists
 pub mod LeastLists
 pub mod Settings
 pub mod Unbroken
+pub mod Unset
 pub mod Tried
 pub mod BadLines

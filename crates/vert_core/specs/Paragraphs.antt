@@ -10,6 +10,8 @@ use Rattle.break_lines.specs.declared.fault.BreakFault.{BreakFault}
 use Rattle.break_lines.specs.declared.fault.BreakFault.TheVariants as breaking
 use Rattle.break_lines.specs.Facts.{facts_of, refusal}
 use Rattle.break_core.specs.Passes.{IsBroken}
+use Rattle.vert_core.specs.declared.line_boxes.LinesFault.{LinesFault}
+use Rattle.vert_core.specs.declared.line_boxes.LinesFault.TheVariants as stacking
 use Rattle.vert_core.specs.declared.paragraph.SetParagraph.{SetParagraph}
 use Rattle.vert_core.specs.declared.paragraph.ParagraphFault.{ParagraphFault}
 use Rattle.vert_core.specs.declared.paragraph.ParagraphFault.TheVariants.{InfiniteShrink, TooManyBreaks, DimensionTooLarge, OutOfMemory}
@@ -59,6 +61,17 @@ IsUnsetList list params previous_depth InfiniteShrink = refusal list ≡ Some br
 IsUnsetList list params previous_depth TooManyBreaks = refusal list ≡ Some breaking.TooManyBreaks
 IsUnsetList list params previous_depth DimensionTooLarge = (refusal list ≡ None) × HasLargeLine list params previous_depth
 IsUnsetList list params previous_depth OutOfMemory = refusal list ≡ None
+
+-- Why a finished list is not set that cannot be broken into lines.
+abbrev pub unset_by : BreakFault → ParagraphFault
+unset_by breaking.InfiniteShrink = InfiniteShrink
+unset_by breaking.TooManyBreaks = TooManyBreaks
+unset_by breaking.OutOfMemory = OutOfMemory
+
+-- Why a finished list is not set whose lines cannot be stacked.
+abbrev pub unstacked_by : LinesFault → ParagraphFault
+unstacked_by stacking.DimensionTooLarge = DimensionTooLarge
+unstacked_by stacking.OutOfMemory = OutOfMemory
 
 -- Why a paragraph is not set: it is not empty, and its finished list is not set.
 abbrev pub IsUnset : List Node → Params → (previous_depth : ℤ) → ParagraphFault → Type 0

@@ -52,10 +52,8 @@ fn push_one(nodes: &mut Vec<Node>, node: Node) -> Result<(), AllocError>
     ensures ok { OnOk result (nodes.new.items ≡ nodes.old.items ++ node ∷ []) }
     ensures err { OnErr result (nodes.new.items ≡ nodes.old.items) }
 {
-    match nodes.push(node) {
-        Ok(()) => Ok(()),
-        Err(_) => Err(AllocError),
-    }
+    nodes.push(node)?;
+    Ok(())
 }
 
 /// Appends two nodes. If memory is refused, the nodes are as they were before the call.

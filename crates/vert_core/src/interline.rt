@@ -1,7 +1,7 @@
 //! The glue between two boxes of a vertical list (TeX: The Program, part 33, §679, append_to_vlist).
 
-ghost use Rattle.std.specs.Prelude.{◌≡◌, int_le};
-ghost use Rattle.vert_core.specs.Interline.{ignored_depth, distance, baseline_glue, interline};
+ghost use Rattle.std.specs.Prelude.{◌≡◌};
+ghost use Rattle.vert_core.specs.Interline.{distance, baseline_glue, interline};
 
 use node_core::{Glue, Params};
 use scaled_core::Dimen;
@@ -22,7 +22,7 @@ pub fn interline_glue(
 ) -> Result<Option<Glue>, DimensionTooLarge>
     ensures { result ≡ interline params.now previous_depth height }
 {
-    if is_ignored(previous_depth) {
+    if previous_depth <= Dimen::IGNORE_DEPTH {
         return Ok(None);
     }
     let apart = distance(previous_depth, height, params);
@@ -30,13 +30,6 @@ pub fn interline_glue(
         return Ok(Some(params.line_skip));
     }
     baseline_glue(apart, params)
-}
-
-/// Whether a depth suppresses the glue: -1000pt or less.
-fn is_ignored(depth: Dimen) -> bool
-    ensures { result ≡ int_le depth ignored_depth }
-{
-    depth <= Dimen::IGNORE_DEPTH
 }
 
 /// Glue of this width that stretches and shrinks as baselineskip does, if the width fits.

@@ -6,6 +6,7 @@ ghost use Rattle.std.specs.Result.{is_ok};
 ghost use Rattle.node_core.specs.Nodes.{max_nodes, items_of, nodes_of};
 ghost use Rattle.break_lines.specs.LineItems.{at_break, without_first, kept};
 ghost use Rattle.vert_core.specs.Lines.{boxed_line, items_fit};
+ghost use Rattle.vert_core.specs.declared.line_boxes.LinesFault.TheVariants.{OutOfMemory};
 
 use node_core::{BoxNode, Node, NodeList};
 use pack_core::{Target, hpack};
@@ -22,6 +23,14 @@ pub enum LinesFault {
     /// Out of memory: an allocation was refused.
     #[error("out of memory")]
     OutOfMemory,
+}
+
+impl From<AllocError> for LinesFault {
+    ghost from_gives = { λ _ fault. fault ≡ OutOfMemory };
+
+    fn from(_error: AllocError) -> LinesFault {
+        LinesFault::OutOfMemory
+    }
 }
 
 /// The items of a list without those that are dropped at the beginning of a line.
@@ -145,8 +154,5 @@ pub fn set_line(
     ensures fits { OnOk result (items_fit size (kept nodes.now begin end) ≡ true) }
     ensures refused { IfErr result (λ fault. fault ≡ LinesFault.DimensionTooLarge → items_fit size (kept nodes.now begin end) ≡ false) }
 {
-    match line_list(alloc, nodes, begin, end) {
-        Ok(list) => pack_line(list, size),
-        Err(_) => Err(LinesFault::OutOfMemory),
-    }
+    pack_line(line_list(alloc, nodes, begin, end)?, size)
 }

@@ -7,7 +7,7 @@ ghost use Rattle.break_lines.specs.Facts.{facts_of, refusal};
 ghost use Rattle.break_core.specs.Passes.{IsBroken};
 ghost use Rattle.break_core.specs.Trials.{passes_run};
 ghost use Rattle.vert_core.specs.Finished.{finished};
-ghost use Rattle.vert_core.specs.Paragraphs.{set_empty, unbroken, IsSet, IsSetParagraph, IsUnsetList, IsUnset};
+ghost use Rattle.vert_core.specs.Paragraphs.{set_empty, unbroken, unset_by, unstacked_by, IsSet, IsSetParagraph, IsUnsetList, IsUnset};
 ghost use Rattle.vert_core.specs.Tried.{TrialsAreBounded, AreFewTrials};
 
 use crate::finishing::{finish_paragraph, refusal_of_finished, unfinish_paragraph};
@@ -51,6 +51,29 @@ pub enum ParagraphFault {
     /// Out of memory: an allocation was refused.
     #[error("out of memory")]
     OutOfMemory,
+}
+
+impl From<BreakFault> for ParagraphFault {
+    ghost from_gives = { λ cause fault. fault ≡ unset_by cause };
+
+    fn from(cause: BreakFault) -> ParagraphFault {
+        match cause {
+            BreakFault::InfiniteShrink => ParagraphFault::InfiniteShrink,
+            BreakFault::TooManyBreaks => ParagraphFault::TooManyBreaks,
+            BreakFault::OutOfMemory => ParagraphFault::OutOfMemory,
+        }
+    }
+}
+
+impl From<LinesFault> for ParagraphFault {
+    ghost from_gives = { λ cause fault. fault ≡ unstacked_by cause };
+
+    fn from(cause: LinesFault) -> ParagraphFault {
+        match cause {
+            LinesFault::DimensionTooLarge => ParagraphFault::DimensionTooLarge,
+            LinesFault::OutOfMemory => ParagraphFault::OutOfMemory,
+        }
+    }
 }
 
 /// A paragraph that was set, and the number of lines that were tried for it.
@@ -104,10 +127,8 @@ fn counted_breaks(
     ensures fault { IfErr result (λ fault. fault ≡ unwrap_or (refusal nodes.now) BreakFault.OutOfMemory) }
 {
     let mut meter = ListMeter::new(alloc, nodes)?;
-    match active_breaks(alloc, &mut meter, params) {
-        Ok(breaks) => Ok((breaks, meter.all_trials())),
-        Err(_) => Err(BreakFault::OutOfMemory),
-    }
+    let breaks = active_breaks(alloc, &mut meter, params)?;
+    Ok((breaks, meter.all_trials()))
 }
 
 /// Sets a finished list of at most 131,072 nodes.
@@ -123,27 +144,17 @@ fn set_finished(
     ensures trials { IfOk result (λ counted. AreFewTrials (facts_of nodes.now) params.now counted.set.pass counted.trials) }
     ensures refused { IfErr result (IsUnsetList nodes.now params.now previous_depth) }
 {
-    let (breaks, trials) = match counted_breaks(alloc, nodes, params) {
-        Ok(counted) => counted,
-        Err(BreakFault::InfiniteShrink) => return Err(ParagraphFault::InfiniteShrink),
-        Err(BreakFault::TooManyBreaks) => return Err(ParagraphFault::TooManyBreaks),
-        Err(BreakFault::OutOfMemory) => return Err(ParagraphFault::OutOfMemory),
+    let (breaks, trials) = counted_breaks(alloc, nodes, params)?;
+    let stacked = lines(alloc, nodes, &breaks, params, previous_depth)?;
+    let set = SetParagraph {
+        items: NodeList::from_vec(stacked.nodes),
+        depth: stacked.depth,
+        lines: breaks.lines.len(),
+        pass: Some(breaks.pass),
+        overhang: breaks.overhang,
+        demerits: breaks.demerits,
     };
-    match lines(alloc, nodes, &breaks, params, previous_depth) {
-        Ok(items) => {
-            let set = SetParagraph {
-                items: NodeList::from_vec(items.nodes),
-                depth: items.depth,
-                lines: breaks.lines.len(),
-                pass: Some(breaks.pass),
-                overhang: breaks.overhang,
-                demerits: breaks.demerits,
-            };
-            Ok(CountedParagraph { set, trials })
-        }
-        Err(LinesFault::DimensionTooLarge) => Err(ParagraphFault::DimensionTooLarge),
-        Err(LinesFault::OutOfMemory) => Err(ParagraphFault::OutOfMemory),
-    }
+    Ok(CountedParagraph { set, trials })
 }
 
 /// Sets a list of at most 131,070 items. The list is finished for this, and then restored.

@@ -35,10 +35,8 @@ fn push_penalty(nodes: &mut Vec<Node>, penalty: i32) -> Result<(), AllocError>
     if penalty == 0 {
         return Ok(());
     }
-    match nodes.push(Node::Penalty(penalty)) {
-        Ok(()) => Ok(()),
-        Err(_) => Err(AllocError),
-    }
+    nodes.push(Node::Penalty(penalty))?;
+    Ok(())
 }
 
 /// Appends what comes after line number `line` of `count` lines. If memory is refused, the list is as it was before the call.

@@ -23,6 +23,14 @@ pub struct VerticalItems {
     pub depth: Dimen,
 }
 
+/// A finished list, the ends of its lines, and the parameters by which they are stacked.
+#[derive(Clone, Copy)]
+struct BrokenList<'a> {
+    nodes: &'a [Node],
+    ends: &'a [LineEnd],
+    params: &'a Params,
+}
+
 /// The place where a line begins, or `None` for the start of the list.
 fn line_begin(ends: &[LineEnd], line: usize) -> Option<usize>
     requires { line ≤ length ends.now }
@@ -74,29 +82,35 @@ fn stack_line(
 fn add_line(
     alloc: Global,
     list: &mut Vec<Node>,
-    nodes: &[Node],
-    ends: &[LineEnd],
-    params: &Params,
+    broken: &BrokenList,
     previous_depth: Dimen,
     line: usize,
 ) -> Result<Dimen, LinesFault>
-    requires list_bounded { length nodes.now ≤ max_nodes }
-    requires within { line < length ends.now }
+    requires list_bounded { length broken.now.nodes.now ≤ max_nodes }
+    requires line_bounded { line < length broken.now.ends.now }
     ensures ok { OnOk result (list.new.items ≡ list.old.items
-        ++ line_brings params.now (length ends.now) line previous_depth (boxed_line (line_size params.now line) (line_items (broken_list nodes.now ends.now params.now previous_depth) line))) }
-    ensures depth { IfOk result (λ depth. depth ≡ (boxed_line (line_size params.now line) (line_items (broken_list nodes.now ends.now params.now previous_depth) line)).depth) }
-    ensures fits { OnOk result (fits_behind params.now (line_size params.now line) previous_depth (line_items (broken_list nodes.now ends.now params.now previous_depth) line) ≡ true) }
+        ++ line_brings broken.now.params.now (length broken.now.ends.now) line previous_depth (boxed_line (line_size broken.now.params.now line) (line_items (broken_list broken.now.nodes.now broken.now.ends.now broken.now.params.now previous_depth) line))) }
+    ensures depth { IfOk result (λ depth. depth ≡ (boxed_line (line_size broken.now.params.now line) (line_items (broken_list broken.now.nodes.now broken.now.ends.now broken.now.params.now previous_depth) line)).depth) }
+    ensures fits { OnOk result (fits_behind broken.now.params.now (line_size broken.now.params.now line) previous_depth (line_items (broken_list broken.now.nodes.now broken.now.ends.now broken.now.params.now previous_depth) line) ≡ true) }
     ensures refused { IfErr result (λ fault. fault ≡ LinesFault.DimensionTooLarge →
-        fits_behind params.now (line_size params.now line) previous_depth (line_items (broken_list nodes.now ends.now params.now previous_depth) line) ≡ false) }
+        fits_behind broken.now.params.now (line_size broken.now.params.now line) previous_depth (line_items (broken_list broken.now.nodes.now broken.now.ends.now broken.now.params.now previous_depth) line) ≡ false) }
 {
+    let ends = broken.ends;
     let line_box = set_line(
         alloc,
-        nodes,
+        broken.nodes,
         line_begin(ends, line),
         line_end(ends, line),
-        line_size(params, line),
+        line_size(broken.params, line),
     )?;
-    stack_line(list, line_box, previous_depth, params, ends.len(), line)
+    stack_line(
+        list,
+        line_box,
+        previous_depth,
+        broken.params,
+        ends.len(),
+        line,
+    )
 }
 
 /// The items that the lines with these ends add to a vertical list with this previous depth.
@@ -110,18 +124,20 @@ fn stack_lines(
     requires { length nodes.now ≤ max_nodes }
     ensures ok { IfOk result (λ items. items.nodes.items ≡ vertical_items (broken_list nodes.now ends.now params.now previous_depth)) }
     ensures depth { IfOk result (λ items. items.depth ≡ last_depth (broken_list nodes.now ends.now params.now previous_depth)) }
-    ensures some { OnErr result (0 < length ends.now) }
+    ensures lines_present { OnErr result (0 < length ends.now) }
     ensures fits { OnOk result (lines_fit (broken_list nodes.now ends.now params.now previous_depth) ≡ true) }
     ensures refused { IfErr result (λ fault. fault ≡ LinesFault.DimensionTooLarge →
         lines_fit (broken_list nodes.now ends.now params.now previous_depth) ≡ false) }
 {
+    let broken = BrokenList {
+        nodes,
+        ends,
+        params,
+    };
     let mut list = Vec::new(alloc);
     let mut depth = previous_depth;
     for line in 0..ends.len() {
-        match add_line(alloc, &mut list, nodes, ends, params, depth, line) {
-            Ok(line_depth) => depth = line_depth,
-            Err(fault) => return Err(fault),
-        }
+        depth = add_line(alloc, &mut list, &broken, depth, line)?;
     }
     Ok(VerticalItems { nodes: list, depth })
 }
@@ -142,7 +158,7 @@ pub fn lines(
     requires list_bounded { length nodes.now ≤ max_nodes }
     ensures ok { IfOk result (λ items. items.nodes.items ≡ vertical_items (broken_list nodes.now breaks.now.lines.items params.now previous_depth)) }
     ensures depth { IfOk result (λ items. items.depth ≡ last_depth (broken_list nodes.now breaks.now.lines.items params.now previous_depth)) }
-    ensures some { OnErr result (0 < length breaks.now.lines.items) }
+    ensures lines_present { OnErr result (0 < length breaks.now.lines.items) }
     ensures fits { OnOk result (lines_fit (broken_list nodes.now breaks.now.lines.items params.now previous_depth) ≡ true) }
     ensures refused { IfErr result (λ fault. fault ≡ LinesFault.DimensionTooLarge →
         lines_fit (broken_list nodes.now breaks.now.lines.items params.now previous_depth) ≡ false) }

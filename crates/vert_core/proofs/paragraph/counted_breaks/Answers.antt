@@ -7,18 +7,18 @@ use Rattle.vert_core.specs.Tried.{TrialsAreBounded}
 use Rattle.vert_core.proofs.Tried.{first_of_all, few_together}
 use Rattle.vert_core.proofs.paragraph.counted_breaks.Goals as goal
 
-pub returns-in-Ok-clause-trials : goal.returns-in-Ok-clause-trials
-returns-in-Ok-clause-trials c =
+pub returns-clause-trials : goal.returns-clause-trials
+returns-clause-trials c =
     let facts : Facts = facts_of c.args.nodes.now in
     let trials : ℕ → ℕ = λ from. get_or c.active_breaks.new.meter.trials.items from 0 in
-    let passes = passes_run c.args.params.now c.in-Ok.breaks.pass in
+    let passes = passes_run c.args.params.now c.in_ok-breaks.breaks.pass in
     let old : facts_of c.in_ok-meter.meter.nodes.now ≡ facts = ap facts_of c.in_ok-meter.ensures.nodes in
-    let places : length (legal_places c.active_breaks.new.meter.nodes.now) ≡ facts.places = ap (λ (f : Facts). f.places) (c.in-Ok.ensures.facts ∙ old) in
+    let places : length (legal_places c.active_breaks.new.meter.nodes.now) ≡ facts.places = ap (λ (f : Facts). f.places) (c.in_ok-breaks.ensures.facts ∙ old) in
     let all : c.all_trials.result ≡ sum_through trials facts.places = c.all_trials.ensures ∙ ap (sum_through trials) places in
-    let few = few_together facts c.args.params.now passes trials (subst (λ (f : Facts). AreBounded f c.args.params.now passes trials) old c.in-Ok.ensures.run) in
+    let few = few_together facts c.args.params.now passes trials (subst (λ (f : Facts). AreBounded f c.args.params.now passes trials) old c.in_ok-breaks.ensures.run) in
     subst (λ (n : ℕ). TrialsAreBounded facts c.args.params.now passes n) (sym all) few
 
-pub returns-in-Ok-clause-tried : goal.returns-in-Ok-clause-tried
-returns-in-Ok-clause-tried c =
+pub returns-clause-tried : goal.returns-clause-tried
+returns-clause-tried c =
     let trials : ℕ → ℕ = λ from. get_or c.active_breaks.new.meter.trials.items from 0 in
-    omega (arith, c.all_trials.ensures, c.in-Ok.ensures.tried, first_of_all trials (length (legal_places c.active_breaks.new.meter.nodes.now)))
+    omega (arith, c.all_trials.ensures, c.in_ok-breaks.ensures.tried, first_of_all trials (length (legal_places c.active_breaks.new.meter.nodes.now)))

@@ -5,6 +5,9 @@ use Rattle.break_lines.specs.Legal.{up_to}
 use Rattle.break_lines.specs.Sizes.{line_size}
 use Rattle.vert_core.specs.Lines.{BrokenParagraph, broken_list, line_items, boxed_line, line_brings, depth_before, brought_by, line_fits, vertical_items, last_depth, lines_fit}
 use Rattle.vert_core.proofs.Stacks.{count_places, stacked_one, depth_behind, fits_one, all_more, all_but}
+use Rattle.vert_split.proofs.Rests.{handed_on}
+use Rattle.vert_core.specs.declared.line_boxes.LinesFault.{LinesFault}
+use Rattle.vert_core.specs.declared.line_boxes.LinesFault.TheVariants.{DimensionTooLarge}
 use Rattle.vert_core.proofs.stacking.stack_lines.Goals as goal
 
 pub loop-line-preserved : goal.loop-line-preserved
@@ -13,21 +16,23 @@ loop-line-preserved c =
     let line : ℕ = c.loop-line.line in
     let count : length c.args.ends.now ≡ length p.places = sym (count_places c.args.ends.now) in
     let items = line_items p line in
-    let ok = c.in-Ok.ensures.ok
+    let ok = c.in_ok-depth.ensures.ok
     ∙ ap (λ (n : ℕ). c.loop-line.list.items ++ line_brings c.args.params.now n line c.loop-line.depth (boxed_line (line_size c.args.params.now line) items)) count in
     record {
       items = stacked_one p line c.loop-line.list.items c.add_line.new.list.items c.loop-line.depth c.loop-line.invariant.items c.loop-line.invariant.depth ok;
-      depth = depth_behind p line c.in-Ok.line_depth c.in-Ok.ensures.depth;
-      fit = all_more (line_fits p) line c.loop-line.invariant.fit (fits_one p line c.loop-line.depth true c.loop-line.invariant.depth c.in-Ok.ensures.fits);
+      depth = depth_behind p line c.in_ok-depth.depth c.in_ok-depth.ensures.depth;
+      fit = all_more (line_fits p) line c.loop-line.invariant.fit (fits_one p line c.loop-line.depth true c.loop-line.invariant.depth c.in_ok-depth.ensures.fits);
     }
 
-pub returns-in-Err-clause-refused : goal.returns-in-Err-clause-refused
+pub returns-in_err-depth-clause-refused : goal.returns-in_err-depth-clause-refused
 unfolding lines_fit
-returns-in-Err-clause-refused c =
+returns-in_err-depth-clause-refused c =
     let p : BrokenParagraph = broken_list c.args.nodes.now c.args.ends.now c.args.params.now c.args.previous_depth in
     let line : ℕ = c.loop-line.line in
     let below : line < length p.places = omega (arith, count_places c.args.ends.now) in
-    λ is. all_but (line_fits p) (length p.places) line below (fits_one p line c.loop-line.depth false c.loop-line.invariant.depth (c.in-Err.ensures.refused is))
+    handed_on (λ (fault : LinesFault). fault ≡ DimensionTooLarge → lines_fit p ≡ false) c.from_residual.result c.in_err-depth.field-0.0
+    c.from_residual.ensures.1
+    (λ is. all_but (line_fits p) (length p.places) line below (fits_one p line c.loop-line.depth false c.loop-line.invariant.depth (c.in_err-depth.ensures.refused is)))
 
 pub returns-clause-ok : goal.returns-clause-ok
 unfolding vertical_items
