@@ -10,6 +10,7 @@ ghost use Rattle.boxglue_calls.specs.Runs.{HandsOverRun, IsRun};
 ghost use Rattle.boxglue_print.specs.Outputs.{IsListed, IsPainted, LacksPage};
 
 use boxglue_calls::{DviFont, Font, FontSizes, Lengths};
+use boxglue_jobs::JobHandle;
 use std::alloc::Global;
 
 /// Runs a script with these fonts. The answers and the bytes of the DVI file go into the buffers, and the numbers of these bytes into `lengths`.
@@ -97,4 +98,50 @@ pub extern "C" fn boxglue_version() -> u32
     ensures { result ≡ 10000 }
 {
     boxglue_calls::version()
+}
+
+/// Makes a job with these fonts, and keeps it in a handle that is null.
+#[unsafe(no_mangle)]
+pub extern "C" fn boxglue_job_new(alloc: Global, job: &mut JobHandle, fonts: &[Font<'_>]) -> u32 {
+    boxglue_jobs::new(alloc, job, fonts)
+}
+
+/// Runs a piece of a script, which is whole lines, on a job.
+#[unsafe(no_mangle)]
+pub extern "C" fn boxglue_job_commands(alloc: Global, job: &mut JobHandle, script: &[u8]) -> u32 {
+    boxglue_jobs::commands(alloc, job, script)
+}
+
+/// Hands the answers over that were not handed over yet.
+#[unsafe(no_mangle)]
+pub extern "C" fn boxglue_job_answers(
+    alloc: Global,
+    job: &mut JobHandle,
+    text: &mut [u8],
+    size: &mut usize,
+) -> u32 {
+    boxglue_jobs::answers(alloc, job, text, size)
+}
+
+/// Hands the bytes of the file over that went out since the last time.
+#[unsafe(no_mangle)]
+pub extern "C" fn boxglue_job_take(
+    alloc: Global,
+    job: &mut JobHandle,
+    dvi: &mut [u8],
+    size: &mut usize,
+) -> u32 {
+    boxglue_jobs::take(alloc, job, dvi, size)
+}
+
+/// Writes the end of the file of a job.
+#[unsafe(no_mangle)]
+pub extern "C" fn boxglue_job_finish(alloc: Global, job: &mut JobHandle) -> u32 {
+    boxglue_jobs::finish(alloc, job)
+}
+
+/// Gives all memory of a job back. The handle is null then.
+#[unsafe(no_mangle)]
+pub extern "C" fn boxglue_job_free(alloc: Global, job: &mut JobHandle) {
+    boxglue_jobs::free(alloc, job)
 }
