@@ -4,6 +4,8 @@
 mod handle;
 mod jobs;
 mod kept_job;
+pub mod laws;
+mod loose;
 mod numbering;
 pub mod status;
 
