@@ -1,7 +1,6 @@
 //! A job that is kept, with the answers and the bytes that were not handed over yet.
 
-ghost use Rattle.std.specs.Prelude.{◌≡◌, ◌++◌, List, [], ℕ, drop, IfOk, IfSome};
-ghost use Rattle.tfm_core.specs.NamedBytes.{NamedBytes};
+ghost use Rattle.std.specs.Prelude.{◌≡◌, drop};
 
 use crate::numbering::{line_count, number_after, number_on};
 use crate::status::ANSWERS_LOST;
