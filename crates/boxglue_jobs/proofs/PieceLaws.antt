@@ -1,5 +1,5 @@
 -- Pieces of a script that are run one after the other (own).
-use Rattle.std.proofs.Common.{◌≡◌, ◌+◌, ◌++◌, ◌∷◌, ℕ, List, [], length, map, refl, ap, sym, ◌∙◌, arith}
+use Rattle.std.proofs.Common.{◌≡◌, ◌++◌, ◌∷◌, ℕ, suc, List, [], length, map, refl, ap, ◌∙◌, arith}
 use Rattle.std.proofs.lemmas.List.{append_assoc}
 use Rattle.job_commands.specs.declared.command.Command.{Command}
 use Rattle.job_commands.specs.Reply.{Reply}
@@ -19,7 +19,7 @@ commands_numbered before (line ∷ lines) = ap (λ (commands : List Command). li
 
 pub length_numbered : (before : ℕ) (lines : List Line) → length (numbered before lines) ≡ length lines
 length_numbered before [] = refl
-length_numbered before (line ∷ lines) = ap (λ (n : ℕ). n + 1) (length_numbered before lines)
+length_numbered before (line ∷ lines) = ap suc (length_numbered before lines)
 
 pub answers_joined : (before middle : ℕ) (front rest : List Line) (replies others : List Reply) → length replies ≡ length front
     → answer_lines (line_numbers (numbered before front)) replies ++ answer_lines (line_numbers (numbered middle rest)) others

@@ -9,6 +9,6 @@ returns-in-Ok c = record {
   silent = c.in-Ok.ensures.bytes_written ∙ ap (λ (m : MemoryState). Some m.bytes) c.new.ensures;
   failed = c.in-Ok.ensures.failed ∙ ap (λ (m : MemoryState). m.failures) c.new.ensures;
   lines = refl;
-  answers = c.new-3.ensures.items;
+  answers = c.new-in-Ok.ensures.items;
   taken = refl;
 }
