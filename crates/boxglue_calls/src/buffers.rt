@@ -14,7 +14,7 @@ fn put<T: Copy>(items: &[T], buffer: &mut [T])
 }
 
 /// Hands an output over: it goes into the buffer, and the status is this one; or the buffer is too small, and nothing is written.
-pub(crate) fn hand_over(output: &[u8], buffer: &mut [u8], done: u32) -> u32
+pub fn hand_over(output: &[u8], buffer: &mut [u8], done: u32) -> u32
     ensures { HandsOver buffer.old buffer.new output.now done result }
 {
     if output.len() > buffer.len() {

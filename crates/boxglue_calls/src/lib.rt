@@ -2,7 +2,7 @@
 //! A call writes into buffers of its caller and returns a status. `boxglue_c` exports each of these functions to C.
 #![tactic(auto)]
 
-mod buffers;
+pub mod buffers;
 mod edition;
 mod font_table;
 mod given;

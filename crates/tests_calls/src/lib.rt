@@ -4,6 +4,8 @@
 #[cfg(test)]
 mod dvi_files;
 #[cfg(test)]
+mod jobs;
+#[cfg(test)]
 mod samples;
 #[cfg(test)]
 mod scripts;

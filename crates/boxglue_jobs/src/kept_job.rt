@@ -1,0 +1,143 @@
+//! A job that is kept, with the answers and the bytes that were not handed over yet.
+
+ghost use Rattle.std.specs.Prelude.{◌≡◌, drop};
+
+use crate::numbering::{line_count, number_after, number_on};
+use crate::status::ANSWERS_LOST;
+use boxglue_calls::buffers::hand_over;
+use boxglue_calls::run_status::run_status;
+use boxglue_calls::status::{ACCEPTED, OUT_OF_MEMORY, REFUSED};
+use boxglue_program::{
+    Cause, FontFile, Memory, ScriptFault, read_script, run_lines, script_refusal_text, with_end,
+};
+use job_core::Job;
+use std::alloc::{AllocError, Global};
+use std::marker::Model;
+
+/// A job on a device in memory, which keeps all bytes of the file.
+#[derive(Drop)]
+pub struct KeptJob {
+    job: Job<Memory>,
+    lines: usize,
+    answers: Vec<u8>,
+    taken: usize,
+}
+
+impl Model for KeptJob {
+    ghost use Rattle.boxglue_jobs.specs.Jobs.{KeptState};
+    ghost use Rattle.boxglue_jobs.specs.KeptCode.{coded_kept};
+
+    ghost Value = { KeptState };
+
+    ghost coded = { coded_kept };
+
+    ghost view = { λ kept. record { job = kept.job; lines = kept.lines; answers = kept.answers.items; taken = kept.taken } };
+}
+
+/// The bytes after the first `taken`.
+fn bytes_after(bytes: &[u8], taken: usize) -> &[u8]
+    ensures { result.now ≡ drop taken bytes.now }
+{
+    &bytes[taken.min(bytes.len())..]
+}
+
+impl KeptJob {
+    ghost use Rattle.std.specs.Prelude.{◌≡◌, ◌⊎◌, ◌++◌, List, ℕ, [], IfOk, IfSome};
+    ghost use Rattle.boxglue_program.specs.Texts.{script_refusal_text};
+    ghost use Rattle.boxglue_jobs.specs.Jobs.{IsNewJob};
+    ghost use Rattle.boxglue_jobs.specs.Pieces.{Answers, DoesCommands, FinishesKept, HandsAnswers, HandsBytes};
+
+    /// A new job with these font files.
+    pub fn new(alloc: Global, files: &[FontFile]) -> Result<KeptJob, AllocError>
+        ensures { IfOk result (IsNewJob files.now) }
+    {
+        match Job::new(alloc, Memory::new(alloc), files) {
+            Ok(job) => Ok(KeptJob {
+                job,
+                lines: 0,
+                answers: Vec::new(alloc),
+                taken: 0,
+            }),
+            Err(_) => Err(AllocError),
+        }
+    }
+
+    /// Appends a text to the answers, and returns the status. None is a text for which memory was refused.
+    fn keep(&mut self, text: Option<Vec<u8>>, accepted: bool) -> u32
+        ensures answered { (lines : List ℕ) → IfSome text (λ kept. kept.items ≡ lines) → Answers self.old.answers self.new.answers lines accepted result }
+        ensures same { (self.new.job ≡ self.old.job) × (self.new.lines ≡ self.old.lines) × (self.new.taken ≡ self.old.taken) }
+    {
+        let Some(text) = text else {
+            return ANSWERS_LOST;
+        };
+        match self.answers.extend_from_slice(&text) {
+            Ok(()) => run_status(&text, accepted),
+            Err(_) => ANSWERS_LOST,
+        }
+    }
+
+    /// Answers a piece that is refused, with the number of its first bad line.
+    fn refuse(&mut self, alloc: Global, number: usize, cause: Cause) -> u32
+        ensures { ((self.new ≡ record self.old { answers = self.old.answers ++ script_refusal_text number cause }) × (result ≡ 1)) ⊎ ((self.new ≡ self.old) × (result ≡ 2)) }
+    {
+        let Ok(text) = script_refusal_text(alloc, number, cause) else {
+            return OUT_OF_MEMORY;
+        };
+        match self.answers.extend_from_slice(&text) {
+            Ok(()) => REFUSED,
+            Err(_) => OUT_OF_MEMORY,
+        }
+    }
+
+    /// Runs a piece of a script, which is whole lines. It is read first, and where it is bad, no line of it is run.
+    pub fn commands(&mut self, alloc: Global, script: &[u8]) -> u32
+        ensures { DoesCommands script.now self.old self.new result }
+    {
+        let mut lines = match read_script(alloc, script) {
+            Ok(lines) => lines,
+            Err(ScriptFault::OutOfMemory) => return OUT_OF_MEMORY,
+            Err(ScriptFault::BadScript { line, cause }) => {
+                return self.refuse(alloc, number_after(self.lines, line), cause);
+            }
+        };
+        number_on(self.lines, &mut lines);
+        let (text, accepted) = run_lines(alloc, &mut self.job, &lines);
+        self.lines = number_after(self.lines, line_count(script));
+        self.keep(text, accepted)
+    }
+
+    /// Hands the answers over that were not handed over yet.
+    pub fn answers(&mut self, text: &mut [u8], size: &mut usize) -> u32
+        ensures { HandsAnswers text.old text.new size.new self.old self.new result }
+    {
+        *size = self.answers.len();
+        let status = hand_over(&self.answers, text, ACCEPTED);
+        if status == ACCEPTED {
+            self.answers.clear();
+        }
+        status
+    }
+
+    /// Hands the bytes over that went out since the last time.
+    pub fn take(&mut self, dvi: &mut [u8], size: &mut usize) -> u32
+        ensures { HandsBytes dvi.old dvi.new size.new self.old self.new result }
+    {
+        let bytes = self.job.device().bytes();
+        let rest = bytes_after(bytes, self.taken);
+        *size = rest.len();
+        let status = hand_over(rest, dvi, ACCEPTED);
+        if status == ACCEPTED {
+            self.taken = bytes.len();
+        }
+        status
+    }
+
+    /// Writes the end of the file.
+    pub fn finish(&mut self, alloc: Global) -> u32
+        ensures { FinishesKept self.old self.new result }
+    {
+        let end = self.job.finish();
+        let text = with_end(Some(Vec::new(alloc)), &end);
+        self.keep(text, end.is_ok())
+    }
+}
