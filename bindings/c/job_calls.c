@@ -11,7 +11,8 @@ static size_t call_with_room(struct boxglue_job *job, hand_over *call, size_t ro
     size_t growths = heap_growths(), size = UNSET;
     uint32_t status = COUNTED(call(job, output.bytes, room, &size));
     REQUIRE(heap_growths() == growths, "what is handed over takes memory");
-    REQUIRE(size != UNSET && status == (size > room ? BOXGLUE_BUFFER_TOO_SMALL : BOXGLUE_ACCEPTED), "with room for %zu bytes of %zu the status is %u", room, size, status);
+    uint32_t wanted = size > room ? BOXGLUE_BUFFER_TOO_SMALL : BOXGLUE_ACCEPTED;
+    REQUIRE(size != UNSET && status == wanted, "with room for %zu bytes of %zu the status is %u", room, size, status);
     require_untouched(&output, status == BOXGLUE_ACCEPTED ? size : 0, "handed over");
     if (status == BOXGLUE_ACCEPTED && all) append(all, output.bytes, size);
     free_output(&output);

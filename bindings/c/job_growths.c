@@ -37,7 +37,7 @@ void refuse_job_growths(const struct pieces *pieces) {
         counts[kind_of(&result, &whole, refused)]++;
         free_job_result(&result);
     }
-    printf("growths %zu: made again %zu, a command refused %zu, the device failed %zu, answers lost %zu, no difference %zu\n", whole.growths, counts[AGAIN], counts[COMMAND],
-           counts[DEVICE], counts[LOST], counts[SAME]);
+    printf("growths %zu: made again %zu, a command refused %zu, the device failed %zu, answers lost %zu, no difference %zu\n",
+           whole.growths, counts[AGAIN], counts[COMMAND], counts[DEVICE], counts[LOST], counts[SAME]);
     free_job_result(&whole);
 }

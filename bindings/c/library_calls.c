@@ -10,8 +10,9 @@
  *     library_calls handles
  *     library_calls version
  *
- * It prints a line with the status and the sizes of both outputs, and then the outputs. `job` runs the script on a job in pieces of at most MOST lines. With --refuse each growth of memory is refused in turn instead, and
- * the ways in which the calls ended are counted. Where something is wrong, a line on standard error says so, and the status of the program is 1. */
+ * It prints a line with the status and the sizes of both outputs, and then the outputs. `job` runs the script on a job, in pieces of at most MOST lines.
+ * With --refuse each growth of memory is refused in turn instead, and the ways in which the calls ended are counted.
+ * Where something is wrong, a line on standard error says so, and the status of the program is 1. */
 #include "job_calls.h"
 #include "random_inputs.h"
 #include "random_pieces.h"

@@ -86,7 +86,7 @@ static void require_one_run(const struct joined *joined, const struct boxglue_fo
     struct result result = checked_call(&request);
     struct input answers = {result.outputs[0].bytes, result.sizes[0]}, dvi = {result.outputs[1].bytes, result.sizes[1]};
     REQUIRE(result.status == whole_status(&joined->result), "the status of one run is %u", result.status);
-    REQUIRE(is_equal(&answers, &joined->result.answers), "one run has other answers than its pieces:\n%.*s", (int)joined->script.size, (const char *)joined->script.bytes);
+    REQUIRE(is_equal(&answers, &joined->result.answers), "one run has other answers than its pieces");
     REQUIRE(is_equal(&dvi, &joined->result.dvi), "one run has another file than its pieces");
     free_result(&result);
 }
