@@ -1,12 +1,15 @@
-//! The typesetter for programs in C, and for languages that call C. Each function calls the one of its name in `boxglue_calls`, and states its clauses again;
+//! The typesetter for programs in C, and for languages that call C. Each function calls the one of its name in `boxglue_calls` or `boxglue_jobs`, and states its clauses again;
 //! `include/boxglue.h` describes them for callers in C. A function has no `requires`: it returns a status for every input.
 #![tactic(auto)]
 
-ghost use Rattle.std.specs.Prelude.{◌≡◌, ◌↔◌, ◌⊎◌, false, true};
+ghost use Rattle.std.specs.Prelude.{◌≡◌, ◌≢◌, ◌↔◌, ◌⊎◌, false, true, None, Some};
 ghost use Rattle.boxglue_calls.specs.Fonts.{are_named, files_of};
 ghost use Rattle.boxglue_calls.specs.FontTables.{HandsOverFonts};
 ghost use Rattle.boxglue_calls.specs.Pages.{HandsOverPages, is_in_range};
 ghost use Rattle.boxglue_calls.specs.Runs.{HandsOverRun, IsRun};
+ghost use Rattle.boxglue_jobs.specs.Calls.{OnJob};
+ghost use Rattle.boxglue_jobs.specs.Jobs.{IsNewJob, KeptState};
+ghost use Rattle.boxglue_jobs.specs.Pieces.{DoesCommands, FinishesKept, HandsAnswers, HandsBytes};
 ghost use Rattle.boxglue_print.specs.Outputs.{IsListed, IsPainted, LacksPage};
 
 use boxglue_calls::{DviFont, Font, FontSizes, Lengths};
@@ -102,13 +105,22 @@ pub extern "C" fn boxglue_version() -> u32
 
 /// Makes a job with these fonts, and keeps it in a handle that is null.
 #[unsafe(no_mangle)]
-pub extern "C" fn boxglue_job_new(alloc: Global, job: &mut JobHandle, fonts: &[Font<'_>]) -> u32 {
+pub extern "C" fn boxglue_job_new(alloc: Global, job: &mut JobHandle, fonts: &[Font<'_>]) -> u32
+    ensures exists { result ≡ 9 ↔ job.old.value ≢ None }
+    ensures named { result ≡ 3 ↔ ((job.old.value ≡ None) × (are_named fonts.now ≡ false)) }
+    ensures made { result ≡ 0 → (kept : KeptState) × (job.new.value ≡ Some kept) × IsNewJob (files_of fonts.now) kept }
+    ensures same { result ≢ 0 → job.new.value ≡ job.old.value }
+    ensures few { (result ≡ 0) ⊎ (result ≡ 2) ⊎ (result ≡ 3) ⊎ (result ≡ 9) }
+{
     boxglue_jobs::new(alloc, job, fonts)
 }
 
 /// Runs a piece of a script, which is whole lines, on a job.
 #[unsafe(no_mangle)]
-pub extern "C" fn boxglue_job_commands(alloc: Global, job: &mut JobHandle, script: &[u8]) -> u32 {
+pub extern "C" fn boxglue_job_commands(alloc: Global, job: &mut JobHandle, script: &[u8]) -> u32
+    ensures no_job { result ≡ 8 ↔ job.old.value ≡ None }
+    ensures done { OnJob (DoesCommands script.now) job.old.value job.new.value result }
+{
     boxglue_jobs::commands(alloc, job, script)
 }
 
@@ -119,7 +131,12 @@ pub extern "C" fn boxglue_job_answers(
     job: &mut JobHandle,
     text: &mut [u8],
     size: &mut usize,
-) -> u32 {
+) -> u32
+    ensures no_job { result ≡ 8 ↔ job.old.value ≡ None }
+    ensures done { OnJob (HandsAnswers text.old text.new size.new) job.old.value job.new.value result }
+    ensures text { result ≡ 8 → text.new ≡ text.old }
+    ensures size { result ≡ 8 → size.new ≡ size.old }
+{
     boxglue_jobs::answers(alloc, job, text, size)
 }
 
@@ -130,18 +147,28 @@ pub extern "C" fn boxglue_job_take(
     job: &mut JobHandle,
     dvi: &mut [u8],
     size: &mut usize,
-) -> u32 {
+) -> u32
+    ensures no_job { result ≡ 8 ↔ job.old.value ≡ None }
+    ensures done { OnJob (HandsBytes dvi.old dvi.new size.new) job.old.value job.new.value result }
+    ensures dvi { result ≡ 8 → dvi.new ≡ dvi.old }
+    ensures size { result ≡ 8 → size.new ≡ size.old }
+{
     boxglue_jobs::take(alloc, job, dvi, size)
 }
 
 /// Writes the end of the file of a job.
 #[unsafe(no_mangle)]
-pub extern "C" fn boxglue_job_finish(alloc: Global, job: &mut JobHandle) -> u32 {
+pub extern "C" fn boxglue_job_finish(alloc: Global, job: &mut JobHandle) -> u32
+    ensures no_job { result ≡ 8 ↔ job.old.value ≡ None }
+    ensures done { OnJob FinishesKept job.old.value job.new.value result }
+{
     boxglue_jobs::finish(alloc, job)
 }
 
 /// Gives all memory of a job back. The handle is null then.
 #[unsafe(no_mangle)]
-pub extern "C" fn boxglue_job_free(alloc: Global, job: &mut JobHandle) {
+pub extern "C" fn boxglue_job_free(alloc: Global, job: &mut JobHandle)
+    ensures { job.new.value ≡ None }
+{
     boxglue_jobs::free(alloc, job)
 }

@@ -1,0 +1,59 @@
+-- Statuses of the calls on a kept job, and a call on a handle (own).
+use Rattle.std.proofs.Common.{◌≡◌, ◌↔◌, ℕ, Bool, true, false, List, inl, inr, refl, sym, subst, arith}
+use Rattle.std.specs.declared.option.Option.{Option}
+use Rattle.std.specs.declared.option.Option.TheVariants.{None, Some}
+use Rattle.boxglue_calls.specs.Buffers.{HandsOver}
+use Rattle.boxglue_calls.specs.Runs.{IsRunStatus}
+use Rattle.boxglue_jobs.specs.Calls.{OnJob}
+use Rattle.boxglue_jobs.specs.Jobs.{KeptState}
+use Rattle.boxglue_jobs.specs.Pieces.{Answers, DoesCommands, FinishesKept, HandsAnswers, HandsBytes}
+
+run_status_is_not_8 : (text : List ℕ) (accepted : Bool) (status : ℕ) → IsRunStatus text accepted status → status ≡ 8 → ⊥
+run_status_is_not_8 text true status h e = omega (arith, h, e)
+run_status_is_not_8 text false status (inl (says, h)) e = omega (arith, h, e)
+run_status_is_not_8 text false status (inr (silent, h)) e = omega (arith, h, e)
+
+answered_is_not_8 : (old new text : List ℕ) (accepted : Bool) (status : ℕ) → Answers old new text accepted status → status ≡ 8 → ⊥
+answered_is_not_8 old new text accepted status (inl (more, h)) e = run_status_is_not_8 text accepted status h e
+answered_is_not_8 old new text accepted status (inr (same, h)) e = omega (arith, h, e)
+
+handed_is_not_8 : (old new output : List ℕ) (status : ℕ) → HandsOver old new output 0 status → status ≡ 8 → ⊥
+handed_is_not_8 old new output status (inl (holds, h)) e = omega (arith, h, e)
+handed_is_not_8 old new output status (inr (small, same, h)) e = omega (arith, h, e)
+
+pub commands_is_not_8 : (script : List ℕ) (old new : KeptState) (status : ℕ) → DoesCommands script old new status → status ≡ 8 → ⊥
+commands_is_not_8 script old new status (inl ran) e = answered_is_not_8 _ _ _ _ status ran.answered e
+commands_is_not_8 script old new status (inr (inl bad)) e = let h = bad.status_is in omega (arith, h, e)
+commands_is_not_8 script old new status (inr (inr (same, h))) e = omega (arith, h, e)
+
+pub answers_is_not_8 : (text_old text_new : List ℕ) (size : ℕ) (old new : KeptState) (status : ℕ) → HandsAnswers text_old text_new size old new status → status ≡ 8 → ⊥
+answers_is_not_8 text_old text_new size old new status does e = handed_is_not_8 _ _ _ status does.handed e
+
+pub take_is_not_8 : (dvi_old dvi_new : List ℕ) (size : ℕ) (old new : KeptState) (status : ℕ) → HandsBytes dvi_old dvi_new size old new status → status ≡ 8 → ⊥
+take_is_not_8 dvi_old dvi_new size old new status does e = handed_is_not_8 _ _ _ status does.handed e
+
+pub finish_is_not_8 : (old new : KeptState) (status : ℕ) → FinishesKept old new status → status ≡ 8 → ⊥
+finish_is_not_8 old new status does e = answered_is_not_8 _ _ _ _ status does.answered e
+
+abbrev held_job : KeptState → Option KeptState
+held_job x = Some x
+
+some_is_not_none : (x : KeptState) → held_job x ≡ None → ⊥
+some_is_not_none x e = cc
+
+pub no_job : (Does : KeptState → KeptState → ℕ → Type 0) → ((old new : KeptState) (status : ℕ) → Does old new status → status ≡ 8 → ⊥)
+    → (old new : Option KeptState) (status : ℕ) → OnJob Does old new status → (status ≡ 8 ↔ old ≡ None)
+no_job Does other None None status h = (λ _. refl, λ _. h)
+no_job Does other None (Some new) status h = absurd h
+no_job Does other (Some old) None status h = absurd h
+no_job Does other (Some old) (Some new) status h = (λ e. absurd (other old new status h e), λ e. absurd (some_is_not_none old e))
+
+pub on_a_job : (Does : KeptState → KeptState → ℕ → Type 0) (old new : Option KeptState) (x y : KeptState) (status : ℕ) → old ≡ Some x → new ≡ Some y → Does x y status → OnJob Does old new status
+on_a_job Does old new x y status e f h = subst (λ (o : Option KeptState). OnJob Does o new status) (sym e) (subst (λ (n : Option KeptState). OnJob Does (Some x) n status) (sym f) h)
+
+pub on_no_job : (Does : KeptState → KeptState → ℕ → Type 0) (old new : Option KeptState) (status : ℕ) → old ≡ None → new ≡ None → status ≡ 8 → OnJob Does old new status
+on_no_job Does old new status e f h = subst (λ (o : Option KeptState). OnJob Does o new status) (sym e) (subst (λ (n : Option KeptState). OnJob Does None n status) (sym f) h)
+
+-- A text that is kept has the status of its run.
+pub kept_text : (old new lines text : List ℕ) (accepted : Bool) (status : ℕ) → text ≡ lines → Answers old new text accepted status → Answers old new lines accepted status
+kept_text old new lines text accepted status e h = subst (λ (t : List ℕ). Answers old new t accepted status) e h

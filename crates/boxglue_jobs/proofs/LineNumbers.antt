@@ -1,0 +1,9 @@
+-- Lines that are numbered one after the other (own).
+use Rattle.std.proofs.Common.{◌≡◌, ◌+◌, ◌<◌, ◌++◌, ◌∷◌, ℕ, zero, suc, List, [], length, map, take, drop, get_or, set, refl, ap, sym, ◌∙◌, arith}
+
+-- The element at an index is replaced by its image, where those before it are.
+pub map_next : {A : Type 0} (f : A → A) (xs : List A) (i : ℕ) (d : A) → i < length xs
+    → set (map f (take i xs) ++ drop i xs) i (f (get_or (map f (take i xs) ++ drop i xs) i d)) ≡ map f (take (i + 1) xs) ++ drop (i + 1) xs
+map_next f [] i d h = absurd (omega (arith, h))
+map_next f (x ∷ xs) zero d h = refl
+map_next {A = A} f (x ∷ xs) (suc i) d h = ap (λ (rest : List A). f x ∷ rest) (map_next f xs i d (omega (arith, h)))
