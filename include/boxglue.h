@@ -183,10 +183,10 @@ uint32_t boxglue_job_take(struct boxglue_job *job,
                           uint8_t *dvi, size_t dvi_room,
                           size_t *size);
 
-/* Ends the job: the end of the DVI file goes out, and the answer is the line that begins with "end: ". At 1 and 7 that line has the refusal: while a list is open
- * the job is not ended, and can go on. Answers and bytes can be handed over after the end as before.
+/* Ends the job: the end of the DVI file goes out, and the answer is the line that begins with "end: ". Answers and bytes can be handed over after it as before.
  *
- * Returns 0, 1, 7, 8 or 10. */
+ * Returns 0, 1, 7, 8 or 10. At 1 and 7 that line has the refusal. After ListsOpen and OutOfMemory the job is as it was, and may go on and be finished later.
+ * At 10 the line is lost, and whether the job has ended is known by the next call of it: JobOver. */
 uint32_t boxglue_job_finish(struct boxglue_job *job);
 
 /* Frees all memory of the job, whether it was finished or not. The handle is null then, and may get another job. A handle without a job stays as it is. */
