@@ -1,5 +1,5 @@
 -- Statuses of the calls on a kept job, and a call on a handle (own).
-use Rattle.std.proofs.Common.{◌≡◌, ◌↔◌, ℕ, Bool, true, false, List, inl, inr, refl, sym, subst, arith}
+use Rattle.std.proofs.Common.{◌≡◌, ◌↔◌, ℕ, Bool, true, false, List, inl, inr, refl, sym, ◌∙◌, subst, arith}
 use Rattle.std.specs.declared.option.Option.{Option}
 use Rattle.std.specs.declared.option.Option.TheVariants.{None, Some}
 use Rattle.boxglue_calls.specs.Buffers.{HandsOver}
@@ -57,3 +57,22 @@ on_no_job Does old new status e f h = subst (λ (o : Option KeptState). OnJob Do
 -- A text that is kept has the status of its run.
 pub kept_text : (old new lines text : List ℕ) (accepted : Bool) (status : ℕ) → text ≡ lines → Answers old new text accepted status → Answers old new lines accepted status
 kept_text old new lines text accepted status e h = subst (λ (t : List ℕ). Answers old new t accepted status) e h
+
+-- Each call on a handle with a job.
+pub there_was_a_job : (old : Option KeptState) (x : KeptState) (status : ℕ) → old ≡ Some x → (status ≡ 8 → ⊥) → (status ≡ 8 ↔ old ≡ None)
+there_was_a_job old x status e other = (λ h. absurd (other h), λ n. absurd (some_is_not_none x (sym e ∙ n)))
+
+pub there_was_none : (old : Option KeptState) (status : ℕ) → old ≡ None → status ≡ 8 → (status ≡ 8 ↔ old ≡ None)
+there_was_none old status e h = (λ _. e, λ _. h)
+
+pub commands_on_a_job : (script : List ℕ) (old : Option KeptState) (x y : KeptState) (status : ℕ) → old ≡ Some x → DoesCommands script x y status → (status ≡ 8 ↔ old ≡ None)
+commands_on_a_job script old x y status e does = there_was_a_job old x status e (commands_is_not_8 script x y status does)
+
+pub answers_on_a_job : (text_old text_new : List ℕ) (size : ℕ) (old : Option KeptState) (x y : KeptState) (status : ℕ) → old ≡ Some x → HandsAnswers text_old text_new size x y status → (status ≡ 8 ↔ old ≡ None)
+answers_on_a_job text_old text_new size old x y status e does = there_was_a_job old x status e (answers_is_not_8 text_old text_new size x y status does)
+
+pub take_on_a_job : (dvi_old dvi_new : List ℕ) (size : ℕ) (old : Option KeptState) (x y : KeptState) (status : ℕ) → old ≡ Some x → HandsBytes dvi_old dvi_new size x y status → (status ≡ 8 ↔ old ≡ None)
+take_on_a_job dvi_old dvi_new size old x y status e does = there_was_a_job old x status e (take_is_not_8 dvi_old dvi_new size x y status does)
+
+pub finish_on_a_job : (old : Option KeptState) (x y : KeptState) (status : ℕ) → old ≡ Some x → FinishesKept x y status → (status ≡ 8 ↔ old ≡ None)
+finish_on_a_job old x y status e does = there_was_a_job old x status e (finish_is_not_8 x y status does)

@@ -9,8 +9,7 @@ use crate::kept_job::KeptJob;
 use crate::loose::Loose;
 use std::alloc::Global;
 use std::marker::Model;
-use std::mem;
-use std::ptr;
+use std::{mem, ptr};
 
 /// What C keeps: null, or the place of a job. C begins with null, and does not touch it.
 #[repr(C)]

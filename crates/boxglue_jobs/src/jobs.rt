@@ -57,6 +57,7 @@ pub fn new(alloc: Global, job: &mut JobHandle, fonts: &[Font<'_>]) -> u32
 ///
 /// Returns ACCEPTED, REFUSED or REFUSED_MEMORY, and then the answers are kept; ANSWERS_LOST, and then the commands were run and memory was refused for the text of their
 /// answers; NO_JOB or OUT_OF_MEMORY, and then nothing changed.
+#[tactic(auto, using(crate::proofs::KeptLaws::on_a_job, crate::proofs::KeptLaws::on_no_job, crate::proofs::KeptLaws::there_was_none, crate::proofs::KeptLaws::commands_on_a_job))]
 pub fn commands(alloc: Global, job: &mut JobHandle, script: &[u8]) -> u32
     ensures no_job { result ≡ 8 ↔ job.old.value ≡ None }
     ensures done { OnJob (DoesCommands script.now) job.old.value job.new.value result }
@@ -72,6 +73,7 @@ pub fn commands(alloc: Global, job: &mut JobHandle, script: &[u8]) -> u32
 /// Hands the answers over that were not handed over yet. They go into `text`, and the number of their bytes into `size`.
 ///
 /// Returns ACCEPTED; BUFFER_TOO_SMALL, and then `size` alone is written, and the answers are still kept; or NO_JOB, and then nothing is written.
+#[tactic(auto, using(crate::proofs::KeptLaws::on_a_job, crate::proofs::KeptLaws::on_no_job, crate::proofs::KeptLaws::there_was_none, crate::proofs::KeptLaws::answers_on_a_job))]
 pub fn answers(alloc: Global, job: &mut JobHandle, text: &mut [u8], size: &mut usize) -> u32
     ensures no_job { result ≡ 8 ↔ job.old.value ≡ None }
     ensures done { OnJob (HandsAnswers text.old text.new size.new) job.old.value job.new.value result }
@@ -89,6 +91,7 @@ pub fn answers(alloc: Global, job: &mut JobHandle, text: &mut [u8], size: &mut u
 /// Hands the bytes of the file over that went out since the last time. They go into `dvi`, and their number into `size`.
 ///
 /// Returns ACCEPTED; BUFFER_TOO_SMALL, and then `size` alone is written, and the bytes are handed over by a later call; or NO_JOB, and then nothing is written.
+#[tactic(auto, using(crate::proofs::KeptLaws::on_a_job, crate::proofs::KeptLaws::on_no_job, crate::proofs::KeptLaws::there_was_none, crate::proofs::KeptLaws::take_on_a_job))]
 pub fn take(alloc: Global, job: &mut JobHandle, dvi: &mut [u8], size: &mut usize) -> u32
     ensures no_job { result ≡ 8 ↔ job.old.value ≡ None }
     ensures done { OnJob (HandsBytes dvi.old dvi.new size.new) job.old.value job.new.value result }
@@ -106,6 +109,7 @@ pub fn take(alloc: Global, job: &mut JobHandle, dvi: &mut [u8], size: &mut usize
 /// Writes the end of the file. The last of the answers is the `end:` line. After an end that was accepted the job takes no commands: each is answered JobOver.
 ///
 /// Returns ACCEPTED, REFUSED or REFUSED_MEMORY, and then the answer is kept; ANSWERS_LOST, and then memory was refused for its text; or NO_JOB, and then nothing changed.
+#[tactic(auto, using(crate::proofs::KeptLaws::on_a_job, crate::proofs::KeptLaws::on_no_job, crate::proofs::KeptLaws::there_was_none, crate::proofs::KeptLaws::finish_on_a_job))]
 pub fn finish(alloc: Global, job: &mut JobHandle) -> u32
     ensures no_job { result ≡ 8 ↔ job.old.value ≡ None }
     ensures done { OnJob FinishesKept job.old.value job.new.value result }

@@ -8,6 +8,7 @@ use boxglue_jobs::{JobHandle, answers, commands, finish, free, new, take};
 
 /// The pieces of the script `ONE_RULE`.
 const FIRST_PIECE: &str = "hbox into 0\nrule 1pt 1pt 0pt\n";
+
 const SECOND_PIECE: &str = "end\nship 0\n";
 
 #[test]
@@ -16,7 +17,10 @@ fn a_job_is_run_in_pieces(rt: HostRuntime) {
     let mut job = JobHandle::null();
     assert_eq!(rt; new(alloc, &mut job, &[]), ACCEPTED);
     assert_eq!(rt; commands(alloc, &mut job, FIRST_PIECE.as_bytes()), ACCEPTED);
-    assert_eq!(rt; commands(alloc, &mut job, SECOND_PIECE.as_bytes()), ACCEPTED);
+    assert_eq!(rt;
+        commands(alloc, &mut job, SECOND_PIECE.as_bytes()),
+        ACCEPTED
+    );
     assert_eq!(rt; finish(alloc, &mut job), ACCEPTED);
     let mut text = [0u8; 256];
     let mut size = 0;
@@ -43,7 +47,10 @@ fn the_file_is_taken_in_pieces(rt: HostRuntime) {
     assert_eq!(rt; take(alloc, &mut job, &mut dvi, &mut size), ACCEPTED);
     assert_eq!(rt; size, 0);
     assert_eq!(rt; finish(alloc, &mut job), ACCEPTED);
-    assert_eq!(rt; take(alloc, &mut job, &mut dvi[..8], &mut size), BUFFER_TOO_SMALL);
+    assert_eq!(rt;
+        take(alloc, &mut job, &mut dvi[..8], &mut size),
+        BUFFER_TOO_SMALL
+    );
     assert_eq!(rt; first + size, 116);
     assert_eq!(rt; take(alloc, &mut job, &mut dvi, &mut size), ACCEPTED);
     assert_eq!(rt; first + size, 116);
@@ -60,12 +67,18 @@ fn a_bad_piece_leaves_the_job(rt: HostRuntime) {
     assert_eq!(rt; commands(alloc, &mut job, b"end\nnonsense\n"), REFUSED);
     let mut text = [0u8; 256];
     let mut size = 0;
-    assert_eq!(rt; answers(alloc, &mut job, &mut text[..4], &mut size), BUFFER_TOO_SMALL);
+    assert_eq!(rt;
+        answers(alloc, &mut job, &mut text[..4], &mut size),
+        BUFFER_TOO_SMALL
+    );
     assert_eq!(rt; text[0], 0);
     assert_eq!(rt; answers(alloc, &mut job, &mut text, &mut size), ACCEPTED);
     let expected = "1: ok\n2: ok\nrefused 2 BadScript 4 Word\n";
     assert_eq!(rt; text.get(..size), Some(expected.as_bytes()));
-    assert_eq!(rt; commands(alloc, &mut job, SECOND_PIECE.as_bytes()), ACCEPTED);
+    assert_eq!(rt;
+        commands(alloc, &mut job, SECOND_PIECE.as_bytes()),
+        ACCEPTED
+    );
     assert_eq!(rt; answers(alloc, &mut job, &mut text, &mut size), ACCEPTED);
     let rest = "3: packed 1.0pt 1.0pt 0.0pt badness 0\n4: shipped 1\n";
     assert_eq!(rt; text.get(..size), Some(rest.as_bytes()));
