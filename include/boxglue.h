@@ -1,19 +1,20 @@
 /* boxglue.h: the typesetter as a library for C.
  *
- * The functions work on bytes in memory. They keep nothing between two calls, start no thread and take no lock, so several threads may call them at once.
+ * The functions work on bytes in memory. They start no thread and take no lock, so several threads may call them at once.
+ * Between two calls they keep nothing but what a struct boxglue_job holds, which goes to one call at a time.
  * docs/LIBRARY.md shows how to link a program, and has callers in C, Python and Rust.
  *
  * Rules for all calls; the library checks none of them:
  *
- * - The caller owns all memory. The library reads its inputs and writes its outputs during the call, and keeps no pointer after it.
- *   What it allocates by malloc, realloc and free during a call it frees before the call returns.
+ * - The caller owns all memory that it passes. The library reads its inputs and writes its outputs during the call, and keeps no pointer to them after it.
+ *   What it allocates by malloc, realloc and free during a call it frees before the call returns. The memory of a job alone stays allocated between calls.
  * - No pointer is null, not even where its length is 0. Use the address of any byte or struct then. Pointers to structs are aligned as C aligns them.
- * - No output overlaps another output or an input. Inputs may overlap each other.
+ * - No output overlaps another output or an input. Inputs may overlap each other. The struct boxglue_job of a call is an output.
  * - Each length is below 2^63 bytes.
  * - The stack has room. Boxes 200 deep, the deepest there are, ran with 256 KiB left, and most calls need far less.
  * - No call comes from a signal handler, or from the child of a process with threads after fork.
  *
- * Each function but boxglue_version returns a status, one of enum boxglue_status. Its comment names the statuses that it can return.
+ * Each function but boxglue_version and boxglue_job_free returns a status, one of enum boxglue_status. Its comment names the statuses that it can return.
  * Every input has a status: what a script, a DVI file or a font file holds may be any bytes.
  */
 #ifndef BOXGLUE_H
@@ -46,7 +47,13 @@ enum boxglue_status {
     BOXGLUE_OUT_OF_RANGE = 6,
     /* The script was run, and a command of it, or the end of the job, was refused as OutOfMemory. The outputs are written. Where memory is refused for the bytes
      * of the DVI file alone, the answer is Device (docs/COMMANDS.md, section 7), the job is over, and the status is 1. */
-    BOXGLUE_REFUSED_MEMORY = 7
+    BOXGLUE_REFUSED_MEMORY = 7,
+    /* The handle has no job. Nothing is written. */
+    BOXGLUE_NO_JOB = 8,
+    /* The handle has a job already. It is as it was. */
+    BOXGLUE_JOB_EXISTS = 9,
+    /* The commands were run, or the job was finished, and memory was refused for the text of the answers. They are lost, and what the commands did stays. */
+    BOXGLUE_ANSWERS_LOST = 10
 };
 
 /* A font that the caller hands in: the name by which scripts and DVI files mean it, 1 to 255 bytes, and the bytes of its metric file (TFM).
@@ -132,6 +139,58 @@ uint32_t boxglue_fonts(const uint8_t *dvi, size_t dvi_size,
 
 /* Returns the version of the library, as BOXGLUE_VERSION counts it. A program compares the two. */
 uint32_t boxglue_version(void);
+
+/* A handle of a job that is kept between calls: struct boxglue_job job = {0};
+ *
+ * The library alone reads and writes `at`, which is null where there is no job. Memory of the job stays allocated from boxglue_job_new to boxglue_job_free.
+ * A handle goes to one call at a time, is never copied, and may move from one thread to another between two calls. */
+struct boxglue_job {
+    void *at;
+};
+
+/* Makes a job with these fonts, for a handle that has none. The job copies the fonts: names and bytes are not needed after the call.
+ *
+ * Returns 0, 2, 3 or 9. Status 9 is tested first here. At 2, 3 and 9 the handle is as it was. At 0 end the job once, by boxglue_job_free. */
+uint32_t boxglue_job_new(struct boxglue_job *job,
+                         const struct boxglue_font *fonts, size_t font_count);
+
+/* Runs a piece of a script: whole lines, the last one with its line feed or without. Pieces one after the other do what one script of them does,
+ * and their lines are numbered as its lines.
+ *
+ * A piece is read whole before its first command is run. One with a bad line is refused: nothing of it is run, its lines do not count, and the answer is
+ * one line, as "refused 2 BadScript 7 Word". The answers are kept for boxglue_job_answers. After the end of the job each command is answered JobOver.
+ *
+ * Returns 0, 1, 2, 7, 8 or 10. At 2 nothing was run, there is no answer, and the job is as it was. At 10 the commands were run, and their answers are lost. */
+uint32_t boxglue_job_commands(struct boxglue_job *job,
+                              const uint8_t *script, size_t script_size);
+
+/* Hands over the answers that were not handed over yet, those of several pieces one after the other. The job then forgets them.
+ *
+ * text takes the answers, and *size the number of their bytes, which may be 0. The rest of the buffer is as it was.
+ *
+ * Returns 0, 4 or 8. At 4 *size says what the buffer needs, and nothing is lost. At 8 *size is as it was. */
+uint32_t boxglue_job_answers(struct boxglue_job *job,
+                             uint8_t *text, size_t text_room,
+                             size_t *size);
+
+/* Hands over the bytes of the DVI file that went out since the last call that returned 0. What these calls hand over is the file, piece after piece.
+ * A page goes out when it is shipped, and the end of the file when the job is finished. The job keeps all bytes of the file until it is freed.
+ *
+ * dvi takes the bytes, and *size their number, which may be 0. The rest of the buffer is as it was.
+ *
+ * Returns 0, 4 or 8. At 4 *size says what the buffer needs, and nothing is lost. At 8 *size is as it was. */
+uint32_t boxglue_job_take(struct boxglue_job *job,
+                          uint8_t *dvi, size_t dvi_room,
+                          size_t *size);
+
+/* Ends the job: the end of the DVI file goes out, and the answer is the line that begins with "end: ". Answers and bytes can be handed over after it as before.
+ *
+ * Returns 0, 1, 7, 8 or 10. At 1 and 7 that line has the refusal. After ListsOpen and OutOfMemory the job is as it was, and may go on and be finished later.
+ * At 10 the line is lost, and whether the job has ended is known by the next call of it: JobOver. */
+uint32_t boxglue_job_finish(struct boxglue_job *job);
+
+/* Frees all memory of the job, whether it was finished or not. The handle is null then, and may get another job. A handle without a job stays as it is. */
+void boxglue_job_free(struct boxglue_job *job);
 
 #ifdef __cplusplus
 }

@@ -5,6 +5,10 @@
 
 #include <stddef.h>
 
+/* The answer of a command for which memory was refused, and the one where it was refused for the bytes of the DVI file. */
+#define MEMORY_LINE ": refused 1 OutOfMemory\n"
+#define DEVICE_LINE ": refused 18 Device\n"
+
 /* Begins to count from 0. The growth of this number is refused, from 1; none for 0. */
 void heap_begin(size_t refused);
 

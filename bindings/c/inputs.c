@@ -21,15 +21,31 @@ void fail(const char *format, ...) {
 static uint8_t *files[MOST_FONTS + 2];
 static size_t file_count;
 
+void append(struct input *input, const uint8_t *bytes, size_t size) {
+    if (!size) return;
+    input->bytes = realloc(input->bytes, input->size + size);
+    REQUIRE(input->bytes, "out of memory");
+    memcpy(input->bytes + input->size, bytes, size);
+    input->size += size;
+}
+
+int is_equal(const struct input *one, const struct input *other) {
+    return one->size == other->size && (!one->size || !memcmp(one->bytes, other->bytes, one->size));
+}
+
+int has_text(const struct input *input, const char *text) {
+    size_t length = strlen(text);
+    for (size_t at = 0; at + length <= input->size; at++)
+        if (!memcmp(input->bytes + at, text, length)) return 1;
+    return 0;
+}
+
 struct input read_file(const char *path) {
     FILE *file = fopen(path, "rb");
     REQUIRE(file, "cannot read %s", path);
     struct input input = {malloc(1), 0};
     uint8_t piece[4096];
-    for (size_t count; (count = fread(piece, 1, sizeof piece, file)) > 0; input.size += count) {
-        input.bytes = realloc(input.bytes, input.size + count);
-        memcpy(input.bytes + input.size, piece, count);
-    }
+    for (size_t count; (count = fread(piece, 1, sizeof piece, file)) > 0;) append(&input, piece, count);
     fclose(file);
     REQUIRE(file_count < MOST_FONTS + 2, "too many files");
     files[file_count++] = input.bytes;

@@ -32,6 +32,13 @@ void fail(const char *format, ...) __attribute__((format(printf, 1, 2), noreturn
 
 struct input read_file(const char *path);
 
+/* Appends bytes to those of an input, which malloc gave or which are none. */
+void append(struct input *input, const uint8_t *bytes, size_t size);
+
+/* Whether two inputs have the same bytes, and whether one has this text in it. */
+int is_equal(const struct input *one, const struct input *other);
+int has_text(const struct input *input, const char *text);
+
 /* Reads the fonts of words NAME=PATH. */
 struct fonts read_fonts(char **words, int count);
 

@@ -4,12 +4,18 @@
  *     library_calls [--refuse] list DVI [NAME=TFM ..]
  *     library_calls [--refuse] paint PAGE DPI WIDTH HEIGHT DVI [NAME=TFM ..]
  *     library_calls [--refuse] fonts DVI
+ *     library_calls [--refuse] job MOST SCRIPT [NAME=TFM ..]
  *     library_calls random COUNT SCRIPT DVI NAME=TFM
+ *     library_calls pieces COUNT SCRIPT NAME=TFM
+ *     library_calls handles
  *     library_calls version
  *
- * It prints a line with the status and the sizes of both outputs, and then the outputs. With --refuse each growth of memory is refused in turn instead, and
- * the ways in which the calls ended are counted. Where something is wrong, a line on standard error says so, and the status of the program is 1. */
+ * It prints a line with the status and the sizes of both outputs, and then the outputs. `job` runs the script on a job, in pieces of at most MOST lines.
+ * With --refuse each growth of memory is refused in turn instead, and the ways in which the calls ended are counted.
+ * Where something is wrong, a line on standard error says so, and the status of the program is 1. */
+#include "job_calls.h"
 #include "random_inputs.h"
+#include "random_pieces.h"
 #include "whole_calls.h"
 
 #include <stdio.h>
@@ -57,6 +63,26 @@ static void run_random(char **words, int count) {
     try_random(&samples, number(words[0]));
 }
 
+static void run_random_pieces(char **words, int count) {
+    REQUIRE(count == 3, "pieces needs COUNT SCRIPT NAME=TFM");
+    struct input script = read_file(words[1]);
+    struct boxglue_font font = read_fonts(words + 2, 1).all[0];
+    try_pieces(&script, &font, number(words[0]));
+}
+
+static void run_job(char **words, int count, int refuses) {
+    REQUIRE(count >= 2, "job needs MOST SCRIPT");
+    struct pieces pieces = {read_file(words[1]), read_fonts(words + 2, count - 2), number(words[0])};
+    REQUIRE(pieces.most, "a piece has no line");
+    if (refuses) {
+        refuse_job_growths(&pieces);
+        return;
+    }
+    struct job_result result = run_pieces(&pieces, 0);
+    print_outputs(whole_status(&result), result.answers.bytes, result.answers.size, result.dvi.bytes, result.dvi.size);
+    free_job_result(&result);
+}
+
 /* The request of the words of a call. */
 static struct request read_request(enum call call, char **words, int count) {
     struct request request = {.call = call};
@@ -79,6 +105,9 @@ int main(int count, char **words) {
     REQUIRE(boxglue_version() == BOXGLUE_VERSION, "the library is version %u, and the header is for %d", boxglue_version(), BOXGLUE_VERSION);
     if (!strcmp(words[0], "version")) return printf("%u\n", boxglue_version()) < 0;
     if (!strcmp(words[0], "random")) return run_random(words + 1, count - 1), 0;
+    if (!strcmp(words[0], "pieces")) return run_random_pieces(words + 1, count - 1), 0;
+    if (!strcmp(words[0], "job")) return run_job(words + 1, count - 1, refuses), 0;
+    if (!strcmp(words[0], "handles")) return require_handles(), 0;
     int call = RUN;
     while (strcmp(words[0], CALLS[call])) REQUIRE(++call <= FONTS, "no call %s", words[0]);
     struct request request = read_request((enum call)call, words + 1, count - 1);

@@ -12,12 +12,12 @@ static const char *const NAMES[] = {"script", "dvi", "tfm"};
 /* xorshift64*, from a fixed seed. */
 static uint64_t state = 0x9e3779b97f4a7c15;
 
-static size_t below(size_t bound) {
+size_t below(size_t bound) {
     state ^= state >> 12, state ^= state << 25, state ^= state >> 27;
     return (size_t)((state * 0x2545f4914f6cdd1dULL >> 33) % bound);
 }
 
-static void fill(uint8_t *bytes, size_t count) {
+void fill(uint8_t *bytes, size_t count) {
     for (size_t at = 0; at < count; at++) bytes[at] = (uint8_t)below(256);
 }
 

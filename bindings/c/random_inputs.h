@@ -10,6 +10,10 @@ struct samples {
     struct boxglue_font font;
 };
 
+/* The next number below a bound, and the next bytes, of a generator that begins from a fixed seed. */
+size_t below(size_t bound);
+void fill(uint8_t *bytes, size_t count);
+
 /* Gives the library this many byte strings as each of the three, from a fixed generator, and prints the counts of the statuses.
  * Fails where a call returns what is no status of it, or leaves memory that is not freed. */
 void try_random(const struct samples *samples, size_t count);

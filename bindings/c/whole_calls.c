@@ -5,9 +5,6 @@
 #include <string.h>
 
 static const size_t UNSET = (size_t)-1;
-static const char MEMORY_LINE[] = ": refused 1 OutOfMemory\n";
-/* The answer where memory was refused for the bytes of the DVI file. */
-static const char DEVICE_LINE[] = ": refused 18 Device\n";
 enum { NOTHING, COMMAND, DEVICE, SAME, KINDS };
 
 /* The bytes of an item of the first output. */
@@ -109,10 +106,8 @@ struct result checked_call(const struct request *request) {
 
 /* Whether the answers of a run have this end of a line. */
 static int has_line(const struct request *request, const struct result *result, const char *line) {
-    size_t length = strlen(line);
-    for (size_t at = 0; request->call == RUN && at + length <= result->sizes[0]; at++)
-        if (!memcmp(result->outputs[0].bytes + at, line, length)) return 1;
-    return 0;
+    struct input answers = {result->outputs[0].bytes, result->sizes[0]};
+    return request->call == RUN && has_text(&answers, line);
 }
 
 static int is_same(const struct result *result, const struct result *other) {

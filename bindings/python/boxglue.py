@@ -6,11 +6,20 @@
     ran = boxglue.run("hbox into 0\\nrule 1pt 1pt 0pt\\nend\\nship 0\\n", fonts).check()
     open("page.dvi", "wb").write(ran.dvi)
 
+A `Job` is kept between calls, and takes a script piece by piece:
+
+    with boxglue.Job(fonts) as job:
+        print(job.commands("hbox into 0\\nrule 1pt 1pt 0pt\\nend\\n").check().answers)
+        job.commands("ship 0\\n").check()
+        job.finish().check()
+        open("page.dvi", "wb").write(job.take())
+
 It calls the shared object libboxglue.so, which `bindings/build` makes. It is looked for where the variable BOXGLUE_LIBRARY names a file; else in the folder
 of this module; else in crates/boxglue_c/out of the repository.
 
 Scripts and answers are those of docs/FORMATS.md, and the commands those of docs/COMMANDS.md. Fonts are a mapping from names to the bytes of metric files
-(TFM), or pairs of both; of several with one name the first counts. A `str` is handed over as UTF-8. Calls may run in several threads at once.
+(TFM), or pairs of both; of several with one name the first counts. A `str` is handed over as UTF-8. Calls may run in several threads at once; those on one
+job wait for each other.
 """
 from __future__ import annotations
 
@@ -18,17 +27,19 @@ import ctypes
 import functools
 import os
 import re
-from ctypes import POINTER, Structure, byref, c_char, c_char_p, c_int32, c_size_t, c_uint32
+import threading
+import weakref
+from ctypes import POINTER, Structure, byref, c_char, c_char_p, c_int32, c_size_t, c_uint32, c_void_p
 from dataclasses import dataclass
-from typing import Iterable, Mapping, NoReturn, Union
+from typing import Callable, Iterable, Mapping, NoReturn, TypeVar, Union
 
-__all__ = ["BadFontName", "Bitmap", "BoxglueError", "DviFont", "NoSuchPage", "OutOfMemory", "OutOfRange", "Refused", "Run", "fonts", "listing", "paint", "run",
-           "version"]
+__all__ = ["Answers", "AnswersLost", "BadFontName", "Bitmap", "BoxglueError", "DviFont", "Job", "NoJob", "NoSuchPage", "OutOfMemory", "OutOfRange", "Refused",
+           "Run", "fonts", "listing", "paint", "run", "version"]
 
 Text = Union[str, bytes, bytearray, memoryview]
 Fonts = Union[Mapping[Text, bytes], Iterable["tuple[Text, bytes]"]]
 
-ACCEPTED, REFUSED, OUT_OF_MEMORY, BAD_FONT_NAME, BUFFER_TOO_SMALL, NO_SUCH_PAGE, OUT_OF_RANGE, REFUSED_MEMORY = range(8)
+ACCEPTED, REFUSED, OUT_OF_MEMORY, BAD_FONT_NAME, BUFFER_TOO_SMALL, NO_SUCH_PAGE, OUT_OF_RANGE, REFUSED_MEMORY, NO_JOB, JOB_EXISTS, ANSWERS_LOST = range(11)
 # The sizes of the first buffers. Where an output needs more, the call is made again with what it needs.
 _TEXT_ROOM, _DVI_ROOM, _FONT_ROOM = 1 << 14, 1 << 16, 64
 _REFUSAL = re.compile(r"^(?:(\d+|end): )?refused (\d+) (\w+)(?: (.*))?$", re.M)
@@ -67,7 +78,15 @@ class OutOfRange(BoxglueError, ValueError):
     """The number of a page, of pixels an inch, or of a bitmap's pixels is out of its range."""
 
 
-_ERRORS = {OUT_OF_MEMORY: OutOfMemory, BAD_FONT_NAME: BadFontName, NO_SUCH_PAGE: NoSuchPage, OUT_OF_RANGE: OutOfRange}
+class NoJob(BoxglueError, ValueError):
+    """The job is closed."""
+
+
+class AnswersLost(BoxglueError, MemoryError):
+    """The commands were run, or the job was finished, and memory was refused for the text of the answers."""
+
+
+_ERRORS = {OUT_OF_MEMORY: OutOfMemory, BAD_FONT_NAME: BadFontName, NO_SUCH_PAGE: NoSuchPage, OUT_OF_RANGE: OutOfRange, NO_JOB: NoJob, ANSWERS_LOST: AnswersLost}
 
 
 def _fail(status: int) -> NoReturn:
@@ -80,11 +99,9 @@ def _refusals(text: str) -> list[Refused]:
     return [Refused(it[3], int(it[2]), int(it[1]) if it[1] and it[1] != "end" else None, it[4] or "") for it in found]
 
 
-@dataclass(frozen=True)
-class Run:
-    """A run: the answers to the commands, a line each, the bytes of the DVI file (none where no page was shipped), and whether nothing was refused."""
+class _Answered:
+    """What has answers."""
     answers: str
-    dvi: bytes
     accepted: bool
 
     @property
@@ -92,11 +109,29 @@ class Run:
         """The refusals among the answers, in order."""
         return _refusals(self.answers)
 
-    def check(self) -> Run:
+    def check(self: _Given) -> _Given:
         """Returns this, or raises the first refusal."""
         if not self.accepted:
             raise self.refusals[0]
         return self
+
+
+_Given = TypeVar("_Given", bound=_Answered)
+
+
+@dataclass(frozen=True)
+class Run(_Answered):
+    """A run: the answers to the commands, a line each, the bytes of the DVI file (none where no page was shipped), and whether nothing was refused."""
+    answers: str
+    dvi: bytes
+    accepted: bool
+
+
+@dataclass(frozen=True)
+class Answers(_Answered):
+    """The answers to the commands of a piece, a line each, or the line of the end of a job; and whether nothing was refused."""
+    answers: str
+    accepted: bool
 
 
 @dataclass(frozen=True)
@@ -136,6 +171,10 @@ class _FontSizes(Structure):
     _fields_ = [("fonts", c_size_t), ("text", c_size_t)]
 
 
+class _Job(Structure):
+    _fields_ = [("at", c_void_p)]
+
+
 _INPUT, _OUTPUT, _SIZE = [c_char_p, c_size_t], [POINTER(c_char), c_size_t], [POINTER(c_size_t)]
 _GIVEN = [POINTER(_Font), c_size_t]
 _CALLS = {
@@ -144,6 +183,12 @@ _CALLS = {
     "list": [*_INPUT, *_GIVEN, *_OUTPUT, *_SIZE],
     "paint": [*_INPUT, *_GIVEN, *[c_uint32] * 4, *_OUTPUT, *_SIZE],
     "fonts": [*_INPUT, POINTER(_DviFont), c_size_t, *_OUTPUT, POINTER(_FontSizes)],
+    "job_new": [POINTER(_Job), *_GIVEN],
+    "job_commands": [POINTER(_Job), *_INPUT],
+    "job_answers": [POINTER(_Job), *_OUTPUT, *_SIZE],
+    "job_take": [POINTER(_Job), *_OUTPUT, *_SIZE],
+    "job_finish": [POINTER(_Job)],
+    "job_free": [POINTER(_Job)],
 }
 
 
@@ -161,7 +206,7 @@ def _library() -> ctypes.CDLL:
     library = ctypes.CDLL(_library_path())
     for name, types in _CALLS.items():
         call = getattr(library, f"boxglue_{name}")
-        call.argtypes, call.restype = types, c_uint32
+        call.argtypes, call.restype = types, None if name == "job_free" else c_uint32
     if library.boxglue_version() // 10_000 != 1:
         raise BoxglueError(f"libboxglue.so has version {library.boxglue_version()}, and this module is for 1.x")
     return library
@@ -191,8 +236,8 @@ def _given(given: Fonts) -> tuple[ctypes.Array, int]:
     return array, len(pairs)
 
 
-def _one_text(call, room: int) -> str:
-    """The text of a call with one buffer, which is made again where the buffer is too small. A refusal is raised."""
+def _one_output(call: Callable[..., int], room: int) -> tuple[int, bytes]:
+    """The status and the output of a call with one buffer, which is made again where the buffer is too small."""
     size = c_size_t()
     while True:
         buffer = _buffer(room)
@@ -202,7 +247,13 @@ def _one_text(call, room: int) -> str:
         room = size.value
     if status > REFUSED:
         _fail(status)
-    text = ctypes.string_at(buffer, size.value).decode("ascii")
+    return status, ctypes.string_at(buffer, size.value)
+
+
+def _one_text(call: Callable[..., int], room: int) -> str:
+    """The text of such a call. A refusal is raised."""
+    status, output = _one_output(call, room)
+    text = output.decode("ascii")
     if status == REFUSED:
         raise _refusals(text)[0]
     return text
@@ -270,3 +321,56 @@ def fonts(dvi: bytes) -> list[DviFont]:
         raise _refusals(names.decode("ascii"))[0]
     name_of = lambda it: names[it.name_start:it.name_start + it.name_size].decode("utf-8", "surrogateescape")
     return [DviFont(it.number, name_of(it), it.size) for it in rows[:sizes.fonts]]
+
+
+class Job:
+    """A job that is kept between calls, for a script that comes piece by piece. Close it, or use it in a `with`; a job that is dropped is closed too.
+
+    The fonts are copied when it is made. Raises OutOfMemory or BadFontName. After `close`, each call raises NoJob.
+    """
+
+    def __init__(self, fonts: Fonts = ()) -> None:
+        self._handle, self._lock = _Job(), threading.Lock()
+        status = _library().boxglue_job_new(self._handle, *_given(fonts))
+        if status != ACCEPTED:
+            _fail(status)
+        self._free = weakref.finalize(self, _library().boxglue_job_free, self._handle)
+
+    def __reduce__(self) -> NoReturn:
+        raise TypeError("a job cannot be copied")
+
+    def __enter__(self) -> Job:
+        return self
+
+    def __exit__(self, *_error: object) -> None:
+        self.close()
+
+    def _answers(self, status: int) -> Answers:
+        if status not in (ACCEPTED, REFUSED, REFUSED_MEMORY):
+            _fail(status)
+        text = _one_text(lambda *room: _library().boxglue_job_answers(self._handle, *room), _TEXT_ROOM)
+        return Answers(text, status == ACCEPTED)
+
+    def commands(self, script: Text) -> Answers:
+        """Runs a piece of a script, which is whole lines, and returns the answers to its commands. Lines are numbered on from piece to piece.
+
+        A piece with a bad line is refused as a whole: its answer is the line of this refusal, nothing of it is run, and the job goes on.
+        Raises OutOfMemory, and then nothing was run, or AnswersLost.
+        """
+        with self._lock:
+            return self._answers(_library().boxglue_job_commands(self._handle, *_input(script)))
+
+    def take(self) -> bytes:
+        """The bytes of the DVI file that went out since the last call: pages as they were shipped, and the end of the file after `finish`."""
+        with self._lock:
+            return _one_output(lambda *room: _library().boxglue_job_take(self._handle, *room), _DVI_ROOM)[1]
+
+    def finish(self) -> Answers:
+        """Ends the job, and returns the line of its end. Take the last bytes then. A refusal is in the line, as ListsOpen, after which the job goes on."""
+        with self._lock:
+            return self._answers(_library().boxglue_job_finish(self._handle))
+
+    def close(self) -> None:
+        """Frees the memory of the job. What was not taken is lost. It may be closed twice."""
+        with self._lock:
+            self._free()

@@ -1,6 +1,10 @@
 """Tests of the binding: python3 -m unittest in this folder, once `bindings/build` has made the shared object."""
+import copy
 import gc
+import glob
 import os
+import random
+import re
 import threading
 import unittest
 
@@ -99,6 +103,138 @@ class Fonts(unittest.TestCase):
         uses = "".join(f"font {it} plain at {it + 1}pt\nuse {it}\ntext a\n" for it in range(200))
         dvi = boxglue.run(f"hbox into 0\n{uses}end\nship 0\n", plain()).check().dvi
         self.assertEqual([it.number for it in boxglue.fonts(dvi)], [*range(200)])
+
+
+def examples():
+    """The scripts of examples/, each with the plain font under the names that it loads."""
+    metrics = plain()["plain"]
+    for path in sorted(glob.glob(f"{HERE}/../../examples/*.box")):
+        with open(path, encoding="ascii") as it:
+            script = it.read()
+        yield os.path.basename(path), script, dict.fromkeys(re.findall(r"^font \d+ (\S+)", script, flags=re.M), metrics)
+
+
+def pieces(script, most, numbers=random.Random(49)):
+    """A script cut at line ends into pieces of 0 to `most` lines."""
+    lines = script.splitlines(keepends=True)
+    while lines:
+        count = numbers.randint(0, most)
+        yield "".join(lines[:count])
+        del lines[:count]
+
+
+def run_pieces(script, fonts, most):
+    """The run of a script in pieces, where all that is there is taken after each piece."""
+    with boxglue.Job(fonts) as job:
+        answered, taken = [], []
+        for piece in pieces(script, most):
+            answered.append(job.commands(piece))
+            taken.append(job.take())
+        answered.append(job.finish())
+        taken.append(job.take())
+    return boxglue.Run("".join(it.answers for it in answered), b"".join(taken), all(it.accepted for it in answered))
+
+
+class Jobs(unittest.TestCase):
+    def test_pieces_of_all_examples(self):
+        names = []
+        for name, script, fonts in examples():
+            whole = boxglue.run(script, fonts)
+            self.assertTrue(whole.dvi, name)
+            for most in (1, 2, 5, 40):
+                self.assertEqual(run_pieces(script, fonts, most), whole, name)
+            names.append(name)
+        self.assertIn("paragraph.box", names)
+
+    def test_refused_commands_in_pieces(self):
+        script = "ship 3\nend\n% a note\n\n" + TEXT + RULE
+        self.assertEqual(run_pieces(script, {}, 3), boxglue.run(script))
+
+    def test_answers_of_a_piece(self):
+        with boxglue.Job() as job:
+            self.assertEqual(job.commands("hbox into 0\n"), boxglue.Answers("1: ok\n", True))
+            answers = job.commands("rule 1pt 1pt 0pt\nship 9")
+            self.assertEqual((answers.answers, answers.accepted), ("2: ok\n3: refused 21 VoidBox\n", False))
+            self.assertRaises(boxglue.Refused, answers.check)
+            self.assertEqual(job.commands(""), boxglue.Answers("", True))
+            self.assertEqual(job.commands("end\n").check().answers, "4: packed 1.0pt 1.0pt 0.0pt badness 0\n")
+
+    def test_bad_piece_leaves_the_job(self):
+        with boxglue.Job() as job:
+            job.commands("hbox into 0\nrule 1pt 1pt 0pt\n").check()
+            refused, = job.commands("end\nship 0\nkern x\n").refusals
+            self.assertEqual((refused.line, refused.name, refused.detail), (None, "BadScript", "5 Dimension"))
+            self.assertEqual(job.take(), b"")
+            self.assertEqual(job.commands("end\nship 0\n").answers, "".join(ANSWERS.splitlines(True)[2:4]))
+            self.assertEqual(job.finish().answers + str(len(job.take())), "end: pages 1 bytes 116\n116")
+
+    def test_bytes_go_out_with_each_page(self):
+        with boxglue.Job() as job:
+            self.assertEqual(job.take(), b"")
+            taken = []
+            for _ in range(3):
+                job.commands(RULE).check()
+                taken.append(job.take())
+                self.assertEqual(job.take(), b"")
+            job.finish().check()
+            self.assertTrue(all(taken))
+            self.assertEqual(b"".join(taken) + job.take(), boxglue.run(RULE * 3).dvi)
+
+    def test_outputs_that_need_larger_buffers(self):
+        script = "".join(RULE.replace("1pt 0pt", f"{it}pt 0pt") for it in range(1, 3001))
+        with boxglue.Job() as job:
+            answers, end = job.commands(script).check(), job.finish().check()
+            self.assertEqual(boxglue.Run(answers.answers + end.answers, job.take(), True), boxglue.run(script))
+
+    def test_end_with_an_open_list(self):
+        with boxglue.Job() as job:
+            job.commands("hbox into 0\n").check()
+            refused, = job.finish().refusals
+            self.assertEqual(refused.name, "ListsOpen")
+            job.commands("end\n").check()
+            self.assertEqual(job.finish(), boxglue.Answers("end: pages 0 bytes 0\n", True))
+
+    def test_after_the_end(self):
+        with boxglue.Job() as job:
+            job.finish().check()
+            self.assertEqual([it.name for it in job.commands(RULE).refusals], ["JobOver"] * 4)
+            self.assertEqual([it.name for it in job.finish().refusals], ["JobOver"])
+            self.assertEqual(job.take(), b"")
+
+    def test_closed_job(self):
+        job = boxglue.Job(plain())
+        job.commands(RULE).check()
+        job.close()
+        job.close()
+        for call in (lambda: job.commands(RULE), job.take, job.finish, lambda: job.__enter__().commands("")):
+            self.assertRaises(boxglue.NoJob, call)
+
+    def test_fonts_are_copied(self):
+        job = boxglue.Job([("".join("plain"), bytes(bytearray(plain()["plain"])))])
+        gc.collect()
+        self.assertTrue(job.commands(TEXT).accepted)
+        self.assertRaises(boxglue.BadFontName, boxglue.Job, {"": b""})
+        self.assertEqual(boxglue.Job().commands(TEXT).refusals[0].name, "NoFont")
+
+    def test_job_cannot_be_copied(self):
+        self.assertRaises(TypeError, copy.copy, boxglue.Job())
+
+    def test_jobs_side_by_side(self):
+        jobs = [boxglue.Job() for _ in range(100)]
+        for line in RULE.splitlines():
+            self.assertTrue(all(it.commands(line).accepted for it in jobs))
+        self.assertTrue(all(it.finish().accepted for it in jobs))
+        self.assertEqual({it.take() for it in jobs}, {boxglue.run(RULE).dvi})
+
+    def test_job_of_several_threads(self):
+        with boxglue.Job() as job:
+            run_all = lambda: [job.commands("void 0\n").check() for _ in range(200)]
+            threads = [threading.Thread(target=run_all) for _ in range(4)]
+            for it in threads:
+                it.start()
+            for it in threads:
+                it.join()
+            self.assertEqual(job.commands("void 0\n").answers, "801: ok\n")
 
 
 class Pages(unittest.TestCase):

@@ -3,13 +3,13 @@
 
     examples/markdown/markdown_page.py --text=cmr10.tfm --bold=cmbx10.tfm --italic=cmti10.tfm --code=cmtt10.tfm page.md page.dvi
 
-The names of the fonts are those of the metric files. No width is computed here: a first run of a script measures the labels of lists, and the answers of a run
-say whether its pages took all of the text."""
+The names of the fonts are those of the metric files. No width is computed here: a job measures the labels of lists before it gets the text, and its answers say
+when the pages have taken all of it."""
 import argparse
 import os
 import re
 import sys
-from dataclasses import dataclass
+from dataclasses import dataclass, field
 
 sys.path.append(f"{os.path.dirname(os.path.abspath(__file__))}/../../bindings/python")
 import boxglue  # noqa: E402 (it is in no folder of Python's)
@@ -94,16 +94,16 @@ def font_commands(names):
         yield from (f"font {4 * level + face} {name} at {size}pt" for level, (size, _) in HEADING_SIZES.items())
 
 
-def answers_of(commands, fonts):
-    """Runs commands. Returns their answers, without the numbers of lines, and the DVI file. A refusal is raised."""
-    ran = boxglue.run("".join(f"{it}\n" for it in commands), fonts).check()
-    return [it.partition(": ")[2] for it in ran.answers.splitlines()], ran.dvi
+def answers_of(job, commands):
+    """Runs commands on a job. Returns their answers, without the numbers of lines. A refusal is raised."""
+    ran = job.commands("".join(f"{it}\n" for it in commands)).check()
+    return [it.partition(": ")[2] for it in ran.answers.splitlines()]
 
 
-def widest(labels, start, fonts):
+def widest(job, labels):
     """The width of the widest of some labels, in points."""
-    commands = [*start, *(command for label in labels for command in ("hbox into 1", *text_commands(label), "end"))]
-    packed = [it for it in answers_of(commands, fonts)[0] if it.startswith("packed ")]
+    commands = (command for label in labels for command in ("hbox into 1", *text_commands(label), "end"))
+    packed = [it for it in answers_of(job, commands) if it.startswith("packed ")]
     return max((float(it.split()[1].removesuffix("pt")) for it in packed), default=0)
 
 
@@ -111,8 +111,7 @@ def widest(labels, start, fonts):
 class Setter:
     """The commands that put blocks into a vertical list, where items of lists begin at an indent."""
     indent: float
-    commands: list
-    pages: int = 0
+    commands: list = field(default_factory=list)
 
     def run(self, *commands):
         self.commands += commands
@@ -156,17 +155,19 @@ class Setter:
 
 
 def set_pages(blocks, names, fonts):
-    """The DVI file of some blocks, and how many characters are missing. A run has a page more than the one before, until nothing is left."""
-    start = [*font_commands(names)]
-    labels = [it.label for it in blocks if it.label]
-    setter = Setter(max(INDENT, widest(labels, start, fonts) + LABEL_GAP), start)
-    setter.text(blocks)
-    while True:
-        setter.pages += 1
-        setter.run(f"count 0 {setter.pages}", f"vsplit 0 to {HEIGHT}pt into 1", "ship 1")
-        answers, dvi = answers_of(setter.commands, fonts)
-        if answers[-3].endswith("rest void"):
-            return dvi, sum(int(it.split()[-1]) for it in answers if " missing " in it)
+    """The DVI file of some blocks, and how many characters are missing. Pages are split off until nothing is left."""
+    with boxglue.Job(fonts) as job:
+        answers_of(job, font_commands(names))
+        labels = [it.label for it in blocks if it.label]
+        setter = Setter(max(INDENT, widest(job, labels) + LABEL_GAP))
+        setter.text(blocks)
+        missing = sum(int(it.split()[-1]) for it in answers_of(job, setter.commands) if " missing " in it)
+        page, split = 0, ""
+        while not split.endswith("rest void"):
+            page += 1
+            _, split, _ = answers_of(job, [f"count 0 {page}", f"vsplit 0 to {HEIGHT}pt into 1", "ship 1"])
+        job.finish().check()
+        return job.take(), missing
 
 
 def read_words():

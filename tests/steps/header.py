@@ -8,7 +8,8 @@ TRIES = False
 HEADER = "include/boxglue.h"
 EXPORTS = "crates/boxglue_c/src/lib.rt"
 CALLS = "crates/boxglue_calls/src"
-NUMBERS = {"u8": "uint8_t", "u32": "uint32_t", "u64": "uint64_t", "i32": "int32_t", "usize": "size_t"}
+JOBS = "crates/boxglue_jobs/src"
+TYPES = {"u8": "uint8_t", "u32": "uint32_t", "u64": "uint64_t", "i32": "int32_t", "usize": "size_t", "": "void", "*mut u8": "void *", "JobHandle": "struct boxglue_job"}
 
 
 def read(root, path):
@@ -25,7 +26,7 @@ def declared(root):
 def c_type(name):
     """What C calls a type of Rattle."""
     plain = name.replace("<'_>", "")
-    return NUMBERS.get(plain) or "struct boxglue_" + re.sub(r"(?<!^)(?=[A-Z])", "_", plain).lower()
+    return TYPES.get(plain) or "struct boxglue_" + re.sub(r"(?<!^)(?=[A-Z])", "_", plain).lower()
 
 
 def slice_of(name, item, mutable):
@@ -42,7 +43,7 @@ def c_fields(name, kind):
         return []
     borrowed = re.fullmatch(r"&(?:'a )?(mut )?(?:\[(.*)\]|(.*))", kind)
     if not borrowed:
-        return [f"{c_type(kind)} {name}"]
+        return [f"{c_type(kind)} {name}".replace("* ", "*")]
     mutable, item, one = borrowed.groups()
     return slice_of(name, item, mutable) if item else [f"{'' if mutable else 'const '}{c_type(one)} *{name}"]
 
@@ -55,7 +56,7 @@ def c_list(text):
 
 def exports(root):
     """Each exported function as C declares it."""
-    for name, parameters, result in re.findall(r'pub extern "C" fn (\w+)\((.*?)\) -> (\w+)', read(root, EXPORTS), flags=re.S):
+    for name, parameters, result in re.findall(r'pub extern "C" fn (\w+)\(([^)]*)\)(?: -> (\w+))?', read(root, EXPORTS)):
         yield f"{c_type(result)} {name}({', '.join(c_list(parameters)) or 'void'});"
 
 
@@ -69,10 +70,10 @@ def functions(root):
 
 def structs(root):
     """What is wrong with the structs."""
-    sources = read(root, f"{CALLS}/runs.rt") + read(root, f"{CALLS}/given.rt") + read(root, f"{CALLS}/font_table.rt")
+    sources = "".join(read(root, it) for it in (f"{CALLS}/runs.rt", f"{CALLS}/given.rt", f"{CALLS}/font_table.rt", f"{JOBS}/handle.rt"))
     wanted = {}
-    for name, fields in re.findall(r"#\[repr\(C\)\]\s+#\[derive\([^)]*\)\]\s+pub struct (\w+)(?:<'a>)? \{(.*?)\n\}", sources, flags=re.S):
-        plain = re.sub(r"///.*", "", fields).replace("pub ", "")
+    for name, fields in re.findall(r"#\[repr\(C\)\]\s+(?:#\[derive\([^)]*\)\]\s+)?pub struct (\w+)(?:<'a>)? \{(.*?)\n\}", sources, flags=re.S):
+        plain = re.sub(r"///.*|(pub )?ghost .*", "", fields).replace("pub ", "")
         wanted[c_type(name)] = c_list(plain)
     found = {name: [it.strip() for it in fields.split(";") if it.strip()] for name, fields in re.findall(r"(struct boxglue_\w+) \{([^}]*)\};", declared(root))}
     return None if wanted and found == wanted else f"the header has {found}, and the calls have {wanted}"
@@ -81,7 +82,7 @@ def structs(root):
 def statuses(root):
     """What is wrong with the statuses."""
     found = re.findall(r"BOXGLUE_(\w+) = (\d+)", declared(root))
-    wanted = re.findall(r"pub const (\w+): u32 = (\d+);", read(root, f"{CALLS}/status.rt"))
+    wanted = re.findall(r"pub const (\w+): u32 = (\d+);", read(root, f"{CALLS}/status.rt") + read(root, f"{JOBS}/status.rt"))
     return None if wanted and found == wanted else f"the header has {found}, and the calls have {wanted}"
 
 

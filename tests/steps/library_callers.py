@@ -17,14 +17,15 @@ PROGRAM = "library"
 NEEDS_PROGRAM = True
 LIMIT = 120
 SECTION = "## 7. From C"
+FILE_SIZE = 116
 WANTED = b"1: ok\n2: ok\n3: packed 1.0pt 1.0pt 0.0pt badness 0\n4: shipped 1\nend: pages 1 bytes 116\n"
 
 
-def block(root, language):
-    """The block of docs/LIBRARY.md in a language."""
+def block(root, language, number):
+    """The block of docs/LIBRARY.md in a language with this number, from 0: the first one runs a whole script, and the second keeps a job."""
     with open(f"{root}/docs/LIBRARY.md", encoding="utf-8") as it:
         section = it.read().partition(f"{SECTION}\n")[2].split("\n## ")[0]
-    return re.search(rf"^```{language}\n(.*?)^```$", section, flags=re.M | re.S)[1]
+    return re.findall(rf"^```{language}\n(.*?)^```$", section, flags=re.M | re.S)[number]
 
 
 def write(path, text):
@@ -40,21 +41,27 @@ def run_wrong(words, env=None, wanted=WANTED, folder=None):
     return None if wanted is None or ran.stdout == wanted else f"it prints {ran.stdout[:200]!r}"
 
 
-def caller_in_c(root, archive, folder):
-    write(f"{folder}/caller.c", block(root, "c"))
-    return compile_c(root, archive, [f"{folder}/caller.c"], f"{folder}/caller", []) or run_wrong([f"{folder}/caller"], folder=folder)
+def file_wrong(folder):
+    """What is wrong with the file of a caller that writes one, or None."""
+    size = os.path.getsize(f"{folder}/page.dvi")
+    return None if size == FILE_SIZE else f"page.dvi has {size} bytes"
 
 
-def caller_in_python(root, archive, folder):
-    write(f"{folder}/caller.py", block(root, "python"))
+def caller_in_c(number, root, archive, folder):
+    write(f"{folder}/caller.c", block(root, "c", number))
+    return compile_c(root, archive, [f"{folder}/caller.c"], f"{folder}/caller", []) or run_wrong([f"{folder}/caller"], folder=folder) or file_wrong(folder)
+
+
+def caller_in_python(number, root, archive, folder):
+    write(f"{folder}/caller.py", block(root, "python", number))
     words, env = python_words(root, archive, [f"{folder}/caller.py"])
-    return run_wrong(words, env)
+    return run_wrong(words, env, folder=folder) or (file_wrong(folder) if number else None)
 
 
 def caller_in_rust(root, archive, folder):
     if not shutil.which("rustc"):
         return Skipped("there is no rustc on the path")
-    write(f"{folder}/caller.rs", block(root, "rs"))
+    write(f"{folder}/caller.rs", block(root, "rs", 0))
     shutil.copy(archive, f"{folder}/libboxglue_c.a")  # the name by which rustc finds it
     paths = [f"-Lnative={it}" for it in (folder, os.path.dirname(heap_archive()))]
     words = ["rustc", "--edition", "2021", "-O", *paths, "-lstatic=boxglue_c", "-lstatic=libc_c", "-o", f"{folder}/caller", f"{folder}/caller.rs"]
@@ -85,5 +92,6 @@ def outcome(call, root, archive=None, *_programs):
 
 def cases(programs, root):
     """The callers."""
-    calls = {"LIBRARY.md in C": caller_in_c, "LIBRARY.md in Python": caller_in_python, "LIBRARY.md in Rust": caller_in_rust, "test_boxglue.py": binding, "examples/markdown": client}
+    calls = {"LIBRARY.md in C": partial(caller_in_c, 0), "LIBRARY.md in C, a job": partial(caller_in_c, 1), "LIBRARY.md in Python": partial(caller_in_python, 0),
+             "LIBRARY.md in Python, a job": partial(caller_in_python, 1), "LIBRARY.md in Rust": caller_in_rust, "test_boxglue.py": binding, "examples/markdown": client}
     return [(name, partial(outcome, call, root, *programs)) for name, call in calls.items()]

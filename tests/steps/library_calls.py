@@ -1,4 +1,5 @@
-"""The library for C, called from C and from Python on all examples and on cases of crates/rows_scripts: the bytes are those of the program, or of the case file."""
+"""The library for C, called from C and from Python on all examples and on cases of crates/rows_scripts: the bytes are those of the program, or of the case file.
+A script is run at once, and on a kept job in pieces of up to as many lines as LINES says."""
 import re
 import tempfile
 from functools import partial
@@ -11,6 +12,8 @@ from steps.texts import first_difference, last_lines
 
 TITLE = "the library for C, called from C and Python, against the program"
 ONE_SHEET = [it for it in SHEET if it.isdigit()]
+LINES = 1, 4, 20
+BAD_SCRIPT = b"refused 2 BadScript"
 
 
 def command_in_c(root, archive, words):
@@ -45,6 +48,9 @@ def calls_of(room, wanted):
     """The calls that are made, each with its words and with what it has to give."""
     script = wanted["run"]
     yield "run", ["run", "script", *room.fonts], script
+    if not script.text.startswith(BAD_SCRIPT):  # a bad piece is refused, and not the whole script
+        for most in LINES:
+            yield f"job, pieces of up to {most}", ["job", str(most), "script", *room.fonts], script
     if "list" in wanted:
         room.write("out.dvi", script.dvi)
         yield "list", ["list", "out.dvi", *room.fonts], wanted["list"]

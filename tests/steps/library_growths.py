@@ -1,6 +1,8 @@
 """The library for C where memory is refused, and where its inputs are no good ones, by the program of bindings/c.
 Each growth of a call is refused in turn: the buffers are as they were at status 2, a refused command is in the answers at 7, the device failed at 1, and all that
-was taken is freed. Random bytes as scripts, DVI files and metric files give a status."""
+was taken is freed. Random bytes as scripts, DVI files and metric files give a status.
+On a kept job the same: a call with status 2 is made again and the rest is as without it, at 10 answers alone are lost, and all is freed with the job. Random pieces
+give what one run of those gives that are not bad."""
 import re
 import tempfile
 from functools import partial
@@ -10,13 +12,16 @@ from steps.library_inputs import Room, all_inputs
 from steps.library_calls import ONE_SHEET
 from steps.texts import last_lines
 
-TITLE = "the library for C: each growth refused, and random bytes as inputs"
+TITLE = "the library for C: each growth refused, random bytes as inputs, random pieces on jobs"
 PROGRAM = "library"
 NEEDS_PROGRAM = True
 SCRIPTS = "one_rule_page.box two_boxes.box text.box page_of_text.box ruled_table.box fonts_in_nested_boxes bad_script specials_that_are_copied_and_unboxed".split()
-RANDOM = "page_of_text.box"
+LINES = 3
+RANDOM, RANDOM_PIECES = "page_of_text.box", "text.box"
 STRINGS = 1000
 COUNTED = re.compile(r"growths (\d+): nothing done (\d+), a command refused (\d+), the device failed (\d+), no difference (\d+)\n")
+COUNTED_JOB = re.compile(r"growths (\d+): made again (\d+), a command refused (\d+), the device failed (\d+), answers lost (\d+), no difference (\d+)\n")
+PIECES = re.compile(r"pieces %d: accepted \d+, some refused \d+, bad \d+; jobs \d+, with a file [1-9]\d*\n" % STRINGS)
 TRIED = re.compile(r"(?:(?:script|dvi|tfm) %d:(?: status \d+ \d+)+\n){3}" % STRINGS)
 
 
@@ -41,9 +46,9 @@ def write_dvi(root, archive, room):
     return size > 0
 
 
-def count_wrong(output):
+def count_wrong(output, counted=COUNTED):
     """What is wrong with the counts of refused growths: each call ended in one way."""
-    found = COUNTED.fullmatch(output.decode())
+    found = counted.fullmatch(output.decode())
     if not found:
         return f"the program printed {output[:200]!r}"
     growths, *ways = map(int, found.groups())
@@ -65,6 +70,28 @@ def growths_wrong(root, archive, name):
     return None
 
 
+def job_growths_wrong(root, archive, name):
+    """Refuses each growth of the calls on a job that runs a script in pieces."""
+    with tempfile.TemporaryDirectory(prefix="boxglue-library-") as path:
+        room = Room(path, given_of(root, name))
+        return count_wrong(run_calls(root, archive, room, ["--refuse", "job", str(LINES), "script", *room.fonts]), COUNTED_JOB)
+
+
+def handles_wrong(root, archive):
+    """Makes the calls of a job on handles without one, and on a handle that has one."""
+    with tempfile.TemporaryDirectory(prefix="boxglue-library-") as path:
+        output = run_calls(root, archive, Room(path, given_of(root, RANDOM)), ["handles"])
+    return f"the program printed {output[:200]!r}" if output else None
+
+
+def pieces_wrong(root, archive):
+    """Gives jobs random pieces."""
+    with tempfile.TemporaryDirectory(prefix="boxglue-library-") as path:
+        room = Room(path, given_of(root, RANDOM_PIECES))
+        output = run_calls(root, archive, room, ["pieces", str(STRINGS), "script", room.fonts[0]])
+    return None if PIECES.fullmatch(output.decode()) else f"the program printed {output[:200]!r}"
+
+
 def random_wrong(root, archive):
     """Gives the library random bytes."""
     with tempfile.TemporaryDirectory(prefix="boxglue-library-") as path:
@@ -80,7 +107,8 @@ def outcome(call, root, programs):
 
 
 def cases(programs, root):
-    """The scripts whose growths are refused, and the random bytes."""
+    """The scripts whose growths are refused, at once and in pieces; random bytes; random pieces; and handles."""
     calls = {name: partial(lambda name, *words: growths_wrong(*words, name), name) for name in SCRIPTS}
-    calls["random bytes"] = random_wrong
+    calls |= {f"job of {name}": partial(lambda name, *words: job_growths_wrong(*words, name), name) for name in SCRIPTS}
+    calls |= {"random bytes": random_wrong, "random pieces": pieces_wrong, "handles": handles_wrong}
     return [(name, partial(outcome, call, root, programs)) for name, call in calls.items()]

@@ -13,7 +13,7 @@ from steps.examples import commands
 from steps.plain_font import metric_file
 from steps.texts import blocks
 
-LIMIT = 60
+LIMIT = 120
 SHEET = ["--page", "1", "--dpi", "72", "--width", "40", "--height", "30"]
 CASES = """one_rule_page empty_script huge_page list_left_open bad_script glyph_page fonts_in_nested_boxes two_boxes_with_lineskip a_page_of_two_splits_of_a_paragraph
     fonts_are_defined_in_rising_order pages_of_texts_kern long_numbers_slot_255 three_amounts_twice a_font_of_two_pages a_list_left_open_behind_a_page counts_of_pages

@@ -15,12 +15,35 @@ def fonts_of(words):
     return [(name, data_of(path)) for name, path in (it.split("=", 1) for it in words)]
 
 
+def pieces_of(script, most):
+    """The pieces of a script, as bindings/c/job_calls.c cuts it."""
+    lines, number = script.splitlines(keepends=True), 0
+    while lines:
+        count = (7 * number + 3) % (most + 1)
+        yield b"".join(lines[:count])
+        del lines[:count]
+        number += 1
+
+
+def run_pieces(boxglue, script, fonts, most):
+    """The run of a script in pieces on a job."""
+    answers, dvi = [], []
+    with boxglue.Job(fonts) as job:
+        for piece in pieces_of(script, most):
+            answers.append(job.commands(piece))
+            dvi.append(job.take())
+        answers.append(job.finish())
+        dvi.append(job.take())
+    return boxglue.Run("".join(it.answers for it in answers), b"".join(dvi), all(it.accepted for it in answers))
+
+
 def answer(boxglue, call, words):
     """The status, the text and the bytes of a call."""
     sheet = {name: int(words.pop(0)) for name in SHEET} if call == "paint" else {}
+    most = int(words.pop(0)) if call == "job" else None
     data, fonts = data_of(words[0]), fonts_of(words[1:])
-    if call == "run":
-        ran = boxglue.run(data, fonts)
+    if call in ("run", "job"):
+        ran = run_pieces(boxglue, data, fonts, most) if most else boxglue.run(data, fonts)
         return int(not ran.accepted), ran.answers, ran.dvi
     if call == "fonts":
         return 0, "".join(f"{it.number} {it.size} {it.name}\n" for it in boxglue.fonts(data)), b""
