@@ -1,8 +1,8 @@
 -- What the calls on a kept job do (own).
 use Rattle.std.specs.Prelude.{◌≡◌, ◌⊎◌, ◌++◌, ℕ, Bool, false, List, [], length, drop, Result, Err, OnOk, IfOk, IfErr, IfSome, is_ok}
 use Rattle.std.specs.List.{list_all}
-use Rattle.job_commands.specs.declared.command.Refusal.{Refusal}
-use Rattle.job_commands.specs.declared.command.Summary.{Summary}
+use Rattle.job_commands.specs.declared.replies.Refusal.{Refusal}
+use Rattle.job_commands.specs.declared.replies.Summary.{Summary}
 use Rattle.job_commands.specs.Reply.{Reply}
 use Rattle.dvi_layout.specs.Layout.{whole}
 use Rattle.job_machine.specs.Machine.{Machine}
