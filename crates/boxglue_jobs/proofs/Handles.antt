@@ -1,9 +1,8 @@
 -- The machine values of a handle. Assumes `Logic`.
-use Rattle.std.proofs.Common.{◌≡◌, ℕ, List, [], ◌∷◌, ◌++◌, refl, subst, T}
-use mathlib.Core.Bool.{Bool}
+use Rattle.std.proofs.Common.{◌≡◌, ℕ, List, [], ◌∷◌, ◌++◌, refl, subst}
 use seplogic.Ra.Ura.{Ura}
 use mir.Raw.{raw as bare}
-use mir.Val.{Val, vnull, vptr, vstruct, vcons, vnil, of_list}
+use mir.Val.{Val, vstruct, vcons, vnil, of_list}
 use base.Logic.{ent, guard, via, snd∗, never_e, guard_i}
 use base.Fml.{ftrue}
 use contract.Monad.{fact_use}

@@ -1,5 +1,5 @@
 -- What the calls on a kept job do (own).
-use Rattle.std.specs.Prelude.{◌≡◌, ◌⊎◌, ◌++◌, ℕ, Bool, false, List, [], length, drop, Result, Err, OnOk, IfOk, IfErr, IfSome, is_ok}
+use Rattle.std.specs.Prelude.{◌≡◌, ◌⊎◌, ◌++◌, ℕ, Bool, List, [], length, drop, Result, OnOk, IfOk, IfSome, is_ok}
 use Rattle.std.specs.List.{list_all}
 use Rattle.job_commands.specs.declared.replies.Refusal.{Refusal}
 use Rattle.job_commands.specs.declared.replies.Summary.{Summary}

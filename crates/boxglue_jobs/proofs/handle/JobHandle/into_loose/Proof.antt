@@ -1,5 +1,5 @@
 -- `into_loose` compares the pointer with null. Assumes `Logic`.
-use Rattle.std.proofs.Common.{◌≡◌, List, [], ◌∷◌, ◌++◌, refl, sym, ap, ◌∙◌, subst, lit<}
+use Rattle.std.proofs.Common.{◌≡◌, List, [], ◌∷◌, ◌++◌, refl, sym, subst, lit<}
 use mathlib.Core.Bool.{◌&&◌, true}
 use mir.Syntax.{Fn, impl, tnil, dnil}
 use mir.Val.{Val, vptr, of_list, has_ty}
@@ -8,7 +8,7 @@ use base.Fml.{ftrue}
 use prog.Wp.{WpFn}
 use contract.Monad.{fact, fact_i}
 use contract.Running.{tables}
-use types.Kit.{‵, raw, ◌⊛◌, given, learn, at_ret, ◌$◌, ◌∵◌, !, qed, by, move, keep, drop, use0, use1, split, join, suffices, fsplit, fjoin}
+use types.Kit.{‵, raw, ◌⊛◌, given, learn, at_ret, ◌$◌, ◌∵◌, !, qed, by, move, keep, use0, use1, split, join, suffices, fsplit, fjoin}
 use types.Match.{live}
 use types.Part.{agg, sub, whole}
 use types.Run.{stop, fld, of_opd, bin, lit, no_more, and_then, first, branches, skips, exec, returns, returns_within, enter}
