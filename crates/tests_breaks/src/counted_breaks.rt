@@ -1,6 +1,7 @@
 //! The number of lines that `active_breaks` tries.
 
-use crate::paragraphs::{finished, glue, narrow, points, rule};
+use crate::items::points;
+use crate::paragraphs::{finished, glue, narrow, rule};
 use break_core::{ListMeter, Meter, Pass, active_breaks};
 use node_core::{IntParameter, Node, Params};
 use std::alloc::Global;

@@ -4,6 +4,14 @@
 #[cfg(test)]
 mod all_breaks;
 #[cfg(test)]
+mod costs;
+#[cfg(test)]
 mod counted_breaks;
 #[cfg(test)]
+mod items;
+#[cfg(test)]
+mod lists;
+#[cfg(test)]
 mod paragraphs;
+#[cfg(test)]
+mod random;

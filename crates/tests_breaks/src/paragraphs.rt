@@ -1,18 +1,11 @@
 //! The breaks of paragraphs, by both breakers.
 
-use crate::all_breaks::{Amounts, Item, node};
+use crate::items::{Amounts, Item, node, points};
 use break_core::{BreakFault, Breaks, Fitness, LineEnd, ListMeter, Pass, active_breaks, breaks};
 use node_core::{Glue, IntParameter, Node, Order, Params, Rule, RuleSize};
 use scaled_core::Dimen;
 use std::alloc::Global;
 use std::process::Abort;
-
-const POINT: i64 = 65_536;
-
-/// The dimension of a number of points.
-pub(crate) fn points(rt: &impl Abort, number: i64) -> Dimen {
-    Dimen::try_new(number.saturating_mul(POINT)).expect(rt, "it fits")
-}
 
 /// A rule of this width in points, 1pt high.
 pub(crate) fn rule(rt: &impl Abort, width: i64) -> Node {
@@ -81,25 +74,33 @@ pub(crate) fn expect_same(
     meter.all_trials()
 }
 
-/// Asserts the breaks of a finished list: the places, the pass, the overhang and the demerits.
+/// The breaks that a list has to have: the places at which its lines end, the pass, the overhang and the demerits.
+#[derive(Clone, Copy)]
+struct Expected {
+    places: &'static [usize],
+    pass: Pass,
+    overhang: i64,
+    demerits: i64,
+}
+
+/// Asserts the breaks of a finished list.
 fn expect_breaks(
     rt: &impl Abort,
     alloc: Global,
     nodes: &[Node],
     params: &Params,
-    places: &[usize],
-    costs: (Pass, i64, i64),
+    expected: &Expected,
 ) {
     assert!(rt; nodes.len() <= 131_072);
     let found = breaks(alloc, nodes, params).expect(rt, "not refused");
     expect_same(rt, alloc, nodes, params, &found);
-    assert_eq!(rt; found.lines.len(), places.len());
-    for (line, place) in found.lines.iter().zip(places) {
+    assert_eq!(rt; found.lines.len(), expected.places.len());
+    for (line, place) in found.lines.iter().zip(expected.places) {
         assert_eq!(rt; line.place, *place);
     }
-    assert!(rt; found.pass == costs.0);
-    assert_eq!(rt; found.overhang, costs.1);
-    assert_eq!(rt; found.demerits, costs.2);
+    assert!(rt; found.pass == expected.pass);
+    assert_eq!(rt; found.overhang, expected.overhang);
+    assert_eq!(rt; found.demerits, expected.demerits);
 }
 
 /// Glue of width 0 whose shrink is this number of points, in order fil.
@@ -145,7 +146,13 @@ fn lists_that_are_refused(rt: HostRuntime) {
     expect_fault(&rt, alloc, &nodes, BreakFault::InfiniteShrink);
     let nowhere = Vec::from_array(alloc, [rule(&rt, 10), shrinking(&rt, 0)]);
     let nodes = finished(&rt, nowhere.expect(&rt, "there is memory"), &params);
-    expect_breaks(&rt, alloc, &nodes, &params, &[4], (Pass::First, 0, 100));
+    let expected = Expected {
+        places: &[4],
+        pass: Pass::First,
+        overhang: 0,
+        demerits: 100,
+    };
+    expect_breaks(&rt, alloc, &nodes, &params, &expected);
     let nodes = finished(&rt, penalties(&rt, alloc, 8_192, -10_000), &params);
     expect_fault(&rt, alloc, &nodes, BreakFault::TooManyBreaks);
 }
@@ -180,14 +187,13 @@ fn a_tie_by_class_alone(rt: HostRuntime) {
     ];
     let items = Vec::from_array(alloc, items).expect(&rt, "there is memory");
     let nodes = finished(&rt, items, &params);
-    expect_breaks(
-        &rt,
-        alloc,
-        &nodes,
-        &params,
-        &[1, 7],
-        (Pass::First, 0, 2_804),
-    );
+    let expected = Expected {
+        places: &[1, 7],
+        pass: Pass::First,
+        overhang: 0,
+        demerits: 2_804,
+    };
+    expect_breaks(&rt, alloc, &nodes, &params, &expected);
     assert!(&rt; nodes.len() <= 131_072);
     let found = breaks(alloc, &nodes, &params).expect(&rt, "not refused");
     let classes = [Fitness::Decent, Fitness::Loose];
@@ -196,11 +202,10 @@ fn a_tie_by_class_alone(rt: HostRuntime) {
     }
 }
 
-/// A paragraph in lines of 40pt: its items, the places at which its lines end, the pass, the overhang and the demerits.
+/// A paragraph in lines of 40pt, and its breaks.
 struct Row {
     items: &'static [Item],
-    places: &'static [usize],
-    costs: (Pass, i64, i64),
+    expected: Expected,
 }
 
 /// Glue of 5pt that can stretch by 15pt.
@@ -240,8 +245,12 @@ const DROPPED: Item = Item::Glue(Amounts {
 const ROWS: [Row; 11] = [
     Row {
         items: &[Item::Rule(10), SPACE, Item::Rule(50), SPACE, Item::Rule(10)],
-        places: &[1, 3, 7],
-        costs: (Pass::Third, 655_360, 200_020_100),
+        expected: Expected {
+            places: &[1, 3, 7],
+            pass: Pass::Third,
+            overhang: 655_360,
+            demerits: 200_020_100,
+        },
     },
     Row {
         items: &[
@@ -252,48 +261,84 @@ const ROWS: [Row; 11] = [
             BETWEEN,
             Item::Rule(10),
         ],
-        places: &[4, 8],
-        costs: (Pass::First, 0, 200),
+        expected: Expected {
+            places: &[4, 8],
+            pass: Pass::First,
+            overhang: 0,
+            demerits: 200,
+        },
     },
     Row {
         items: &[FIRST, Item::Rule(40)],
-        places: &[4],
-        costs: (Pass::Third, 327_680, 100_000_000),
+        expected: Expected {
+            places: &[4],
+            pass: Pass::Third,
+            overhang: 327_680,
+            demerits: 100_000_000,
+        },
     },
     Row {
         items: &[Item::Rule(40), Item::Penalty(10_000), Item::Rule(40)],
-        places: &[5],
-        costs: (Pass::Third, 2_621_440, 100_000_000),
+        expected: Expected {
+            places: &[5],
+            pass: Pass::Third,
+            overhang: 2_621_440,
+            demerits: 100_000_000,
+        },
     },
     Row {
         items: &[Item::Rule(40), Item::Penalty(9_999), Item::Rule(40)],
-        places: &[1, 5],
-        costs: (Pass::First, 0, 99_980_201),
+        expected: Expected {
+            places: &[1, 5],
+            pass: Pass::First,
+            overhang: 0,
+            demerits: 99_980_201,
+        },
     },
     Row {
         items: &[Item::Rule(40), Item::Penalty(-9_999), Item::Rule(40)],
-        places: &[1, 5],
-        costs: (Pass::First, 0, -99_979_801),
+        expected: Expected {
+            places: &[1, 5],
+            pass: Pass::First,
+            overhang: 0,
+            demerits: -99_979_801,
+        },
     },
     Row {
         items: &[Item::Rule(40), Item::Penalty(-10_000), Item::Rule(40)],
-        places: &[1, 5],
-        costs: (Pass::First, 0, 200),
+        expected: Expected {
+            places: &[1, 5],
+            pass: Pass::First,
+            overhang: 0,
+            demerits: 200,
+        },
     },
     Row {
         items: &[Item::Rule(10), Item::Penalty(-9_999), Item::Rule(10)],
-        places: &[5],
-        costs: (Pass::First, 0, 100),
+        expected: Expected {
+            places: &[5],
+            pass: Pass::First,
+            overhang: 0,
+            demerits: 100,
+        },
     },
     Row {
         items: &[Item::Rule(10), Item::Penalty(-10_000), Item::Rule(10)],
-        places: &[1, 5],
-        costs: (Pass::Third, 0, 100_020_100),
+        expected: Expected {
+            places: &[1, 5],
+            pass: Pass::Third,
+            overhang: 0,
+            demerits: 100_020_100,
+        },
     },
     Row {
         items: &[Item::Rule(40), Item::Kern(5), BETWEEN, Item::Rule(40)],
-        places: &[1, 6],
-        costs: (Pass::First, 0, 200),
+        expected: Expected {
+            places: &[1, 6],
+            pass: Pass::First,
+            overhang: 0,
+            demerits: 200,
+        },
     },
     Row {
         items: &[
@@ -303,8 +348,12 @@ const ROWS: [Row; 11] = [
             Item::Penalty(-10_000),
             Item::Rule(10),
         ],
-        places: &[1, 3, 7],
-        costs: (Pass::Third, 0, 100_020_200),
+        expected: Expected {
+            places: &[1, 3, 7],
+            pass: Pass::Third,
+            overhang: 0,
+            demerits: 100_020_200,
+        },
     },
 ];
 
@@ -318,7 +367,7 @@ fn paragraphs_of_rules(rt: HostRuntime) {
             pushed.ok().expect(&rt, "there is memory");
         }
         let nodes = finished(&rt, items, &params);
-        expect_breaks(&rt, rt.alloc(), &nodes, &params, row.places, row.costs);
+        expect_breaks(&rt, rt.alloc(), &nodes, &params, &row.expected);
     }
 }
 
@@ -329,5 +378,11 @@ fn a_font_kern_before_glue(rt: HostRuntime) {
     let kern = Node::FontKern(points(&rt, 5));
     let items = Vec::from_array(alloc, [rule(&rt, 35), kern, glue(&rt, 0, 0), rule(&rt, 40)]);
     let nodes = finished(&rt, items.expect(&rt, "there is memory"), &params);
-    expect_breaks(&rt, alloc, &nodes, &params, &[2, 6], (Pass::First, 0, 200));
+    let expected = Expected {
+        places: &[2, 6],
+        pass: Pass::First,
+        overhang: 0,
+        demerits: 200,
+    };
+    expect_breaks(&rt, alloc, &nodes, &params, &expected);
 }
