@@ -3,12 +3,17 @@ use Rattle.std.specs.Prelude.{Option, Some, None}
 use base.Fml.{Fml, ftrue, ffalse}
 use denote.RattleType.{RattleType}
 use denote.RawPtr.{Ptr, null_ptr, block_ptr}
-use Rattle.libc.specs.Heap.{chunk}
+use mir.Syntax.{Ty}
+use Rattle.std.specs.contracts.impls.GlobalAllocator.TheImpl.{ghosts}
 use Rattle.std_alloc.specs.Box.Ownership.{box_owns}
+
+-- What gives memory of the heap back: that of every `Global`, since it has no bytes.
+abbrev pub token : Ty → Ptr → Fml
+token = ghosts.dealloc_token (record { memory = record { seal = tt } })
 
 -- A handle that is null holds no value, and owns nothing. Every other one is the place of a box of the heap, and owns the box.
 abbrev pub held : (R : RattleType) → Ptr → Option R.Denot → Fml
 held R null_ptr None = ftrue
 held R null_ptr (Some x) = ffalse
 held R (block_ptr b o) None = ffalse
-held R (block_ptr b o) (Some x) = box_owns chunk R (block_ptr b o) x
+held R (block_ptr b o) (Some x) = box_owns token R (block_ptr b o) x

@@ -21,7 +21,6 @@ use denote.Steps.{nothing}
 use denote.Triple.Entry.{alive}
 use denote.Triple.Walked.{Stays, stay_dropped, walk_of}
 use Rattle.core.proofs.alloc.Calls.{Al, Goes-blank, handle_tells}
-use Rattle.libc.specs.Heap.{chunk}
 use Rattle.std.specs.Prelude.{IfSome}
 use Rattle.std.specs.declared.option.Option.{Option}
 use Rattle.std.specs.declared.option.Option.TheVariants.{None, Some}
@@ -33,6 +32,7 @@ use Rattle.std.proofs.raw_atomic.Walks.{proved_at, leaves}
 use Rattle.std_alloc.proofs.ResultValues.{and_tt}
 use Rattle.std_alloc.proofs.VecSteps.Element.{Some-of, none_of}
 use Rattle.std_alloc.specs.Box.Ownership.{box_owns}
+use Rattle.boxglue_jobs.specs.Owned.{token}
 use Rattle.boxglue_jobs.proofs.Handles.{word, tested, handle_out}
 use Rattle.boxglue_jobs.proofs.Values.{both, loose_good, loose_in}
 use Rattle.boxglue_jobs.specs.contracts.kept_job.KeptJob.{the_row as K}
@@ -78,7 +78,7 @@ into_loose_spec 𝓤 𝓛 𝓜 𝓡 wired =
     nothing ! $ nothing ! $ fjoin ! $ nothing ! $ fjoin ! $
     keep ! (5 ∷ 0 ∷ 2 ∷ 1 ∷ []) $ by ! (leaves 𝓛 ended hs c z (live 0 (of_list [])) r (tt, (tt, tt)) (tt, (tt, tt))))
     (λ no. absurd no)))
-    (λ b o x e f ws. use1 𝓛 (given (Testable (block_ptr b o)) (‵ (box_owns chunk K (block_ptr b o) x))) (tested 𝓛 K a (block_ptr b o) x) $ learn ! (λ may.
+    (λ b o x e f ws. use1 𝓛 (given (Testable (block_ptr b o)) (‵ (box_owns token K (block_ptr b o) x))) (tested 𝓛 K a (block_ptr b o) x) $ learn ! (λ may.
     suffices ! (Run (word (block_ptr b o) ∷ h ∷ [])) (subst (λ (us : List Val). ent 𝓤 (Run (word (block_ptr b o) ∷ h ∷ [])) (Run us)) (sym (λ i. ws i ++ (eh i ++ []))) (id⊢ 𝓤 (Run (word (block_ptr b o) ∷ h ∷ [])))) $
     enter ! 𝓣.C 𝓣.Λ fn (word (block_ptr b o) ∷ h ∷ []) Post $ alloc_all ! (λ l. pass_all ! refl ((tt, (tt, tt)), (fits, tt)) $
     sets ! (of_opd ! (get_in ! (fld ! refl (stop !)) (sub ! 0 refl (whole !)))) refl (tt, tt) $
