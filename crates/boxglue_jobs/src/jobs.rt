@@ -34,7 +34,7 @@ pub fn new(alloc: Global, job: &mut JobHandle, fonts: &[Font<'_>]) -> u32
     ensures named { result ≡ 3 ↔ ((job.old.value ≡ None) × (are_named fonts.now ≡ false)) }
     ensures made { result ≡ 0 → (kept : KeptState) × (job.new.value ≡ Some kept) × IsNewJob (files_of fonts.now) kept }
     ensures same { result ≢ 0 → job.new.value ≡ job.old.value }
-    ensures few { (result ≡ 0) ⊎ (result ≡ 2) ⊎ (result ≡ 3) ⊎ (result ≡ 9) }
+    ensures statuses { (result ≡ 0) ⊎ (result ≡ 2) ⊎ (result ≡ 3) ⊎ (result ≡ 9) }
 {
     if let Some(kept) = take_out(alloc, job) {
         put(alloc, job, kept);
