@@ -5,6 +5,7 @@ use boxglue_calls::Font;
 use boxglue_calls::status::{ACCEPTED, BAD_FONT_NAME, BUFFER_TOO_SMALL, REFUSED};
 use boxglue_jobs::status::{JOB_EXISTS, NO_JOB};
 use boxglue_jobs::{JobHandle, answers, commands, finish, free, new, take};
+use std::alloc::Global;
 
 /// The pieces of the script `ONE_RULE`.
 const FIRST_PIECE: &str = "hbox into 0\nrule 1pt 1pt 0pt\n";
@@ -60,6 +61,14 @@ fn the_file_is_taken_in_pieces(rt: HostRuntime) {
     job.release(alloc);
 }
 
+/// Whether these answers are handed over.
+fn gives_answers(alloc: Global, job: &mut JobHandle, expected: &str) -> bool {
+    let mut text = [0u8; 256];
+    let mut size = 0;
+    answers(alloc, job, &mut text, &mut size) == ACCEPTED
+        && text.get(..size) == Some(expected.as_bytes())
+}
+
 #[test]
 fn a_bad_piece_leaves_the_job(rt: HostRuntime) {
     let alloc = rt.alloc();
@@ -75,17 +84,14 @@ fn a_bad_piece_leaves_the_job(rt: HostRuntime) {
         BUFFER_TOO_SMALL
     );
     assert_eq!(rt; small, [0u8; 4]);
-    assert_eq!(rt; answers(alloc, &mut job, &mut text, &mut size), ACCEPTED);
     let expected = "1: ok\n2: ok\nrefused 2 BadScript 4 Word\n";
-    assert_eq!(rt; text.get(..size), Some(expected.as_bytes()));
+    assert_eq!(rt; gives_answers(alloc, &mut job, expected), true);
     assert_eq!(rt;
         commands(alloc, &mut job, SECOND_PIECE.as_bytes()),
         ACCEPTED
     );
-    let mut more = [0u8; 256];
-    assert_eq!(rt; answers(alloc, &mut job, &mut more, &mut size), ACCEPTED);
-    let rest = "3: packed 1.0pt 1.0pt 0.0pt badness 0\n4: shipped 1\n";
-    assert_eq!(rt; more.get(..size), Some(rest.as_bytes()));
+    let expected = "3: packed 1.0pt 1.0pt 0.0pt badness 0\n4: shipped 1\n";
+    assert_eq!(rt; gives_answers(alloc, &mut job, expected), true);
     job.release(alloc);
 }
 
