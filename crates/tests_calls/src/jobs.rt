@@ -76,7 +76,6 @@ fn a_bad_piece_leaves_the_job(rt: HostRuntime) {
     assert_eq!(rt; new(alloc, &mut job, &[]), ACCEPTED);
     assert_eq!(rt; commands(alloc, &mut job, FIRST_PIECE.as_bytes()), ACCEPTED);
     assert_eq!(rt; commands(alloc, &mut job, b"end\nnonsense\n"), REFUSED);
-    let mut text = [0u8; 256];
     let mut size = 0;
     let mut small = [0u8; 4];
     assert_eq!(rt;
