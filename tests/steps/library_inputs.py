@@ -16,7 +16,7 @@ from steps.texts import blocks
 LIMIT = 120
 SHEET = ["--page", "1", "--dpi", "72", "--width", "40", "--height", "30"]
 CASES = """one_rule_page empty_script huge_page list_left_open bad_script glyph_page fonts_in_nested_boxes two_boxes_with_lineskip a_page_of_two_splits_of_a_paragraph
-    fonts_are_defined_in_rising_order pages_of_texts_kern long_numbers_slot_255 three_amounts_twice a_font_of_two_pages a_list_left_open_behind_a_page counts_of_pages
+    fonts_are_defined_in_rising_order pages_of_texts_kern long_numbers_slot_255 three_amounts_twice a_font_of_two_pages a_list_left_open_after_a_page counts_of_pages
     text_in_three_lines texts_of_specials specials_that_are_copied_and_unboxed files_that_are_damaged_lig_kern""".split()
 HEX_LINE = re.compile(rb"(?:[0-9a-f]{2}){1,16}")
 

@@ -15,7 +15,7 @@ use Rattle.dvi_ops.specs.declared.op.FontDefinition.{FontDefinition}
 use Rattle.dvi_scan.proofs.KnownLemmas.{fonts_fewer, same_self}
 use Rattle.dvi_scan.proofs.PassedLemmas.{file_passed}
 use Rattle.boxglue_print.specs.Faults.{fault_line}
-use Rattle.dvi_read.proofs.FaultLemmas.{behind_within, no_fault}
+use Rattle.dvi_read.proofs.FaultLemmas.{after_within, no_fault}
 use Rattle.dvi_read.specs.Opened.{IsNoFile}
 use Rattle.dvi_read.specs.OpeningParts.{HasFront}
 use Rattle.dvi_read.specs.declared.before_pages.BeforePages.{BeforePages}
@@ -68,37 +68,37 @@ table_step fonts i d below rows rows_new names names_new (rows_is, names_is) row
     )
 
 -- The definitions after post, of which none was known before.
-pub defines : (bytes : List ℕ) (front : BeforePages) (old known fonts : List Definition) → old ≡ [] → HasFront bytes front → ClosesTo bytes front.ending.behind (front.ending.last - 5) old known → fonts ≡ known
+pub defines : (bytes : List ℕ) (front : BeforePages) (old known fonts : List Definition) → old ≡ [] → HasFront bytes front → ClosesTo bytes front.ending.after (front.ending.last - 5) old known → fonts ≡ known
     → DefinesFonts bytes fonts
 defines bytes front old known fonts none starts closes same =
-    let all = subst (λ (ds : List Definition). ClosesTo bytes front.ending.behind (front.ending.last - 5) ds known) none closes in
-    record { front = front; starts = starts; closes = subst (λ (ds : List Definition). ClosesTo bytes front.ending.behind (front.ending.last - 5) [] ds) (sym same) all }
+    let all = subst (λ (ds : List Definition). ClosesTo bytes front.ending.after (front.ending.last - 5) ds known) none closes in
+    record { front = front; starts = starts; closes = subst (λ (ds : List Definition). ClosesTo bytes front.ending.after (front.ending.last - 5) [] ds) (sym same) all }
 
 pub breaks : (bytes : List ℕ) (front : BeforePages) (old new : List Definition) (frame : FrameFault) → old ≡ [] → HasFront bytes front
-    → IsClosingFault bytes front.ending.behind (front.ending.last - 5) old new frame → BreaksFonts bytes (of_frame frame)
+    → IsClosingFault bytes front.ending.after (front.ending.last - 5) old new frame → BreaksFonts bytes (of_frame frame)
 breaks bytes front old new frame none starts broken =
-    inr (front, new, frame, starts, subst (λ (ds : List Definition). IsClosingFault bytes front.ending.behind (front.ending.last - 5) ds new frame) none broken, refl)
+    inr (front, new, frame, starts, subst (λ (ds : List Definition). IsClosingFault bytes front.ending.after (front.ending.last - 5) ds new frame) none broken, refl)
 
 -- What is wrong after post.
 tail_fault : (files : List NamedBytes) (bytes : List ℕ) (front : BeforePages) (new : List Definition) (frame : FrameFault) (fault : DviFault) → fault ≢ OutOfMemory → HasFront bytes front
-    → IsClosingFault bytes front.ending.behind (front.ending.last - 5) [] new frame → fault ≡ of_frame frame → IsNoFile files bytes
+    → IsClosingFault bytes front.ending.after (front.ending.last - 5) [] new frame → fault ≡ of_frame frame → IsNoFile files bytes
 tail_fault files bytes front new frames.OutOfMemory fault other starts broken is pages f = other is
 tail_fault files bytes front new (frames.Bad bad) fault other starts broken is pages f =
     let post = front.ending.post in
-    let behind = front.ending.behind in
+    let after = front.ending.after in
     let last = front.ending.last in
     let stop = postamble front.ending.stop in
     let framed = starts.chained.framed in
-    let passed = file_passed bytes post behind last stop front.chain.items framed (file_widths files) pages f in
+    let passed = file_passed bytes post after last stop front.chain.items framed (file_widths files) pages f in
     let fonts = fonts_back [] (says passed.front) (says passed.tail) passed.fonts in
-    let closes : Closes bytes behind (last - 5) [] passed.tail =
+    let closes : Closes bytes after (last - 5) [] passed.tail =
     record {
       spelled = passed.tail_spelled;
       whole = passed.tail_whole;
       idle = passed.tail_is;
       fonts = fonts_fewer (known_after [] (says passed.front)) [] (says passed.tail) passed.tail_is (λ d among. absurd among) fonts;
     } in
-    broken_closing bytes behind (last - 5) [] new [] bad passed.tail (behind_within files bytes post behind last stop front.chain.items framed) (same_self []) broken closes
+    broken_closing bytes after (last - 5) [] new [] bad passed.tail (after_within files bytes post after last stop front.chain.items framed) (same_self []) broken closes
 
 -- A fault that is none of memory.
 pub no_file : (files : List NamedBytes) (bytes : List ℕ) (fault : DviFault) → fault ≢ OutOfMemory → BreaksFonts bytes fault → IsNoFile files bytes

@@ -22,14 +22,14 @@ use Rattle.boxglue_calls.specs.declared.font_table.FontSizes.{FontSizes}
 pub record DefinesFonts (bytes : List ℕ) (fonts : List Definition) : Type 0 where
   pub front : BeforePages
   pub starts : HasFront bytes front
-  pub closes : ClosesTo bytes front.ending.behind (front.ending.last - 5) [] fonts
+  pub closes : ClosesTo bytes front.ending.after (front.ending.last - 5) [] fonts
 
 -- A rule is broken at the place that the fault names, before the pages or after post; or memory is refused there.
 abbrev pub BreaksFonts : List ℕ → DviFault → Type 0
 BreaksFonts bytes fault =
     ((files : List NamedBytes) → IsDviFault files bytes fault)
     ⊎ ((front : BeforePages) × (new : List Definition) × (frame : FrameFault) × HasFront bytes front
-    × IsClosingFault bytes front.ending.behind (front.ending.last - 5) [] new frame × (fault ≡ of_frame frame))
+    × IsClosingFault bytes front.ending.after (front.ending.last - 5) [] new frame × (fault ≡ of_frame frame))
 
 -- The row of a font whose name begins at this place of the names.
 abbrev pub row_at : ℕ → Definition → DviFont

@@ -50,7 +50,7 @@ fn defined_fonts<'a>(alloc: Global, dvi: &'a [u8]) -> Result<Vec<FontDefinition<
 {
     let BeforePages { ending, .. } = find_front(alloc, dvi)?;
     let mut known = KnownFonts::new(alloc);
-    read_trailing_definitions(dvi, ending.behind, ending.last - 5, &mut known)?;
+    read_trailing_definitions(dvi, ending.after, ending.last - 5, &mut known)?;
     Ok(known.into_all())
 }
 

@@ -113,9 +113,9 @@ impl<H: Host> Device for FileDevice<'_, H> {
     /// Fails exactly when its host does in this call: when it creates the file, or in the write. Until the file is created, the host reports of it what it
     /// reported before.
     fn write(&mut self, piece: &[u8]) -> Result<usize, DeviceFault>
-        requires some { 0 < length piece.now }
+        requires piece_not_empty { 0 < length piece.now }
         requires countable { self.old.failures + 1 < 2 ^ 64 }
-        ensures within { IfOk result (λ n. (1 ≤ n) × (n ≤ length piece.now)) }
+        ensures count_bounded { IfOk result (λ n. (1 ≤ n) × (n ≤ length piece.now)) }
         ensures taken { IfOk result (λ n. written_to_file self.new.is_open (H.written self.new.host) ≡ written_then (written_to_file self.old.is_open (H.written self.old.host)) (take n piece.now)) }
         ensures stands { OnOk result (self.new.failures ≡ self.old.failures) }
         ensures none_taken { OnErr result (written_to_file self.new.is_open (H.written self.new.host) ≡ written_to_file self.old.is_open (H.written self.old.host)) }

@@ -52,7 +52,7 @@ impl JobHandle {
 
     /// The place of the job, if there is one.
     fn into_loose(self, alloc: Global) -> Option<Loose<KeptJob, Global>>
-        ensures some { IfSome result (λ loose. self.value ≡ Some loose.value) }
+        ensures value_returned { IfSome result (λ loose. self.value ≡ Some loose.value) }
         ensures none { result ≡ None → self.value ≡ None }
     {
         let JobHandle { at } = self;
@@ -67,7 +67,7 @@ impl JobHandle {
 
     /// The job, if there is one.
     fn into_box(self, alloc: Global) -> Option<Box<KeptJob>>
-        ensures some { IfSome result (λ kept. self.value ≡ Some kept.value) }
+        ensures value_returned { IfSome result (λ kept. self.value ≡ Some kept.value) }
         ensures none { result ≡ None → self.value ≡ None }
     {
         match self.into_loose(alloc) {
@@ -80,7 +80,7 @@ impl JobHandle {
 /// Takes the job out of a handle, which is null then.
 pub(crate) fn take(alloc: Global, handle: &mut JobHandle) -> Option<Box<KeptJob>>
     ensures null { handle.new.value ≡ None }
-    ensures some { IfSome result (λ kept. handle.old.value ≡ Some kept.value) }
+    ensures value_returned { IfSome result (λ kept. handle.old.value ≡ Some kept.value) }
     ensures none { result ≡ None → handle.old.value ≡ None }
 {
     mem::replace(handle, JobHandle::null()).into_box(alloc)

@@ -43,8 +43,8 @@ front_more old new a b front = (
 )
 
 -- A beginning of a text, after another text.
-pub front_behind : (old mid new : Option (List ℕ)) (a b : List ℕ) → Appends old mid a → WritesFront mid new b → WritesFront old new (a ++ b)
-front_behind old mid new a b h front = (
+pub front_after : (old mid new : Option (List ℕ)) (a b : List ℕ) → Appends old mid a → WritesFront mid new b → WritesFront old new (a ++ b)
+front_after old mid new a b h front = (
   length a + front.0,
   omega (arith, length-append a b, front.1),
   subst (λ (text : List ℕ). Appends old new text) (sym (take-append-add a b front.0)) (appends_both old mid new a (take front.0 b) h front.2),
@@ -54,7 +54,7 @@ front_behind old mid new a b h front = (
 pub front_of_pieces : (old mid new : Option (List ℕ)) (taken piece rest whole : List ℕ) → taken ++ (piece ++ rest) ≡ whole → Appends old mid taken → WritesFront mid new piece
     → WritesFront old new whole
 front_of_pieces old mid new taken piece rest whole is before front =
-    subst (λ (text : List ℕ). WritesFront old new text) is (front_behind old mid new taken (piece ++ rest) before (front_more mid new piece rest front))
+    subst (λ (text : List ℕ). WritesFront old new text) is (front_after old mid new taken (piece ++ rest) before (front_more mid new piece rest front))
 
 -- A piece was written, and the rest is still to come.
 pub piece_written : (old mid new : Option (List ℕ)) (piece ahead rest whole : List ℕ) → ahead ≡ piece ++ rest → Appends mid new piece

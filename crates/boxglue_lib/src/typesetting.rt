@@ -30,7 +30,7 @@ pub fn typeset_file<'a, H: Host, W: Write>(
     inputs: &Inputs,
     writer: &mut W,
 ) -> TypesetEnd<'a, H>
-    ensures ends { EndsTask (IsToFile inputs.now.bytes.items inputs.now.files.items (H.written result.host) (result.host ≡ host) result.created result.written)
+    ensures task_ended { EndsTask (IsToFile inputs.now.bytes.items inputs.now.files.items (H.written result.host) (result.host ≡ host) result.created result.written)
         (λ path. ⊥) ⊥ result.end (W.contents writer.old) (W.contents writer.new) }
     ensures left { result.end ≡ TaskEnd.OutOfMemory
         → IsLeftToFile inputs.now.bytes.items inputs.now.files.items (H.written result.host) result.created result.written }

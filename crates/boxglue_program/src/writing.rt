@@ -29,7 +29,7 @@ fn nothing_taken(fault: &Error) -> Result<usize, Unwritten>
 /// Offers a piece of a text to a writer, and returns how many bytes it took. It is 0 only if the call was interrupted.
 #[tactic(auto, using(crate::proofs::WritingLemmas::nothing_written))]
 fn write_piece<W: Write>(writer: &mut W, piece: &[u8]) -> Result<usize, Unwritten>
-    ensures within { IfOk result (λ count. count ≤ length piece.now) }
+    ensures count_bounded { IfOk result (λ count. count ≤ length piece.now) }
     ensures taken { IfOk result (λ count. Appends (W.contents writer.old) (W.contents writer.new) (take count piece.now)) }
     ensures none { OnErr result (Appends (W.contents writer.old) (W.contents writer.new) []) }
 {

@@ -25,25 +25,25 @@ module _ (taking : Transfer) where
   unfolding append_of value_first
   no_register r rest e = append_reads (r ∷ rest) ∙ (rw e refl)
 
-  behind_register : (r : List ℕ) (n : ℕ) (rest : List (List ℕ)) → number_of register_count r ≡ Some n → command_of (taking_text taking ∷ r ∷ rest) ≡ map_ok (append taking n) (shift_of rest)
+  after_register : (r : List ℕ) (n : ℕ) (rest : List (List ℕ)) → number_of register_count r ≡ Some n → command_of (taking_text taking ∷ r ∷ rest) ≡ map_ok (append taking n) (shift_of rest)
   unfolding append_of value_first
-  behind_register r n rest e = append_reads (r ∷ rest) ∙ (rw e refl)
+  after_register r n rest e = append_reads (r ∷ rest) ∙ (rw e refl)
 
   register_alone : (r : List ℕ) (n : ℕ) → number_of register_count r ≡ Some n → command_of (taking_text taking ∷ r ∷ []) ≡ Ok (append taking n (pos 0))
   unfolding shift_of
-  register_alone r n e = behind_register r n [] e
+  register_alone r n e = after_register r n [] e
 
   no_shift : (r : List ℕ) (n : ℕ) (w : List ℕ) (rest : List (List ℕ)) → number_of register_count r ≡ Some n → bytes_eq w (codes "shift") ≡ false → command_of (taking_text taking ∷ r ∷ w ∷ rest) ≡ Err Word
   unfolding shift_of
-  no_shift r n w rest e f = behind_register r n (w ∷ rest) e ∙ (rw f refl)
+  no_shift r n w rest e f = after_register r n (w ∷ rest) e ∙ (rw f refl)
 
-  behind_shift : (r : List ℕ) (n : ℕ) (rest : List (List ℕ)) → number_of register_count r ≡ Some n → command_of (taking_text taking ∷ r ∷ codes "shift" ∷ rest) ≡ map_ok (append taking n) (last_dimension rest)
+  after_shift : (r : List ℕ) (n : ℕ) (rest : List (List ℕ)) → number_of register_count r ≡ Some n → command_of (taking_text taking ∷ r ∷ codes "shift" ∷ rest) ≡ map_ok (append taking n) (last_dimension rest)
   unfolding shift_of
-  behind_shift r n rest e = behind_register r n (codes "shift" ∷ rest) e
+  after_shift r n rest e = after_register r n (codes "shift" ∷ rest) e
 
   zero_shift : (r : List ℕ) (n : ℕ) → number_of register_count r ≡ Some n → command_of (taking_text taking ∷ r ∷ codes "shift" ∷ codes "0sp" ∷ []) ≡ Ok (append taking n (pos 0))
   unfolding last_value value_first
-  zero_shift r n e = behind_shift r n (codes "0sp" ∷ []) e ∙ (rw zero_dimension refl)
+  zero_shift r n e = after_shift r n (codes "0sp" ∷ []) e ∙ (rw zero_dimension refl)
 
   by_word : (r : List ℕ) (n : ℕ) (w : List ℕ) (rest : List (List ℕ)) (b : Bool) (cause : Cause) → number_of register_count r ≡ Some n → bytes_eq w (codes "shift") ≡ b → command_of (taking_text taking ∷ r ∷ w ∷ rest) ≡ Err cause → IsFieldCause cause (taking_text taking ∷ r ∷ w ∷ rest)
   by_word r n w rest true cause e f h =
@@ -51,8 +51,8 @@ module _ (taking : Transfer) where
       let P : List ℕ → Type 0 = λ x. IsFieldCause cause (taking_text taking ∷ r ∷ x ∷ rest) in
       let Q : List ℕ → Type 0 = λ x. command_of (taking_text taking ∷ r ∷ x ∷ rest) ≡ Err cause in
       subst P (sym same)
-      (dimension_cause (taking_text taking ∷ r ∷ codes "shift" ∷ []) (append taking n) (λ more. behind_shift r n more e) rest cause
-      (not_made (append taking n) (last_dimension rest) cause (sym (behind_shift r n rest e) ∙ subst Q same h)))
+      (dimension_cause (taking_text taking ∷ r ∷ codes "shift" ∷ []) (append taking n) (λ more. after_shift r n more e) rest cause
+      (not_made (append taking n) (last_dimension rest) cause (sym (after_shift r n rest e) ∙ subst Q same h)))
   by_word r n w rest false cause e f h =
       as_cause _ Word cause (let no = no_shift r n w rest e f in cc)
       (has_bad_elsewhere IsWord (taking_text taking ∷ r ∷ []) w rest (codes "shift") (codes "0sp" ∷ []) (append taking n (pos 0)) shift_is_word (zero_shift r n e)

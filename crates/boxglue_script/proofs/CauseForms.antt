@@ -15,7 +15,7 @@ use Rattle.scaled_core.specs.declared.fault.DimenFault.{DimenFault}
 use Rattle.scaled_core.specs.declared.fault.DimenFault.TheVariants.{NotADimension}
 use Rattle.scaled_core.specs.Rounding.{nearest}
 use Rattle.scaled_core.specs.DimensionTexts.{decimal_fraction}
-use Rattle.scaled_core.specs.ParsedTexts.{read_dimension, dimension_value, parsed_value, written_value, unit_named, is_negative, behind_sign, front_digits, behind_digits, point_digits, behind_fraction}
+use Rattle.scaled_core.specs.ParsedTexts.{read_dimension, dimension_value, parsed_value, written_value, unit_named, is_negative, text_after_sign, front_digits, text_after_digits, point_digits, text_after_fraction}
 use Rattle.boxglue_script.proofs.FieldLaws.{writes_number, reads_dimension, dimension_read, size_given, names_font}
 use Rattle.boxglue_script.proofs.AmountLaws.{amount_given, amount_fault}
 use Rattle.boxglue_script.proofs.GivenCommands.{complete}
@@ -69,7 +69,7 @@ unfolding penalty_of
 letter_no_penalty = refl
 
 pub letter_no_dimension : read_dimension letter ≡ Err NotADimension
-unfolding read_dimension dimension_value parsed_value written_value unit_named is_negative behind_sign front_digits behind_digits point_digits behind_fraction
+unfolding read_dimension dimension_value parsed_value written_value unit_named is_negative text_after_sign front_digits text_after_digits point_digits text_after_fraction
 letter_no_dimension = refl
 
 pub letter_no_size : size_of letter ≡ Err Dimension
@@ -131,7 +131,7 @@ pub star_size : GivesSize (codes "*")
 star_size = (Running, refl)
 
 pub zero_dimension : read_dimension (codes "0sp") ≡ Ok (pos 0)
-unfolding read_dimension dimension_value parsed_value written_value unit_named is_negative behind_sign front_digits behind_digits point_digits behind_fraction decimal_fraction nearest
+unfolding read_dimension dimension_value parsed_value written_value unit_named is_negative text_after_sign front_digits text_after_digits point_digits text_after_fraction decimal_fraction nearest
 zero_dimension = refl
 
 pub zero_size : GivesSize (codes "0sp")
@@ -216,33 +216,33 @@ module _ (A : Type 0) (front : List (List ℕ)) (make : A → Command) (last : L
     (reads : (rest : List (List ℕ)) → command_of (front ++ rest) ≡ map_ok make (last rest))
     (right : List ℕ) (x : A) (right_is : read right ≡ Ok x) (fault : Cause) (unread : read letter ≡ Err fault)
     (bad : (field : List ℕ) (rest : List (List ℕ)) (cause : Cause) → read field ≡ Err cause → Wanted front right [] (make x) → AllFail front field → AllFail front letter → IsFieldCause cause (front ++ field ∷ rest)) where
-  behind : (fields rest : List (List ℕ)) → fields ≡ front ++ rest → command_of fields ≡ map_ok make (last rest)
-  behind fields rest e = ap command_of e ∙ reads rest
+  after : (fields rest : List (List ℕ)) → fields ≡ front ++ rest → command_of fields ≡ map_ok make (last rest)
+  after fields rest e = ap command_of e ∙ reads rest
 
   alone : (field : List ℕ) (y : A) → read field ≡ Ok y → map_ok make (last (field ∷ [])) ≡ Ok (make y)
   alone field y e = rw (some field [], e) refl
 
   lacks_last : LacksField (front ++ [])
-  lacks_last = missing (front ++ []) (right ∷ []) (make x) (Missing, reads [] ∙ (rw none refl)) (behind _ (right ∷ []) (append_assoc front [] (right ∷ [])) ∙ alone right x right_is)
+  lacks_last = missing (front ++ []) (right ∷ []) (make x) (Missing, reads [] ∙ (rw none refl)) (after _ (right ∷ []) (append_assoc front [] (right ∷ [])) ∙ alone right x right_is)
 
-  fails_behind : (field : List ℕ) (cause : Cause) → read field ≡ Err cause → AllFail front field
-  fails_behind field cause e later = (cause, behind _ (field ∷ later) (append_assoc front (field ∷ []) later) ∙ (rw (some field later, e) refl))
+  fails_after : (field : List ℕ) (cause : Cause) → read field ≡ Err cause → AllFail front field
+  fails_after field cause e later = (cause, after _ (field ∷ later) (append_assoc front (field ∷ []) later) ∙ (rw (some field later, e) refl))
 
   last_field_cause : (field : List ℕ) (rest : List (List ℕ)) (cause : Cause) → read field ≡ Err cause → IsFieldCause cause (front ++ field ∷ rest)
   last_field_cause field rest cause e =
-      bad field rest cause e (behind _ (right ∷ []) (append-nil (front ++ right ∷ [])) ∙ alone right x right_is) (fails_behind field cause e) (fails_behind letter fault unread)
+      bad field rest cause e (after _ (right ∷ []) (append-nil (front ++ right ∷ [])) ∙ alone right x right_is) (fails_after field cause e) (fails_after letter fault unread)
 
-  extra_behind : (field : List ℕ) (y : A) (f : List ℕ) (rest : List (List ℕ)) → read field ≡ Ok y → HasExtra ((front ++ field ∷ []) ++ f ∷ rest)
-  extra_behind field y f rest e =
+  extra_after : (field : List ℕ) (y : A) (f : List ℕ) (rest : List (List ℕ)) → read field ≡ Ok y → HasExtra ((front ++ field ∷ []) ++ f ∷ rest)
+  extra_after field y f rest e =
       extra (front ++ field ∷ []) f rest (make y) (reads (field ∷ []) ∙ alone field y e)
-      (λ other later. (Extra, behind _ (field ∷ other ∷ later) (append_assoc (front ++ field ∷ []) (other ∷ []) later ∙ append_assoc front (field ∷ []) (other ∷ later)) ∙ (rw (some field (other ∷ later), e) refl)))
+      (λ other later. (Extra, after _ (field ∷ other ∷ later) (append_assoc (front ++ field ∷ []) (other ∷ []) later ∙ append_assoc front (field ∷ []) (other ∷ later)) ∙ (rw (some field (other ∷ later), e) refl)))
 
   by_last : (field : List ℕ) (rest : List (List ℕ)) (r : Result A Cause) (cause : Cause) → read field ≡ r → and_right r (no_field_left rest) ≡ Err cause → IsFieldCause cause (front ++ field ∷ rest)
   by_last field rest (Err other) cause e h = last_field_cause field rest cause (e ∙ h)
   by_last field [] (Ok y) cause e h = absurd (cc)
   by_last field (f ∷ rest) (Ok y) cause e h =
       let P : List (List ℕ) → Type 0 = λ fields. IsFieldCause cause fields in
-      subst P (append_assoc front (field ∷ []) (f ∷ rest)) (as_cause _ Extra cause (cc) (extra_behind field y f rest e))
+      subst P (append_assoc front (field ∷ []) (f ∷ rest)) (as_cause _ Extra cause (cc) (extra_after field y f rest e))
 
   pub last_cause : (rest : List (List ℕ)) (cause : Cause) → last rest ≡ Err cause → IsFieldCause cause (front ++ rest)
   last_cause [] cause h = as_cause _ Missing cause (cc) lacks_last

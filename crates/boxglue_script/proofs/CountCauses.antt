@@ -30,16 +30,16 @@ no_number : (r : List ℕ) (rest : List (List ℕ)) → number_of count_count r 
 unfolding counting_of value_first
 no_number r rest e = count_reads (r ∷ rest) ∙ (rw e refl)
 
-behind_number : (r : List ℕ) (n : ℕ) (rest : List (List ℕ)) → number_of count_count r ≡ Some n → command_of (codes "count" ∷ r ∷ rest) ≡ map_ok (counting n) (last_count rest)
+after_number : (r : List ℕ) (n : ℕ) (rest : List (List ℕ)) → number_of count_count r ≡ Some n → command_of (codes "count" ∷ r ∷ rest) ≡ map_ok (counting n) (last_count rest)
 unfolding counting_of value_first
-behind_number r n rest e = count_reads (r ∷ rest) ∙ (rw e refl)
+after_number r n rest e = count_reads (r ∷ rest) ∙ (rw e refl)
 
-zero_behind : (r : List ℕ) (n : ℕ) → number_of count_count r ≡ Some n → command_of (codes "count" ∷ r ∷ zero_text ∷ []) ≡ Ok (counting n (pos 0))
+zero_after : (r : List ℕ) (n : ℕ) → number_of count_count r ≡ Some n → command_of (codes "count" ∷ r ∷ zero_text ∷ []) ≡ Ok (counting n (pos 0))
 unfolding last_value value_first
-zero_behind r n e = behind_number r n (zero_text ∷ []) e ∙ (rw zero_count refl)
+zero_after r n e = after_number r n (zero_text ∷ []) e ∙ (rw zero_count refl)
 
 zero_read : command_of (codes "count" ∷ zero_text ∷ zero_text ∷ []) ≡ Ok (counting 0 (pos 0))
-zero_read = zero_behind zero_text 0 (zero_names count_count (omega arith))
+zero_read = zero_after zero_text 0 (zero_names count_count (omega arith))
 
 no_count_by : (front : List (List ℕ)) (field : List ℕ) (rest more : List (List ℕ)) (command : Command) (o : Option ℤ) (cause : Cause) → some_or Number o ≡ Err cause → Wanted front zero_text more command → AllFail front field → AllFail front letter
     → IsFieldCause cause (front ++ field ∷ rest)
@@ -61,8 +61,8 @@ by_number r rest None cause e h =
     no_number_cause count_count (codes "count" ∷ []) r rest (zero_text ∷ []) (counting 0 (pos 0)) cause (rw e (ap (λ (c : Cause). Err c) same)) zero_read
     (λ later. (Number, no_number r later e)) (λ later. (Number, no_number letter later (letter_no_number count_count)))
 by_number r rest (Some n) cause e h =
-    value_cause (codes "count" ∷ r ∷ []) (counting n) (λ more. behind_number r n more e) rest cause
-    (not_made (counting n) (last_count rest) cause (sym (behind_number r n rest e) ∙ h))
+    value_cause (codes "count" ∷ r ∷ []) (counting n) (λ more. after_number r n more e) rest cause
+    (not_made (counting n) (last_count rest) cause (sym (after_number r n rest e) ∙ h))
 
 pub count_cause : (rest : List (List ℕ)) (cause : Cause) → command_of (codes "count" ∷ rest) ≡ Err cause → IsFieldCause cause (codes "count" ∷ rest)
 count_cause [] cause h =

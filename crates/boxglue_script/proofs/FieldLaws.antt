@@ -9,7 +9,7 @@ use Rattle.std.proofs.lemmas.Slice.Eq.{bytes_eq-Decides}
 use Rattle.tfm_core.specs.Scaling.{IsFontSize}
 use Rattle.scaled_core.specs.Dimensions.{Within}
 use Rattle.scaled_core.specs.declared.fault.DimenFault.{DimenFault}
-use Rattle.scaled_core.specs.ParsedTexts.{read_dimension, dimension_value, parsed_value, written_value, unit_named, is_negative, behind_sign, front_digits, behind_digits, point_digits, behind_fraction}
+use Rattle.scaled_core.specs.ParsedTexts.{read_dimension, dimension_value, parsed_value, written_value, unit_named, is_negative, text_after_sign, front_digits, text_after_digits, point_digits, text_after_fraction}
 use Rattle.scaled_core.proofs.Fitting.{dimension_fits}
 use Rattle.scaled_core.proofs.ReadingCases.{reads-ok, reads-fits}
 use Rattle.scaled_core.proofs.TextLaws.{dimension_value-from_text}
@@ -79,7 +79,7 @@ dimension_read field z h = rw (dimension_value-from_text field z h.text, dimensi
 
 -- `*` is no dimension.
 star_is_none : (z : ℤ) → read_dimension (codes "*") ≡ Ok z → ⊥
-unfolding read_dimension dimension_value parsed_value written_value unit_named is_negative behind_sign front_digits behind_digits point_digits behind_fraction
+unfolding read_dimension dimension_value parsed_value written_value unit_named is_negative text_after_sign front_digits text_after_digits point_digits text_after_fraction
 star_is_none z h = cc
 
 fixed_of : (r : Result ℤ DimenFault) (size : RuleSize) → map_ok Fixed (dimension_or r) ≡ Ok size → (z : ℤ) × (r ≡ Ok z) × (size ≡ Fixed z)

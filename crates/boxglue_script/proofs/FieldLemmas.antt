@@ -7,7 +7,7 @@ use Rattle.std.proofs.lemmas.List.Sums.{fails_before_first, passes_at_first}
 use Rattle.std.proofs.lemmas.List.{drop_more, take_all, drop_all}
 use Rattle.std.proofs.lemmas.Bool.{cases_lt}
 use Rattle.boxglue_script.specs.ScriptLines.{fields_of, is_space, is_filled}
-use Rattle.boxglue_script.specs.Reading.{front_field, behind_field, without_spaces, in_field}
+use Rattle.boxglue_script.specs.Reading.{front_field, after_field, without_spaces, in_field}
 
 -- A space at the beginning of a line gives no field.
 pub fields-space : (byte : ℕ) (line : List ℕ) → is_space byte ≡ true → fields_of (byte ∷ line) ≡ fields_of line
@@ -42,9 +42,9 @@ unfolding fields_of
 fields_then t n e inside some =
     let parts : slice_split is_space t ≡ take n t ∷ slice_split is_space (drop (n + 1) t) = rw e (slice_split_first is_space t 0 (rw (← e) inside)) in
     let space : is_space (get_or t n 0) ≡ true = rw e (passes_at_first is_space t 0 (rw (← e) inside)) in
-    let behind : drop n t ≡ get_or t n 0 ∷ drop (n + 1) t = drop_more t n 0 inside in
+    let after : drop n t ≡ get_or t n 0 ∷ drop (n + 1) t = drop_more t n 0 inside in
     ap (filter is_filled) parts ∙ filter_filled (take n t) (slice_split is_space (drop (n + 1) t)) some
-    ∙ ap (λ (xs : List (List ℕ)). take n t ∷ xs) (sym (ap fields_of behind ∙ fields-space (get_or t n 0) (drop (n + 1) t) space))
+    ∙ ap (λ (xs : List (List ℕ)). take n t ∷ xs) (sym (ap fields_of after ∙ fields-space (get_or t n 0) (drop (n + 1) t) space))
 
 -- A field at the end.
 fields_last : (t : List ℕ) (n : ℕ) → n ≡ prefix_len in_field t → length t ≤ n → 0 < length (take n t) → fields_of t ≡ take n t ∷ fields_of (drop n t)
@@ -67,8 +67,8 @@ some_field (byte ∷ t) h starts = some_byte byte t (is_space byte) refl starts
 fields_from : (t : List ℕ) (n : ℕ) → n ≡ prefix_len in_field t → 0 < length (take n t) → fields_of t ≡ take n t ∷ fields_of (drop n t)
 fields_from t n e some = ⊎_elim (λ (inside : n < length t). fields_then t n e inside some) (λ (past : length t ≤ n). fields_last t n e past some) (cases_lt n (length t))
 
-pub fields_first : (line : List ℕ) → 0 < length (front_field line) → fields_of line ≡ front_field line ∷ fields_of (behind_field line)
-unfolding front_field behind_field
+pub fields_first : (line : List ℕ) → 0 < length (front_field line) → fields_of line ≡ front_field line ∷ fields_of (after_field line)
+unfolding front_field after_field
 fields_first line some = fields-without_spaces line ∙ fields_from (without_spaces line) _ refl some
 
 nothing_left : (t : List ℕ) → prefix_len is_space t ≡ 0 → length (take (prefix_len in_field t) t) ≡ 0 → t ≡ []
@@ -81,8 +81,8 @@ no_fields t n e =
     let rest : drop n t ≡ [] = rw e (drop_all n [] (omega arith)) in
     (rw e refl, rw rest refl)
 
-pub fields_none : (line : List ℕ) → length (front_field line) ≡ 0 → (fields_of line ≡ []) × (fields_of (behind_field line) ≡ [])
-unfolding front_field behind_field
+pub fields_none : (line : List ℕ) → length (front_field line) ≡ 0 → (fields_of line ≡ []) × (fields_of (after_field line) ≡ [])
+unfolding front_field after_field
 fields_none line h =
     let none = no_fields (without_spaces line) (prefix_len in_field (without_spaces line)) (nothing_left (without_spaces line) (starts line) h) in
     (fields-without_spaces line ∙ none.0, none.1)

@@ -8,7 +8,7 @@ use Rattle.scaled_core.specs.declared.fault.DimenFault.{DimenFault}
 use Rattle.scaled_core.specs.declared.fault.DimenFault.TheVariants.{NotADimension}
 use Rattle.scaled_core.specs.Rounding.{nearest}
 use Rattle.scaled_core.specs.DimensionTexts.{decimal_fraction}
-use Rattle.scaled_core.specs.ParsedTexts.{read_dimension, dimension_value, parsed_value, written_value, unit_named, is_negative, behind_sign, front_digits, behind_digits, point_digits, behind_fraction}
+use Rattle.scaled_core.specs.ParsedTexts.{read_dimension, dimension_value, parsed_value, written_value, unit_named, is_negative, text_after_sign, front_digits, text_after_digits, point_digits, text_after_fraction}
 use Rattle.boxglue_script.specs.declared.cause.Cause.{Cause}
 use Rattle.boxglue_script.specs.declared.cause.Cause.TheVariants as causes
 use Rattle.boxglue_script.specs.declared.cause.Cause.TheVariants.{Word, Missing, Extra, Number, Dimension}
@@ -33,7 +33,7 @@ abbrev one : List ℕ
 one = codes "1sp"
 
 one_dimension : read_dimension one ≡ Ok (pos 1)
-unfolding read_dimension dimension_value parsed_value written_value unit_named is_negative behind_sign front_digits behind_digits point_digits behind_fraction decimal_fraction nearest
+unfolding read_dimension dimension_value parsed_value written_value unit_named is_negative text_after_sign front_digits text_after_digits point_digits text_after_fraction decimal_fraction nearest
 one_dimension = refl
 
 one_size : GivesSize one
@@ -65,9 +65,9 @@ sized : (slot : ℕ) (name : List ℕ) (r : Result (Option ℤ) Cause) → font_
 sized slot name (Err cause) = refl
 sized slot name (Ok size) = refl
 
-behind_name : (s : List ℕ) (n : ℕ) (name : List ℕ) (rest : List (List ℕ)) → number_of slot_count s ≡ Some n → is_name name ≡ true → command_of (codes "font" ∷ s ∷ name ∷ rest) ≡ map_ok (load n name) (chosen_size_of rest)
+after_name : (s : List ℕ) (n : ℕ) (name : List ℕ) (rest : List (List ℕ)) → number_of slot_count s ≡ Some n → is_name name ≡ true → command_of (codes "font" ∷ s ∷ name ∷ rest) ≡ map_ok (load n name) (chosen_size_of rest)
 unfolding font_of value_first name_first
-behind_name s n name rest e f = font_reads (s ∷ name ∷ rest) ∙ (rw (e, f) (sized n name (chosen_size_of rest)))
+after_name s n name rest e f = font_reads (s ∷ name ∷ rest) ∙ (rw (e, f) (sized n name (chosen_size_of rest)))
 
 -- Fields after the name of a font that are missing or wrong.
 at_given : chosen_size_of (codes "at" ∷ one ∷ []) ≡ Ok (Some (pos 1))
@@ -105,13 +105,13 @@ at_more d f rest z y e g = rw (e, g) refl
 -- After a slot and a name.
 module _ (s : List ℕ) (n : ℕ) (name : List ℕ) (is_slot : number_of slot_count s ≡ Some n) (named : is_name name ≡ true) where
   fails : (rest : List (List ℕ)) (cause : Cause) → chosen_size_of rest ≡ Err cause → Fails (codes "font" ∷ s ∷ name ∷ rest)
-  fails rest cause h = (cause, behind_name s n name rest is_slot named ∙ (rw h refl))
+  fails rest cause h = (cause, after_name s n name rest is_slot named ∙ (rw h refl))
 
   fails_at : AllFail (codes "font" ∷ s ∷ name ∷ codes "at" ∷ []) letter
   fails_at later = fails (codes "at" ∷ letter ∷ later) Dimension (no_dimension letter later NotADimension letter_no_dimension)
 
   loads : (rest : List (List ℕ)) (size : Option ℤ) → chosen_size_of rest ≡ Ok size → command_of (codes "font" ∷ s ∷ name ∷ rest) ≡ Ok (load n name size)
-  loads rest size h = behind_name s n name rest is_slot named ∙ (rw h refl)
+  loads rest size h = after_name s n name rest is_slot named ∙ (rw h refl)
 
   by_size : (d : List ℕ) (rest : List (List ℕ)) (z : ℤ) (o : Option ℤ) (cause : Cause) → read_dimension d ≡ Ok z → size_of_font z ≡ o → chosen_size_of (codes "at" ∷ d ∷ rest) ≡ Err cause → IsFieldCause cause (codes "font" ∷ s ∷ name ∷ codes "at" ∷ d ∷ rest)
   by_size d rest z None cause e f h =
@@ -136,18 +136,18 @@ module _ (s : List ℕ) (n : ℕ) (name : List ℕ) (is_slot : number_of slot_co
       )
   by_dimension d rest (Ok z) cause e h = by_size d rest z (size_of_font z) cause e refl h
 
-  behind_at : (rest : List (List ℕ)) (cause : Cause) → chosen_size_of (codes "at" ∷ rest) ≡ Err cause → IsFieldCause cause (codes "font" ∷ s ∷ name ∷ codes "at" ∷ rest)
-  behind_at [] cause h =
+  after_at : (rest : List (List ℕ)) (cause : Cause) → chosen_size_of (codes "at" ∷ rest) ≡ Err cause → IsFieldCause cause (codes "font" ∷ s ∷ name ∷ codes "at" ∷ rest)
+  after_at [] cause h =
       as_cause _ Missing cause (let lacks = at_lacks in cc)
       (missing (codes "font" ∷ s ∷ name ∷ codes "at" ∷ []) (one ∷ []) (load n name (Some (pos 1))) (fails (codes "at" ∷ []) Missing at_lacks) (loads (codes "at" ∷ one ∷ []) (Some (pos 1)) at_given))
-  behind_at (d ∷ rest) cause h = by_dimension d rest (read_dimension d) cause refl h
+  after_at (d ∷ rest) cause h = by_dimension d rest (read_dimension d) cause refl h
 
   by_word : (w : List ℕ) (rest : List (List ℕ)) (b : Bool) (cause : Cause) → bytes_eq w (codes "at") ≡ b → chosen_size_of (w ∷ rest) ≡ Err cause → IsFieldCause cause (codes "font" ∷ s ∷ name ∷ w ∷ rest)
   by_word w rest true cause e h =
       let at : w ≡ codes "at" = same_bytes w (codes "at") e in
       let P : List ℕ → Type 0 = λ x. IsFieldCause cause (codes "font" ∷ s ∷ name ∷ x ∷ rest) in
       let Q : List ℕ → Type 0 = λ x. chosen_size_of (x ∷ rest) ≡ Err cause in
-      subst P (sym at) (behind_at rest cause (subst Q at h))
+      subst P (sym at) (after_at rest cause (subst Q at h))
   by_word w rest false cause e h =
       as_cause _ Word cause (let no = no_at w rest e in cc)
       (has_bad_elsewhere IsWord (codes "font" ∷ s ∷ name ∷ []) w rest (codes "at") (one ∷ []) (load n name (Some (pos 1))) at_is_word (loads (codes "at" ∷ one ∷ []) (Some (pos 1)) at_given)
@@ -167,7 +167,7 @@ name_by s n name rest false cause e f h =
       λ other is. ([], (load n other None, sound (codes "font" ∷ s ∷ other ∷ []) (load n other None) (loads s n other e (font_named other is) [] None nothing_given))),
     )
 name_by s n name rest true cause e f h =
-    size_cause s n name e f rest cause (not_made (load n name) (chosen_size_of rest) cause (sym (behind_name s n name rest e f) ∙ h))
+    size_cause s n name e f rest cause (not_made (load n name) (chosen_size_of rest) cause (sym (after_name s n name rest e f) ∙ h))
 
 slot_by : (s : List ℕ) (rest : List (List ℕ)) (o : Option ℕ) (cause : Cause) → number_of slot_count s ≡ o → command_of (codes "font" ∷ s ∷ rest) ≡ Err cause → IsFieldCause cause (codes "font" ∷ s ∷ rest)
 slot_by s rest None cause e h =

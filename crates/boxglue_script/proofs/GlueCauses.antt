@@ -35,47 +35,47 @@ no_width : (d : List ℕ) (rest : List (List ℕ)) (fault : DimenFault) → read
 unfolding glue_of value_first
 no_width d rest fault e = glue_reads (d ∷ rest) ∙ (rw e refl)
 
-behind_width : (d : List ℕ) (z : ℤ) (rest : List (List ℕ)) → read_dimension d ≡ Ok z → command_of (codes "glue" ∷ d ∷ rest) ≡ map_ok Glue (parts_of z rest)
+after_width : (d : List ℕ) (z : ℤ) (rest : List (List ℕ)) → read_dimension d ≡ Ok z → command_of (codes "glue" ∷ d ∷ rest) ≡ map_ok Glue (parts_of z rest)
 unfolding glue_of value_first
-behind_width d z rest e = glue_reads (d ∷ rest) ∙ (rw e refl)
+after_width d z rest e = glue_reads (d ∷ rest) ∙ (rw e refl)
 
 -- After a width.
 module _ (d : List ℕ) (z : ℤ) (is : read_dimension d ≡ Ok z) where
   width_alone : command_of (codes "glue" ∷ d ∷ []) ≡ Ok (said z no_amount no_amount)
   unfolding parts_of
-  width_alone = behind_width d z [] is
+  width_alone = after_width d z [] is
 
   no_part : (w : List ℕ) (rest : List (List ℕ)) → bytes_eq w (codes "plus") ≡ false → bytes_eq w (codes "minus") ≡ false → command_of (codes "glue" ∷ d ∷ w ∷ rest) ≡ Err Word
   unfolding parts_of
-  no_part w rest e f = behind_width d z (w ∷ rest) is ∙ (rw (e, f) refl)
+  no_part w rest e f = after_width d z (w ∷ rest) is ∙ (rw (e, f) refl)
 
-  behind_minus : (rest : List (List ℕ)) → command_of (codes "glue" ∷ d ∷ codes "minus" ∷ rest) ≡ map_ok (said z no_amount) (last_amount rest)
+  after_minus : (rest : List (List ℕ)) → command_of (codes "glue" ∷ d ∷ codes "minus" ∷ rest) ≡ map_ok (said z no_amount) (last_amount rest)
   unfolding parts_of last_shrink_of
-  behind_minus rest = behind_width d z (codes "minus" ∷ rest) is ∙ twice Glue (glue z no_amount) (last_amount rest)
+  after_minus rest = after_width d z (codes "minus" ∷ rest) is ∙ twice Glue (glue z no_amount) (last_amount rest)
 
   stretch_lacks : command_of (codes "glue" ∷ d ∷ codes "plus" ∷ []) ≡ Err Missing
   unfolding parts_of value_first
-  stretch_lacks = behind_width d z (codes "plus" ∷ []) is
+  stretch_lacks = after_width d z (codes "plus" ∷ []) is
 
   no_stretch : (x : List ℕ) (rest : List (List ℕ)) (cause : Cause) → amount_of x ≡ Err cause → command_of (codes "glue" ∷ d ∷ codes "plus" ∷ x ∷ rest) ≡ Err cause
   unfolding parts_of value_first
-  no_stretch x rest cause e = behind_width d z (codes "plus" ∷ x ∷ rest) is ∙ (rw e refl)
+  no_stretch x rest cause e = after_width d z (codes "plus" ∷ x ∷ rest) is ∙ (rw e refl)
 
-  behind_stretch : (x : List ℕ) (a : Amount) (rest : List (List ℕ)) → amount_of x ≡ Ok a → command_of (codes "glue" ∷ d ∷ codes "plus" ∷ x ∷ rest) ≡ map_ok Glue (shrink_of z a rest)
+  after_stretch : (x : List ℕ) (a : Amount) (rest : List (List ℕ)) → amount_of x ≡ Ok a → command_of (codes "glue" ∷ d ∷ codes "plus" ∷ x ∷ rest) ≡ map_ok Glue (shrink_of z a rest)
   unfolding parts_of value_first
-  behind_stretch x a rest e = behind_width d z (codes "plus" ∷ x ∷ rest) is ∙ (rw e refl)
+  after_stretch x a rest e = after_width d z (codes "plus" ∷ x ∷ rest) is ∙ (rw e refl)
 
   stretch_alone : (x : List ℕ) (a : Amount) → amount_of x ≡ Ok a → command_of (codes "glue" ∷ d ∷ codes "plus" ∷ x ∷ []) ≡ Ok (said z a no_amount)
   unfolding shrink_of
-  stretch_alone x a e = behind_stretch x a [] e
+  stretch_alone x a e = after_stretch x a [] e
 
   no_minus : (x : List ℕ) (a : Amount) (w : List ℕ) (rest : List (List ℕ)) → amount_of x ≡ Ok a → bytes_eq w (codes "minus") ≡ false → command_of (codes "glue" ∷ d ∷ codes "plus" ∷ x ∷ w ∷ rest) ≡ Err Word
   unfolding shrink_of
-  no_minus x a w rest e f = behind_stretch x a (w ∷ rest) e ∙ (rw f refl)
+  no_minus x a w rest e f = after_stretch x a (w ∷ rest) e ∙ (rw f refl)
 
-  behind_both : (x : List ℕ) (a : Amount) (rest : List (List ℕ)) → amount_of x ≡ Ok a → command_of (codes "glue" ∷ d ∷ codes "plus" ∷ x ∷ codes "minus" ∷ rest) ≡ map_ok (said z a) (last_amount rest)
+  after_both : (x : List ℕ) (a : Amount) (rest : List (List ℕ)) → amount_of x ≡ Ok a → command_of (codes "glue" ∷ d ∷ codes "plus" ∷ x ∷ codes "minus" ∷ rest) ≡ map_ok (said z a) (last_amount rest)
   unfolding shrink_of last_shrink_of
-  behind_both x a rest e = behind_stretch x a (codes "minus" ∷ rest) e ∙ twice Glue (glue z a) (last_amount rest)
+  after_both x a rest e = after_stretch x a (codes "minus" ∷ rest) e ∙ twice Glue (glue z a) (last_amount rest)
 
   last_read : (make : Amount → Command) → map_ok make (last_amount (zero ∷ [])) ≡ Ok (make no_amount)
   unfolding last_value value_first
@@ -88,11 +88,11 @@ module _ (d : List ℕ) (z : ℤ) (is : read_dimension d ≡ Ok z) where
       let P : List ℕ → Type 0 = λ y. IsFieldCause cause (codes "glue" ∷ d ∷ codes "plus" ∷ x ∷ y ∷ rest) in
       let Q : List ℕ → Type 0 = λ y. command_of (codes "glue" ∷ d ∷ codes "plus" ∷ x ∷ y ∷ rest) ≡ Err cause in
       subst P (sym minus)
-      (amount_cause (codes "glue" ∷ d ∷ codes "plus" ∷ x ∷ codes "minus" ∷ []) (said z a) (λ more. behind_both x a more e) rest cause
-      (not_made (said z a) (last_amount rest) cause (sym (behind_both x a rest e) ∙ subst Q minus h)))
+      (amount_cause (codes "glue" ∷ d ∷ codes "plus" ∷ x ∷ codes "minus" ∷ []) (said z a) (λ more. after_both x a more e) rest cause
+      (not_made (said z a) (last_amount rest) cause (sym (after_both x a rest e) ∙ subst Q minus h)))
   by_minus x a w rest false cause e f h =
       as_cause _ Word cause (let no = no_minus x a w rest e f in cc)
-      (has_bad_elsewhere IsWord (codes "glue" ∷ d ∷ codes "plus" ∷ x ∷ []) w rest (codes "minus") (zero ∷ []) (said z a no_amount) minus_is_word (behind_both x a (zero ∷ []) e ∙ last_read (said z a))
+      (has_bad_elsewhere IsWord (codes "glue" ∷ d ∷ codes "plus" ∷ x ∷ []) w rest (codes "minus") (zero ∷ []) (said z a no_amount) minus_is_word (after_both x a (zero ∷ []) e ∙ last_read (said z a))
       (λ later. (Word, no_minus x a w later e f)) (λ later. (Word, no_minus x a letter later e refl)))
 
   shrink_cause : (x : List ℕ) (a : Amount) (rest : List (List ℕ)) (cause : Cause) → amount_of x ≡ Ok a → command_of (codes "glue" ∷ d ∷ codes "plus" ∷ x ∷ rest) ≡ Err cause → IsFieldCause cause (codes "glue" ∷ d ∷ codes "plus" ∷ x ∷ rest)
@@ -114,7 +114,7 @@ module _ (d : List ℕ) (z : ℤ) (is : read_dimension d ≡ Ok z) where
 
   minus_cause : (rest : List (List ℕ)) (cause : Cause) → command_of (codes "glue" ∷ d ∷ codes "minus" ∷ rest) ≡ Err cause → IsFieldCause cause (codes "glue" ∷ d ∷ codes "minus" ∷ rest)
   minus_cause rest cause h =
-      amount_cause (codes "glue" ∷ d ∷ codes "minus" ∷ []) (said z no_amount) behind_minus rest cause (not_made (said z no_amount) (last_amount rest) cause (sym (behind_minus rest) ∙ h))
+      amount_cause (codes "glue" ∷ d ∷ codes "minus" ∷ []) (said z no_amount) after_minus rest cause (not_made (said z no_amount) (last_amount rest) cause (sym (after_minus rest) ∙ h))
 
   along_word : (w word : List ℕ) (rest : List (List ℕ)) (cause : Cause) → bytes_eq w word ≡ true → (command_of (codes "glue" ∷ d ∷ word ∷ rest) ≡ Err cause → IsFieldCause cause (codes "glue" ∷ d ∷ word ∷ rest)) → command_of (codes "glue" ∷ d ∷ w ∷ rest) ≡ Err cause → IsFieldCause cause (codes "glue" ∷ d ∷ w ∷ rest)
   along_word w word rest cause e there h =

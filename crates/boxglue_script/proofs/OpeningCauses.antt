@@ -60,15 +60,15 @@ module _ (form : BoxForm) (word : List ℕ) (sized : ℤ → Target) (reads : (r
   unfolding opening_with_size value_first
   no_size d rest fault e = reads (d ∷ rest) ∙ (rw e refl)
 
-  behind_size : (d : List ℕ) (z : ℤ) (rest : List (List ℕ)) → read_dimension d ≡ Ok z → command_of (form_text form ∷ word ∷ d ∷ rest) ≡ opening_into form (sized z) rest
+  after_size : (d : List ℕ) (z : ℤ) (rest : List (List ℕ)) → read_dimension d ≡ Ok z → command_of (form_text form ∷ word ∷ d ∷ rest) ≡ opening_into form (sized z) rest
   unfolding opening_with_size value_first
-  behind_size d z rest e = reads (d ∷ rest) ∙ (rw e refl)
+  after_size d z rest e = reads (d ∷ rest) ∙ (rw e refl)
 
   size_alone : (d : List ℕ) (z : ℤ) → read_dimension d ≡ Ok z → command_of (form_text form ∷ word ∷ d ∷ []) ≡ Ok (for_list form (sized z))
-  size_alone d z e = behind_size d z [] e ∙ nothing_reads form (sized z)
+  size_alone d z e = after_size d z [] e ∙ nothing_reads form (sized z)
 
   whole : (d : List ℕ) (z : ℤ) → read_dimension d ≡ Ok z → command_of (form_text form ∷ word ∷ d ∷ codes "into" ∷ zero_text ∷ []) ≡ Ok (for_register form (sized z) 0)
-  whole d z e = behind_size d z (codes "into" ∷ zero_text ∷ []) e ∙ into_reads form (sized z) (zero_text ∷ []) ∙ zero_read form (sized z)
+  whole d z e = after_size d z (codes "into" ∷ zero_text ∷ []) e ∙ into_reads form (sized z) (zero_text ∷ []) ∙ zero_read form (sized z)
 
   by_into : (d : List ℕ) (z : ℤ) (w : List ℕ) (rest : List (List ℕ)) (b : Bool) (cause : Cause) → read_dimension d ≡ Ok z → bytes_eq w (codes "into") ≡ b → opening_into form (sized z) (w ∷ rest) ≡ Err cause → IsFieldCause cause (form_text form ∷ word ∷ d ∷ w ∷ rest)
   by_into d z w rest true cause e f h =
@@ -77,13 +77,13 @@ module _ (form : BoxForm) (word : List ℕ) (sized : ℤ → Target) (reads : (r
       let Q : List ℕ → Type 0 = λ x. opening_into form (sized z) (x ∷ rest) ≡ Err cause in
       let fault : map_ok (for_register form (sized z)) (last_number register_count rest) ≡ Err cause = sym (into_reads form (sized z) rest ∙ register_reads form (sized z) rest) ∙ subst Q into h in
       subst P (sym into)
-      (number_cause register_count (omega arith) (form_text form ∷ word ∷ d ∷ codes "into" ∷ []) (for_register form (sized z)) (λ more. behind_size d z (codes "into" ∷ more) e ∙ into_reads form (sized z) more ∙ register_reads form (sized z) more) rest cause
+      (number_cause register_count (omega arith) (form_text form ∷ word ∷ d ∷ codes "into" ∷ []) (for_register form (sized z)) (λ more. after_size d z (codes "into" ∷ more) e ∙ into_reads form (sized z) more ∙ register_reads form (sized z) more) rest cause
       (not_made (for_register form (sized z)) (last_number register_count rest) cause fault))
   by_into d z w rest false cause e f h =
       as_cause _ Word cause (let no = no_into form (sized z) w rest f in cc)
       (has_bad_elsewhere IsWord (form_text form ∷ word ∷ d ∷ []) w rest (codes "into") (zero_text ∷ []) (for_register form (sized z) 0) into_is_word (whole d z e)
-      (λ later. (Word, behind_size d z (w ∷ later) e ∙ no_into form (sized z) w later f))
-      (λ later. (Word, behind_size d z (letter ∷ later) e ∙ no_into form (sized z) letter later refl)))
+      (λ later. (Word, after_size d z (w ∷ later) e ∙ no_into form (sized z) w later f))
+      (λ later. (Word, after_size d z (letter ∷ later) e ∙ no_into form (sized z) letter later refl)))
 
   into_cause : (d : List ℕ) (z : ℤ) (rest : List (List ℕ)) (cause : Cause) → read_dimension d ≡ Ok z → opening_into form (sized z) rest ≡ Err cause → IsFieldCause cause (form_text form ∷ word ∷ d ∷ rest)
   into_cause d z [] cause e h = absurd (let right = nothing_reads form (sized z) in cc)
@@ -94,7 +94,7 @@ module _ (form : BoxForm) (word : List ℕ) (sized : ℤ → Target) (reads : (r
       let is : Dimension ≡ cause = let no = no_size d rest fault e in cc in
       no_dimension_cause (form_text form ∷ word ∷ []) d rest [] (for_list form (sized (pos 0))) cause (rw e (ap (λ (c : Cause). Err c) is)) (size_alone (codes "0sp") (pos 0) zero_dimension)
       (λ later. (Dimension, no_size d later fault e)) (λ later. (Dimension, no_size letter later NotADimension letter_no_dimension))
-  by_size d rest (Ok z) cause e h = into_cause d z rest cause e (sym (behind_size d z rest e) ∙ h)
+  by_size d rest (Ok z) cause e h = into_cause d z rest cause e (sym (after_size d z rest e) ∙ h)
 
   sized_cause : (rest : List (List ℕ)) (cause : Cause) → command_of (form_text form ∷ word ∷ rest) ≡ Err cause → IsFieldCause cause (form_text form ∷ word ∷ rest)
   sized_cause [] cause h =
@@ -103,17 +103,17 @@ module _ (form : BoxForm) (word : List ℕ) (sized : ℤ → Target) (reads : (r
   sized_cause (d ∷ rest) cause h = by_size d rest (read_dimension d) cause refl h
 
 -- After the name of a form.
-behind_into : (form : BoxForm) (rest : List (List ℕ)) → command_of (form_text form ∷ codes "into" ∷ rest) ≡ opening_with_register form Natural rest
+after_into : (form : BoxForm) (rest : List (List ℕ)) → command_of (form_text form ∷ codes "into" ∷ rest) ≡ opening_with_register form Natural rest
 unfolding opening_of
-behind_into form rest = opening_named form (codes "into" ∷ rest)
+after_into form rest = opening_named form (codes "into" ∷ rest)
 
-behind_to : (form : BoxForm) (rest : List (List ℕ)) → command_of (form_text form ∷ codes "to" ∷ rest) ≡ opening_with_size form To rest
+after_to : (form : BoxForm) (rest : List (List ℕ)) → command_of (form_text form ∷ codes "to" ∷ rest) ≡ opening_with_size form To rest
 unfolding opening_of
-behind_to form rest = opening_named form (codes "to" ∷ rest)
+after_to form rest = opening_named form (codes "to" ∷ rest)
 
-behind_spread : (form : BoxForm) (rest : List (List ℕ)) → command_of (form_text form ∷ codes "spread" ∷ rest) ≡ opening_with_size form Spread rest
+after_spread : (form : BoxForm) (rest : List (List ℕ)) → command_of (form_text form ∷ codes "spread" ∷ rest) ≡ opening_with_size form Spread rest
 unfolding opening_of
-behind_spread form rest = opening_named form (codes "spread" ∷ rest)
+after_spread form rest = opening_named form (codes "spread" ∷ rest)
 
 form_alone : (form : BoxForm) → command_of (form_text form ∷ []) ≡ Ok (for_list form Natural)
 unfolding opening_of
@@ -124,12 +124,12 @@ unfolding opening_of
 no_word form w rest e f g = opening_named form (w ∷ rest) ∙ (rw (e, f, g) refl)
 
 natural : (form : BoxForm) → command_of (form_text form ∷ codes "into" ∷ zero_text ∷ []) ≡ Ok (for_register form Natural 0)
-natural form = behind_into form (zero_text ∷ []) ∙ zero_read form Natural
+natural form = after_into form (zero_text ∷ []) ∙ zero_read form Natural
 
 natural_cause : (form : BoxForm) (rest : List (List ℕ)) (cause : Cause) → command_of (form_text form ∷ codes "into" ∷ rest) ≡ Err cause → IsFieldCause cause (form_text form ∷ codes "into" ∷ rest)
 natural_cause form rest cause h =
-    number_cause register_count (omega arith) (form_text form ∷ codes "into" ∷ []) (for_register form Natural) (λ more. behind_into form more ∙ register_reads form Natural more) rest cause
-    (not_made (for_register form Natural) (last_number register_count rest) cause (sym (behind_into form rest ∙ register_reads form Natural rest) ∙ h))
+    number_cause register_count (omega arith) (form_text form ∷ codes "into" ∷ []) (for_register form Natural) (λ more. after_into form more ∙ register_reads form Natural more) rest cause
+    (not_made (for_register form Natural) (last_number register_count rest) cause (sym (after_into form rest ∙ register_reads form Natural rest) ∙ h))
 
 -- What holds after a word holds after the same bytes.
 along_word : (form : BoxForm) (w word : List ℕ) (rest : List (List ℕ)) (cause : Cause) → bytes_eq w word ≡ true → (command_of (form_text form ∷ word ∷ rest) ≡ Err cause → IsFieldCause cause (form_text form ∷ word ∷ rest)) → command_of (form_text form ∷ w ∷ rest) ≡ Err cause → IsFieldCause cause (form_text form ∷ w ∷ rest)
@@ -141,8 +141,8 @@ along_word form w word rest cause e there h =
 
 by_word : (form : BoxForm) (w : List ℕ) (rest : List (List ℕ)) (into to spread : Bool) (cause : Cause) → bytes_eq w (codes "into") ≡ into → bytes_eq w (codes "to") ≡ to → bytes_eq w (codes "spread") ≡ spread → command_of (form_text form ∷ w ∷ rest) ≡ Err cause → IsFieldCause cause (form_text form ∷ w ∷ rest)
 by_word form w rest true to spread cause e f g h = along_word form w (codes "into") rest cause e (natural_cause form rest cause) h
-by_word form w rest false true spread cause e f g h = along_word form w (codes "to") rest cause f (sized_cause form (codes "to") To (behind_to form) rest cause) h
-by_word form w rest false false true cause e f g h = along_word form w (codes "spread") rest cause g (sized_cause form (codes "spread") Spread (behind_spread form) rest cause) h
+by_word form w rest false true spread cause e f g h = along_word form w (codes "to") rest cause f (sized_cause form (codes "to") To (after_to form) rest cause) h
+by_word form w rest false false true cause e f g h = along_word form w (codes "spread") rest cause g (sized_cause form (codes "spread") Spread (after_spread form) rest cause) h
 by_word form w rest false false false cause e f g h =
     as_cause _ Word cause (let no = no_word form w rest e f g in cc)
     (has_bad_elsewhere IsWord (form_text form ∷ []) w rest (codes "into") (zero_text ∷ []) (for_register form Natural 0) into_is_word (natural form)

@@ -16,7 +16,7 @@ use Rattle.boxglue_script.specs.Names.{box_name, register_name, item_name, name_
 use Rattle.boxglue_script.specs.Grammar.{SaysCommand}
 use Rattle.boxglue_script.specs.Causes.{IsPrintable, IsFieldCause, IsCause}
 use Rattle.boxglue_script.specs.Script.{IsPassedOver, Gives, SaysLine, SayFrom, IsScript, IsRightLine, IsFirstBad, Explains}
-use Rattle.boxglue_script.specs.Reading.{front_field, behind_field, command_of, kept_text, given, line_of, Found, lines_then, reads_by, reads}
+use Rattle.boxglue_script.specs.Reading.{front_field, after_field, command_of, kept_text, given, line_of, Found, lines_then, reads_by, reads}
 use Rattle.boxglue_script.proofs.GivenCommands.{complete}
 use Rattle.boxglue_script.proofs.CommandLaws.{sound}
 use Rattle.boxglue_script.proofs.FieldLaws.{same_bytes, bytes_same}
@@ -56,11 +56,11 @@ fields_by : (line : List ℕ) (command : Command) (b c : Bool) → bytes_eq (fro
 unfolding given
 fields_by line command true c e f h =
     let first = first_is 116 (codes "ext") line (same_bytes (front_field line) (codes "text") e) in
-    let other : Err Word ≡ Ok command = sym (no_text (fields_of (behind_field line))) ∙ ap command_of (sym first) ∙ complete (fields_of line) command h in
+    let other : Err Word ≡ Ok command = sym (no_text (fields_of (after_field line))) ∙ ap command_of (sym first) ∙ complete (fields_of line) command h in
     absurd (cc)
 fields_by line command false true e f h =
     let first = first_is 115 (codes "pecial") line (same_bytes (front_field line) (codes "special") f) in
-    let other : Err Word ≡ Ok command = sym (no_special (fields_of (behind_field line))) ∙ ap command_of (sym first) ∙ complete (fields_of line) command h in
+    let other : Err Word ≡ Ok command = sym (no_special (fields_of (after_field line))) ∙ ap command_of (sym first) ∙ complete (fields_of line) command h in
     absurd (cc)
 fields_by line command false false e f h = rw (e, f) (complete (fields_of line) command h)
 
@@ -109,14 +109,14 @@ abbrev read_lines : List Line → Found
 read_lines found = Ok found
 
 -- What is found, followed by more.
-behind_one : (line : Line) (more : Found) (found : List Line) → lines_then (line ∷ []) more ≡ Ok found → (rest : List Line) × (more ≡ Ok rest) × (found ≡ line ∷ rest)
-behind_one line (Err fault) found h = absurd (cc)
-behind_one line (Ok rest) found h = (rest, refl, cc)
+after_one : (line : Line) (more : Found) (found : List Line) → lines_then (line ∷ []) more ≡ Ok found → (rest : List Line) × (more ≡ Ok rest) × (found ≡ line ∷ rest)
+after_one line (Err fault) found h = absurd (cc)
+after_one line (Ok rest) found h = (rest, refl, cc)
 
 read_by : (number : ℕ) (line : List ℕ) (r : Result Command Cause) (more : Found) (found : List Line) → line_of line ≡ r → reads_by number r more ≡ Ok found → (command : Command) × (rest : List Line) × (line_of line ≡ Ok command) × (more ≡ Ok rest) × (found ≡ record { number = number; command = command } ∷ rest)
 read_by number line (Err cause) more found e h = absurd (cc)
 read_by number line (Ok command) more found e h =
-    let rest = behind_one (record { number = number; command = command }) more found h in
+    let rest = after_one (record { number = number; command = command }) more found h in
     (command, rest.0, e, rest.1, rest.2)
 
 said_line : (number : ℕ) (line : List ℕ) (rest : List (List ℕ)) (found : List Line) (b : Bool) → is_passed_over line ≡ b → ((later : List Line) → reads (number + 1) rest ≡ Ok later → SayFrom (number + 1) rest later) → reads number (line ∷ rest) ≡ Ok found → SayFrom number (line ∷ rest) found
@@ -152,8 +152,8 @@ pub record BadFrom (number : ℕ) (all : List (List ℕ)) (fault : ScriptFault) 
   pub holds : IsCause cause line
 
 -- The first bad line of some lines after a right one.
-first_bad_behind : (number : ℕ) (line : List ℕ) (rest : List (List ℕ)) (fault : ScriptFault) → IsRightLine line → BadFrom (number + 1) rest fault → BadFrom number (line ∷ rest) fault
-first_bad_behind number line rest fault right bad = record {
+first_bad_after : (number : ℕ) (line : List ℕ) (rest : List (List ℕ)) (fault : ScriptFault) → IsRightLine line → BadFrom (number + 1) rest fault → BadFrom number (line ∷ rest) fault
+first_bad_after number line rest fault right bad = record {
   front = line ∷ bad.front;
   line = bad.line;
   rest = bad.rest;
@@ -178,9 +178,9 @@ first_bad_here number line rest cause counted h = record {
   holds = line_fault line cause _ refl h;
 }
 
-fault_behind : (line : Line) (more : Found) (fault : ScriptFault) → lines_then (line ∷ []) more ≡ Err fault → more ≡ Err fault
-fault_behind line (Err other) fault h = cc
-fault_behind line (Ok rest) fault h = absurd (cc)
+fault_after : (line : Line) (more : Found) (fault : ScriptFault) → lines_then (line ∷ []) more ≡ Err fault → more ≡ Err fault
+fault_after line (Err other) fault h = cc
+fault_after line (Ok rest) fault h = absurd (cc)
 
 first_bad_by : (number : ℕ) (line : List ℕ) (rest : List (List ℕ)) (fault : ScriptFault) (r : Result Command Cause) → is_passed_over line ≡ false → line_of line ≡ r → (reads (number + 1) rest ≡ Err fault → BadFrom (number + 1) rest fault) → reads_by number r (reads (number + 1) rest) ≡ Err fault → BadFrom number (line ∷ rest) fault
 first_bad_by number line rest fault (Err cause) counted e more h =
@@ -188,10 +188,10 @@ first_bad_by number line rest fault (Err cause) counted e more h =
     let P : ScriptFault → Type 0 = λ f. BadFrom number (line ∷ rest) f in
     subst P here (first_bad_here number line rest cause counted e)
 first_bad_by number line rest fault (Ok command) counted e more h =
-    first_bad_behind number line rest fault (inr (command, line_said line command counted e)) (more (fault_behind _ (reads (number + 1) rest) fault h))
+    first_bad_after number line rest fault (inr (command, line_said line command counted e)) (more (fault_after _ (reads (number + 1) rest) fault h))
 
 first_bad_at_line : (number : ℕ) (line : List ℕ) (rest : List (List ℕ)) (fault : ScriptFault) (b : Bool) → is_passed_over line ≡ b → (reads (number + 1) rest ≡ Err fault → BadFrom (number + 1) rest fault) → reads number (line ∷ rest) ≡ Err fault → BadFrom number (line ∷ rest) fault
-first_bad_at_line number line rest fault true e more h = first_bad_behind number line rest fault (inl e) (more (rw e at h))
+first_bad_at_line number line rest fault true e more h = first_bad_after number line rest fault (inl e) (more (rw e at h))
 first_bad_at_line number line rest fault false e more h = first_bad_by number line rest fault (line_of line) e refl more (rw e at h)
 
 pub first_bad_from : (number : ℕ) (all : List (List ℕ)) (fault : ScriptFault) → reads number all ≡ Err fault → BadFrom number all fault

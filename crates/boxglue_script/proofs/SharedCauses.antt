@@ -35,27 +35,27 @@ module _ (A : Type 0) (read : List (List ℕ) → Result A Cause) (word first se
   starts = (right, (make x, sound (word ∷ right) (make x) (reads right ∙ ap (λ (r : Result A Cause). map_ok make r) right_is)))
 
   -- The word itself is not bad.
-  not_first : (field : List ℕ) (rest behind : List (List ℕ)) → word ∷ rest ≡ field ∷ behind → (Begins (field ∷ []) → ⊥) → ⊥
-  not_first field rest behind split bad =
+  not_first : (field : List ℕ) (rest after : List (List ℕ)) → word ∷ rest ≡ field ∷ after → (Begins (field ∷ []) → ⊥) → ⊥
+  not_first field rest after split bad =
       let same : word ≡ field = cc in
       let P : List ℕ → Type 0 = λ w. Begins (w ∷ []) in
       bad (subst P same starts)
 
-  behind_word : (w : List ℕ) (rest front : List (List ℕ)) (field : List ℕ) (behind : List (List ℕ)) → word ∷ rest ≡ w ∷ (front ++ field ∷ behind) → (w ≡ word) × (rest ≡ front ++ field ∷ behind)
-  behind_word w rest front field behind split = (cc, cc)
+  after_word : (w : List ℕ) (rest front : List (List ℕ)) (field : List ℕ) (after : List (List ℕ)) → word ∷ rest ≡ w ∷ (front ++ field ∷ after) → (w ≡ word) × (rest ≡ front ++ field ∷ after)
+  after_word w rest front field after split = (cc, cc)
 
-  has_bad_by : (IsRight : List ℕ → Type 0) (rest front : List (List ℕ)) (field : List ℕ) (behind : List (List ℕ)) (r : List ℕ) → word ∷ rest ≡ front ++ field ∷ behind → IsRight r → Begins (front ++ r ∷ []) → (Begins (front ++ field ∷ []) → ⊥)
+  has_bad_by : (IsRight : List ℕ → Type 0) (rest front : List (List ℕ)) (field : List ℕ) (after : List (List ℕ)) (r : List ℕ) → word ∷ rest ≡ front ++ field ∷ after → IsRight r → Begins (front ++ r ∷ []) → (Begins (front ++ field ∷ []) → ⊥)
       → (bad : HasBad IsRight (first ∷ second ∷ rest)) × (bad.field ≡ field)
       × ((name : List ℕ) → Begins (front ++ name ∷ []) → Begins (bad.front ++ name ∷ [])) × ((name : List ℕ) → Begins (bad.front ++ name ∷ []) → Begins (front ++ name ∷ []))
-  has_bad_by IsRight rest [] field behind r split is wanted bad = absurd (not_first field rest behind split bad)
-  has_bad_by IsRight rest (w ∷ front) field behind r split is wanted bad =
-      let parts = behind_word w rest front field behind split in
+  has_bad_by IsRight rest [] field after r split is wanted bad = absurd (not_first field rest after split bad)
+  has_bad_by IsRight rest (w ∷ front) field after r split is wanted bad =
+      let parts = after_word w rest front field after split in
       let P : List ℕ → Type 0 = λ y. Begins (y ∷ (front ++ r ∷ [])) in
       let Q : List ℕ → Type 0 = λ y. Begins (y ∷ (front ++ field ∷ [])) in (
         record {
           front = first ∷ second ∷ front;
           field = field;
-          rest = behind;
+          rest = after;
           split = ap (λ (xs : List (List ℕ)). first ∷ second ∷ xs) parts.1;
           right = r;
           is_right = is;
@@ -78,15 +78,15 @@ module _ (A : Type 0) (read : List (List ℕ) → Result A Cause) (word first se
       let new = has_bad_shared IsRight rest bad.found in
       (record { found = new.0; elsewhere = λ takes. bad.elsewhere (λ name is. new.3 name (takes name is)) }, new.1)
 
-  extra_by : (rest front : List (List ℕ)) (field : List ℕ) (behind : List (List ℕ)) → word ∷ rest ≡ front ++ field ∷ behind → SaysSome front → ((other : List ℕ) → Begins (front ++ other ∷ []) → ⊥) → HasExtra (first ∷ second ∷ rest)
-  extra_by rest [] field behind split whole last = absurd (last word starts)
-  extra_by rest (w ∷ front) field behind split whole last =
-      let parts = behind_word w rest front field behind split in
+  extra_by : (rest front : List (List ℕ)) (field : List ℕ) (after : List (List ℕ)) → word ∷ rest ≡ front ++ field ∷ after → SaysSome front → ((other : List ℕ) → Begins (front ++ other ∷ []) → ⊥) → HasExtra (first ∷ second ∷ rest)
+  extra_by rest [] field after split whole last = absurd (last word starts)
+  extra_by rest (w ∷ front) field after split whole last =
+      let parts = after_word w rest front field after split in
       let P : List ℕ → Type 0 = λ y. SaysSome (y ∷ front) in
       record {
         front = first ∷ second ∷ front;
         field = field;
-        rest = behind;
+        rest = after;
         split = ap (λ (xs : List (List ℕ)). first ∷ second ∷ xs) parts.1;
         whole = said front (subst P parts.0 whole);
         last = λ other begins.

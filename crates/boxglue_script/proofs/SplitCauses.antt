@@ -38,54 +38,54 @@ unfolding split_of value_first
 no_register r rest e = split_reads (r ∷ rest) ∙ (rw e refl)
 
 module _ (r : List ℕ) (n : ℕ) (is : number_of register_count r ≡ Some n) where
-  behind_register : (rest : List (List ℕ)) → command_of (vsplit ∷ r ∷ rest) ≡ split_to n rest
+  after_register : (rest : List (List ℕ)) → command_of (vsplit ∷ r ∷ rest) ≡ split_to n rest
   unfolding split_of value_first
-  behind_register rest = split_reads (r ∷ rest) ∙ (rw is refl)
+  after_register rest = split_reads (r ∷ rest) ∙ (rw is refl)
 
   -- The word after it.
   to_lacks : command_of (vsplit ∷ r ∷ []) ≡ Err Missing
   unfolding split_to
-  to_lacks = behind_register []
+  to_lacks = after_register []
 
   no_to : (w : List ℕ) (rest : List (List ℕ)) → bytes_eq w to ≡ false → command_of (vsplit ∷ r ∷ w ∷ rest) ≡ Err Word
   unfolding split_to
-  no_to w rest e = behind_register (w ∷ rest) ∙ (rw e refl)
+  no_to w rest e = after_register (w ∷ rest) ∙ (rw e refl)
 
-  behind_to : (rest : List (List ℕ)) → command_of (vsplit ∷ r ∷ to ∷ rest) ≡ split_height n rest
+  after_to : (rest : List (List ℕ)) → command_of (vsplit ∷ r ∷ to ∷ rest) ≡ split_height n rest
   unfolding split_to
-  behind_to rest = behind_register (to ∷ rest)
+  after_to rest = after_register (to ∷ rest)
 
   -- The height.
   height_lacks : command_of (vsplit ∷ r ∷ to ∷ []) ≡ Err Missing
   unfolding split_height value_first
-  height_lacks = behind_to []
+  height_lacks = after_to []
 
   no_height : (d : List ℕ) (rest : List (List ℕ)) (fault : DimenFault) → read_dimension d ≡ Err fault → command_of (vsplit ∷ r ∷ to ∷ d ∷ rest) ≡ Err Dimension
   unfolding split_height value_first
-  no_height d rest fault e = behind_to (d ∷ rest) ∙ (rw e refl)
+  no_height d rest fault e = after_to (d ∷ rest) ∙ (rw e refl)
 
-  behind_height : (d : List ℕ) (z : ℤ) (rest : List (List ℕ)) → read_dimension d ≡ Ok z → command_of (vsplit ∷ r ∷ to ∷ d ∷ rest) ≡ split_into n z rest
+  after_height : (d : List ℕ) (z : ℤ) (rest : List (List ℕ)) → read_dimension d ≡ Ok z → command_of (vsplit ∷ r ∷ to ∷ d ∷ rest) ≡ split_into n z rest
   unfolding split_height value_first
-  behind_height d z rest e = behind_to (d ∷ rest) ∙ (rw e refl)
+  after_height d z rest e = after_to (d ∷ rest) ∙ (rw e refl)
 
   module _ (d : List ℕ) (z : ℤ) (reads : read_dimension d ≡ Ok z) where
     -- The word after it.
     into_lacks : command_of (vsplit ∷ r ∷ to ∷ d ∷ []) ≡ Err Missing
     unfolding split_into
-    into_lacks = behind_height d z [] reads
+    into_lacks = after_height d z [] reads
 
     no_into : (w : List ℕ) (rest : List (List ℕ)) → bytes_eq w into ≡ false → command_of (vsplit ∷ r ∷ to ∷ d ∷ w ∷ rest) ≡ Err Word
     unfolding split_into
-    no_into w rest e = behind_height d z (w ∷ rest) reads ∙ (rw e refl)
+    no_into w rest e = after_height d z (w ∷ rest) reads ∙ (rw e refl)
 
     -- The last register.
-    behind_into : (rest : List (List ℕ)) → command_of (vsplit ∷ r ∷ to ∷ d ∷ into ∷ rest) ≡ map_ok (split n z) (last_number register_count rest)
+    after_into : (rest : List (List ℕ)) → command_of (vsplit ∷ r ∷ to ∷ d ∷ into ∷ rest) ≡ map_ok (split n z) (last_number register_count rest)
     unfolding split_into
-    behind_into rest = behind_height d z (into ∷ rest) reads
+    after_into rest = after_height d z (into ∷ rest) reads
 
     whole : command_of (vsplit ∷ r ∷ to ∷ d ∷ into ∷ zero_text ∷ []) ≡ Ok (split n z 0)
     unfolding last_value value_first
-    whole = behind_into (zero_text ∷ []) ∙ (rw (zero_names register_count (omega arith)) refl)
+    whole = after_into (zero_text ∷ []) ∙ (rw (zero_names register_count (omega arith)) refl)
 
     by_into : (w : List ℕ) (rest : List (List ℕ)) (b : Bool) (cause : Cause) → bytes_eq w into ≡ b → command_of (vsplit ∷ r ∷ to ∷ d ∷ w ∷ rest) ≡ Err cause → IsFieldCause cause (vsplit ∷ r ∷ to ∷ d ∷ w ∷ rest)
     by_into w rest true cause f h =
@@ -93,8 +93,8 @@ module _ (r : List ℕ) (n : ℕ) (is : number_of register_count r ≡ Some n) w
         let P : List ℕ → Type 0 = λ x. IsFieldCause cause (vsplit ∷ r ∷ to ∷ d ∷ x ∷ rest) in
         let Q : List ℕ → Type 0 = λ x. command_of (vsplit ∷ r ∷ to ∷ d ∷ x ∷ rest) ≡ Err cause in
         subst P (sym same)
-        (number_cause register_count (omega arith) (vsplit ∷ r ∷ to ∷ d ∷ into ∷ []) (split n z) behind_into rest cause
-        (not_made (split n z) (last_number register_count rest) cause (sym (behind_into rest) ∙ subst Q same h)))
+        (number_cause register_count (omega arith) (vsplit ∷ r ∷ to ∷ d ∷ into ∷ []) (split n z) after_into rest cause
+        (not_made (split n z) (last_number register_count rest) cause (sym (after_into rest) ∙ subst Q same h)))
     by_into w rest false cause f h =
         as_cause _ Word cause (let no = no_into w rest f in cc)
         (has_bad_elsewhere IsWord (vsplit ∷ r ∷ to ∷ d ∷ []) w rest into (zero_text ∷ []) (split n z 0) into_is_word whole

@@ -8,7 +8,7 @@ use Rattle.std.proofs.lemmas.Bool.{eqb-true, cases_lt}
 use Rattle.std.proofs.lemmas.List.{take-append-drop, drop_more, take_all, drop_all, append-nil}
 use Rattle.std.proofs.lemmas.List.Sums.{passes_at_first}
 use Rattle.boxglue_script.specs.ScriptLines.{is_space, fields_of, IsLineOf, IsTextLine, IsSpecialLine}
-use Rattle.boxglue_script.specs.Reading.{in_field, without_spaces, front_field, behind_field, kept_text}
+use Rattle.boxglue_script.specs.Reading.{in_field, without_spaces, front_field, after_field, kept_text}
 use Rattle.boxglue_script.proofs.FieldLemmas.{fields_first}
 
 spaced_one : (byte : ℕ) (line : List ℕ) (b : Bool) → is_space byte ≡ b → line ≡ replicate (prefix_len is_space line) 32 ++ without_spaces line → byte ∷ line ≡ replicate (prefix_len is_space (byte ∷ line)) 32 ++ without_spaces (byte ∷ line)
@@ -41,7 +41,7 @@ said_from word t k n e front = ⊎_elim
 
 -- A line whose first field is this word is a line of the word and of the text that is kept.
 pub word_said : (word line : List ℕ) → front_field line ≡ word → IsLineOf word line (kept_text line)
-unfolding front_field behind_field
+unfolding front_field after_field
 word_said word line h =
     let P : List ℕ → Type 0 = λ x. IsLineOf word x (drop 1 (drop (prefix_len in_field (without_spaces line)) (without_spaces line))) in
     subst P (sym (spaced line)) (said_from word (without_spaces line) (prefix_len is_space line) (prefix_len in_field (without_spaces line)) refl h)
@@ -64,7 +64,7 @@ pub record IsFirstWord (byte : ℕ) (more : List ℕ) : Type 0 where
 
 -- A line of a word and a text is read as such.
 word_read : (byte : ℕ) (more line text : List ℕ) → IsFirstWord byte more → IsLineOf (byte ∷ more) line text → IsRead line (byte ∷ more) text
-unfolding front_field behind_field
+unfolding front_field after_field
 word_read byte more line text is (n, said) = ⊎_elim
     (λ (alone : (line ≡ replicate n 32 ++ byte ∷ more) × (text ≡ [])). record {
       front = rw (alone.0, unspaced n byte more is.starts, is.alone) (take_all (length (byte ∷ more)) (byte ∷ more) (omega arith));
@@ -83,5 +83,5 @@ pub special_read : (line text : List ℕ) → IsSpecialLine line text → IsRead
 special_read line text said = word_read 115 (codes "pecial") line text (record { starts = refl; alone = refl; followed = λ text. refl }) said
 
 -- The fields of a line whose first one is not empty.
-pub first_is : (byte : ℕ) (word line : List ℕ) → front_field line ≡ byte ∷ word → fields_of line ≡ (byte ∷ word) ∷ fields_of (behind_field line)
+pub first_is : (byte : ℕ) (word line : List ℕ) → front_field line ≡ byte ∷ word → fields_of line ≡ (byte ∷ word) ∷ fields_of (after_field line)
 first_is byte word line h = fields_first line (rw h (omega arith)) ∙ (rw h refl)

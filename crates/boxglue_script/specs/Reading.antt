@@ -54,8 +54,8 @@ unfoldable pub front_field : List ℕ → List ℕ
 front_field line = take (prefix_len in_field (without_spaces line)) (without_spaces line)
 
 -- What follows the first field of a line.
-unfoldable pub behind_field : List ℕ → List ℕ
-behind_field line = drop (prefix_len in_field (without_spaces line)) (without_spaces line)
+unfoldable pub after_field : List ℕ → List ℕ
+after_field line = drop (prefix_len in_field (without_spaces line)) (without_spaces line)
 
 -- The first of some fields; the cause is Missing if there is none.
 abbrev pub first_of : List (List ℕ) → Result (List ℕ) Cause
@@ -450,7 +450,7 @@ command_of fields = command_by (first_of fields) (rest_of fields)
 
 -- The text after the first field of a line: all that follows one space, unchanged.
 abbrev pub kept_text : List ℕ → List ℕ
-kept_text line = drop 1 (behind_field line)
+kept_text line = drop 1 (after_field line)
 
 -- The command of a line: a text or a special with its text, by its first field, otherwise the command of its fields.
 unfoldable pub given : List ℕ → Result Command Cause

@@ -43,7 +43,7 @@ impl<'a> Fields<'a> {
     #[tactic(auto, unfolding(crate::specs::Reading::font_of))]
     fn font_words(&mut self) -> Result<FontWords<'a>, Cause>
         ensures ok { IfOk result (λ words. font_of (fields_of self.old.rest.now) ≡ Ok (commands.LoadFont (record { slot = words.slot; name = words.name.now; size = words.size }))) }
-        ensures some { IfOk result (λ words. IsFontName words.name.now) }
+        ensures name_valid { IfOk result (λ words. IsFontName words.name.now) }
         ensures err { IfErr result (λ cause. font_of (fields_of self.old.rest.now) ≡ Err cause) }
     {
         let slot = self.value::<u8>()?;

@@ -31,7 +31,7 @@ impl<'a> Fields<'a> {
     pub(crate) fn field(&mut self) -> Result<&'a [u8], Cause>
         ensures ok { IfOk result (λ field. first_of (fields_of self.old.rest.now) ≡ Ok field.now) }
         ensures err { IfErr result (λ cause. first_of (fields_of self.old.rest.now) ≡ Err cause) }
-        ensures rest { fields_of self.new.rest.now ≡ rest_of (fields_of self.old.rest.now) }
+        ensures fields_left { fields_of self.new.rest.now ≡ rest_of (fields_of self.old.rest.now) }
     {
         let (field, rest) = first_field(self.rest);
         self.rest = rest;
@@ -55,7 +55,7 @@ impl<'a> Fields<'a> {
     #[tactic(auto, unfolding(crate::specs::Reading::value_first))]
     pub(crate) fn value<T: FieldValue>(&mut self) -> Result<T, Cause>
         ensures value { result ≡ value_first T.reading (fields_of self.old.rest.now) }
-        ensures rest { fields_of self.new.rest.now ≡ rest_of (fields_of self.old.rest.now) }
+        ensures fields_left { fields_of self.new.rest.now ≡ rest_of (fields_of self.old.rest.now) }
     {
         T::of_field(self.field()?)
     }
@@ -74,7 +74,7 @@ impl<'a> Fields<'a> {
     #[tactic(auto, unfolding(crate::specs::Reading::size_of_font_first))]
     pub(crate) fn size_of_font(&mut self) -> Result<FontSize, Cause>
         ensures value { result ≡ size_of_font_first (fields_of self.old.rest.now) }
-        ensures rest { fields_of self.new.rest.now ≡ rest_of (fields_of self.old.rest.now) }
+        ensures fields_left { fields_of self.new.rest.now ≡ rest_of (fields_of self.old.rest.now) }
     {
         size_of_font(self.value::<Dimen>()?).ok_or(Cause::Number)
     }
@@ -83,9 +83,9 @@ impl<'a> Fields<'a> {
     #[tactic(auto, unfolding(crate::specs::Reading::name_first))]
     pub(crate) fn name(&mut self) -> Result<&'a [u8], Cause>
         ensures ok { IfOk result (λ name. name_first (fields_of self.old.rest.now) ≡ Ok name.now) }
-        ensures some { IfOk result (λ name. IsFontName name.now) }
+        ensures name_valid { IfOk result (λ name. IsFontName name.now) }
         ensures err { IfErr result (λ cause. name_first (fields_of self.old.rest.now) ≡ Err cause) }
-        ensures rest { fields_of self.new.rest.now ≡ rest_of (fields_of self.old.rest.now) }
+        ensures fields_left { fields_of self.new.rest.now ≡ rest_of (fields_of self.old.rest.now) }
     {
         let field = self.field()?;
         if is_name(field) {

@@ -4,7 +4,7 @@ ghost use Rattle.std.specs.Prelude.{◌≡◌, ◌∷◌, ◌<◌, ◌≤◌, le
 ghost use Rattle.std.specs.List.{list_all, prefix_len};
 ghost use Rattle.std.specs.Str.Lines.{lines, strip_carriage_return};
 ghost use Rattle.boxglue_script.specs.ScriptLines.{is_passed_over, is_printable, is_space};
-ghost use Rattle.boxglue_script.specs.Reading.{in_line, in_field, front_field, behind_field, kept_text};
+ghost use Rattle.boxglue_script.specs.Reading.{in_line, in_field, front_field, after_field, kept_text};
 
 /// The first line of a text that is not empty, without its end, and the text after it. A line ends with a line feed, which the last one need not have.
 #[tactic(auto, using(crate::proofs::LineLemmas::splitting))]
@@ -13,9 +13,9 @@ pub fn first_line(text: &[u8]) -> (&[u8], &[u8])
     ensures lines { lines text.now ≡ result.0.now ∷ lines result.1.now }
     ensures shorter { length result.1.now < length text.now }
 {
-    let (line, behind) = text.split_at(line_size(text));
-    match behind {
-        [] => (line, behind),
+    let (line, after) = text.split_at(line_size(text));
+    match after {
+        [] => (line, after),
         [_feed, rest @ ..] => (without_return(line), rest),
     }
 }
@@ -23,7 +23,7 @@ pub fn first_line(text: &[u8]) -> (&[u8], &[u8])
 /// The number of bytes before the first line feed.
 fn line_size(text: &[u8]) -> usize
     ensures size { result ≡ prefix_len in_line text.now }
-    ensures within { result ≤ length text.now }
+    ensures size_bounded { result ≤ length text.now }
 {
     text.iter().take_while(|byte| **byte != b'\n').count()
 }
@@ -58,10 +58,10 @@ pub fn is_printable(line: &[u8]) -> bool
 }
 
 /// The first field of a line, empty if there is none, and the rest after it.
-#[tactic(auto, unfolding(crate::specs::Reading::front_field, crate::specs::Reading::behind_field))]
+#[tactic(auto, unfolding(crate::specs::Reading::front_field, crate::specs::Reading::after_field))]
 pub fn first_field(line: &[u8]) -> (&[u8], &[u8])
     ensures field { result.0.now ≡ front_field line.now }
-    ensures rest { result.1.now ≡ behind_field line.now }
+    ensures text_left { result.1.now ≡ after_field line.now }
 {
     let line = &line[space_count(line)..];
     line.split_at(field_size(line))
@@ -83,7 +83,7 @@ pub fn field_and_text(line: &[u8]) -> (&[u8], &[u8])
 /// The number of spaces at the beginning.
 fn space_count(line: &[u8]) -> usize
     ensures count { result ≡ prefix_len is_space line.now }
-    ensures within { result ≤ length line.now }
+    ensures size_bounded { result ≤ length line.now }
 {
     line.iter().take_while(|byte| **byte == b' ').count()
 }
@@ -91,7 +91,7 @@ fn space_count(line: &[u8]) -> usize
 /// The number of bytes before the first space.
 fn field_size(line: &[u8]) -> usize
     ensures size { result ≡ prefix_len in_field line.now }
-    ensures within { result ≤ length line.now }
+    ensures size_bounded { result ≤ length line.now }
 {
     line.iter().take_while(|byte| **byte != b' ').count()
 }

@@ -15,7 +15,7 @@ use scaled_core::{Dimen, parse_dimen};
 /// Whether a field is the name of a font: 1 to 255 letters, digits, `-`, `_` and `.`.
 pub(crate) fn is_name(field: &[u8]) -> bool
     ensures value { result ≡ is_name field.now }
-    ensures some { IsTrue result → IsFontName field.now }
+    ensures is_font_name { IsTrue result → IsFontName field.now }
 {
     is_short(field) && has_name_bytes(field)
 }
@@ -30,7 +30,7 @@ pub(crate) fn has_name_bytes(field: &[u8]) -> bool
 /// Whether a field has 1 to 255 bytes.
 pub(crate) fn is_short(field: &[u8]) -> bool
     ensures value { result ≡ is_short field.now }
-    ensures some { IsTrue result → IsFontName field.now }
+    ensures is_font_name { IsTrue result → IsFontName field.now }
 {
     !field.is_empty() && field.len() < 256
 }
@@ -180,7 +180,7 @@ pub(crate) fn penalty_of(field: &[u8]) -> Option<IntParameter>
 /// The whole number of signed 64 bits that a field writes with an optional sign and digits. All numbers of a script are read here.
 #[tactic(auto, using(crate::proofs::Numbers::integers))]
 pub(crate) fn integer_of(field: &[u8]) -> Option<i64>
-    ensures some { IfSome result (λ number. IsInteger field.now number) }
+    ensures integer_read { IfSome result (λ number. IsInteger field.now number) }
     ensures none { IfNone result ((number : ℤ) → IsInteger field.now number → FitsSigned w64 number → ⊥) }
 {
     let Ok(text) = str::from_utf8(field) else {

@@ -17,7 +17,7 @@ use std::alloc::Global;
 
 /// The number of an option, if it is given and from 1 to `most`.
 fn number(matches: &ArgMatches<'_>, id: &str, most: u32) -> Option<u32>
-    ensures some { IfSome result (IsNumber most (rows_of (found_of matches.now)) id.now) }
+    ensures number_in_range { IfSome result (IsNumber most (rows_of (found_of matches.now)) id.now) }
     ensures none { result ≡ None → (number : ℕ) → IsNumber most (rows_of (found_of matches.now)) id.now number → ⊥ }
 {
     let number = matches.get_one::<u32>(id)?;
@@ -29,7 +29,7 @@ fn number(matches: &ArgMatches<'_>, id: &str, most: u32) -> Option<u32>
 
 /// The four numbers of `paint`.
 fn sheet(matches: &ArgMatches<'_>) -> Option<PaintOptions>
-    ensures some { IfSome result (IsSheet (rows_of (found_of matches.now))) }
+    ensures sheet_returned { IfSome result (IsSheet (rows_of (found_of matches.now))) }
     ensures none { result ≡ None → (sheet : PaintOptions) → IsSheet (rows_of (found_of matches.now)) sheet → ⊥ }
 {
     Some(PaintOptions {

@@ -41,8 +41,8 @@ row_passed p table b n m row more passed is =
   where
     met : (k : ℕ) (o : Entry) → k < m → IsOffered p table b k o → (k < n) ⊎ (n ≤ k) → IsMet row o
     met k o below offered (inl before) = is.met k o before offered
-    met k o below offered (inr behind) =
-        let none = passed k offered.by behind below offered.stands in
+    met k o below offered (inr after) =
+        let none = passed k offered.by after below offered.stands in
         let some = offered.offers in
         absurd (cc)
 
@@ -64,16 +64,16 @@ row_end p stop table b high at low i live row past within here is =
 
 -- Quiet entries before the next group stay quiet for the next place, and so do those of a group that is removed.
 later_quiet : (p : Problem) (table : List Entry) (b c from to : ℕ) → b ≤ c → IsQuiet p table b from to → IsQuiet p table c from to
-later_quiet p table b c from to later quiet k e low high at l behind within = quiet k e low high at l (omega arith) within
+later_quiet p table b c from to later quiet k e low high at l after within = quiet k e low high at l (omega arith) within
 
 joined_quiet :
     (p : Problem) (table : List Entry) (b from middle to : ℕ)
     → IsQuiet p table b from middle → IsQuiet p table b middle to → IsQuiet p table b from to
-joined_quiet p table b from middle to front back k e low high at l behind within = cases (cases_lt k middle)
+joined_quiet p table b from middle to front back k e low high at l after within = cases (cases_lt k middle)
   where
     cases : (k < middle) ⊎ (middle ≤ k) → offer p e k l ≡ None
-    cases (inl before) = front k e low before at l behind within
-    cases (inr here) = back k e here high at l behind within
+    cases (inl before) = front k e low before at l after within
+    cases (inr here) = back k e here high at l after within
 
 earlier_active :
     (p : Problem) (stop : ℕ → ℕ → Bool) (table : List Entry) (b high from at low more : ℕ) (groups : List ActiveGroup)
@@ -108,15 +108,15 @@ kept_active p stop table b high at low g rest free goes next is = (
       earlier = omega (arith, next.group.earlier);
       entries = next.group.entries;
     };
-    trying = λ l behind before. trying l behind (cases_lt l b) before;
+    trying = λ l after before. trying l after (cases_lt l b) before;
     later = next.later;
   },
   is,
 )
   where
     trying : (l : ℕ) → g.place < l → (l < b) ⊎ (b ≤ l) → l < b + 1 → stop g.place l ≡ false
-    trying l behind (inl before) within = next.trying l behind before
-    trying l behind (inr here) within =
+    trying l after (inl before) within = next.trying l after before
+    trying l after (inr here) within =
         let same : b ≡ l = omega arith in
         subst (λ k. stop g.place k ≡ false) same goes
 
@@ -189,10 +189,10 @@ active_more p stop table more b at low [] g is place start group end = (
     gap = omega (arith, is.gap, start);
     quiet = subst (λ n. IsQuiet p (table ++ more) (b + 1) at n) (sym start) (quiet_longer p table more (b + 1) at (length table) (omega arith) is.quiet);
     group = group;
-    trying = λ l behind before. absurd (omega (arith, place));
+    trying = λ l after before. absurd (omega (arith, place));
     later = omega (arith, is.lower, place);
   },
-  record { gap = omega (arith, end); quiet = λ k e low high there l behind within. absurd (omega (arith, end)); lower = omega (arith, place) },
+  record { gap = omega (arith, end); quiet = λ k e low high there l after within. absurd (omega (arith, end)); lower = omega (arith, place) },
 )
 active_more p stop table more b at low (h ∷ groups) g is place start group end =
     let old = is.0 in (
@@ -220,12 +220,12 @@ active_one p stop table b g live place =
     let last = live.3 in (
       record {
         gap = live.0;
-        quiet = λ k e low high at l behind within. live.1 k e low high at l behind;
+        quiet = λ k e low high at l after within. live.1 k e low high at l after;
         group = live.2;
-        trying = λ l behind before. absurd (omega (arith, place));
+        trying = λ l after before. absurd (omega (arith, place));
         later = omega arith;
       },
-      record { gap = last.0; quiet = λ k e low high at l behind within. last.1 k e low high at l behind; lower = omega (arith, place) },
+      record { gap = last.0; quiet = λ k e low high at l after within. last.1 k e low high at l after; lower = omega (arith, place) },
     )
 
 -- The groups stay if the next place has no entries.
@@ -242,7 +242,7 @@ active_none :
 active_none p stop table b g live start =
     record {
       gap = omega arith;
-      quiet = λ k e low high at l behind within. live.1 k e low (omega (arith, high, start)) at l behind;
+      quiet = λ k e low high at l after within. live.1 k e low (omega (arith, high, start)) at l after;
       lower = omega arith;
     }
 

@@ -27,7 +27,7 @@ pub fresh_more :
     (low place : ℕ) (before now new : ℕ → ℕ)
     → ((a : ℕ) → low ≤ a → now a ≤ before a) → low ≤ place → ((other : ℕ) → other ≢ place → new other ≡ now other)
     → (a : ℕ) → place + 1 ≤ a → new a ≤ before a
-fresh_more low place before now new fresh later others a behind = omega (arith, others a (λ same. omega (arith, same)), fresh a (omega arith))
+fresh_more low place before now new fresh later others a after = omega (arith, others a (λ same. omega (arith, same)), fresh a (omega arith))
 
 -- Lines to one more place were tried.
 pub counted_more :

@@ -91,7 +91,7 @@ long_quiet :
     (facts : Facts) (params : Params) (bound : Bound) (table : List Entry) (b : ℕ) (g : ActiveGroup)
     → IsSteady facts → IsGroup (pruned facts params bound Long) table b g → is_long facts params g.place b ≡ true
     → IsQuiet (pruned facts params bound Long) table (b + 1) g.start g.end
-long_quiet facts params bound table b g steady group is k e low high at l behind within =
+long_quiet facts params bound table b g steady group is k e low high at l after within =
     let place = group.entries k e low high at in
     let late : is_long facts params e.end.place l ≡ true =
     ap (λ a. is_long facts params a l) place ∙ long_stays facts params g.place b l steady group.earlier (omega arith) within is in

@@ -56,7 +56,7 @@ one_answer facts params a b left right = cases (order_of a.pass b.pass)
 
     cases : IsBefore a.pass b.pass ⊎ (IsBefore b.pass a.pass ⊎ (a.pass ≡ b.pass)) → AreSame a b
     cases (inl before) = absurd (not_before facts params a b left right before)
-    cases (inr (inl behind)) = absurd (not_before facts params b a right left behind)
+    cases (inr (inl after)) = absurd (not_before facts params b a right left after)
     cases (inr (inr pass)) = same pass
 
 pub up_to_forced :

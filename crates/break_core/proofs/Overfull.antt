@@ -46,7 +46,7 @@ overfull_by facts params a b (suc n) steady earlier within is =
 pub overfull_stays :
     (facts : Facts) (params : Params) (a b l : ℕ) → IsSteady facts → a < b → b ≤ l → l ≤ facts.places
     → is_overfull facts params a b ≡ true → is_overfull facts params a l ≡ true
-overfull_stays facts params a b l steady earlier behind within is =
+overfull_stays facts params a b l steady earlier after within is =
     let same : b + (l - b) ≡ l = omega arith in
     subst (λ k. is_overfull facts params a k ≡ true) same (overfull_by facts params a b (l - b) steady earlier (omega arith) is)
 
@@ -74,7 +74,7 @@ pub overfull_quiet :
     (facts : Facts) (params : Params) (bound : Bound) (table : List Entry) (b : ℕ) (g : ActiveGroup)
     → MayDrop facts bound → IsGroup (problem_of facts params bound) table b g → is_overfull facts params g.place b ≡ true
     → IsQuiet (problem_of facts params bound) table (b + 1) g.start g.end
-overfull_quiet facts params bound table b g may group is k e low high at l behind within =
+overfull_quiet facts params bound table b g may group is k e low high at l after within =
     let place = group.entries k e low high at in
     let late : is_overfull facts params e.end.place l ≡ true =
     ap (λ a. is_overfull facts params a l) place ∙ overfull_stays facts params g.place b l may.0 group.earlier (omega arith) within is in

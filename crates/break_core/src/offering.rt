@@ -80,7 +80,7 @@ fn offer_from(
     place: usize,
     alone: &LineCost,
 ) -> ActiveNode
-    requires within { index < length table.now }
+    requires index_bounded { index < length table.now }
     requires uncounted { (e : Entry) → slice_get table.now index ≡ Some e → e.end.lines ≤ 0 }
     requires later { (e : Entry) → slice_get table.now index ≡ Some e → e.end.place < place }
     requires places { place ≤ max_places }
@@ -101,7 +101,7 @@ fn best_offer(
     alone: &LineCost,
 ) -> ActiveNode
     requires has_entries { group.start < group.end }
-    requires within { group.end ≤ length table.now }
+    requires group_bounded { group.end ≤ length table.now }
     requires earlier { group.place < place }
     requires entries { IsOf 0 table.now group }
     requires places { place ≤ max_places }
@@ -128,7 +128,7 @@ fn offer_best(
 )
     requires wide { length row.old.items ≡ slots 0 }
     requires rises { group.start ≤ group.end }
-    requires within { group.end ≤ length table.now }
+    requires group_bounded { group.end ≤ length table.now }
     requires earlier { group.place < place }
     requires entries { IsOf 0 table.now group }
     requires places { place ≤ max_places }

@@ -94,7 +94,7 @@ fn chosen_in<M: Meter>(
         (IsAnswer (problem_of (M.facts meter.old) params.now (bound_of params.now pass)))) }
     ensures facts { M.facts meter.new ≡ M.facts meter.old }
     ensures trials { drops ≡ true → IsWithin (M.facts meter.old) params.now pass (M.trials meter.old) (M.trials meter.new) }
-    ensures grown { IsGrown 8192 (M.trials meter.old) (M.trials meter.new) }
+    ensures trials_counted { IsGrown 8192 (M.trials meter.old) (M.trials meter.new) }
     ensures kept { TrialsOnlyGrow (M.trials meter.old) (M.trials meter.new) }
     ensures tried { OnOk result (M.trials meter.old 0 < M.trials meter.new 0) }
 {
@@ -122,7 +122,7 @@ fn chosen_first<M: Meter>(
         (IsAnswer (problem_of (M.facts meter.old) params.now (bound_of params.now Pass.First)))) }
     ensures facts { M.facts meter.new ≡ M.facts meter.old }
     ensures trials { drops ≡ true → AreAdded (M.facts meter.old) params.now (first_run params.now) (M.trials meter.old) (M.trials meter.new) }
-    ensures grown { IsGrown 8192 (M.trials meter.old) (M.trials meter.new) }
+    ensures trials_counted { IsGrown 8192 (M.trials meter.old) (M.trials meter.new) }
     ensures kept { TrialsOnlyGrow (M.trials meter.old) (M.trials meter.new) }
     ensures tried { IfOk result (λ found. IfSome found (λ least. M.trials meter.old 0 < M.trials meter.new 0)) }
 {
@@ -166,7 +166,7 @@ fn line_ends<M: Meter>(
     meter: &M,
     ends: &[BreakState],
 ) -> Result<Vec<LineEnd>, AllocError>
-    requires within { AreEndsInParagraph (M.facts meter.now) ends.now }
+    requires ends_bounded { AreEndsInParagraph (M.facts meter.now) ends.now }
     ensures { IfOk result (λ lines. lines.items ≡ map (line_end_at (M.facts meter.now)) ends.now) }
 {
     let mut lines = Vec::new(alloc);

@@ -48,16 +48,16 @@ front_dropped f (x ∷ list) (suc b) = cases (front_dropped f list b) (cases_Boo
         omega (arith, ints, ap (total f) front, last)
 
 -- The same after the first c items.
-behind_dropped :
+after_dropped :
     (f : Node → ℤ) (list : List Node) (c b : ℕ) → c ≤ b
     → total f (without_first (drop c (take b list))) ≡ total f (take b list) -ℤ total f (take (min b (c + lead (drop c list))) list)
-behind_dropped f list zero b low =
+after_dropped f list zero b low =
     let same : 0 + lead list ≡ lead list = omega arith in
     front_dropped f list b ∙ ap (λ n. total f (take b list) -ℤ total f (take (min b n) list)) (sym same)
-behind_dropped f list (suc c) zero low = absurd (omega arith)
-behind_dropped f [] (suc c) (suc b) low = ap (λ xs. pos 0 -ℤ total f xs) (sym (take_none (min (suc b) (suc c + 0))))
-behind_dropped f (x ∷ list) (suc c) (suc b) low =
-    let before = behind_dropped f list c b (omega arith) in
+after_dropped f list (suc c) zero low = absurd (omega arith)
+after_dropped f [] (suc c) (suc b) low = ap (λ xs. pos 0 -ℤ total f xs) (sym (take_none (min (suc b) (suc c + 0))))
+after_dropped f (x ∷ list) (suc c) (suc b) low =
+    let before = after_dropped f list c b (omega arith) in
     let n : min (suc b) (suc c + lead (drop c list)) ≡ suc (min b (c + lead (drop c list))) = omega arith in
     let last : total f (take (min (suc b) (suc c + lead (drop c list))) (x ∷ list)) ≡ f x +ℤ total f (take (min b (c + lead (drop c list))) list) =
     ap (λ k. total f (take k (x ∷ list))) n in
@@ -79,7 +79,7 @@ kept_total f list None b none before =
 kept_total f list (Some a) b none before =
     let end = none (slice_get list b) in
     let parts = total-append f (without_first (drop (a + 1) (take b list))) (at_break (slice_get list b)) in
-    omega (arith, ints, end, parts, behind_dropped f list (a + 1) b (omega arith))
+    omega (arith, ints, end, parts, after_dropped f list (a + 1) b (omega arith))
 
 nothing : (f : Node → ℤ) → f (nodes.Kern (pos 0)) ≡ pos 0 → ((penalty : ℤ) → f (nodes.Penalty penalty) ≡ pos 0) → IsNothingAtBreaks f
 nothing f kern penalty None = refl

@@ -71,8 +71,8 @@ passed_below test (suc n) k x at = cases (λ j here. passed_below test n j x her
         → (slice_get (filter test (up_to n)) k ≡ Some x) ⊎ ((j : ℕ) × (k ≡ length (filter test (up_to n)) + j) × (slice_get (n ∷ []) j ≡ Some x))
         → (x < suc n) × (test x ≡ true)
     last before passes (inl here) = let old = before k here in (omega (arith, old.0), old.1)
-    last before passes (inr behind) =
-        let same : n ≡ x = there n behind.0 behind.2 in
+    last before passes (inr after) =
+        let same : n ≡ x = there n after.0 after.2 in
         (omega (arith, same), ap test (sym same) ∙ passes)
 
     cases :
@@ -155,20 +155,20 @@ begins_before list zero b earlier last = tt
 begins_before list (suc a) b earlier last = (rising_places list (suc a) b (omega arith) earlier last).0
 
 -- The penalty of a break is below 10000.
-break_penalty : (before here behind : Option Node) → is_break before here behind ≡ true → penalty_of here <ℤ pos 10000
+break_penalty : (before here after : Option Node) → is_break before here after ≡ true → penalty_of here <ℤ pos 10000
 unfolding is_break penalty_of
-break_penalty before None behind is = omega (arith, ints)
-break_penalty before (Some (nodes.Glue glue)) behind is = omega (arith, ints)
-break_penalty before (Some (nodes.Kern width)) behind is = omega (arith, ints)
-break_penalty before (Some (nodes.Penalty penalty)) behind is = test_says penalty is
+break_penalty before None after is = omega (arith, ints)
+break_penalty before (Some (nodes.Glue glue)) after is = omega (arith, ints)
+break_penalty before (Some (nodes.Kern width)) after is = omega (arith, ints)
+break_penalty before (Some (nodes.Penalty penalty)) after is = test_says penalty is
   where
     test_says : (p : ℤ) → int_lt p (pos 10000) ≡ true → p <ℤ pos 10000
     test_says p h = grind (arith, ints)
-break_penalty before (Some (nodes.Glyph glyph)) behind is = omega (arith, ints)
-break_penalty before (Some (nodes.FontKern width)) behind is = omega (arith, ints)
-break_penalty before (Some (nodes.Rule rule)) behind is = omega (arith, ints)
-break_penalty before (Some (nodes.Special text)) behind is = omega (arith, ints)
-break_penalty before (Some (nodes.Box shift b)) behind is = omega (arith, ints)
+break_penalty before (Some (nodes.Glyph glyph)) after is = omega (arith, ints)
+break_penalty before (Some (nodes.FontKern width)) after is = omega (arith, ints)
+break_penalty before (Some (nodes.Rule rule)) after is = omega (arith, ints)
+break_penalty before (Some (nodes.Special text)) after is = omega (arith, ints)
+break_penalty before (Some (nodes.Box shift b)) after is = omega (arith, ints)
 
 pub place_penalty : (list : List Node) (n : ℕ) → 0 < n → n ≤ length (legal_places list) → penalty_of (slice_get list (position_of list n)) <ℤ pos 10000
 unfolding is_legal

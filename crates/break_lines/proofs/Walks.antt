@@ -55,16 +55,16 @@ pub next_here : (list : List Node) (i : ℕ) (x : Node) → i < length list → 
 next_here list i x within is kept = omega (arith, lead_kept list i x within is kept)
 
 -- An item that is not dropped is not a legal place, and not glue.
-no_break : (before behind : Option Node) (x : Node) → is_dropped x ≡ false → is_break before (Some x) behind ≡ false
+no_break : (before after : Option Node) (x : Node) → is_dropped x ≡ false → is_break before (Some x) after ≡ false
 unfolding is_dropped is_break
-no_break before behind (nodes.Glyph glyph) kept = refl
-no_break before behind (nodes.FontKern width) kept = refl
-no_break before behind (nodes.Kern width) kept = absurd (cc)
-no_break before behind (nodes.Glue glue) kept = absurd (cc)
-no_break before behind (nodes.Penalty penalty) kept = absurd (cc)
-no_break before behind (nodes.Rule rule) kept = refl
-no_break before behind (nodes.Special text) kept = refl
-no_break before behind (nodes.Box shift b) kept = refl
+no_break before after (nodes.Glyph glyph) kept = refl
+no_break before after (nodes.FontKern width) kept = refl
+no_break before after (nodes.Kern width) kept = absurd (cc)
+no_break before after (nodes.Glue glue) kept = absurd (cc)
+no_break before after (nodes.Penalty penalty) kept = absurd (cc)
+no_break before after (nodes.Rule rule) kept = refl
+no_break before after (nodes.Special text) kept = refl
+no_break before after (nodes.Box shift b) kept = refl
 
 pub kept_finite : (x : Node) → is_dropped x ≡ false → shrinks_infinitely x ≡ false
 unfolding is_dropped

@@ -22,16 +22,16 @@ is_glue (Some node) = false
 
 -- Whether a line can end at an item, by the items before and after it: at glue after an item that is not discardable, at a kern before glue, at a
 -- penalty below 10000, and at the end of the list.
-unfoldable pub is_break : (before here behind : Option Node) → Bool
-is_break before None behind = true
-is_break before (Some (nodes.Glue glue)) behind = is_kept before
-is_break before (Some (nodes.Kern width)) behind = is_glue behind
-is_break before (Some (nodes.Penalty penalty)) behind = int_lt penalty (pos 10000)
-is_break before (Some (nodes.Glyph glyph)) behind = false
-is_break before (Some (nodes.FontKern width)) behind = false
-is_break before (Some (nodes.Rule rule)) behind = false
-is_break before (Some (nodes.Special text)) behind = false
-is_break before (Some (nodes.Box shift b)) behind = false
+unfoldable pub is_break : (before here after : Option Node) → Bool
+is_break before None after = true
+is_break before (Some (nodes.Glue glue)) after = is_kept before
+is_break before (Some (nodes.Kern width)) after = is_glue after
+is_break before (Some (nodes.Penalty penalty)) after = int_lt penalty (pos 10000)
+is_break before (Some (nodes.Glyph glyph)) after = false
+is_break before (Some (nodes.FontKern width)) after = false
+is_break before (Some (nodes.Rule rule)) after = false
+is_break before (Some (nodes.Special text)) after = false
+is_break before (Some (nodes.Box shift b)) after = false
 
 -- The item before a place.
 abbrev pub node_before : List Node → ℕ → Option Node

@@ -71,7 +71,7 @@ fn stretches_forever(sums: &Sums) -> bool
 /// How a line is set that is too short by an amount.
 #[tactic(auto, unfolding(crate::specs::Costs::fit_short))]
 fn fit_short(sums: &Sums, amount: i64) -> LineFit
-    requires some { pos 0 <ℤ amount }
+    requires amount_positive { pos 0 <ℤ amount }
     requires amount_bounded { Within (2 ^ 50) amount }
     requires sums { IsSmallSums sums.now }
     ensures value { result ≡ fit_short sums.now amount }
@@ -97,7 +97,7 @@ fn fit_short(sums: &Sums, amount: i64) -> LineFit
 /// How a line is set that is too long by an amount, or fits.
 #[tactic(auto, unfolding(crate::specs::Costs::fit_long))]
 fn fit_long(sums: &Sums, amount: i64) -> LineFit
-    requires some { pos 0 ≤ℤ amount }
+    requires amount_not_negative { pos 0 ≤ℤ amount }
     requires amount_bounded { Within (2 ^ 49 + 2 ^ 31) amount }
     requires sums { IsSmallSums sums.now }
     ensures value { result ≡ fit_long sums.now amount }

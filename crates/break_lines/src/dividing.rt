@@ -48,7 +48,7 @@ fn adds_less(from: &MeasuredBreak, place: &MeasuredBreak, to: &MeasuredBreak, am
 /// Only the line from the start to the end needs to be tested: if it holds for that line, it holds for all.
 pub fn is_divided(marks: &[MeasuredBreak], amount: Dimen) -> bool
     requires marks_bounded { AreSmallMarks marks.now }
-    requires some { pos 0 <ℤ amount }
+    requires amount_positive { pos 0 <ℤ amount }
     ensures yes { (list : List Node) → marks.now ≡ marks_of list → IsSteady (facts_of list) → result ≡ true → IsDivided (facts_of list) amount }
     ensures no { (list : List Node) → marks.now ≡ marks_of list → IsDivided (facts_of list) amount → result ≡ true }
 {

@@ -61,7 +61,7 @@ pub fn add_item(sums: &mut Sums, node: &Node)
 /// The difference of two sums.
 pub fn minus(all: &Sums, rest: &Sums) -> Sums
     requires all { IsPrefix max_nodes all.now }
-    requires rest { IsPrefix max_nodes rest.now }
+    requires rest_bounded { IsPrefix max_nodes rest.now }
     ensures value { result ≡ minus all.now rest.now }
     ensures sums_bounded { IsSmallSums result }
 {

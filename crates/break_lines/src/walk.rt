@@ -59,7 +59,7 @@ impl BreakWalk {
     /// Passes the item before those that were passed. Returns `false` if the list is refused.
     fn pass(&mut self, nodes: &[Node], index: usize) -> Result<bool, AllocError>
         requires list_bounded { length nodes.now ≤ max_nodes }
-        requires within { index < length nodes.now }
+        requires index_bounded { index < length nodes.now }
         requires walked { HasMeasuredFrom nodes.now (index + 1) self.old }
         ensures goes_on { IfOk result (λ goes_on. goes_on ≡ true → HasMeasuredFrom nodes.now index self.new) }
         ensures stops { IfOk result (λ goes_on. goes_on ≡ false → IsSome (refusal nodes.now)) }

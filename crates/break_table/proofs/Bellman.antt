@@ -54,7 +54,7 @@ row_best :
     (p : Problem) (b : ℕ) (table : List Entry) (row : List (Option Entry)) (k s : ℕ) (e : Entry)
     → IsTable p b table → IsRow p table b (length table) row → 0 < b → slice_get row s ≡ Some (Some e) → length table ≤ k
     → IsBest p (table ++ row_entries row) k e
-row_best p b table row k s e is full some at behind =
+row_best p b table row k s e is full some at following =
     record {
       reached = reached;
       least = best_is_least p b table e reached is some (offered_at p table b h.k e h.offered).0 best;
@@ -202,12 +202,12 @@ read_more table whole k e read after stands is p b table_is top before at there 
     let way = way_to p e best.reached in
     let one : before ≡ best.linked.before = same_Some before best.linked.before (sym there ∙ best.linked.stands) in
     let from : before.end ≡ e.from = ap (λ x. x.end) one ∙ best.linked.same in
-    let behind : v ≡ best.reached.before = least_once p before.end e.from v best.reached.before from least_v best.reached.least in
+    let following : v ≡ best.reached.before = least_once p before.end e.from v best.reached.before from least_v best.reached.least in
     let so_far : ends_of w ≡ read ++ ends_of way = is p b table_is top e at stands w way least_w best.least in
     let last : ends_of way ≡ e.end ∷ ends_of best.reached.before =
     ap (λ s. s ∷ ends_of best.reached.before) (way_ends p e best.reached) in
     let same : ends_of w ≡ read ++ (e.end ∷ ends_of v) =
-    so_far ∙ ap (λ xs. read ++ xs) (last ∙ ap (λ u. e.end ∷ ends_of u) (sym behind)) in
+    so_far ∙ ap (λ xs. read ++ xs) (last ∙ ap (λ u. e.end ∷ ends_of u) (sym following)) in
     same ∙ sym (append_assoc read (e.end ∷ []) (ends_of v))
 
 pub read_all : (table : List Entry) (whole : ℕ) (read : List BreakState) → AreEndsUpTo table whole 0 read → AreEndsOf table whole read

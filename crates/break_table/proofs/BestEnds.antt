@@ -16,7 +16,7 @@ none_more table place n e stands other none j f below at here = cases (cases_lt 
   where
     cases : (j < n) ⊎ (n ≤ j) → ⊥
     cases (inl before) = none j f before at here
-    cases (inr behind) =
+    cases (inr after) =
         let same : j ≡ n = omega arith in
         let there : slice_get table n ≡ Some f = ap (slice_get table) (sym same) ∙ at in
         let one : f ≡ e = same_Some f e (sym there ∙ stands) in
@@ -36,7 +36,7 @@ best_of table place n k e x stands at here no_worse =
   where
     cases : (j : ℕ) (f : Entry) → j < n + 1 → slice_get table j ≡ Some f → f.end.place ≡ place → (j < n) ⊎ (n ≤ j) → NotAfter (compared_numbers x) (compared_numbers f)
     cases j f below there of_place (inl before) = no_worse.0 j f before there of_place
-    cases j f below there of_place (inr behind) =
+    cases j f below there of_place (inr after) =
         let same : j ≡ n = omega arith in
         let last : slice_get table n ≡ Some f = ap (slice_get table) (sym same) ∙ there in
         let one : e ≡ f = same_Some e f (sym stands ∙ last) in

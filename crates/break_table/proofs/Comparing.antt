@@ -6,7 +6,7 @@ use Rattle.break_table.specs.declared.state.BreakState.{BreakState}
 use Rattle.break_table.specs.Orders.{NotAfter}
 use Rattle.break_table.specs.Problems.{tie_numbers}
 use Rattle.break_table.specs.Tables.{Entry, compared_numbers, IsFirst}
-use Rattle.break_table.proofs.Dictionary.{not_after_refl, not_after_behind}
+use Rattle.break_table.proofs.Dictionary.{not_after_refl, not_after_later}
 
 pub first_demerits : (a b : Entry) → a.overhang ≡ b.overhang → a.demerits <ℤ b.demerits → NotAfter (compared_numbers a) (compared_numbers b)
 first_demerits a b overhang demerits = inr (overhang, inl demerits)
@@ -33,7 +33,7 @@ first_from a b s t overhang demerits end is_s is_t h =
       inr (
         demerits,
         subst (λ x. NotAfter (tie_numbers (a.end ∷ a.from ∷ [])) (tie_numbers (x ∷ b.from ∷ []))) end
-            (not_after_behind (tie_numbers (a.end ∷ [])) (tie_numbers (a.from ∷ [])) (tie_numbers (b.from ∷ []))
+            (not_after_later (tie_numbers (a.end ∷ [])) (tie_numbers (a.from ∷ [])) (tie_numbers (b.from ∷ []))
             (subst (λ x. NotAfter (tie_numbers (x ∷ [])) (tie_numbers (b.from ∷ []))) is_s
             (subst (λ y. NotAfter (tie_numbers (s ∷ [])) (tie_numbers (y ∷ []))) is_t (h [] [])))),
       ),

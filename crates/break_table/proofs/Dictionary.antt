@@ -44,9 +44,9 @@ not_after_front (x ∷ xs) (y ∷ ys) zs ws long (inr h) rest =
     let first : x ≡ y = h.0 in inr (first, not_after_front xs ys zs ws (omega arith) h.1 (λ same. rest (cc)))
 
 -- With the same front, the order is that of the rest.
-pub not_after_behind : (front xs ys : List ℤ) → NotAfter xs ys → NotAfter (front ++ xs) (front ++ ys)
-not_after_behind [] xs ys h = h
-not_after_behind (z ∷ front) xs ys h = inr (refl, not_after_behind front xs ys h)
+pub not_after_later : (front xs ys : List ℤ) → NotAfter xs ys → NotAfter (front ++ xs) (front ++ ys)
+not_after_later [] xs ys h = h
+not_after_later (z ∷ front) xs ys h = inr (refl, not_after_later front xs ys h)
 
 -- Adding the same amounts to both numbers, and the same front before the rest, keeps the order.
 longer :
@@ -55,7 +55,7 @@ longer :
 longer a b c d x y front xs ys (inl h) = inl (omega (arith, ints))
 longer a b c d x y front xs ys (inr (e, inl h)) = inr (ap (λ z. z +ℤ x) e, inl (omega (arith, ints)))
 longer a b c d x y front xs ys (inr (e, inr h)) =
-    inr (ap (λ z. z +ℤ x) e, inr (ap (λ z. z +ℤ y) h.0, not_after_behind front xs ys h.1))
+    inr (ap (λ z. z +ℤ x) e, inr (ap (λ z. z +ℤ y) h.0, not_after_later front xs ys h.1))
 
 -- The same line after the better of two paths to one state gives the better path.
 pub longer_not_after :

@@ -15,10 +15,10 @@ use Rattle.break_table.proofs.Rows.{offered_at, held_from}
 
 -- Entries before a forced place offer nothing after it.
 early_silent : (p : Problem) (e : Entry) (k b l : ℕ) → e.end.place < since p b → b ≤ l → offer p e k l ≡ None
-early_silent p e k b l early behind = cases (cases_Bool (nat_le (since p l) e.end.place))
+early_silent p e k b l early after = cases (cases_Bool (nat_le (since p l) e.end.place))
   where
     cases : (nat_le (since p l) e.end.place ≡ true) ⊎ (nat_le (since p l) e.end.place ≡ false) → offer p e k l ≡ None
-    cases (inl late) = absurd (omega (arith, leb-true (since p l) e.end.place late, since_grows p b l behind))
+    cases (inl late) = absurd (omega (arith, leb-true (since p l) e.end.place late, since_grows p b l after))
     cases (inr is) = cond-false (nat_le (since p l) e.end.place) (offer_of p.cut e k l (p.line e.end l)) None is
 
 -- An entry of a longer table with a number below the length of the shorter one is in the shorter one too.
@@ -31,7 +31,7 @@ shorter table more k e within at = cases (get_cases table more k e at)
 
 silent_longer :
     (p : Problem) (table more : List Entry) (b c from to : ℕ) → b ≤ c → to ≤ length table → IsSilent p table b from to → IsSilent p (table ++ more) c from to
-silent_longer p table more b c from to later within is k e low high at l behind =
+silent_longer p table more b c from to later within is k e low high at l after =
     is k e low high (shorter table more k e (omega arith) at) l (omega arith)
 
 -- If the next place is not forced, the groups stay, and one more is appended.
@@ -44,7 +44,7 @@ live_more p table more b at [] g free is start group end = (
   omega (arith, is.0),
   subst (λ n. IsSilent p (table ++ more) (b + 1) at n) (sym start) (silent_longer p table more b (b + 1) at (length table) (omega arith) (omega arith) is.1),
   group,
-  (omega (arith, end), λ k e low high there l behind. absurd (omega (arith, end))),
+  (omega (arith, end), λ k e low high there l after. absurd (omega (arith, end))),
 )
 live_more p table more b at (h ∷ groups) g free is start group end =
     let old = is.2 in (
@@ -67,13 +67,13 @@ pub live_forced :
     → g.start ≡ length table → IsGroup p (table ++ more) (b + 1) g → g.end ≡ length (table ++ more)
     → IsLive p (table ++ more) (b + 1) 0 (g ∷ [])
 live_forced p table more b g forced is start group end =
-    (omega arith, silent, group, (omega (arith, end), λ k e low high there l behind. absurd (omega (arith, end))))
+    (omega arith, silent, group, (omega (arith, end), λ k e low high there l after. absurd (omega (arith, end))))
   where
     silent : IsSilent p (table ++ more) (b + 1) 0 g.start
-    silent k e low high there l behind =
+    silent k e low high there l after =
         let here = shorter table more k e (omega (arith, start)) there in
         let before = is.below k e here in
-        early_silent p e k (b + 1) l (omega (arith, before.0, forced_within p b (b + 1) (omega arith) forced)) behind
+        early_silent p e k (b + 1) l (omega (arith, before.0, forced_within p b (b + 1) (omega arith) forced)) after
 
 -- The entries of a new row are the group of its place.
 pub new_group :
@@ -102,7 +102,7 @@ new_group p table row b g full some place start end =
 pub first_live : (p : Problem) (g : ActiveGroup) → g.place ≡ 0 → g.start ≡ 0 → g.end ≡ 1 → IsLive p (first_entry ∷ []) 1 0 (g ∷ [])
 first_live p g place start end = (
   omega arith,
-  (λ k e low high at l behind. absurd (omega (arith, start))),
+  (λ k e low high at l after. absurd (omega (arith, start))),
   record {
     rises = omega (arith, start, end);
     within = omega (arith, end);
@@ -110,7 +110,7 @@ first_live p g place start end = (
     earlier = omega (arith, place);
     entries = λ k e low high at. entry k e (omega (arith, end)) at;
   },
-  (omega (arith, end), λ k e low high at l behind. absurd (omega (arith, end))),
+  (omega (arith, end), λ k e low high at l after. absurd (omega (arith, end))),
 )
   where
     entry : (k : ℕ) (e : Entry) → k < 1 → slice_get (first_entry ∷ []) k ≡ Some e → e.end.place ≡ g.place

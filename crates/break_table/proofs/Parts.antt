@@ -101,10 +101,10 @@ way_shifted p leaves Ahead _ order detours (goes q b l way later since_b is) wit
     more (way_shifted p leaves Ahead q order detours way (omega arith))
   where
     more : IsShifted p leaves Ahead q → IsShifted p leaves Ahead (with_line p q b l)
-    more before = behind before (order.line before.by.last q.last b l before.ahead is)
+    more before = after before (order.line before.by.last q.last b l before.ahead is)
       where
-        behind : (before : IsShifted p leaves Ahead q) → IsNoWorse p Ahead before.by.last q.last b l → IsShifted p leaves Ahead (with_line p q b l)
-        behind before k =
+        after : (before : IsShifted p leaves Ahead q) → IsNoWorse p Ahead before.by.last q.last b l → IsShifted p leaves Ahead (with_line p q b l)
+        after before k =
             let place : before.by.last.place ≡ q.last.place = order.place before.by.last q.last before.ahead in
             let rest = line_shifted p leaves Ahead b before.by b k.line order detours (omega arith) before.way (omega (arith, place)) (omega (arith, place)) within k.is in
             record {

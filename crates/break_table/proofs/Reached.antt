@@ -54,10 +54,10 @@ pub short_decides :
 short_decides p e f left right h =
     subst (λ xs. NotAfter xs (key (way_to p f right))) (sym (key_short p e left))
     (subst (λ ys. NotAfter (compared_numbers e ++ tie_numbers left.before.before) ys) (sym (key_short p f right))
-    (not_after_front (compared_numbers e) (compared_numbers f) (tie_numbers left.before.before) (tie_numbers right.before.before) refl h behind))
+    (not_after_front (compared_numbers e) (compared_numbers f) (tie_numbers left.before.before) (tie_numbers right.before.before) refl h after))
   where
-    behind : compared_numbers e ≡ compared_numbers f → NotAfter (tie_numbers left.before.before) (tie_numbers right.before.before)
-    behind same =
+    after : compared_numbers e ≡ compared_numbers f → NotAfter (tie_numbers left.before.before) (tie_numbers right.before.before)
+    after same =
         let states : tie_numbers (e.end ∷ e.from ∷ []) ≡ tie_numbers (f.end ∷ f.from ∷ []) = cc in
         let ends = state_apart e.end f.end (e.from ∷ []) (f.from ∷ []) states in
         let froms = state_apart e.from f.from [] [] ends.1 in

@@ -55,8 +55,8 @@ row_silent p table b n m row more silent is =
   where
     met : (k : ℕ) (o : Entry) → k < m → IsOffered p table b k o → (k < n) ⊎ (n ≤ k) → IsMet row o
     met k o below offered (inl before) = is.met k o before offered
-    met k o below offered (inr behind) =
-        let none = silent k offered.by behind below offered.stands b (omega arith) in
+    met k o below offered (inr after) =
+        let none = silent k offered.by after below offered.stands b (omega arith) in
         let some = offered.offers in
         absurd (cc)
 
@@ -73,7 +73,7 @@ row_none p table b n e row stands none is =
   where
     met : (k : ℕ) (o : Entry) → k < n + 1 → IsOffered p table b k o → (k < n) ⊎ (n ≤ k) → IsMet row o
     met k o below offered (inl before) = is.met k o before offered
-    met k o below offered (inr behind) =
+    met k o below offered (inr after) =
         let same : k ≡ n = omega arith in
         let there : slice_get table n ≡ Some offered.by = ap (slice_get table) (sym same) ∙ offered.stands in
         let one : offered.by ≡ e = same_Some offered.by e (sym there ∙ stands) in
@@ -143,8 +143,8 @@ row_best p table b n m by o r old row low high offered_o was kept least is =
     met : (k : ℕ) (f : Entry) → k < m → IsOffered p table b k f → (k < n) ⊎ (n ≤ k) → IsMet (set row (slot o.end) (Some r)) f
     met k f below offered (inl before) =
         spread f (offered_at p table b k f offered).0 (is.met k f before offered) (cases_eq (slot f.end) (slot o.end))
-    met k f below offered (inr behind) =
-        let no_less = least k f behind below offered in
+    met k f below offered (inr after) =
+        let no_less = least k f after below offered in
         record {
           held = r;
           stands = ap (λ s. slice_get (set row (slot o.end) (Some r)) (slot s)) no_less.0 ∙ written;

@@ -24,7 +24,7 @@ fn better_end(
     index: usize,
     place: usize,
 ) -> Option<usize>
-    requires within { index < length table.now }
+    requires index_bounded { index < length table.now }
     requires best { MatchOption best (HasNoEnd table.now place index) (IsBestEnd table.now place index) }
     ensures { MatchOption result (HasNoEnd table.now place (index + 1)) (IsBestEnd table.now place (index + 1)) }
 {
@@ -54,7 +54,7 @@ fn best_end(table: &[ActiveNode], place: usize) -> Option<usize>
 
 /// The ends of the lines that lead to an entry, in order. An entry knows only the entry before it, so they are collected backward and then reversed.
 fn read_back(alloc: Global, table: &[ActiveNode], at: usize) -> Result<Vec<BreakState>, AllocError>
-    requires within { at < length table.now }
+    requires index_bounded { at < length table.now }
     requires table { IsSomeTable table.now }
     ensures { IfOk result (λ ends. AreEndsOf table.now at (reverse ends.items)) }
 {

@@ -30,7 +30,7 @@ impl<D: Device> Model for Rest<D> {
 
 /// The number of bytes in which two texts agree, from their start.
 fn common_front(one: &[u8], other: &[u8]) -> usize
-    ensures within { (result ≤ length one.now) × (result ≤ length other.now) }
+    ensures size_bounded { (result ≤ length one.now) × (result ≤ length other.now) }
     ensures same { take result one.now ≡ take result other.now }
     ensures longest { result < length one.now → result < length other.now → slice_index one.now result ≢ slice_index other.now result }
 {

@@ -14,7 +14,7 @@ use Rattle.dvi_ops.proofs.Frames.{begins}
 use Rattle.dvi_scan.specs.Ends.{StandsAt}
 use Rattle.dvi_scan.proofs.PlaceLemmas.{one_stands}
 use Rattle.dvi_scan.specs.Reached.{AreNumbersOf, has_number}
-use Rattle.dvi_scan.proofs.StrayLemmas.{ends_behind}
+use Rattle.dvi_scan.proofs.StrayLemmas.{ends_after}
 use Rattle.dvi_fonts.specs.Ahead.{AreIdle, IsLookedAhead, IsUnlooked, LooksOne, MeetsNumber, NothingIdle}
 use Rattle.dvi_fonts.specs.Closing.{Closes}
 use Rattle.dvi_fonts.proofs.ClosingLemmas.{first_stands, span_next}
@@ -83,7 +83,7 @@ idle_more bytes from at to next tokens old new low high idle numbers one =
 
 -- No instruction is at the bound.
 pub nothing_at_bound : (bytes : List ℕ) (to : ℕ) → NothingIdle bytes to to
-nothing_at_bound bytes to i stands idle = let below = ends_behind bytes to to i stands in absurd (omega arith)
+nothing_at_bound bytes to i stands idle = let below = ends_after bytes to to i stands in absurd (omega arith)
 
 -- The numbers found so far, where no such instruction follows.
 pub looked_there : (bytes : List ℕ) (from at to : ℕ) (tokens : List Token) (numbers : List ℤ) → from ≤ at → at ≤ to → AreIdle bytes from at tokens → AreNumbersOf numbers (definitions (says tokens))

@@ -31,7 +31,7 @@ fn look_one(
 ) -> Result<Option<usize>, AllocError>
     requires low { at < to }
     requires high { to ≤ length bytes.now }
-    ensures some { IfOk result (λ found. IfSome found (LooksOne bytes.now at to numbers.old.keys numbers.new.keys)) }
+    ensures definition_found { IfOk result (λ found. IfSome found (LooksOne bytes.now at to numbers.old.keys numbers.new.keys)) }
     ensures none { IfOk result (λ found. IfNone found (NothingIdle bytes.now at to × IsUnchanged numbers.old numbers.new)) }
     ensures memory { OnErr result (MeetsNumber bytes.now at to numbers.old.keys) }
 {

@@ -19,7 +19,7 @@ use Rattle.ship_core.specs.Pages.{reach_down, reach_right}
 use Rattle.node_core.specs.declared.limits.TheConstants.{MAX_DEPTH}
 use Rattle.dvi_layout.specs.Fonts.{Slots, AreDefinable}
 use Rattle.dvi_layout.specs.Sheets.{written_body, definitions_of, fresh_slots, in_rising_order, sheet_of}
-use Rattle.dvi_layout.specs.Layout.{slots_after, slots_behind, sheets_of, greatest, closing_of, ended, front, whole}
+use Rattle.dvi_layout.specs.Layout.{slots_after, slots_after_all, sheets_of, greatest, closing_of, ended, front, whole}
 use Rattle.dvi_layout.specs.Shippable.{slot_widths, IsRightPage}
 use Rattle.dvi_layout.specs.Closing.{IsGreatestOf, IsOfJob, IsClosedFor}
 use Rattle.dvi_layout.proofs.DefinedFonts.{each_of}
@@ -40,19 +40,19 @@ farthest_bounds size z (x ∷ xs) =
     (omega (arith, ints, clamps, later.0), (omega (arith, ints, clamps, later.0), later.1))
 
 -- An element of a list is one of a longer list.
-behind : (x z : ℤ) (xs : List ℤ) → Contains xs z → Contains (x ∷ xs) z
-behind x z xs (k, within, is) = (suc k, omega (arith, within), is)
+in_tail : (x z : ℤ) (xs : List ℤ) → Contains xs z → Contains (x ∷ xs) z
+in_tail x z xs (k, within, is) = (suc k, omega (arith, within), is)
 
-behind_first : (a x z : ℤ) (xs : List ℤ) → Contains (a ∷ xs) z → Contains (a ∷ x ∷ xs) z
-behind_first a x z xs (zero, within, is) = (zero, omega arith, is)
-behind_first a x z xs (suc k, within, is) = (suc (suc k), omega (arith, within), is)
+in_tail_after_first : (a x z : ℤ) (xs : List ℤ) → Contains (a ∷ xs) z → Contains (a ∷ x ∷ xs) z
+in_tail_after_first a x z xs (zero, within, is) = (zero, omega arith, is)
+in_tail_after_first a x z xs (suc k, within, is) = (suc (suc k), omega (arith, within), is)
 
 either_first : (a x z : ℤ) (xs : List ℤ) → Contains (int_max a x ∷ xs) z → Contains (a ∷ x ∷ xs) z
 either_first a x z xs has = by_test (int_lt x a) refl
   where
     by_test : (less : Bool) → int_lt x a ≡ less → Contains (a ∷ x ∷ xs) z
-    by_test true is = behind_first a x z xs (subst (λ y. Contains (y ∷ xs) z) (ap (λ t. cond t a x) is) has)
-    by_test false is = behind a z (x ∷ xs) (subst (λ y. Contains (y ∷ xs) z) (ap (λ t. cond t a x) is) has)
+    by_test true is = in_tail_after_first a x z xs (subst (λ y. Contains (y ∷ xs) z) (ap (λ t. cond t a x) is) has)
+    by_test false is = in_tail a z (x ∷ xs) (subst (λ y. Contains (y ∷ xs) z) (ap (λ t. cond t a x) is) has)
 
 farthest_reached : {X : Type 0} (size : X → ℤ) (z : ℤ) (xs : List X) → Contains (z ∷ map size xs) (farthest size z xs)
 farthest_reached size z [] = (zero, omega arith, refl)
@@ -268,11 +268,11 @@ ended_closes fonts pages definable all below =
     let padding = padding_after size in
     let first : NumberFits (negsuc 0) = record { sfits = omega arith } in
     let units : UnitsFit scaled_points = (record { sfits = lit< tt }, record { sfits = lit< tt }, record { sfits = lit< tt }) in
-    framed fonts is stop tail s.size padding pages parts (all_definitions fonts (slots_behind fonts [] pages) pages) (ap (λ (is : List Instruction). preamble ∷ is) (instructions_from fonts [] after_preamble pages))
+    framed fonts is stop tail s.size padding pages parts (all_definitions fonts (slots_after_all fonts [] pages) pages) (ap (λ (is : List Instruction). preamble ∷ is) (instructions_from fonts [] after_preamble pages))
     refl
     (((lit< tt, units), pages_writable fonts definable [] after_preamble pages all first below))
     (last_fits fonts [] after_preamble pages first below, units, tall_fits fonts pages all, wide_fits fonts pages all, omega (arith, few_pushes fonts [] after_preamble pages all (omega arith)), omega arith)
-    (all_defined (table_of fonts) (closing_of fonts pages) (each_of (IsTabled (table_of fonts)) fonts (in_rising_order (slots_behind fonts [] pages)) (λ s l among has. tabled fonts definable s l has)))
+    (all_defined (table_of fonts) (closing_of fonts pages) (each_of (IsTabled (table_of fonts)) fonts (in_rising_order (slots_after_all fonts [] pages)) (λ s l among has. tabled fonts definable s l has)))
     (size_of_front sheets) below (padding_low size) (omega arith)
     (subst (IsGreatestOf (pos 0 ∷ map reach_down pages)) (greatest-is reach_down pages) (farthest-greatest reach_down pages))
     (subst (IsGreatestOf (pos 0 ∷ map reach_right pages)) (greatest-is reach_right pages) (farthest-greatest reach_right pages))

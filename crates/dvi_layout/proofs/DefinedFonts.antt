@@ -184,9 +184,9 @@ none_rising = none_pass 256
 same_is_true : (z : ℤ) → int_eq z z ≡ true
 same_is_true z = (Decides-int_eq z z).1 refl
 
-defined_behind : (f : ℤ) (ds es : List Definition) → IsSome (defined f es) → IsSome (defined f (ds ++ es))
-defined_behind f [] es some = some
-defined_behind f (d ∷ ds) es some = by_test (int_eq f d.number) (defined_behind f ds es some)
+defined_after : (f : ℤ) (ds es : List Definition) → IsSome (defined f es) → IsSome (defined f (ds ++ es))
+defined_after f [] es some = some
+defined_after f (d ∷ ds) es some = by_test (int_eq f d.number) (defined_after f ds es some)
   where
     by_test : (same : Bool) → IsSome (defined f (ds ++ es)) → IsSome (if same then Some d else defined f (ds ++ es))
     by_test true later = refl
@@ -197,7 +197,7 @@ defined_among fonts s l [] is among = cc
 defined_among fonts s l (t ∷ slots) is among =
     or_cases (t == s) (is_among s slots) among
     (λ e. let same : t ≡ s = eqb-true t s e in here t same (font_in fonts t) (ap (font_in fonts) same ∙ is))
-    (λ e. defined_behind (pos s) (definition_by t (font_in fonts t)) (definitions_of fonts slots) (defined_among fonts s l slots is e))
+    (λ e. defined_after (pos s) (definition_by t (font_in fonts t)) (definitions_of fonts slots) (defined_among fonts s l slots is e))
   where
     here : (t : ℕ) → t ≡ s → (x : Option LoadedFont) → x ≡ Some l → IsSome (defined (pos s) (definition_by t x ++ definitions_of fonts slots))
     here t same None is = cc

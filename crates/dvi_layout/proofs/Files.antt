@@ -23,7 +23,7 @@ use Rattle.ship_core.proofs.DrawnPages.{HasFont, fits_down, fits_right}
 use Rattle.dvi_layout.specs.declared.fonts.LoadedFont.{LoadedFont}
 use Rattle.dvi_layout.specs.Fonts.{Slots, font_in, AreDefinable}
 use Rattle.dvi_layout.specs.Sheets.{written_body, definition_of, definitions_of, fresh_slots, in_rising_order, selects, sheet_of}
-use Rattle.dvi_layout.specs.Layout.{slots_after, slots_behind, sheets_of, greatest, closing_of, ended, front, whole}
+use Rattle.dvi_layout.specs.Layout.{slots_after, slots_after_all, sheets_of, greatest, closing_of, ended, front, whole}
 use Rattle.dvi_layout.specs.Shippable.{slot_font_widths, slot_widths, IsRightPage, GivesFonts, read_page, IsFileOfPages}
 use Rattle.dvi_layout.proofs.DefinedFonts.{AreKnown, HasSelected, none_known, known_next, selected_known, each_selected, each_of, rising_among, listed_at, defined_among, holds_selected}
 use Rattle.dvi_layout.proofs.Leaves.{each_leaf}
@@ -150,11 +150,11 @@ module _ (metrics : WidthsByName) (fonts : Slots) (gives : GivesFonts metrics fo
     )
 
 -- The known definitions after pages.
-known_behind : (fonts : Slots) (slots : List ℕ) (s : WriterKnowledge) (pages : List ShippedPage) → AreKnown fonts slots s.known
-    → AreKnown fonts (slots_behind fonts slots pages) (after_all s (sheets_of fonts slots pages)).known
-known_behind fonts slots s [] knows = knows
-known_behind fonts slots s (page ∷ pages) knows =
-    known_behind fonts (slots_after fonts slots page) (after s (sheet_of fonts slots page)) pages (known_next fonts slots (flat (written_body page)) s.known knows)
+known_after_pages : (fonts : Slots) (slots : List ℕ) (s : WriterKnowledge) (pages : List ShippedPage) → AreKnown fonts slots s.known
+    → AreKnown fonts (slots_after_all fonts slots pages) (after_all s (sheets_of fonts slots pages)).known
+known_after_pages fonts slots s [] knows = knows
+known_after_pages fonts slots s (page ∷ pages) knows =
+    known_after_pages fonts (slots_after fonts slots page) (after s (sheet_of fonts slots page)) pages (known_next fonts slots (flat (written_body page)) s.known knows)
 
 -- The definitions of the postamble are right, and include all known ones.
 all_closing : (fonts : Slots) (slots : List ℕ) (known : List Definition) → AreDefinable fonts → AreKnown fonts slots known
@@ -190,7 +190,7 @@ ended_shows : (metrics : WidthsByName) (fonts : Slots) (pages : List ShippedPage
 ended_shows metrics fonts pages padding gives definable all small low =
     whole_file metrics (table_of fonts) (sheets_of fonts [] pages) (map read_page pages) (greatest reach_down pages) (greatest reach_right pages) (closing_of fonts pages) padding
     (pages_good metrics fonts gives definable [] after_preamble pages (none_known fonts) all)
-    (all_closing fonts (slots_behind fonts [] pages) (after_all after_preamble (sheets_of fonts [] pages)).known definable (known_behind fonts [] after_preamble pages (none_known fonts)))
+    (all_closing fonts (slots_after_all fonts [] pages) (after_all after_preamble (sheets_of fonts [] pages)).known definable (known_after_pages fonts [] after_preamble pages (none_known fonts)))
     (tall_fits fonts pages all) (wide_fits fonts pages all) small low
 
 pub file_shows : (metrics : WidthsByName) (fonts : Slots) (pages : List ShippedPage) → GivesFonts metrics fonts → AreDefinable fonts → AllByRecursion (IsRightPage fonts) pages

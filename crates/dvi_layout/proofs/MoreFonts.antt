@@ -16,7 +16,7 @@ use Rattle.dvi_layout.specs.declared.fonts.LoadedFont.{LoadedFont}
 use Rattle.dvi_layout.specs.Fonts.{Slots, font_in}
 use Rattle.dvi_layout.specs.MoreFonts.{Extends}
 use Rattle.dvi_layout.specs.Sheets.{written_body, definitions_of, fresh_slots, sheet_of}
-use Rattle.dvi_layout.specs.Layout.{slots_after, slots_behind, sheets_of, greatest, load_on, front}
+use Rattle.dvi_layout.specs.Layout.{slots_after, slots_after_all, sheets_of, greatest, load_on, front}
 use Rattle.dvi_layout.specs.Shippable.{slot_font_widths, slot_widths, IsShippable, IsRightPage}
 use Rattle.dvi_layout.specs.SoFar.{ProgressView, so_far_of}
 use Rattle.dvi_layout.proofs.DefinedFonts.{fresh_parts, among_fresh, fresh_same, definitions_same}
@@ -68,10 +68,10 @@ module _ (fonts more : Slots) (extends : Extends fonts more) where
       ap₂ (λ (sheet : Sheet) (sheets : List Sheet). sheet ∷ sheets) (sheet_more slots page here)
       (sheets_more (slots_after fonts slots page) pages all ∙ ap (λ slots. sheets_of more slots pages) (after_more slots page here))
 
-  slots_more : (slots : List ℕ) (pages : List ShippedPage) → AllByRecursion (IsRightPage fonts) pages → slots_behind fonts slots pages ≡ slots_behind more slots pages
+  slots_more : (slots : List ℕ) (pages : List ShippedPage) → AllByRecursion (IsRightPage fonts) pages → slots_after_all fonts slots pages ≡ slots_after_all more slots pages
   slots_more slots [] all = refl
   slots_more slots (page ∷ pages) (here, all) =
-      slots_more (slots_after fonts slots page) pages all ∙ ap (λ slots. slots_behind more slots pages) (after_more slots page here)
+      slots_more (slots_after fonts slots page) pages all ∙ ap (λ slots. slots_after_all more slots pages) (after_more slots page here)
 
   -- The bytes up to the last eop are the same, and so are the kept numbers.
   pub front_more : (pages : List ShippedPage) → AllByRecursion (IsRightPage fonts) pages → front fonts pages ≡ front more pages
@@ -92,5 +92,5 @@ module _ (fonts more : Slots) (extends : Extends fonts more) where
         pages = length pages;
         load = load_on pages;
       } in
-      ap (λ sheets. made sheets (front fonts pages) (slots_behind fonts [] pages)) (sheets_more [] pages all)
+      ap (λ sheets. made sheets (front fonts pages) (slots_after_all fonts [] pages)) (sheets_more [] pages all)
       ∙ ap₂ (λ bytes slots. made (sheets_of more [] pages) bytes slots) (front_more pages all) (slots_more [] pages all)

@@ -15,7 +15,7 @@ use Rattle.ship_core.specs.Marks.{ShippedPage}
 use Rattle.ship_core.specs.Pages.{reach_down, reach_right}
 use Rattle.dvi_layout.specs.Fonts.{Slots}
 use Rattle.dvi_layout.specs.Sheets.{sheet_of}
-use Rattle.dvi_layout.specs.Layout.{slots_after, slots_behind, sheets_of, greatest, load_on, closing_of, ended, front, whole}
+use Rattle.dvi_layout.specs.Layout.{slots_after, slots_after_all, sheets_of, greatest, load_on, closing_of, ended, front, whole}
 use Rattle.dvi_layout.specs.SoFar.{ProgressView, so_far_of, opening, bytes_before, next_bytes, with_next, closing_so_far, last_bytes}
 
 -- The preamble comes only before the first page.
@@ -35,13 +35,13 @@ bop_within fonts s page =
       length-bytes_of-append (opening s.pages ++ define sheet.fresh) rest,
     )
 
-slots_behind-append : (fonts : Slots) (defined : List ℕ) (pages : List ShippedPage) (page : ShippedPage)
-    → slots_behind fonts defined (pages ++ page ∷ []) ≡ slots_after fonts (slots_behind fonts defined pages) page
-slots_behind-append fonts defined [] page = refl
-slots_behind-append fonts defined (p ∷ pages) page = slots_behind-append fonts (slots_after fonts defined p) pages page
+slots_after_all-append : (fonts : Slots) (defined : List ℕ) (pages : List ShippedPage) (page : ShippedPage)
+    → slots_after_all fonts defined (pages ++ page ∷ []) ≡ slots_after fonts (slots_after_all fonts defined pages) page
+slots_after_all-append fonts defined [] page = refl
+slots_after_all-append fonts defined (p ∷ pages) page = slots_after_all-append fonts (slots_after fonts defined p) pages page
 
 pub sheets_of-append : (fonts : Slots) (defined : List ℕ) (pages : List ShippedPage) (page : ShippedPage)
-    → sheets_of fonts defined (pages ++ page ∷ []) ≡ sheets_of fonts defined pages ++ sheet_of fonts (slots_behind fonts defined pages) page ∷ []
+    → sheets_of fonts defined (pages ++ page ∷ []) ≡ sheets_of fonts defined pages ++ sheet_of fonts (slots_after_all fonts defined pages) page ∷ []
 sheets_of-append fonts defined [] page = refl
 sheets_of-append fonts defined (p ∷ pages) page = ap (λ (sheets : List Sheet). sheet_of fonts defined p ∷ sheets) (sheets_of-append fonts (slots_after fonts defined p) pages page)
 
@@ -65,9 +65,9 @@ length-sheets fonts defined [] = refl
 length-sheets fonts defined (page ∷ pages) = ap suc (length-sheets fonts (slots_after fonts defined page) pages)
 
 after_page : (fonts : Slots) (pages : List ShippedPage) (page : ShippedPage)
-    → after_all after_preamble (sheets_of fonts [] (pages ++ page ∷ [])) ≡ after (after_all after_preamble (sheets_of fonts [] pages)) (sheet_of fonts (slots_behind fonts [] pages) page)
+    → after_all after_preamble (sheets_of fonts [] (pages ++ page ∷ [])) ≡ after (after_all after_preamble (sheets_of fonts [] pages)) (sheet_of fonts (slots_after_all fonts [] pages) page)
 after_page fonts pages page =
-    ap (after_all after_preamble) (sheets_of-append fonts [] pages page) ∙ after_all-append after_preamble (sheets_of fonts [] pages) (sheet_of fonts (slots_behind fonts [] pages) page ∷ [])
+    ap (after_all after_preamble) (sheets_of-append fonts [] pages page) ∙ after_all-append after_preamble (sheets_of fonts [] pages) (sheet_of fonts (slots_after_all fonts [] pages) page ∷ [])
 
 -- The front of some pages is that of the layout.
 pub front-some : (fonts : Slots) (pages : List ShippedPage) → pages ≢ [] → front fonts pages ≡ front_of (sheets_of fonts [] pages)
@@ -82,7 +82,7 @@ unfolding front next_bytes
 front-append fonts [] page = ap bytes_of (append-nil (preamble ∷ sheet_from (negsuc 0) (sheet_of fonts [] page)))
 front-append fonts (p ∷ pages) page =
     let sheets = sheets_of fonts [] (p ∷ pages) in
-    let sheet = sheet_of fonts (slots_behind fonts [] (p ∷ pages)) page in
+    let sheet = sheet_of fonts (slots_after_all fonts [] (p ∷ pages)) page in
     ap front_of (sheets_of-append fonts [] (p ∷ pages) page) ∙ front_more sheets sheet
 
 -- The layout counts the bytes of its front.
@@ -90,7 +90,7 @@ pub size-some : (fonts : Slots) (pages : List ShippedPage) → pages ≢ [] → 
 size-some fonts pages some = size_of_front (sheets_of fonts [] pages) ∙ ap length (sym (front-some fonts pages some))
 
 bop_place : (fonts : Slots) (pages : List ShippedPage) (page : ShippedPage)
-    → (after_all after_preamble (sheets_of fonts [] pages)).size + length (bytes_of (define (sheet_of fonts (slots_behind fonts [] pages) page).fresh))
+    → (after_all after_preamble (sheets_of fonts [] pages)).size + length (bytes_of (define (sheet_of fonts (slots_after_all fonts [] pages) page).fresh))
     ≡ length (front fonts pages) + length (bytes_before fonts (so_far_of fonts pages) page)
 unfolding front spelling operand
 bop_place fonts [] page =
@@ -114,14 +114,14 @@ unfolding with_next
 so_far-append fonts pages page =
     let s = after_all after_preamble (sheets_of fonts [] pages) in
     let t = after_all after_preamble (sheets_of fonts [] (pages ++ page ∷ [])) in
-    let behind = after_page fonts pages page in
+    let following = after_page fonts pages page in
     same_parts
-    (ap (λ (w : WriterKnowledge). w.last) behind ∙ ap pos (bop_place fonts pages page))
+    (ap (λ (w : WriterKnowledge). w.last) following ∙ ap pos (bop_place fonts pages page))
     (ap length (front-append fonts pages page) ∙ length-append (front fonts pages) (next_bytes fonts (so_far_of fonts pages) page))
-    (slots_behind-append fonts [] pages page)
+    (slots_after_all-append fonts [] pages page)
     (greatest-append reach_down pages page)
     (greatest-append reach_right pages page)
-    (ap (λ (w : WriterKnowledge). w.depth) behind)
+    (ap (λ (w : WriterKnowledge). w.depth) following)
     (length-append pages (page ∷ []))
     (load_on-append pages page)
 

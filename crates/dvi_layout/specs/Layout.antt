@@ -16,9 +16,9 @@ abbrev pub slots_after : Slots → (defined : List ℕ) → ShippedPage → List
 slots_after fonts defined page = defined ++ fresh_slots fonts defined (flat (written_body page))
 
 -- The defined slots after pages.
-abbrev pub slots_behind : Slots → (defined : List ℕ) → List ShippedPage → List ℕ
-slots_behind fonts defined [] = defined
-slots_behind fonts defined (page ∷ pages) = slots_behind fonts (slots_after fonts defined page) pages
+abbrev pub slots_after_all : Slots → (defined : List ℕ) → List ShippedPage → List ℕ
+slots_after_all fonts defined [] = defined
+slots_after_all fonts defined (page ∷ pages) = slots_after_all fonts (slots_after fonts defined page) pages
 
 -- The input to the layout for pages, each after the definitions before it.
 abbrev pub sheets_of : Slots → (defined : List ℕ) → List ShippedPage → List Sheet
@@ -37,7 +37,7 @@ load_on (page ∷ pages) = heavier (load_on pages) page.box_node
 
 -- The definitions of the postamble: those of all fonts that the pages define, in rising order of the slots.
 abbrev pub closing_of : Slots → List ShippedPage → List Definition
-closing_of fonts pages = definitions_of fonts (in_rising_order (slots_behind fonts [] pages))
+closing_of fonts pages = definitions_of fonts (in_rising_order (slots_after_all fonts [] pages))
 
 -- The file of pages, with that many bytes 223 at its end.
 abbrev pub ended : Slots → List ShippedPage → (padding : ℕ) → List ℕ

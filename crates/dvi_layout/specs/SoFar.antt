@@ -10,7 +10,7 @@ use Rattle.ship_core.specs.Marks.{ShippedPage}
 use Rattle.ship_core.specs.Pages.{reach_down, reach_right}
 use Rattle.dvi_layout.specs.Fonts.{Slots}
 use Rattle.dvi_layout.specs.Sheets.{written_body, definitions_of, in_rising_order, sheet_of}
-use Rattle.dvi_layout.specs.Layout.{slots_after, slots_behind, sheets_of, greatest, load_on, front}
+use Rattle.dvi_layout.specs.Layout.{slots_after, slots_after_all, sheets_of, greatest, load_on, front}
 
 -- The place of the last bop, or -1; the number of bytes up to the last eop; the slots of the defined fonts, in order; the greatest bottom and right
 -- edge of the pages, at least 0; the greatest number of pushes that are open at once in a page; the number of pages; and their load.
@@ -34,7 +34,7 @@ so_far_of fonts pages =
     record {
       last = (after_all after_preamble (sheets_of fonts [] pages)).last;
       size = length (front fonts pages);
-      defined = slots_behind fonts [] pages;
+      defined = slots_after_all fonts [] pages;
       tall = greatest reach_down pages;
       wide = greatest reach_right pages;
       deep = (after_all after_preamble (sheets_of fonts [] pages)).depth;

@@ -58,7 +58,7 @@ impl Model for Progress {
 #[derive(Drop)]
 pub struct NextPage {
     pub bytes: Vec<u8>,
-    pub behind: Progress,
+    pub after: Progress,
 }
 
 /// The instructions before the definitions of a page that follows `pages` others: the preamble before the first page.
@@ -212,7 +212,7 @@ impl Progress {
         requires text { page.now.load.text ≡ box_text page.now.box_node.now }
         requires room { HasRoom (with_next fonts.now self.now (shipped_page page.now)) }
         ensures bytes { IfOk result (λ next. next.bytes.items ≡ next_bytes fonts.now self.now (shipped_page page.now)) }
-        ensures behind { IfOk result (λ next. next.behind ≡ with_next fonts.now self.now (shipped_page page.now)) }
+        ensures after { IfOk result (λ next. next.after ≡ with_next fonts.now self.now (shipped_page page.now)) }
         ensures fits { OnOk result (is_huge (shipped_page page.now) ≡ false) }
         ensures err { IfErr result (λ fault. fault
             ≡ (if is_huge (shipped_page page.now) then WriteFault.HugePage else WriteFault.OutOfMemory)) }
@@ -220,11 +220,11 @@ impl Progress {
         let body = written_body(alloc, page)?;
         let (fresh, deepest) = fresh_slots(alloc, fonts, self.defined.as_slice(), &body)?;
         let (bytes, bop) = self.lay_out(alloc, fonts, &fresh, page.counts, &body)?;
-        let mut behind = self.copied();
-        behind.keep_size(&fresh, bop, bytes.len(), page.load);
-        behind.keep_reach(page);
-        behind.keep_depth(&body, deepest);
-        Ok(NextPage { bytes, behind })
+        let mut after = self.copied();
+        after.keep_size(&fresh, bop, bytes.len(), page.load);
+        after.keep_reach(page);
+        after.keep_depth(&body, deepest);
+        Ok(NextPage { bytes, after })
     }
 
     /// The operands of post.

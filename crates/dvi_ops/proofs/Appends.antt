@@ -174,9 +174,9 @@ length-pages does [] pages e = let same : [] ≡ pages = cc in ap length same
 length-pages does (Idle ∷ parts) pages e = length-pages does parts pages e
 length-pages does (Defines d ∷ parts) pages e = length-pages does parts pages e
 length-pages does (Shows counts pointer body ∷ parts) pages e =
-    let behind = rest_of (meaning does body start) (pages_of does parts) e in
+    let after = rest_of (meaning does body start) (pages_of does parts) e in
     ap length (pointers-append (instructions (Shows counts pointer body)) (flat_map instructions parts) ∙ ap (λ ps. ps ++ pointers (flat_map instructions parts)) (pointers-page counts pointer body))
-    ∙ (ap suc (length-pages does parts behind.0 behind.1) ∙ sym behind.2)
+    ∙ (ap suc (length-pages does parts after.0 after.1) ∙ sym after.2)
   where
     rest_of : (m : Meaning) (o : Option (List MarkedPage)) → page_then counts m o ≡ Some pages → (more : List MarkedPage) × (o ≡ Some more) × (length pages ≡ suc (length more))
     rest_of None o e = absurd cc

@@ -143,12 +143,12 @@ one_frame bytes f g =
     let posts = one_reading (Post f.stop) (Post g.stop) f.post g.post (written f.tail ++ 249 ∷ []) (written g.tail ++ 249 ∷ []) f.post_spelled g.post_spelled fronts.1 in
     let same_post : f.post ≡ g.post = posts.1 in
     let same_stop : Post f.stop ≡ Post g.stop = posts.0 in
-    let behind : written f.tail ++ 249 ∷ [] ≡ written g.tail ++ 249 ∷ [] = append_cancel_left f.post _ _ (fronts.1 ∙ ap (λ (p : List ℕ). p ++ (written g.tail ++ 249 ∷ [])) (sym same_post)) in
+    let after : written f.tail ++ 249 ∷ [] ≡ written g.tail ++ 249 ∷ [] = append_cancel_left f.post _ _ (fronts.1 ∙ ap (λ (p : List ℕ). p ++ (written g.tail ++ 249 ∷ [])) (sym same_post)) in
     record {
       front = one_list f.front g.front f.front_spelled g.front_spelled fronts.0;
       post = same_post;
       stop = cc;
-      tail = one_list f.tail g.tail f.tail_spelled g.tail_spelled (same_from_push (written f.tail) (written g.tail) 249 249 behind).0;
+      tail = one_list f.tail g.tail f.tail_spelled g.tail_spelled (same_from_push (written f.tail) (written g.tail) 249 249 after).0;
       ending = c.ending ∙ (ap (λ (o : List ℕ). 249 ∷ (o ++ 2 ∷ [])) operands.1 ∙ sym d.ending);
       padding = trailer.1;
     }
@@ -177,7 +177,7 @@ one_parts (Shows counts pointer body ∷ ps) (Shows counts' pointer' body' ∷ q
     let tails : (flat body ++ Eop ∷ []) ++ flat_map instructions ps ≡ (flat body' ++ Eop ∷ []) ++ flat_map instructions qs = cc in
     let cut = flat_cut body body' (Eop ∷ flat_map instructions ps) (Eop ∷ flat_map instructions qs) (ends_eop _) (ends_eop _) (sym (append_assoc (flat body) (Eop ∷ []) (flat_map instructions ps)) ∙ (tails ∙ append_assoc (flat body') (Eop ∷ []) (flat_map instructions qs))) in
     let same_body : body ≡ body' = cut.0 in
-    let behind : Eop ∷ flat_map instructions ps ≡ Eop ∷ flat_map instructions qs = cut.1 in
+    let after : Eop ∷ flat_map instructions ps ≡ Eop ∷ flat_map instructions qs = cut.1 in
     let rest : flat_map instructions ps ≡ flat_map instructions qs = cc in
     let same = one_parts ps qs rest in
     cc

@@ -146,9 +146,9 @@ words_read (z ∷ zs) a (suc n) len says =
     let (b, rest, whole, first, more) = says in
     let (tail, long) = words_read zs rest n (omega arith) more in
     let four : length b ≡ 4 = first.0 in
-    let behind : drop 4 (b ++ rest) ≡ rest = rw (← four) (drop-append_seam b rest) in
+    let after : drop 4 (b ++ rest) ≡ rest = rw (← four) (drop-append_seam b rest) in
     let head : signed 4 (b ++ rest) ≡ z = ap (twos_complement 4) (big_from-append 4 b rest (omega arith)) ∙ first.1 in
-    let all : words (suc n) (b ++ rest) ≡ z ∷ zs = rw (head, behind, tail) refl in
+    let all : words (suc n) (b ++ rest) ≡ z ∷ zs = rw (head, after, tail) refl in
     (ap (words (suc n)) whole ∙ all, ap (λ (l : List ℕ). length l) whole ∙ omega (arith, length-append b rest))
 
 pub words_stand : (n : ℕ) (a : List ℕ) → length a ≡ 4 * n → (length (words n a) ≡ n) × SaysEach (words n a) a

@@ -73,8 +73,8 @@ kept-meaning does (Group inner f) s out here e =
     inside (Some (marks, t)) is e first later =
         let found = first (marks, t) is in
         let after : DviState = record { place = s.place; font = t.font } in
-        let behind = then_follows marks after (λ t. meaning (kept does) f t) (λ t. meaning does f t) (λ t. points does f t) out here e (λ last g. later after last here g) in (
-          ap (λ (m : Meaning). and_then (restored s.place m) (λ t. meaning does f t)) found.0 ∙ behind.0,
+        let following = then_follows marks after (λ t. meaning (kept does) f t) (λ t. meaning does f t) (λ t. points does f t) out here e (λ last g. later after last here g) in (
+          ap (λ (m : Meaning). and_then (restored s.place m) (λ t. meaning does f t)) found.0 ∙ following.0,
           all_append IsPoint (points does inner s) (points_then (restored s.place (meaning does inner s)) (λ t. points does f t)) found.1
-              (subst (λ (m : Meaning). AllByRecursion IsPoint (points_then (restored s.place m) (λ t. points does f t))) (sym found.0) behind.1),
+              (subst (λ (m : Meaning). AllByRecursion IsPoint (points_then (restored s.place m) (λ t. points does f t))) (sym found.0) following.1),
         )

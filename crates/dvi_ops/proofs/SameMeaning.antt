@@ -106,5 +106,5 @@ same_pages v w (Shows counts pointer body ∷ parts) sel =
     let parted = subst P (selections-append page (flat_map instructions parts)) sel in
     let both = all_front (SameWidths v w) (selections page) (selections (flat_map instructions parts)) parted in
     let here = all_front (SameWidths v w) (selections (flat body)) (selections (Eop ∷ [])) (subst P (selections-append (flat body) (Eop ∷ [])) both) in
-    let behind = all_back (SameWidths v w) (selections page) (selections (flat_map instructions parts)) parted in
-    ap₂ (page_then counts) (same_meaning v w body here) (same_pages v w parts behind)
+    let after = all_back (SameWidths v w) (selections page) (selections (flat_map instructions parts)) parted in
+    ap₂ (page_then counts) (same_meaning v w body here) (same_pages v w parts after)

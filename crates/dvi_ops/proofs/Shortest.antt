@@ -18,8 +18,8 @@ use Rattle.dvi_ops.proofs.Spelled.{operand_length, signed_cases}
 abbrev pub AreBytes : List ℕ → Type 0
 AreBytes bytes = (k : ℕ) → slice_index bytes k < 256
 
-behind : (n : ℕ) (bytes operand : List ℕ) → bytes ≡ n ∷ operand → AreBytes bytes → AreBytes operand
-behind n bytes operand e small k = let h = small (suc k) in let same : slice_index bytes (suc k) ≡ slice_index operand k = ap (λ (x : List ℕ). slice_index x (suc k)) e in omega arith
+after : (n : ℕ) (bytes operand : List ℕ) → bytes ≡ n ∷ operand → AreBytes bytes → AreBytes operand
+after n bytes operand e small k = let h = small (suc k) in let same : slice_index bytes (suc k) ≡ slice_index operand k = ap (λ (x : List ℕ). slice_index x (suc k)) e in omega arith
 
 front_small : (a b : List ℕ) (k : ℕ) → AreBytes (a ++ b) → slice_index a k < 256
 front_small a b k small = elim (cases_lt k (length a)) [
@@ -129,13 +129,13 @@ longer a b e = omega arith
 signed_shortest : (base : ℕ) (z : ℤ) (bytes : List ℕ) → AreBytes bytes → IsCoded signed base z bytes → Longer bytes (coded_signed base z)
 signed_shortest base z bytes small coded =
     let (n, operand, low, high, whole, len, value) = coded in
-    let least = signed_least n operand z low high (behind (base + n) bytes operand whole small) value in
+    let least = signed_least n operand z low high (after (base + n) bytes operand whole small) value in
     omega (arith, coded_length base (signed_size z) z, ap (λ (x : List ℕ). length x) whole)
 
 code_shortest : (base : ℕ) (z : ℤ) (bytes : List ℕ) → AreBytes bytes → IsCoded code base z bytes → Longer bytes (coded_number base z)
 code_shortest base z bytes small coded =
     let (n, operand, low, high, whole, len, value) = coded in
-    let least = code_least n operand z low high (behind (base + n) bytes operand whole small) value in
+    let least = code_least n operand z low high (after (base + n) bytes operand whole small) value in
     omega (arith, coded_length base (code_size z) z, ap (λ (x : List ℕ). length x) whole)
 
 char_shortest : (c : ℤ) (bytes : List ℕ) → AreBytes bytes → SpellsLeaf (SetChar c) bytes → Longer bytes (char_spelling c)
@@ -195,7 +195,7 @@ is_rule_length operation height width a says =
 definition_shortest : (d : Definition) (bytes : List ℕ) → AreBytes bytes → SpellsLeaf (FontDef d) bytes → Longer bytes (coded_number 242 d.number ++ definition_bytes d)
 definition_shortest d bytes small says =
     let (n, number, rest, low, high, whole, len, value, more) = says in
-    let all = behind (242 + n) bytes (number ++ rest) whole small in
+    let all = after (242 + n) bytes (number ++ rest) whole small in
     let least = code_least n number d.number low high (λ k. front_small number rest k all) value in
     omega (arith, length-append (coded_number 242 d.number) (definition_bytes d), coded_length 242 (code_size d.number) d.number, definition_length d, ap (λ (x : List ℕ). length x) whole, length-append number rest, says_definition_length d rest more)
 

@@ -72,7 +72,7 @@ frame_of is stop tail place padding front_fits stop_fits tail_fits at small padd
       ending = ending;
       padding = padding;
       whole =
-          ap (λ (behind : List ℕ). bytes_of is ++ ((post ++ behind) ++ replicate padding 223)) (bytes_of-append tail (PostPost (pos place) 2 ∷ []))
+          ap (λ (following : List ℕ). bytes_of is ++ ((post ++ following) ++ replicate padding 223)) (bytes_of-append tail (PostPost (pos place) 2 ∷ []))
           ∙ (regroup (bytes_of is) post (bytes_of tail) ending (replicate padding 223)
           ∙ ap₂ (λ (a b : List ℕ). a ++ (post ++ (b ++ (ending ++ replicate padding 223)))) (sym (written-wrote is)) (sym (written-wrote tail)));
       padded = padded;

@@ -28,7 +28,7 @@ pub fn one_body()
 
 /// The concatenation of two bodies has the instructions of both in order. Its meaning is that of the first and then that of the second, from where
 /// the first ends. Its depth of open pushes is the greater one of the two.
-pub fn one_behind_another()
+pub fn one_after_another()
     ensures instructions { (f g : Forest) → flat (beside f g) ≡ flat f ++ flat g }
     ensures marks { (does : Acts) (f g : Forest) (s : DviState)
         → meaning does (beside f g) s ≡ and_then (meaning does f s) (λ t. meaning does g t) }

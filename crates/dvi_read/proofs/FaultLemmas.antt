@@ -31,7 +31,7 @@ use Rattle.dvi_read.proofs.WalkLemmas.{walk_fault}
 use Rattle.tfm_core.specs.FileWidths.{file_widths}
 use Rattle.tfm_core.specs.NamedBytes.{NamedBytes}
 
-module _ (files : List NamedBytes) (bytes : List ℕ) (post behind last : ℕ) (stop : Postamble) (chain : List ℕ) (framed : IsFramed bytes post behind last stop chain) where
+module _ (files : List NamedBytes) (bytes : List ℕ) (post after last : ℕ) (stop : Postamble) (chain : List ℕ) (framed : IsFramed bytes post after last stop chain) where
   -- The place of post is within the file, and so is the part after it.
   pub post_within : post ≤ length bytes
   post_within =
@@ -40,18 +40,18 @@ module _ (files : List NamedBytes) (bytes : List ℕ) (post behind last : ℕ) (
       let padded = framed.ends.closed.trailed.padded in
       omega arith
 
-  pub behind_within : last - 5 ≤ length bytes
-  behind_within = let padded = framed.ends.closed.trailed.padded in omega arith
+  pub after_within : last - 5 ≤ length bytes
+  after_within = let padded = framed.ends.closed.trailed.padded in omega arith
 
-  module _ (pages : List MarkedPage) (f : IsPassed (file_widths files) bytes post behind last stop chain pages) where
+  module _ (pages : List MarkedPage) (f : IsPassed (file_widths files) bytes post after last stop chain pages) where
     -- The instructions after post in a file.
-    closes_there : Closes bytes behind (last - 5) (known_after [] (says f.front)) f.tail
+    closes_there : Closes bytes after (last - 5) (known_after [] (says f.front)) f.tail
     closes_there =
         record { spelled = f.tail_spelled; whole = f.tail_whole; idle = f.tail_is; fonts = fonts_back [] (says f.front) (says f.tail) f.fonts }
 
     -- The numbers that were found ahead are those that are defined after post.
-    pub numbers_are : (ahead : List ℤ) → IsLookedAhead bytes behind (last - 5) ahead → AreNumbersOf ahead (definitions (says f.tail))
-    numbers_are ahead look = looked bytes behind (last - 5) ahead (known_after [] (says f.front)) f.tail behind_within look closes_there
+    pub numbers_are : (ahead : List ℤ) → IsLookedAhead bytes after (last - 5) ahead → AreNumbersOf ahead (definitions (says f.tail))
+    numbers_are ahead look = looked bytes after (last - 5) ahead (known_after [] (says f.front)) f.tail after_within look closes_there
 
     -- The preamble of a file.
     pub preamble_there : (bad : BadDvi) → IsPreambleFault bytes post stop bad → ⊥
@@ -65,41 +65,41 @@ module _ (files : List NamedBytes) (bytes : List ℕ) (post behind last : ℕ) (
             fault.none f.comment (subst (λ (i : Instruction). StandsAt bytes 0 post i) first (first_stands bytes 0 post t more (omega arith) post_within here (subst (λ (n : ℕ). written (t ∷ more) ≡ take n bytes) whole_size whole))) f.units
 
     -- A fault at the place of post.
-    pub pages_ended : (bad : BadDvi) (from : ℕ) (ahead : List ℤ) (seen : ReadSoFar) → HasPages files bytes post behind last stop chain from ahead seen → IsUnended seen.pass seen.left post bad → ⊥
+    pub pages_ended : (bad : BadDvi) (from : ℕ) (ahead : List ℤ) (seen : ReadSoFar) → HasPages files bytes post after last stop chain from ahead seen → IsUnended seen.pass seen.left post bad → ⊥
     pages_ended bad from ahead seen has (place, broken) =
-        let (p, left) = end_right (file_widths files) bytes post behind last stop chain pages f post_within ahead (numbers_are ahead has.looked) post seen (omega arith) has.reached refl in by_rule broken p left
+        let (p, left) = end_right (file_widths files) bytes post after last stop chain pages f post_within ahead (numbers_are ahead has.looked) post seen (omega arith) has.reached refl in by_rule broken p left
       where
         by_rule : (bad.cause ≡ Opcode) × ((pages : List MarkedPage) → seen.pass ≡ Between pages → ⊥) ⊎ (bad.cause ≡ Pointer) × ((pages : List MarkedPage) × (seen.pass ≡ Between pages)) × (seen.left ≢ all_left [])
             → seen.pass ≡ Between pages → seen.left ≡ all_left [] → ⊥
         by_rule (inl (cause, inside)) p left = inside pages p
         by_rule (inr (cause, closed, some)) p left = some left
 
-    pub tail_is_right : (bad : BadDvi) (from : ℕ) (ahead : List ℤ) (seen : ReadSoFar) (new : List Definition) → HasPages files bytes post behind last stop chain from ahead seen
-        → IsClosingFault bytes behind (last - 5) seen.known new (frames.Bad bad) → ⊥
+    pub tail_is_right : (bad : BadDvi) (from : ℕ) (ahead : List ℤ) (seen : ReadSoFar) (new : List Definition) → HasPages files bytes post after last stop chain from ahead seen
+        → IsClosingFault bytes after (last - 5) seen.known new (frames.Bad bad) → ⊥
     tail_is_right bad from ahead seen new has broken =
-        let tail = tail_right (file_widths files) bytes post behind last stop chain pages f post_within ahead seen has.reached in
-        let closes : Closes bytes behind (last - 5) seen.known f.tail = record { spelled = tail.spelled; whole = tail.whole; idle = tail.idle; fonts = tail.fonts } in
-        broken_closing bytes behind (last - 5) seen.known new seen.known bad f.tail behind_within (same_self seen.known) broken closes
+        let tail = tail_right (file_widths files) bytes post after last stop chain pages f post_within ahead seen has.reached in
+        let closes : Closes bytes after (last - 5) seen.known f.tail = record { spelled = tail.spelled; whole = tail.whole; idle = tail.idle; fonts = tail.fonts } in
+        broken_closing bytes after (last - 5) seen.known new seen.known bad f.tail after_within (same_self seen.known) broken closes
 
 -- A fault other than refused memory.
 pub no_fault : (files : List NamedBytes) (bytes : List ℕ) (fault : DviFault) (pages : List MarkedPage) → fault ≢ OutOfMemory → IsDviFault files bytes fault → IsFile (file_widths files) bytes pages → ⊥
 no_fault files bytes fault pages other (ForPlaces post e stop is ends named) f = other is
-no_fault files bytes fault pages other (LookingAhead post behind last stop chain from is starts wants) f = other is
+no_fault files bytes fault pages other (LookingAhead post after last stop chain from is starts wants) f = other is
 no_fault files bytes fault pages other (AtTheEnd bad e broken) f = end_fault bytes bad.place bad.cause broken f.frame
 no_fault files bytes fault pages other (InTheChain bad post e stop is ends broken) f = chain_fault (file_widths files) bytes pages post e bad.place stop bad.cause ends broken f
-no_fault files bytes fault pages other (InThePreamble bad post behind last stop chain is chained broken) f =
-    preamble_there files bytes post behind last stop chain chained.framed pages (file_passed bytes post behind last stop chain chained.framed (file_widths files) pages f) bad broken
-no_fault files bytes fault pages other (InThePages post behind last stop chain from ahead starts look broken stray) f =
+no_fault files bytes fault pages other (InThePreamble bad post after last stop chain is chained broken) f =
+    preamble_there files bytes post after last stop chain chained.framed pages (file_passed bytes post after last stop chain chained.framed (file_widths files) pages f) bad broken
+no_fault files bytes fault pages other (InThePages post after last stop chain from ahead starts look broken stray) f =
     let framed = starts.chained.framed in
-    let passed = file_passed bytes post behind last stop chain framed (file_widths files) pages f in
-    walk_fault files ahead bytes post behind last stop chain pages fault (post_within files bytes post behind last stop chain framed) other broken passed
-    (numbers_are files bytes post behind last stop chain framed pages passed ahead look)
-no_fault files bytes fault pages other (AtPost bad post behind last stop chain from ahead seen is has broken unmet) f =
+    let passed = file_passed bytes post after last stop chain framed (file_widths files) pages f in
+    walk_fault files ahead bytes post after last stop chain pages fault (post_within files bytes post after last stop chain framed) other broken passed
+    (numbers_are files bytes post after last stop chain framed pages passed ahead look)
+no_fault files bytes fault pages other (AtPost bad post after last stop chain from ahead seen is has broken unmet) f =
     let framed = has.starts.chained.framed in
-    let passed = file_passed bytes post behind last stop chain framed (file_widths files) pages f in
-    pages_ended files bytes post behind last stop chain framed pages passed bad from ahead seen has broken
-no_fault files bytes fault pages other (AfterPost bad post behind last stop chain from ahead seen ends new is has ended broken) f =
+    let passed = file_passed bytes post after last stop chain framed (file_widths files) pages f in
+    pages_ended files bytes post after last stop chain framed pages passed bad from ahead seen has broken
+no_fault files bytes fault pages other (AfterPost bad post after last stop chain from ahead seen ends new is has ended broken) f =
     let framed = has.starts.chained.framed in
-    let passed = file_passed bytes post behind last stop chain framed (file_widths files) pages f in
-    tail_is_right files bytes post behind last stop chain framed pages passed bad from ahead seen new has broken
-no_fault files bytes fault pages other (ForDefinitions post behind last stop chain from ahead seen ends new is has ended wants) f = other is
+    let passed = file_passed bytes post after last stop chain framed (file_widths files) pages f in
+    tail_is_right files bytes post after last stop chain framed pages passed bad from ahead seen new has broken
+no_fault files bytes fault pages other (ForDefinitions post after last stop chain from ahead seen ends new is has ended wants) f = other is

@@ -22,7 +22,7 @@ use Rattle.dvi_scan.proofs.ReachedLemmas.{reached_end, reached_first}
 use Rattle.dvi_read.specs.Opened.{Opened, GivesPages, HasFontsOf, HasUnitsOf, IsExact, IsNoFile, IsReadFrom}
 use Rattle.dvi_read.specs.Opening.{HasPages, IsDviFault, IsStray, StartsAt, ForPlaces, InTheChain, AtPost, AfterPost, ForDefinitions}
 use Rattle.dvi_read.specs.OpeningParts.{IsFinishFault}
-use Rattle.dvi_read.proofs.FaultLemmas.{behind_within, no_fault, post_within}
+use Rattle.dvi_read.proofs.FaultLemmas.{after_within, no_fault, post_within}
 use Rattle.dvi_read.specs.Faults.{of_frame}
 use Rattle.dvi_read.specs.Stops.{PagesHaveEnded, IsWalkFault}
 use Rattle.dvi_read.specs.declared.fault.DviFault.{DviFault}
@@ -38,30 +38,30 @@ chain_refused files bytes post e stop frames.OutOfMemory ends named = ForPlaces 
 chain_refused files bytes post e stop (frames.Bad fault) ends broken = InTheChain fault post e stop refl ends broken
 
 -- The place after the preamble begins the walk.
-pub starts_reached : (files : List NamedBytes) (bytes : List ℕ) (post behind last : ℕ) (stop : Postamble) (chain : List ℕ) (from : ℕ) (ahead : List ℤ) → StartsAt bytes post behind last stop chain from
+pub starts_reached : (files : List NamedBytes) (bytes : List ℕ) (post after last : ℕ) (stop : Postamble) (chain : List ℕ) (from : ℕ) (ahead : List ℤ) → StartsAt bytes post after last stop chain from
     → IsReached (file_widths files) ahead bytes stop chain from (before_pages chain)
-starts_reached files bytes post behind last stop chain from ahead starts =
-    let high = post_within files bytes post behind last stop chain starts.chained.framed in
+starts_reached files bytes post after last stop chain from ahead starts =
+    let high = post_within files bytes post after last stop chain starts.chained.framed in
     let within = starts.preamble.within in
     reached_first (file_widths files) ahead bytes stop chain from starts.preamble.comment (omega arith) starts.preamble.spelled
 
 -- A fault of the pages that is Pointer is at a bop that is not in the chain.
-pub strays : (files : List NamedBytes) (ahead : List ℤ) (bytes : List ℕ) (post behind last : ℕ) (stop : Postamble) (chain : List ℕ) (fault : DviFault) → IsFramed bytes post behind last stop chain
+pub strays : (files : List NamedBytes) (ahead : List ℤ) (bytes : List ℕ) (post after last : ℕ) (stop : Postamble) (chain : List ℕ) (fault : DviFault) → IsFramed bytes post after last stop chain
     → IsWalkFault files ahead bytes stop chain post fault → IsStray bytes post chain fault
-strays files ahead bytes post behind last stop chain fault framed broken = λ bad is cause.
+strays files ahead bytes post after last stop chain fault framed broken = λ bad is cause.
     let walk = subst (λ (fault : DviFault). IsWalkFault files ahead bytes stop chain post fault) is broken in
-    let high = post_within files bytes post behind last stop chain framed in
+    let high = post_within files bytes post after last stop chain framed in
     (stray_bop files ahead bytes stop chain post bad cause walk, stray_pointer files ahead bytes stop chain post post stop.last_bop bad high framed.links cause walk)
 
 -- The parts make a file of the pages.
-pub opened : (files : List NamedBytes) (bytes : List ℕ) (post behind last : ℕ) (stop : Postamble) (chain : List ℕ) (from : ℕ) (ahead : List ℤ) (seen : ReadSoFar) (pages : List MarkedPage) (new : List Definition)
-    → HasPages files bytes post behind last stop chain from ahead seen → PagesHaveEnded seen.pass seen.left pages → ClosesTo bytes behind (last - 5) seen.known new → IsFile (file_widths files) bytes pages
-opened files bytes post behind last stop chain from ahead seen pages new has ended (tail, closes, new_is) =
+pub opened : (files : List NamedBytes) (bytes : List ℕ) (post after last : ℕ) (stop : Postamble) (chain : List ℕ) (from : ℕ) (ahead : List ℤ) (seen : ReadSoFar) (pages : List MarkedPage) (new : List Definition)
+    → HasPages files bytes post after last stop chain from ahead seen → PagesHaveEnded seen.pass seen.left pages → ClosesTo bytes after (last - 5) seen.known new → IsFile (file_widths files) bytes pages
+opened files bytes post after last stop chain from ahead seen pages new has ended (tail, closes, new_is) =
     let framed = has.starts.chained.framed in
-    let numbers = looked bytes behind (last - 5) ahead seen.known tail (behind_within files bytes post behind last stop chain framed) has.looked closes in
-    let is_tail : IsTail bytes behind last seen.known tail = record { spelled = closes.spelled; whole = closes.whole; idle = closes.idle; fonts = closes.fonts } in
-    passed_file bytes post behind last stop chain framed (file_widths files) pages has.starts.chained.count
-    (reached_end (file_widths files) bytes post behind last stop chain pages ahead seen tail has.starts.preamble.units numbers has.reached ended.between ended.none is_tail)
+    let numbers = looked bytes after (last - 5) ahead seen.known tail (after_within files bytes post after last stop chain framed) has.looked closes in
+    let is_tail : IsTail bytes after last seen.known tail = record { spelled = closes.spelled; whole = closes.whole; idle = closes.idle; fonts = closes.fonts } in
+    passed_file bytes post after last stop chain framed (file_widths files) pages has.starts.chained.count
+    (reached_end (file_widths files) bytes post after last stop chain pages ahead seen tail has.starts.preamble.units numbers has.reached ended.between ended.none is_tail)
 
 -- The units are those of post.
 pub units_of_post : (bytes : List ℕ) (post e : ℕ) (stop : Postamble) → HasPostamble bytes post e stop → (f : Frame bytes) → stop.units ≡ f.stop.units
@@ -71,38 +71,38 @@ units_of_post bytes post e stop ends f =
     ap (λ (s : Postamble). s.units) stops
 
 -- A refusal at the place of post or after it.
-pub finish_refused : (files : List NamedBytes) (bytes : List ℕ) (post behind last : ℕ) (stop : Postamble) (chain : List ℕ) (from : ℕ) (ahead : List ℤ) (seen : ReadSoFar) (fault : DviFault)
-    → HasPages files bytes post behind last stop chain from ahead seen → IsFinishFault bytes post behind last seen.pass seen.left seen.known fault → IsDviFault files bytes fault
-finish_refused files bytes post behind last stop chain from ahead seen faults.OutOfMemory has (pages, ended, new, wants) =
-    ForDefinitions post behind last stop chain from ahead seen pages new refl has ended wants
-finish_refused files bytes post behind last stop chain from ahead seen (faults.Bad bad) has (inl unended) =
-    AtPost bad post behind last stop chain from ahead seen refl has unended (λ cause. unmet_pointer (file_widths files) ahead bytes stop chain post seen bad has.reached cause unended)
-finish_refused files bytes post behind last stop chain from ahead seen (faults.Bad bad) has (inr (pages, ended, new, broken)) =
-    AfterPost bad post behind last stop chain from ahead seen pages new refl has ended broken
-finish_refused files bytes post behind last stop chain from ahead seen fault has broken = absurd broken
+pub finish_refused : (files : List NamedBytes) (bytes : List ℕ) (post after last : ℕ) (stop : Postamble) (chain : List ℕ) (from : ℕ) (ahead : List ℤ) (seen : ReadSoFar) (fault : DviFault)
+    → HasPages files bytes post after last stop chain from ahead seen → IsFinishFault bytes post after last seen.pass seen.left seen.known fault → IsDviFault files bytes fault
+finish_refused files bytes post after last stop chain from ahead seen faults.OutOfMemory has (pages, ended, new, wants) =
+    ForDefinitions post after last stop chain from ahead seen pages new refl has ended wants
+finish_refused files bytes post after last stop chain from ahead seen (faults.Bad bad) has (inl unended) =
+    AtPost bad post after last stop chain from ahead seen refl has unended (λ cause. unmet_pointer (file_widths files) ahead bytes stop chain post seen bad has.reached cause unended)
+finish_refused files bytes post after last stop chain from ahead seen (faults.Bad bad) has (inr (pages, ended, new, broken)) =
+    AfterPost bad post after last stop chain from ahead seen pages new refl has ended broken
+finish_refused files bytes post after last stop chain from ahead seen fault has broken = absurd broken
 
 -- The definitions that were read before post and after it are those of the whole file.
-pub fonts_read : (metrics : WidthsByName) (ahead : List ℤ) (bytes : List ℕ) (post behind last : ℕ) (stop : Postamble) (chain : List ℕ) (seen : ReadSoFar) (new : List Definition)
-    → IsFramed bytes post behind last stop chain → IsReached metrics ahead bytes stop chain post seen → ClosesTo bytes behind (last - 5) seen.known new
+pub fonts_read : (metrics : WidthsByName) (ahead : List ℤ) (bytes : List ℕ) (post after last : ℕ) (stop : Postamble) (chain : List ℕ) (seen : ReadSoFar) (new : List Definition)
+    → IsFramed bytes post after last stop chain → IsReached metrics ahead bytes stop chain post seen → ClosesTo bytes after (last - 5) seen.known new
     → (f : Frame bytes) → new ≡ definitions (says f.front ++ says f.tail)
-fonts_read metrics ahead bytes post behind last stop chain seen new framed r (tail, closes, new_is) f =
-    let parts = frame_parts bytes post behind last stop chain framed f in
+fonts_read metrics ahead bytes post after last stop chain seen new framed r (tail, closes, new_is) f =
+    let parts = frame_parts bytes post after last stop chain framed f in
     let front : r.before ≡ f.front = one_list r.before f.front r.spelled f.front_spelled (r.whole ∙ sym parts.0) in
-    let behind_it : tail ≡ f.tail = one_list tail f.tail closes.spelled f.tail_spelled (closes.whole ∙ sym parts.1) in
+    let after_it : tail ≡ f.tail = one_list tail f.tail closes.spelled f.tail_spelled (closes.whole ∙ sym parts.1) in
     new_is
     ∙ (ap (λ (ds : List Definition). ds ++ definitions (says tail)) (sym r.known_is)
     ∙ (sym (flat_map-append definitions_in (says r.before) (says tail))
-    ∙ ap₂ (λ (a b : List Token). definitions (says a ++ says b)) front behind_it))
+    ∙ ap₂ (λ (a b : List Token). definitions (says a ++ says b)) front after_it))
 
 -- The result of reading a whole file.
-pub read_from : (files : List NamedBytes) (bytes : List ℕ) (post behind last : ℕ) (stop : Postamble) (chain : List ℕ) (from : ℕ) (ahead : List ℤ) (seen : ReadSoFar) (pages : List MarkedPage) (new : List Definition)
-    → HasPages files bytes post behind last stop chain from ahead seen → PagesHaveEnded seen.pass seen.left pages → ClosesTo bytes behind (last - 5) seen.known new
+pub read_from : (files : List NamedBytes) (bytes : List ℕ) (post after last : ℕ) (stop : Postamble) (chain : List ℕ) (from : ℕ) (ahead : List ℤ) (seen : ReadSoFar) (pages : List MarkedPage) (new : List Definition)
+    → HasPages files bytes post after last stop chain from ahead seen → PagesHaveEnded seen.pass seen.left pages → ClosesTo bytes after (last - 5) seen.known new
     → IsReadFrom files bytes (record { units = stop.units; pages = pages; fonts = new })
-read_from files bytes post behind last stop chain from ahead seen pages new has ended closes =
+read_from files bytes post after last stop chain from ahead seen pages new has ended closes =
     record {
-      pages = opened files bytes post behind last stop chain from ahead seen pages new has ended closes;
+      pages = opened files bytes post after last stop chain from ahead seen pages new has ended closes;
       units = units_of_post bytes post last stop has.starts.chained.framed.ends;
-      fonts = fonts_read (file_widths files) ahead bytes post behind last stop chain seen new has.starts.chained.framed has.reached closes;
+      fonts = fonts_read (file_widths files) ahead bytes post after last stop chain seen new has.starts.chained.framed has.reached closes;
     }
 
 -- The clauses for a whole result.
@@ -132,15 +132,15 @@ pub exact_open : (files : List NamedBytes) (bytes : List ℕ) (result : Result O
 exact_open files bytes result read bad = λ pages f. exactly files bytes result pages read bad f
 
 -- A fault after post.
-pub tail_refused : (bytes : List ℕ) (post behind last : ℕ) (p : PassStateView) (left : Left) (pages : List MarkedPage) (known new : List Definition) (fault : FrameFault) → PagesHaveEnded p left pages
-    → IsClosingFault bytes behind (last - 5) known new fault → IsFinishFault bytes post behind last p left known (of_frame fault)
-tail_refused bytes post behind last p left pages known new frames.OutOfMemory ended wants = (pages, ended, new, wants)
-tail_refused bytes post behind last p left pages known new (frames.Bad fault) ended broken = inr (pages, ended, new, broken)
+pub tail_refused : (bytes : List ℕ) (post after last : ℕ) (p : PassStateView) (left : Left) (pages : List MarkedPage) (known new : List Definition) (fault : FrameFault) → PagesHaveEnded p left pages
+    → IsClosingFault bytes after (last - 5) known new fault → IsFinishFault bytes post after last p left known (of_frame fault)
+tail_refused bytes post after last p left pages known new frames.OutOfMemory ended wants = (pages, ended, new, wants)
+tail_refused bytes post after last p left pages known new (frames.Bad fault) ended broken = inr (pages, ended, new, broken)
 
 -- The same for pages that are equal to those of the walk.
-pub read_kept : (files : List NamedBytes) (bytes : List ℕ) (post behind last : ℕ) (stop : Postamble) (chain : List ℕ) (from : ℕ) (ahead : List ℤ) (seen : ReadSoFar) (pages kept : List MarkedPage)
-    (new : List Definition) → HasPages files bytes post behind last stop chain from ahead seen → PagesHaveEnded seen.pass seen.left pages → ClosesTo bytes behind (last - 5) seen.known new → kept ≡ pages
+pub read_kept : (files : List NamedBytes) (bytes : List ℕ) (post after last : ℕ) (stop : Postamble) (chain : List ℕ) (from : ℕ) (ahead : List ℤ) (seen : ReadSoFar) (pages kept : List MarkedPage)
+    (new : List Definition) → HasPages files bytes post after last stop chain from ahead seen → PagesHaveEnded seen.pass seen.left pages → ClosesTo bytes after (last - 5) seen.known new → kept ≡ pages
     → IsReadFrom files bytes (record { units = stop.units; pages = kept; fonts = new })
-read_kept files bytes post behind last stop chain from ahead seen pages kept new has ended closes same =
+read_kept files bytes post after last stop chain from ahead seen pages kept new has ended closes same =
     subst (λ (ps : List MarkedPage). IsReadFrom files bytes (record { units = stop.units; pages = ps; fonts = new })) (sym same)
-    (read_from files bytes post behind last stop chain from ahead seen pages new has ended closes)
+    (read_from files bytes post after last stop chain from ahead seen pages new has ended closes)

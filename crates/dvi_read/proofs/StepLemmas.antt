@@ -11,7 +11,7 @@ use Rattle.dvi_ops.specs.Tokens.{bop_place}
 use Rattle.dvi_ops.specs.Instruction.{Definition, BodyLeaf, SetChar, PutChar, FontNum, FontDef, Instruction, Do}
 use Rattle.dvi_scan.specs.Drawing.{always}
 use Rattle.dvi_scan.specs.Pass.{PassStateView, Between, Inside, with_marks, execute}
-use Rattle.dvi_scan.specs.Reached.{Left, behind_bops}
+use Rattle.dvi_scan.specs.Reached.{Left, after_bops}
 use Rattle.dvi_scan.specs.Execution.{BreaksTurn, IsAsked, TakesRoom, pass_at}
 use Rattle.dvi_scan.specs.View.{marked_page}
 use Rattle.dvi_scan.specs.declared.executing.PassState.{PassState}
@@ -112,7 +112,7 @@ stepped files ahead most at i old mid new sound current passes notes =
     sym (one_width (widths_of metrics table) (asked_width old.fonts (code_in i)) most i (stand_of old) asked) ∙ (passes.goes_on ∙ ap (λ (p : PassStateView). Some p) (sym same_stand)) in
     record {
       goes_on = goes_on;
-      bop = ap (behind_bops (bop_place at i)) (sym passes.left) ∙ notes.bop;
+      bop = ap (after_bops (bop_place at i)) (sym passes.left) ∙ notes.bop;
       right = subst (λ (ds : List Definition). IsRightAfter ds i) passes.known notes.right;
       known_is = notes.known_is ∙ ap (λ (ds : List Definition). ds ++ definitions_in i) passes.known;
       widths = subst (λ (ds : List Definition). AllByRecursion (λ f. IsSome (font metrics ds f)) (selection_of i)) passes.known notes.widths;

@@ -153,11 +153,11 @@ nothing_right files ahead bytes stop at post s i t fault other stands right = by
     by_fault faults.DimensionTooLarge other b = widths refusals.DimensionTooLarge b
 
 -- In a file no walk stops.
-pub walk_fault : (files : List NamedBytes) (ahead : List ℤ) (bytes : List ℕ) (post behind last : ℕ) (stop : Postamble) (chain : List ℕ) (pages : List MarkedPage) (fault : DviFault) → post ≤ length bytes
-    → fault ≢ faults.OutOfMemory → IsWalkFault files ahead bytes stop chain post fault → (f : IsPassed (file_widths files) bytes post behind last stop chain pages) → AreNumbersOf ahead (definitions (says f.tail)) → ⊥
-walk_fault files ahead bytes post behind last stop chain pages fault high other (at, stops) f numbers =
+pub walk_fault : (files : List NamedBytes) (ahead : List ℤ) (bytes : List ℕ) (post after last : ℕ) (stop : Postamble) (chain : List ℕ) (pages : List MarkedPage) (fault : DviFault) → post ≤ length bytes
+    → fault ≢ faults.OutOfMemory → IsWalkFault files ahead bytes stop chain post fault → (f : IsPassed (file_widths files) bytes post after last stop chain pages) → AreNumbersOf ahead (definitions (says f.tail)) → ⊥
+walk_fault files ahead bytes post after last stop chain pages fault high other (at, stops) f numbers =
     let below = stops.before in
-    let next = next_right (file_widths files) bytes post behind last stop chain pages f high ahead numbers at stops.seen (omega arith) stops.reached below in
+    let next = next_right (file_widths files) bytes post after last stop chain pages f high ahead numbers at stops.seen (omega arith) stops.reached below in
     let forward = next.forward in
     let within = next.within in
     nothing_right files ahead bytes stop at post stops.seen next.here next.new fault other (next.next - at, omega arith, next.spelled) next.right stops.stops

@@ -20,19 +20,19 @@ use Rattle.tfm_core.specs.FileWidths.{file_widths}
 use Rattle.tfm_core.specs.NamedBytes.{NamedBytes}
 
 -- The end of a file and the places of its pages, in the number that post gives: the rules of the first four checks hold.
-pub record HasChain (bytes : List ℕ) (post behind last : ℕ) (stop : Postamble) (chain : List ℕ) : Type 0 where
-  pub framed : IsFramed bytes post behind last stop chain
+pub record HasChain (bytes : List ℕ) (post after last : ℕ) (stop : Postamble) (chain : List ℕ) : Type 0 where
+  pub framed : IsFramed bytes post after last stop chain
   pub count : stop.pages ≡ length chain % 65536
 
 -- The same and the preamble, which ends at `from`.
-pub record StartsAt (bytes : List ℕ) (post behind last : ℕ) (stop : Postamble) (chain : List ℕ) (from : ℕ) : Type 0 where
-  pub chained : HasChain bytes post behind last stop chain
+pub record StartsAt (bytes : List ℕ) (post after last : ℕ) (stop : Postamble) (chain : List ℕ) (from : ℕ) : Type 0 where
+  pub chained : HasChain bytes post after last stop chain
   pub preamble : HasPreamble bytes post stop from
 
 -- All instructions before post are right: `seen` is what was read there, and `ahead` has the numbers of fonts that are defined after post.
-pub record HasPages (files : List NamedBytes) (bytes : List ℕ) (post behind last : ℕ) (stop : Postamble) (chain : List ℕ) (from : ℕ) (ahead : List ℤ) (seen : ReadSoFar) : Type 0 where
-  pub starts : StartsAt bytes post behind last stop chain from
-  pub looked : IsLookedAhead bytes behind (last - 5) ahead
+pub record HasPages (files : List NamedBytes) (bytes : List ℕ) (post after last : ℕ) (stop : Postamble) (chain : List ℕ) (from : ℕ) (ahead : List ℤ) (seen : ReadSoFar) : Type 0 where
+  pub starts : StartsAt bytes post after last stop chain from
+  pub looked : IsLookedAhead bytes after (last - 5) ahead
   pub reached : IsReached (file_widths files) ahead bytes stop chain post seen
 
 -- Where a fault in the pages is Pointer, a bop is at its place, and this place is not in the chain.
@@ -49,20 +49,20 @@ IsUnmet before chain bad = bad.cause ≡ Pointer → places 0 before ≢ reverse
 -- instruction of the pages; or for a right definition after post.
 pub data IsDviFault (files : List NamedBytes) (bytes : List ℕ) (fault : DviFault) : Type 0 where
   ForPlaces : (post e : ℕ) (stop : Postamble) → fault ≡ OutOfMemory → HasPostamble bytes post e stop → NamesPage bytes post stop.last_bop → IsDviFault files bytes fault
-  LookingAhead : (post behind last : ℕ) (stop : Postamble) (chain : List ℕ) (from : ℕ) → fault ≡ OutOfMemory → StartsAt bytes post behind last stop chain from
-      → IsUnlooked bytes behind (last - 5) → IsDviFault files bytes fault
+  LookingAhead : (post after last : ℕ) (stop : Postamble) (chain : List ℕ) (from : ℕ) → fault ≡ OutOfMemory → StartsAt bytes post after last stop chain from
+      → IsUnlooked bytes after (last - 5) → IsDviFault files bytes fault
   AtTheEnd : (bad : BadDvi) → fault ≡ Bad bad → BreaksEnd bytes bad.place bad.cause → IsDviFault files bytes fault
   InTheChain : (bad : BadDvi) (post e : ℕ) (stop : Postamble) → fault ≡ Bad bad → HasPostamble bytes post e stop → BreaksChain bytes post stop bad.place bad.cause → IsDviFault files bytes fault
-  InThePreamble : (bad : BadDvi) (post behind last : ℕ) (stop : Postamble) (chain : List ℕ) → fault ≡ Bad bad → HasChain bytes post behind last stop chain
+  InThePreamble : (bad : BadDvi) (post after last : ℕ) (stop : Postamble) (chain : List ℕ) → fault ≡ Bad bad → HasChain bytes post after last stop chain
       → IsPreambleFault bytes post stop bad → IsDviFault files bytes fault
-  InThePages : (post behind last : ℕ) (stop : Postamble) (chain : List ℕ) (from : ℕ) (ahead : List ℤ) → StartsAt bytes post behind last stop chain from
-      → IsLookedAhead bytes behind (last - 5) ahead → IsWalkFault files ahead bytes stop chain post fault → IsStray bytes post chain fault
+  InThePages : (post after last : ℕ) (stop : Postamble) (chain : List ℕ) (from : ℕ) (ahead : List ℤ) → StartsAt bytes post after last stop chain from
+      → IsLookedAhead bytes after (last - 5) ahead → IsWalkFault files ahead bytes stop chain post fault → IsStray bytes post chain fault
       → IsDviFault files bytes fault
-  AtPost : (bad : BadDvi) (post behind last : ℕ) (stop : Postamble) (chain : List ℕ) (from : ℕ) (ahead : List ℤ) (seen : ReadSoFar) → fault ≡ Bad bad
-      → (has : HasPages files bytes post behind last stop chain from ahead seen) → IsUnended seen.pass seen.left post bad → IsUnmet has.reached.before chain bad → IsDviFault files bytes fault
-  AfterPost : (bad : BadDvi) (post behind last : ℕ) (stop : Postamble) (chain : List ℕ) (from : ℕ) (ahead : List ℤ) (seen : ReadSoFar) (pages : List MarkedPage) (new : List Definition)
-      → fault ≡ Bad bad → HasPages files bytes post behind last stop chain from ahead seen → PagesHaveEnded seen.pass seen.left pages
-      → IsClosingFault bytes behind (last - 5) seen.known new (frames.Bad bad) → IsDviFault files bytes fault
-  ForDefinitions : (post behind last : ℕ) (stop : Postamble) (chain : List ℕ) (from : ℕ) (ahead : List ℤ) (seen : ReadSoFar) (pages : List MarkedPage) (new : List Definition)
-      → fault ≡ OutOfMemory → HasPages files bytes post behind last stop chain from ahead seen → PagesHaveEnded seen.pass seen.left pages
-      → IsClosingFault bytes behind (last - 5) seen.known new frames.OutOfMemory → IsDviFault files bytes fault
+  AtPost : (bad : BadDvi) (post after last : ℕ) (stop : Postamble) (chain : List ℕ) (from : ℕ) (ahead : List ℤ) (seen : ReadSoFar) → fault ≡ Bad bad
+      → (has : HasPages files bytes post after last stop chain from ahead seen) → IsUnended seen.pass seen.left post bad → IsUnmet has.reached.before chain bad → IsDviFault files bytes fault
+  AfterPost : (bad : BadDvi) (post after last : ℕ) (stop : Postamble) (chain : List ℕ) (from : ℕ) (ahead : List ℤ) (seen : ReadSoFar) (pages : List MarkedPage) (new : List Definition)
+      → fault ≡ Bad bad → HasPages files bytes post after last stop chain from ahead seen → PagesHaveEnded seen.pass seen.left pages
+      → IsClosingFault bytes after (last - 5) seen.known new (frames.Bad bad) → IsDviFault files bytes fault
+  ForDefinitions : (post after last : ℕ) (stop : Postamble) (chain : List ℕ) (from : ℕ) (ahead : List ℤ) (seen : ReadSoFar) (pages : List MarkedPage) (new : List Definition)
+      → fault ≡ OutOfMemory → HasPages files bytes post after last stop chain from ahead seen → PagesHaveEnded seen.pass seen.left pages
+      → IsClosingFault bytes after (last - 5) seen.known new frames.OutOfMemory → IsDviFault files bytes fault

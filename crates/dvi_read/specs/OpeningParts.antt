@@ -19,16 +19,16 @@ use Rattle.tfm_core.specs.NamedBytes.{NamedBytes}
 
 -- The parts that are found before the pages.
 abbrev pub HasFront : List ℕ → BeforePages → Type 0
-HasFront bytes f = StartsAt bytes f.ending.post f.ending.behind f.ending.last (postamble f.ending.stop) f.chain.items f.from
+HasFront bytes f = StartsAt bytes f.ending.post f.ending.after f.ending.last (postamble f.ending.stop) f.chain.items f.from
 
 -- All instructions before post are right, and a walk has what was read there.
-abbrev pub HoldsPages : List NamedBytes → (bytes : List ℕ) → (post behind last : ℕ) → Postamble → (chain : List ℕ) → (from : ℕ) → Walk → Type 0
-HoldsPages files bytes post behind last stop chain from walk = (ahead : List ℤ) × (selected : List ℤ) × HasPages files bytes post behind last stop chain from ahead (so_far selected walk)
+abbrev pub HoldsPages : List NamedBytes → (bytes : List ℕ) → (post after last : ℕ) → Postamble → (chain : List ℕ) → (from : ℕ) → Walk → Type 0
+HoldsPages files bytes post after last stop chain from walk = (ahead : List ℤ) × (selected : List ℤ) × HasPages files bytes post after last stop chain from ahead (so_far selected walk)
 
 -- Why the reading does not end at the place of post, or the part after post is wrong, or memory is refused for a definition there.
-abbrev pub IsFinishFault : List ℕ → (post behind last : ℕ) → PassStateView → Left → (known : List Definition) → DviFault → Type 0
-IsFinishFault bytes post behind last p left known OutOfMemory =
-    (pages : List MarkedPage) × PagesHaveEnded p left pages × (new : List Definition) × IsClosingFault bytes behind (last - 5) known new frames.OutOfMemory
-IsFinishFault bytes post behind last p left known (Bad bad) =
-    IsUnended p left post bad ⊎ (pages : List MarkedPage) × PagesHaveEnded p left pages × (new : List Definition) × IsClosingFault bytes behind (last - 5) known new (frames.Bad bad)
-IsFinishFault bytes post behind last p left known fault = ⊥
+abbrev pub IsFinishFault : List ℕ → (post after last : ℕ) → PassStateView → Left → (known : List Definition) → DviFault → Type 0
+IsFinishFault bytes post after last p left known OutOfMemory =
+    (pages : List MarkedPage) × PagesHaveEnded p left pages × (new : List Definition) × IsClosingFault bytes after (last - 5) known new frames.OutOfMemory
+IsFinishFault bytes post after last p left known (Bad bad) =
+    IsUnended p left post bad ⊎ (pages : List MarkedPage) × PagesHaveEnded p left pages × (new : List Definition) × IsClosingFault bytes after (last - 5) known new (frames.Bad bad)
+IsFinishFault bytes post after last p left known fault = ⊥

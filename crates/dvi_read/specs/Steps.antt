@@ -11,7 +11,7 @@ use Rattle.dvi_ops.specs.Instruction.{Definition, FontDef, FontNum, Instruction,
 use Rattle.dvi_ops.specs.Tokens.{bop_place}
 use Rattle.dvi_scan.specs.Drawing.{always}
 use Rattle.dvi_scan.specs.Pass.{PassStateView, execute}
-use Rattle.dvi_scan.specs.Reached.{HasWidths, Left, ReadSoFar, behind_bops, has_number}
+use Rattle.dvi_scan.specs.Reached.{HasWidths, Left, ReadSoFar, after_bops, has_number}
 use Rattle.dvi_scan.specs.Execution.{BreaksTurn, TakesRoom, pass_at}
 use Rattle.dvi_scan.specs.View.{marked_page}
 use Rattle.dvi_read.specs.ReadFonts.{AreSound, Chooses, HasCurrent, IsCurrent, FontIsRead, asked_width, code_in, font_place}
@@ -72,7 +72,7 @@ FontsAreRead fonts selected = AllByRecursion (λ f. FontIsRead f fonts) selected
 -- The effect of an instruction on pages and fonts is right and was recorded: a bop is among the places left of the chain, a definition was added, a
 -- selected font was read.
 pub record Notes (metrics : WidthsByName) (ahead : List ℤ) (at : ℕ) (i : Instruction) (old new : Walk) : Type 0 where
-  pub bop : behind_bops (bop_place at i) (places_left old) ≡ Some (places_left new)
+  pub bop : after_bops (bop_place at i) (places_left old) ≡ Some (places_left new)
   pub right : IsRightAfter (known_of old) i
   pub known_is : known_of new ≡ known_of old ++ definitions_in i
   pub widths : AllByRecursion (HasWidths metrics (known_of old)) (selection_of i)
@@ -116,7 +116,7 @@ BreaksPass most i walk (Refused refusal) = ⊥
 -- One more instruction: the pass goes on, and the effect on pages and fonts is right and was recorded.
 pub record IsWalkStep (metrics : WidthsByName) (ahead : List ℤ) (most at : ℕ) (i : Instruction) (old new : Walk) : Type 0 where
   pub goes_on : execute (kept (acts (widths_of metrics (known_of old)))) most i (stand_of old) ≡ Some (stand_of new)
-  pub bop : behind_bops (bop_place at i) (places_left old) ≡ Some (places_left new)
+  pub bop : after_bops (bop_place at i) (places_left old) ≡ Some (places_left new)
   pub right : IsRightAfter (known_of old) i
   pub known_is : known_of new ≡ known_of old ++ definitions_in i
   pub widths : AllByRecursion (HasWidths metrics (known_of old)) (selection_of i)

@@ -14,7 +14,7 @@ use Rattle.dvi_ops.specs.Fonts.{WidthsByName, IsRightAfter, defined, widths_of}
 use Rattle.dvi_ops.specs.Instruction.{Definition, FontDef, FontNum, Instruction, Do, Postamble}
 use Rattle.dvi_ops.specs.Tokens.{bop_place}
 use Rattle.dvi_scan.specs.Pass.{PassStateView, Between, execute}
-use Rattle.dvi_scan.specs.Reached.{IsReached, Left, ReadSoFar, all_left, behind_bops, has_number}
+use Rattle.dvi_scan.specs.Reached.{IsReached, Left, ReadSoFar, all_left, after_bops, has_number}
 use Rattle.dvi_scan.specs.Execution.{BreaksTurn, TakesRoom}
 use Rattle.dvi_read.specs.declared.fault.DviFault.{DviFault}
 use Rattle.dvi_read.specs.declared.fault.DviFault.TheVariants as faults
@@ -42,7 +42,7 @@ pub record LacksMemoryForFont (files : List NamedBytes) (ahead : List ℤ) (s : 
 -- The effect of an instruction on pages or fonts is wrong: a bop is not among the places left of the chain; a definition has no valid size or differs
 -- from an earlier one; a selected font is not defined before, or its number is not defined after post.
 abbrev pub BreaksRest : (ahead : List ℤ) → (known : List Definition) → (at : ℕ) → (left : Left) → Instruction → DviCause → Type 0
-BreaksRest ahead known at left i Pointer = behind_bops (bop_place at i) left ≡ None
+BreaksRest ahead known at left i Pointer = after_bops (bop_place at i) left ≡ None
 BreaksRest ahead known at left i Font = (IsRightAfter known i → ⊥) ⊎ (f : ℤ) × (i ≡ Do (FontNum f)) × (has_number ahead f ≡ false)
 BreaksRest ahead known at left i cause = ⊥
 

@@ -26,13 +26,13 @@ pub(crate) fn read_pages<'a>(
     from: usize,
     chain: Vec<usize>,
 ) -> Result<Walk<'a>, DviFault>
-    requires low { ending.now.behind + 5 ≤ ending.now.last }
+    requires low { ending.now.after + 5 ≤ ending.now.last }
     requires high { ending.now.last ≤ length bytes.now }
-    requires starts { StartsAt bytes.now ending.now.post ending.now.behind ending.now.last (postamble ending.now.stop) chain.items from }
-    ensures ok { IfOk result (HoldsPages files.now bytes.now ending.now.post ending.now.behind ending.now.last (postamble ending.now.stop) chain.items from) }
+    requires starts { StartsAt bytes.now ending.now.post ending.now.after ending.now.last (postamble ending.now.stop) chain.items from }
+    ensures ok { IfOk result (HoldsPages files.now bytes.now ending.now.post ending.now.after ending.now.last (postamble ending.now.stop) chain.items from) }
     ensures bad { IfErr result (IsDviFault files.now bytes.now) }
 {
-    let ahead = prescan_definitions(alloc, bytes, ending.behind, ending.last - 5)?;
+    let ahead = prescan_definitions(alloc, bytes, ending.after, ending.last - 5)?;
     let source = Source {
         bytes,
         files,
@@ -48,14 +48,14 @@ pub(crate) fn finish<'a>(
     ending: &FileEnd,
     walk: &mut Walk<'a>,
 ) -> Result<(), DviFault>
-    requires low { ending.now.behind + 5 ≤ ending.now.last }
+    requires low { ending.now.after + 5 ≤ ending.now.last }
     requires high { ending.now.last ≤ length bytes.now }
     ensures ended { OnOk result (PagesHaveEnded (stand_of walk.old) (places_left walk.old) (map marked_page walk.old.done.items)) }
-    ensures closed { OnOk result (ClosesTo bytes.now ending.now.behind (ending.now.last - 5) (known_of walk.old) (known_of walk.new)) }
+    ensures closed { OnOk result (ClosesTo bytes.now ending.now.after (ending.now.last - 5) (known_of walk.old) (known_of walk.new)) }
     ensures done { walk.new.done.items ≡ walk.old.done.items }
-    ensures bad { IfErr result (IsFinishFault bytes.now ending.now.post ending.now.behind ending.now.last (stand_of walk.old) (places_left walk.old) (known_of walk.old)) }
+    ensures bad { IfErr result (IsFinishFault bytes.now ending.now.post ending.now.after ending.now.last (stand_of walk.old) (places_left walk.old) (known_of walk.old)) }
 {
     pages_end(walk, ending.post)?;
-    read_trailing_definitions(bytes, ending.behind, ending.last - 5, &mut walk.known)?;
+    read_trailing_definitions(bytes, ending.after, ending.last - 5, &mut walk.known)?;
     Ok(())
 }

@@ -23,7 +23,7 @@ fn definition_in<'f, 'a>(
     known: &'f KnownFonts<'a>,
     number: FontNumber,
 ) -> Option<&'f FontDefinition<'a>>
-    ensures some { IfSome result (λ font. (has_number ahead.now.keys number.value ≡ true) × (defined number.value known.now ≡ Some (definition font.now))) }
+    ensures font_defined { IfSome result (λ font. (has_number ahead.now.keys number.value ≡ true) × (defined number.value known.now ≡ Some (definition font.now))) }
     ensures none { result ≡ None → (defined number.value known.now ≡ None) ⊎ (has_number ahead.now.keys number.value ≡ false) }
 {
     if !is_ahead(ahead, number) {

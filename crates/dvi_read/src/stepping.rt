@@ -4,7 +4,7 @@ ghost use Rattle.std.specs.Prelude.{◌≡◌, false, min, reverse, true, IfErr,
 ghost use Rattle.std.specs.List.{AllByRecursion};
 ghost use Rattle.dvi_ops.specs.Fonts.{IsFontSize};
 ghost use Rattle.dvi_ops.specs.View.{view};
-ghost use Rattle.dvi_scan.specs.Reached.{behind_bop};
+ghost use Rattle.dvi_scan.specs.Reached.{after_bop};
 ghost use Rattle.dvi_read.specs.ReadFonts.{AreSound, HaveByteCodes, IsCurrent};
 ghost use Rattle.dvi_read.specs.Steps.{BreaksNote, BreaksPass, Notes, PassesOn, IsWalkStep, StopsStep, known_of};
 ghost use Rattle.tfm_core.specs.FileWidths.{file_widths};
@@ -25,8 +25,8 @@ const MAX_PUSHES: usize = 1024;
 /// have the last one first. A bop that is not in the chain is refused at its own place; a missed place is refused only at post, since no bop is at it
 /// (it may be inside a special).
 fn is_named(left: &mut Vec<usize>, missed: &mut bool, at: usize) -> bool
-    ensures yes { result ≡ true → behind_bop at missed.old (reverse left.old.items) ≡ Some (record { missed = missed.new; places = reverse left.new.items }) }
-    ensures no { result ≡ false → behind_bop at missed.old (reverse left.old.items) ≡ None }
+    ensures yes { result ≡ true → after_bop at missed.old (reverse left.old.items) ≡ Some (record { missed = missed.new; places = reverse left.new.items }) }
+    ensures no { result ≡ false → after_bop at missed.old (reverse left.old.items) ≡ None }
 {
     while let Some(place) = left.pop() {
         if place == at {

@@ -26,7 +26,7 @@ impl<'a, 'f> Lines<'a, 'f> {
 
     /// Replaces the part by the next line; for a special by the beginning of its line or by its next byte. Returns whether there was one.
     fn next(&mut self, part: &mut ListingPart) -> bool
-        ensures some { IsTrue result → lines_ahead self.old ≡ part.new ++ lines_ahead self.new }
+        ensures part_returned { IsTrue result → lines_ahead self.old ≡ part.new ++ lines_ahead self.new }
         ensures none { result ≡ false → lines_ahead self.old ≡ [] }
         ensures still { result ≡ false → self.new ≡ self.old }
         ensures filled { IsTrue result → 0 < length part.new }

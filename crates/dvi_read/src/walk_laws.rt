@@ -18,9 +18,9 @@ ghost use Rattle.tfm_core.specs.NamedBytes.{NamedBytes};
 
 /// Where a walk stops for another reason than memory, the bytes are no file with these font files.
 pub fn no_walk_stops_in_a_file()
-    ensures { (files : List NamedBytes) (ahead : List ℤ) (bytes : List ℕ) (post behind last : ℕ) (stop : Postamble) (chain : List ℕ) (pages : List MarkedPage) (fault : DviFault)
+    ensures { (files : List NamedBytes) (ahead : List ℤ) (bytes : List ℕ) (post after last : ℕ) (stop : Postamble) (chain : List ℕ) (pages : List MarkedPage) (fault : DviFault)
         → post ≤ length bytes → fault ≢ OutOfMemory → IsWalkFault files ahead bytes stop chain post fault
-        → (f : IsPassed (file_widths files) bytes post behind last stop chain pages) → AreNumbersOf ahead (definitions (says f.tail)) → ⊥ }
+        → (f : IsPassed (file_widths files) bytes post after last stop chain pages) → AreNumbersOf ahead (definitions (says f.tail)) → ⊥ }
 {}
 
 /// Where a walk stops at a pointer, a bop that is not in the chain is there. Where the fault is at the place of post, the bops are not at the places

@@ -32,8 +32,8 @@ bop_pointer bytes place bound counts pointer within (size, room, (a, b, whole, t
     let forty : length a ≡ 40 = omega (arith, each_size counts a each) in
     let all : drop place bytes ≡ (139 ∷ a) ++ (b ++ drop size (drop place bytes)) =
     sym (take-append-drop size (drop place bytes)) ∙ (ap (λ (x : List ℕ). x ++ drop size (drop place bytes)) whole ∙ append_assoc (139 ∷ a) b (drop size (drop place bytes))) in
-    let behind : drop 41 (drop place bytes) ≡ b ++ drop size (drop place bytes) = ap (λ (x : List ℕ). drop 41 x) all ∙ drop_at (139 ∷ a) (b ++ drop size (drop place bytes)) 41 (omega arith) in
-    let there : drop (place + 41) bytes ≡ b ++ drop size (drop place bytes) = sym (drop-drop 41 place bytes) ∙ behind in (
+    let after : drop 41 (drop place bytes) ≡ b ++ drop size (drop place bytes) = ap (λ (x : List ℕ). drop 41 x) all ∙ drop_at (139 ∷ a) (b ++ drop size (drop place bytes)) 41 (omega arith) in
+    let there : drop (place + 41) bytes ≡ b ++ drop size (drop place bytes) = sym (drop-drop 41 place bytes) ∙ after in (
       ap (λ (x : List ℕ). signed 4 x) there ∙ says_front pointer b (drop size (drop place bytes)) says,
       omega (arith, length-take size (drop place bytes), ap (λ (x : List ℕ). length x) whole, length-append a b, says.0),
     )
@@ -119,11 +119,11 @@ pub post_pointer : (bytes : List ℕ) (place bound : ℕ) (stop : Postamble) →
     → (signed 4 (drop (place + 1) bytes) ≡ stop.last_bop) × (place + 5 ≤ bound)
 post_pointer bytes place bound stop within (size, room, (last, units, tall, wide, deep, count, whole, says, said1, said2, said3, said4, said5)) =
     let rest = units ++ (tall ++ (wide ++ (deep ++ count))) in
-    let behind = drop size (drop place bytes) in
-    let all : drop place bytes ≡ (248 ∷ []) ++ ((last ++ rest) ++ behind) =
-    sym (take-append-drop size (drop place bytes)) ∙ ap (λ (x : List ℕ). x ++ behind) whole in
-    let there : drop (place + 1) bytes ≡ last ++ (rest ++ behind) =
-    sym (drop-drop 1 place bytes) ∙ (ap (λ (x : List ℕ). drop 1 x) all ∙ append_assoc last rest behind) in (
-      ap (λ (x : List ℕ). signed 4 x) there ∙ says_front stop.last_bop last (rest ++ behind) says,
+    let after = drop size (drop place bytes) in
+    let all : drop place bytes ≡ (248 ∷ []) ++ ((last ++ rest) ++ after) =
+    sym (take-append-drop size (drop place bytes)) ∙ ap (λ (x : List ℕ). x ++ after) whole in
+    let there : drop (place + 1) bytes ≡ last ++ (rest ++ after) =
+    sym (drop-drop 1 place bytes) ∙ (ap (λ (x : List ℕ). drop 1 x) all ∙ append_assoc last rest after) in (
+      ap (λ (x : List ℕ). signed 4 x) there ∙ says_front stop.last_bop last (rest ++ after) says,
       omega (arith, length-take size (drop place bytes), ap (λ (x : List ℕ). length x) whole, length-append last rest, says.0),
     )

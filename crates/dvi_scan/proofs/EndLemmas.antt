@@ -14,9 +14,9 @@ use Rattle.dvi_scan.proofs.PlaceLemmas.{one_stands}
 -- The last byte before the bytes 223 is at one place.
 pub one_trail : (bytes : List ℕ) (e f : ℕ) → IsTrailed bytes e → IsTrailed bytes f → e ≡ f
 one_trail bytes e f s t = elim (cases_lt e f) [
-  | inl below ↦ (let padded = t.padded in absurd (t.last (s.behind f below (omega arith))))
+  | inl below ↦ (let padded = t.padded in absurd (t.last (s.after f below (omega arith))))
   | inr above ↦ elim (cases_lt f e) [
-    | inl below ↦ (let padded = s.padded in absurd (s.last (t.behind e below (omega arith))))
+    | inl below ↦ (let padded = s.padded in absurd (s.last (t.after e below (omega arith))))
     | inr same ↦ omega arith
   ]
 ]
@@ -69,7 +69,7 @@ module _ (front post tail operand : List ℕ) (padding : ℕ) (stop : Postamble)
       record {
         room = (let five : e ≡ length before + 5 = size_e in omega arith);
         padded = (let size = whole in omega arith);
-        behind = λ k above below. is_223 k above (let size = whole in omega arith);
+        after = λ k above below. is_223 k above (let size = whole in omega arith);
         last = λ same. (let two = version in differ _ _ two same refl);
       }
     where

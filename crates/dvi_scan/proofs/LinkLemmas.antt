@@ -25,8 +25,8 @@ links_wider bytes bound wider pointer (place ∷ earlier) more (e, counts, befor
     (e, counts, before, stands_wider bytes place bound wider (Bop counts before) more stands, links)
 
 -- The instruction after some bytes.
-stands_behind : (a : List ℕ) (t : Token) (x : List ℕ) → IsSpelled t → StandsAt (a ++ (t.bytes ++ x)) (length a) (length a + length t.bytes) t.says
-stands_behind a t x spelled = (
+stands_after : (a : List ℕ) (t : Token) (x : List ℕ) → IsSpelled t → StandsAt (a ++ (t.bytes ++ x)) (length a) (length a + length t.bytes) t.says
+stands_after a t x spelled = (
   length t.bytes,
   omega arith,
   subst (λ (y : List ℕ). Spells t.says y) (sym (ap (λ (y : List ℕ). take (length t.bytes) y) (drop_at a (t.bytes ++ x) (length a) refl) ∙ take_at t.bytes x (length t.bytes) refl)) spelled,
@@ -47,7 +47,7 @@ linked_from bytes a (t ∷ more) rest z last earlier whole (here, spelled) e lin
     let regroup : a ++ (written (t ∷ more) ++ rest) ≡ (a ++ t.bytes) ++ (written more ++ rest) = simp append_assoc in
     let size : length (a ++ t.bytes) ≡ length a + length t.bytes = length-append a t.bytes in
     let stands : StandsAt bytes (length a) (length a + length t.bytes) t.says =
-    subst (λ (x : List ℕ). StandsAt x (length a) (length a + length t.bytes) t.says) (sym (whole ∙ ap (λ (x : List ℕ). a ++ x) (append_assoc t.bytes (written more) rest))) (stands_behind a t (written more ++ rest) here) in
+    subst (λ (x : List ℕ). StandsAt x (length a) (length a + length t.bytes) t.says) (sym (whole ∙ ap (λ (x : List ℕ). a ++ x) (append_assoc t.bytes (written more) rest))) (stands_after a t (written more ++ rest) here) in
     let ends : (length a + length t.bytes) + length (written more) ≡ length a + length (written (t ∷ more)) = omega (arith, length-append t.bytes (written more)) in
     elim (bop_or_not t.says) [
       | is_bop counts pointer is ↦
@@ -88,7 +88,7 @@ chained_from bytes a (t ∷ more) rest bound last earlier whole (here, spelled) 
     let regroup : a ++ (written (t ∷ more) ++ rest) ≡ (a ++ t.bytes) ++ (written more ++ rest) = simp append_assoc in
     let size : length (a ++ t.bytes) ≡ length a + length t.bytes = length-append a t.bytes in
     let stands : StandsAt bytes (length a) (length a + length t.bytes) t.says =
-    subst (λ (x : List ℕ). StandsAt x (length a) (length a + length t.bytes) t.says) (sym (whole ∙ ap (λ (x : List ℕ). a ++ x) (append_assoc t.bytes (written more) rest))) (stands_behind a t (written more ++ rest) here) in
+    subst (λ (x : List ℕ). StandsAt x (length a) (length a + length t.bytes) t.says) (sym (whole ∙ ap (λ (x : List ℕ). a ++ x) (append_assoc t.bytes (written more) rest))) (stands_after a t (written more ++ rest) here) in
     elim (bop_or_not t.says) [
       | is_bop counts pointer is ↦
           (let bop : StandsAt bytes (length a) (length a + length t.bytes) (Bop counts pointer) = subst (λ (i : Instruction). StandsAt bytes (length a) (length a + length t.bytes) i) is stands in

@@ -44,12 +44,12 @@ passes-flat does most (Then i f) rest pages counts marks more stack s t e deep =
         → passes does most (flat f ++ rest) (Inside pages counts front stack u) ≡ passes does most rest (Inside pages counts (front ++ later) stack w)) → (m : Meaning) → and_then m (λ u. meaning does f u) ≡ Some (more, t)
         → then_pass (passes does most (flat f ++ rest)) (with_marks pages counts marks stack m) ≡ passes does most rest (Inside pages counts (marks ++ more) stack t)
     step next None e = absurd cc
-    step next (Some (here, u)) e = behind (meaning does f u) refl e
+    step next (Some (here, u)) e = after (meaning does f u) refl e
       where
-        behind : (m : Meaning) → meaning does f u ≡ m → ahead here m ≡ Some (more, t)
+        after : (m : Meaning) → meaning does f u ≡ m → ahead here m ≡ Some (more, t)
             → passes does most (flat f ++ rest) (Inside pages counts (marks ++ here) stack u) ≡ passes does most rest (Inside pages counts (marks ++ more) stack t)
-        behind None is e = absurd cc
-        behind (Some (later, w)) is e =
+        after None is e = absurd cc
+        after (Some (later, w)) is e =
             let (all, same) = same_out (here ++ later) more w t e in
             next (marks ++ here) later u w is
             ∙ ap₂ (λ (m : List Mark) (u : DviState). passes does most rest (Inside pages counts m stack u)) (append_assoc marks here later ∙ ap (λ (m : List Mark). marks ++ m) all) same
@@ -69,12 +69,12 @@ passes-flat does most (Group inner f) rest pages counts marks more stack s t e d
     within first next None is e = absurd cc
     within first next (Some (here, u)) is e =
         first here u is
-        ∙ behind (meaning does f (record { place = s.place; font = u.font })) refl e
+        ∙ after (meaning does f (record { place = s.place; font = u.font })) refl e
       where
-        behind : (m : Meaning) → meaning does f (record { place = s.place; font = u.font }) ≡ m → ahead here m ≡ Some (more, t)
+        after : (m : Meaning) → meaning does f (record { place = s.place; font = u.font }) ≡ m → ahead here m ≡ Some (more, t)
             → passes does most (flat f ++ rest) (Inside pages counts (marks ++ here) stack (record { place = s.place; font = u.font })) ≡ passes does most rest (Inside pages counts (marks ++ more) stack t)
-        behind None is e = absurd cc
-        behind (Some (later, w)) is e =
+        after None is e = absurd cc
+        after (Some (later, w)) is e =
             let (all, same) = same_out (here ++ later) more w t e in
             next (marks ++ here) later (record { place = s.place; font = u.font }) w is
             ∙ ap₂ (λ (m : List Mark) (u : DviState). passes does most rest (Inside pages counts m stack u)) (append_assoc marks here later ∙ ap (λ (m : List Mark). marks ++ m) all) same

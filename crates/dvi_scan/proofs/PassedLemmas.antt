@@ -37,9 +37,9 @@ front_and_tail metrics front tail right named =
     all_weaker (λ (f : ℤ). defined f (definitions front) ≡ defined f (definitions tail)) (SameWidths (widths_of metrics (definitions front)) (widths_of metrics (definitions tail))) (selections front)
     (λ f same c. ap (λ (o : Option Definition). width_in (widths_in metrics o) c) same) (front_tail front tail right named)
 
-closed_behind : (metrics : WidthsByName) (front tail : List Instruction) → FontsAreRight [] (front ++ tail) → AllByRecursion (HasWidths metrics (definitions front)) (selections front)
+closed_after : (metrics : WidthsByName) (front tail : List Instruction) → FontsAreRight [] (front ++ tail) → AllByRecursion (HasWidths metrics (definitions front)) (selections front)
     → AllByRecursion (IsDefined (definitions tail)) (selections front) → AllByRecursion (HasWidths metrics (definitions tail)) (selections front)
-closed_behind metrics front tail right closing named =
+closed_after metrics front tail right closing named =
     all_weaker (λ (f : ℤ). HasWidths metrics (definitions front) f × (defined f (definitions front) ≡ defined f (definitions tail))) (HasWidths metrics (definitions tail)) (selections front)
     (λ f both. subst (λ (o : Option Definition). IsSome (widths_in metrics o)) both.1 both.0)
     (all_both (HasWidths metrics (definitions front)) (λ (f : ℤ). defined f (definitions front) ≡ defined f (definitions tail)) (selections front) closing (front_tail front tail right named))
@@ -53,9 +53,9 @@ closed_before metrics front tail right closing =
     (front_tail front tail right (all_weaker (HasWidths metrics (definitions tail)) (IsDefined (definitions tail)) (selections front) (has_definition metrics (definitions tail)) closing)))
 
 -- The places of the parts of each frame.
-pub frame_parts : (bytes : List ℕ) (post behind last : ℕ) (stop : Postamble) (chain : List ℕ) → IsFramed bytes post behind last stop chain → (g : Frame bytes)
-    → (written g.front ≡ take post bytes) × (written g.tail ≡ take (last - 5 - behind) (drop behind bytes))
-frame_parts bytes post behind last stop chain framed g =
+pub frame_parts : (bytes : List ℕ) (post after last : ℕ) (stop : Postamble) (chain : List ℕ) → IsFramed bytes post after last stop chain → (g : Frame bytes)
+    → (written g.front ≡ take post bytes) × (written g.tail ≡ take (last - 5 - after) (drop after bytes))
+frame_parts bytes post after last stop chain framed g =
     let found = frame_ends bytes g in
     let (lasts, posts, stops) = one_end bytes post last (length (written g.front)) found.0 stop g.stop framed.ends found.1 in
     let where_last = frame_last bytes g in
@@ -63,21 +63,21 @@ frame_parts bytes post behind last stop chain framed g =
     let from_post : drop post bytes ≡ g.post ++ (written g.tail ++ (g.ending ++ replicate g.padding 223)) = ap₂ (λ (n : ℕ) (x : List ℕ). drop n x) posts g.whole ∙ drop_at (written g.front) _ (length (written g.front)) refl in
     let there : take (length g.post) (drop post bytes) ≡ g.post = ap (λ (x : List ℕ). take (length g.post) x) from_post ∙ take_at g.post _ (length g.post) refl in
     let spelled = subst (λ (x : List ℕ). Spells (Post g.stop) x) (sym there) g.post_spelled in
-    let same = same_front (Post stop) (Post g.stop) (behind - post) (length g.post) (drop post bytes) framed.spelled spelled in
-    let behind_is : behind ≡ post + length g.post = sizes same.1 front_whole from_post in
-    let from_behind : drop behind bytes ≡ written g.tail ++ (g.ending ++ replicate g.padding 223) =
-    ap (λ (n : ℕ). drop n bytes) behind_is ∙ (sym (drop-drop (length g.post) post bytes) ∙ (ap (λ (x : List ℕ). drop (length g.post) x) from_post ∙ drop_at g.post _ (length g.post) refl)) in
-    let tail_size : last - 5 - behind ≡ length (written g.tail) = omega arith in
-    (sym front_whole, sym (ap₂ (λ (n : ℕ) (x : List ℕ). take n x) tail_size from_behind ∙ take_at (written g.tail) _ (length (written g.tail)) refl))
+    let same = same_front (Post stop) (Post g.stop) (after - post) (length g.post) (drop post bytes) framed.spelled spelled in
+    let place_after_is : after ≡ post + length g.post = sizes same.1 front_whole from_post in
+    let from_after : drop after bytes ≡ written g.tail ++ (g.ending ++ replicate g.padding 223) =
+    ap (λ (n : ℕ). drop n bytes) place_after_is ∙ (sym (drop-drop (length g.post) post bytes) ∙ (ap (λ (x : List ℕ). drop (length g.post) x) from_post ∙ drop_at g.post _ (length g.post) refl)) in
+    let tail_size : last - 5 - after ≡ length (written g.tail) = omega arith in
+    (sym front_whole, sym (ap₂ (λ (n : ℕ) (x : List ℕ). take n x) tail_size from_after ∙ take_at (written g.tail) _ (length (written g.tail)) refl))
   where
-    sizes : take (behind - post) (drop post bytes) ≡ take (length g.post) (drop post bytes) → take post bytes ≡ written g.front
-        → drop post bytes ≡ g.post ++ (written g.tail ++ (g.ending ++ replicate g.padding 223)) → behind ≡ post + length g.post
+    sizes : take (after - post) (drop post bytes) ≡ take (length g.post) (drop post bytes) → take post bytes ≡ written g.front
+        → drop post bytes ≡ g.post ++ (written g.tail ++ (g.ending ++ replicate g.padding 223)) → after ≡ post + length g.post
     sizes same front_whole from_post =
         let padded = framed.ends.closed.trailed.padded in
         let low = framed.low in
         let high = framed.high in
         let all = length-drop post bytes in
-        let one : length (take (behind - post) (drop post bytes)) ≡ behind - post = length-take-le (behind - post) (drop post bytes) (omega arith) in
+        let one : length (take (after - post) (drop post bytes)) ≡ after - post = length-take-le (after - post) (drop post bytes) (omega arith) in
         let whole = ap (λ (x : List ℕ). length x) from_post in
         let other : length (take (length g.post) (drop post bytes)) ≡ length g.post =
         length-take-le (length g.post) (drop post bytes) (let size = length-append g.post (written g.tail ++ (g.ending ++ replicate g.padding 223)) in omega arith) in
@@ -92,11 +92,11 @@ one_definition metrics bytes pages f =
     (all_weaker (HasWidths metrics (definitions (says f.frame.tail))) (IsDefined (definitions (says f.frame.tail))) (selections (says f.frame.front)) (has_definition metrics (definitions (says f.frame.tail))) f.closing)
 
 -- The bytes after a place, cut once more.
-cut_behind : (bytes : List ℕ) (at n next : ℕ) → at + n ≡ next → drop at bytes ≡ take n (drop at bytes) ++ drop next bytes
-cut_behind bytes at n next e =
+cut_after : (bytes : List ℕ) (at n next : ℕ) → at + n ≡ next → drop at bytes ≡ take n (drop at bytes) ++ drop next bytes
+cut_after bytes at n next e =
     sym (take-append-drop n (drop at bytes)) ∙ ap (λ (x : List ℕ). take n (drop at bytes) ++ x) (drop-drop n at bytes ∙ ap (λ (k : ℕ). drop k bytes) e)
 
-module _ (bytes : List ℕ) (post behind last : ℕ) (stop : Postamble) (chain : List ℕ) (framed : IsFramed bytes post behind last stop chain) where
+module _ (bytes : List ℕ) (post after last : ℕ) (stop : Postamble) (chain : List ℕ) (framed : IsFramed bytes post after last stop chain) where
   padding : ℕ
   padding = length bytes - (last + 1)
 
@@ -108,7 +108,7 @@ module _ (bytes : List ℕ) (post behind last : ℕ) (stop : Postamble) (chain :
       same_number_lists (drop (last + 1) bytes) (replicate (length bytes - (last + 1)) 223)
       (length-drop (last + 1) bytes ∙ sym (length-replicate {A = ℕ} (length bytes - (last + 1)) 223))
       (λ k below. (let size = length-drop (last + 1) bytes in
-      get_or-drop (last + 1) bytes k 0 ∙ (trailed.behind (last + 1 + k) (omega arith) (omega arith) ∙ sym (get_or-replicate (length bytes - (last + 1)) k 223 0 (omega arith)))))
+      get_or-drop (last + 1) bytes k 0 ∙ (trailed.after (last + 1 + k) (omega arith) (omega arith) ∙ sym (get_or-replicate (length bytes - (last + 1)) k 223 0 (omega arith)))))
 
   operand : List ℕ
   operand = take 4 (drop (last - 4) bytes)
@@ -135,7 +135,7 @@ module _ (bytes : List ℕ) (post behind last : ℕ) (stop : Postamble) (chain :
           drop-cons bytes (last - 5) 0 (omega arith)
           ∙ ap₂ (λ (x : ℕ) (k : ℕ). x ∷ drop k bytes) framed.ends.closed.opcode next
 
-  pub frame_of : (front tail : List Token) → AllByRecursion IsSpelled front → AllByRecursion IsSpelled tail → written front ≡ take post bytes → written tail ≡ take (last - 5 - behind) (drop behind bytes) → Frame bytes
+  pub frame_of : (front tail : List Token) → AllByRecursion IsSpelled front → AllByRecursion IsSpelled tail → written front ≡ take post bytes → written tail ≡ take (last - 5 - after) (drop after bytes) → Frame bytes
   unfolding ending operand padding
   frame_of front tail front_spelled tail_spelled front_whole tail_whole =
       let trailed = framed.ends.closed.trailed in
@@ -146,7 +146,7 @@ module _ (bytes : List ℕ) (post behind last : ℕ) (stop : Postamble) (chain :
       let size : length (written front) ≡ post = ap (λ (x : List ℕ). length x) front_whole ∙ length-take-le post bytes (omega arith) in
       record {
         front = front;
-        post = take (behind - post) (drop post bytes);
+        post = take (after - post) (drop post bytes);
         stop = stop;
         tail = tail;
         ending = ending;
@@ -154,10 +154,10 @@ module _ (bytes : List ℕ) (post behind last : ℕ) (stop : Postamble) (chain :
         whole =
             sym (take-append-drop post bytes)
             ∙ ap₂ (λ (x y : List ℕ). x ++ y) (sym front_whole)
-            (cut_behind bytes post (behind - post) behind (omega arith)
-            ∙ ap (λ (x : List ℕ). take (behind - post) (drop post bytes) ++ x)
-            (cut_behind bytes behind (last - 5 - behind) (last - 5) (omega arith)
-            ∙ ap₂ (λ (x y : List ℕ). x ++ y) (sym tail_whole) (cut_behind bytes (last - 5) 6 (last + 1) (omega arith) ∙ ap (λ (x : List ℕ). take 6 (drop (last - 5) bytes) ++ x) padded)));
+            (cut_after bytes post (after - post) after (omega arith)
+            ∙ ap (λ (x : List ℕ). take (after - post) (drop post bytes) ++ x)
+            (cut_after bytes after (last - 5 - after) (last - 5) (omega arith)
+            ∙ ap₂ (λ (x y : List ℕ). x ++ y) (sym tail_whole) (cut_after bytes (last - 5) 6 (last + 1) (omega arith) ∙ ap (λ (x : List ℕ). take 6 (drop (last - 5) bytes) ++ x) padded)));
         padded = omega arith;
         front_spelled = front_spelled;
         post_spelled = framed.spelled;
@@ -174,7 +174,7 @@ module _ (bytes : List ℕ) (post behind last : ℕ) (stop : Postamble) (chain :
       }
 
   -- Bytes that were accepted are a file.
-  pub passed_file : (metrics : WidthsByName) (pages : List MarkedPage) → stop.pages ≡ length chain % 65536 → IsPassed metrics bytes post behind last stop chain pages → IsFile metrics bytes pages
+  pub passed_file : (metrics : WidthsByName) (pages : List MarkedPage) → stop.pages ≡ length chain % 65536 → IsPassed metrics bytes post after last stop chain pages → IsFile metrics bytes pages
   unfolding frame_of
   passed_file metrics pages count p =
       let (parts, whole, shows, deep) = passed_parts (drawing_by metrics p.front) (min 1024 stop.stack_depth) p.body pages p.passed in
@@ -194,7 +194,7 @@ module _ (bytes : List ℕ) (post behind last : ℕ) (stop : Postamble) (chain :
         chain = linked;
         count = count ∙ ap (λ n. n % 65536) as_many;
         fonts = p.fonts;
-        closing = closed_behind metrics (says p.front) (says p.tail) p.fonts p.closing p.named;
+        closing = closed_after metrics (says p.front) (says p.tail) p.fonts p.closing p.named;
         depth = deep;
         shows =
             sym (same_pages (widths_of metrics (definitions (says p.front))) (widths_of metrics (definitions (says p.tail))) parts
@@ -204,12 +204,12 @@ module _ (bytes : List ℕ) (post behind last : ℕ) (stop : Postamble) (chain :
       }
 
   -- A file is accepted.
-  pub file_passed : (metrics : WidthsByName) (pages : List MarkedPage) → IsFile metrics bytes pages → IsPassed metrics bytes post behind last stop chain pages
+  pub file_passed : (metrics : WidthsByName) (pages : List MarkedPage) → IsFile metrics bytes pages → IsPassed metrics bytes post after last stop chain pages
   file_passed metrics pages f =
       let g = f.frame in
       let found = frame_ends bytes g in
       let (lasts, posts, stops) = one_end bytes post last (length (written g.front)) found.0 stop g.stop framed.ends found.1 in
-      let parts = frame_parts bytes post behind last stop chain framed g in
+      let parts = frame_parts bytes post after last stop chain framed g in
       let links : Links bytes post stop.last_bop (reverse (places 0 g.front)) =
       subst₂ (λ (n : ℕ) (s : Postamble). Links bytes n s.last_bop (reverse (places 0 g.front))) (sym posts) (sym stops) (file_chain metrics bytes pages f) in
       let chains : chain ≡ reverse (places 0 g.front) = one_chain bytes post post stop.last_bop chain (reverse (places 0 g.front)) framed.links links in

@@ -14,10 +14,10 @@ use Rattle.dvi_ops.proofs.Frames.{begins, not_empty, one_list}
 use Rattle.dvi_scan.specs.Known.{HasSame}
 use Rattle.dvi_scan.specs.Pass.{PassStateView, Between, execute, then_pass, passes}
 use Rattle.dvi_scan.specs.Passed.{IsPassed}
-use Rattle.dvi_scan.specs.Reached.{AreNumbersOf, HasRight, HasWidths, IsDefined, IsReached, IsRightAt, IsTail, Left, ReadSoFar, all_left, before_pages, behind_bops, has_number}
+use Rattle.dvi_scan.specs.Reached.{AreNumbersOf, HasRight, HasWidths, IsDefined, IsReached, IsRightAt, IsTail, Left, ReadSoFar, all_left, before_pages, after_bops, has_number}
 use Rattle.dvi_scan.proofs.FontLemmas.{SameNow, all_more_widths, all_same_widths, defined_more, same_passes, same_turn, some_definition}
 use Rattle.dvi_scan.proofs.KnownLemmas.{fonts_same, same_after, same_right, same_self, same_sym}
-use Rattle.dvi_scan.proofs.LeftLemmas.{behind_bops-append, bops_met, none_missed}
+use Rattle.dvi_scan.proofs.LeftLemmas.{after_bops-append, bops_met, none_missed}
 use Rattle.dvi_scan.proofs.PartLemmas.{passes-append}
 
 -- A list before two more, cut at a place.
@@ -90,7 +90,7 @@ module _ (metrics : WidthsByName) (ahead : List ℤ) (bytes : List ℕ) (stop : 
         known_is = ap (λ (is : List Instruction). definitions is) says_more ∙ (definitions_more (says r.before) i ∙ (ap (λ (ds : List Definition). ds ++ definitions_in i) r.known_is ∙ known));
         selected_is = ap (λ (is : List Instruction). selections is) says_more ∙ (selections_more (says r.before) i ∙ (ap (λ (fs : List ℤ). fs ++ selection_of i) r.selected_is ∙ selected));
         passed = subst (λ (ds : List Definition). passes (kept (acts (widths_of metrics ds))) (min 1024 stop.stack_depth) (r.body ++ i ∷ []) (Between []) ≡ Some t.pass) known goes_on;
-        bops = ap (λ (ns : List ℕ). behind_bops ns (all_left chain)) bops_are ∙ (behind_bops-append (places 0 r.before) (bop_place at i) (all_left chain) s.left r.bops ∙ right.bop);
+        bops = ap (λ (ns : List ℕ). after_bops ns (all_left chain)) bops_are ∙ (after_bops-append (places 0 r.before) (bop_place at i) (all_left chain) s.left r.bops ∙ right.bop);
         fonts = subst (λ (is : List Instruction). FontsAreRight [] is) (sym says_more) (fonts_append [] (says r.before) (i ∷ []) r.fonts (first, tt));
         closing = subst (λ (ds : List Definition). AllByRecursion (HasWidths metrics ds) t.selected) known closed;
         named = subst (AllByRecursion (λ f. has_number ahead f ≡ true)) selected (all_append (λ f. has_number ahead f ≡ true) s.selected (selection_of i) r.named right.named);
@@ -136,8 +136,8 @@ selected_widths : (metrics : WidthsByName) (xs ys : List Definition) (i : Instru
 selected_widths metrics xs ys (Do (FontNum f)) some (widths, none) = (fewer_widths metrics xs ys f some widths, tt)
 selected_widths metrics xs ys i right all = tt
 
-module _ (metrics : WidthsByName) (bytes : List ℕ) (post behind last : ℕ) (stop : Postamble) (chain : List ℕ) (pages : List MarkedPage)
-    (f : IsPassed metrics bytes post behind last stop chain pages) (small : post ≤ length bytes)
+module _ (metrics : WidthsByName) (bytes : List ℕ) (post after last : ℕ) (stop : Postamble) (chain : List ℕ) (pages : List MarkedPage)
+    (f : IsPassed metrics bytes post after last stop chain pages) (small : post ≤ length bytes)
     (ahead : List ℤ) (numbers : AreNumbersOf ahead (definitions (says f.tail))) (at : ℕ) (s : ReadSoFar) (low : at ≤ post) (r : IsReached metrics ahead bytes stop chain at s) where
   -- The instructions that are still to come.
   pub record Rest : Type 0 where
@@ -170,7 +170,7 @@ module _ (metrics : WidthsByName) (bytes : List ℕ) (post behind last : ℕ) (s
       let (before, now) = passed_more metrics ahead bytes stop chain at s r (definitions (says more)) in
       let all_passed = subst (λ (ds : List Definition). passes (kept (acts (widths_of metrics ds))) (min 1024 stop.stack_depth) f.body (Between []) ≡ Some (Between pages)) known f.passed in
       let still : Some s.left ≡ Some (record { missed = false; places = places at more }) =
-      sym r.bops ∙ (ap (λ (ns : List ℕ). behind_bops (places 0 r.before) (record { missed = false; places = ns })) all_places ∙ bops_met (places 0 r.before) (places at more)) in
+      sym r.bops ∙ (ap (λ (ns : List ℕ). after_bops (places 0 r.before) (record { missed = false; places = ns })) all_places ∙ bops_met (places 0 r.before) (places at more)) in
       record {
         more = more;
         front = front;
@@ -229,7 +229,7 @@ module _ (metrics : WidthsByName) (bytes : List ℕ) (post behind last : ℕ) (s
             };
             right = record {
               goes_on = goes_on;
-              bop = ap (behind_bops (bop_place at t.says)) bops ∙ bops_met (bop_place at t.says) (places (at + length t.bytes) more);
+              bop = ap (after_bops (bop_place at t.says)) bops ∙ bops_met (bop_place at t.says) (places (at + length t.bytes) more);
               fonts = right;
               known_is = refl;
               selected_is = refl;
@@ -268,10 +268,10 @@ module _ (metrics : WidthsByName) (bytes : List ℕ) (post behind last : ℕ) (s
           by_bytes (x ∷ b) here e = cc
 
 -- The end of the pass.
-pub reached_end : (metrics : WidthsByName) (bytes : List ℕ) (post behind last : ℕ) (stop : Postamble) (chain : List ℕ) (pages : List MarkedPage) (ahead : List ℤ) (s : ReadSoFar) (tail : List Token) → AreUnits stop.units
-    → AreNumbersOf ahead (definitions (says tail)) → IsReached metrics ahead bytes stop chain post s → s.pass ≡ Between pages → s.left ≡ all_left [] → IsTail bytes behind last s.known tail
-    → IsPassed metrics bytes post behind last stop chain pages
-reached_end metrics bytes post behind last stop chain pages ahead s tail units numbers r pass_is left_is t =
+pub reached_end : (metrics : WidthsByName) (bytes : List ℕ) (post after last : ℕ) (stop : Postamble) (chain : List ℕ) (pages : List MarkedPage) (ahead : List ℤ) (s : ReadSoFar) (tail : List Token) → AreUnits stop.units
+    → AreNumbersOf ahead (definitions (says tail)) → IsReached metrics ahead bytes stop chain post s → s.pass ≡ Between pages → s.left ≡ all_left [] → IsTail bytes after last s.known tail
+    → IsPassed metrics bytes post after last stop chain pages
+reached_end metrics bytes post after last stop chain pages ahead s tail units numbers r pass_is left_is t =
     let bops = r.bops ∙ ap (λ (l : Left). Some l) left_is in
     let order = same_order (says r.before) s.known r.known_is in
     record {
@@ -300,9 +300,9 @@ reached_end metrics bytes post behind last stop chain pages ahead s tail units n
     }
 
 -- The tail of a file, after the fonts that are known at the place of post.
-pub tail_right : (metrics : WidthsByName) (bytes : List ℕ) (post behind last : ℕ) (stop : Postamble) (chain : List ℕ) (pages : List MarkedPage) (f : IsPassed metrics bytes post behind last stop chain pages)
-    → post ≤ length bytes → (ahead : List ℤ) (s : ReadSoFar) → IsReached metrics ahead bytes stop chain post s → IsTail bytes behind last s.known f.tail
-tail_right metrics bytes post behind last stop chain pages f small ahead s r =
+pub tail_right : (metrics : WidthsByName) (bytes : List ℕ) (post after last : ℕ) (stop : Postamble) (chain : List ℕ) (pages : List MarkedPage) (f : IsPassed metrics bytes post after last stop chain pages)
+    → post ≤ length bytes → (ahead : List ℤ) (s : ReadSoFar) → IsReached metrics ahead bytes stop chain post s → IsTail bytes after last s.known f.tail
+tail_right metrics bytes post after last stop chain pages f small ahead s r =
     let same : f.front ≡ r.before = one_list f.front r.before f.front_spelled r.spelled (f.front_whole ∙ sym r.whole) in
     let fonts = fonts_back [] (says f.front) (says f.tail) f.fonts in
     let before = subst (λ (ts : List Token). FontsAreRight (known_after [] (says ts)) (says f.tail)) same fonts in

@@ -12,7 +12,7 @@ use Rattle.dvi_ops.specs.Table.{Spells}
 use Rattle.dvi_ops.specs.Tokens.{Token, IsSpelled, bop_place, places, written}
 use Rattle.dvi_ops.proofs.Appends.{all_append}
 use Rattle.dvi_ops.proofs.Frames.{not_empty}
-use Rattle.dvi_scan.specs.Reached.{IsIn, IsReached, Left, ReadSoFar, all_left, behind_bop, behind_bops}
+use Rattle.dvi_scan.specs.Reached.{IsIn, IsReached, Left, ReadSoFar, all_left, after_bop, after_bops}
 use Rattle.dvi_scan.proofs.LeftLemmas.{bops_met}
 
 -- Each number is less than those after it.
@@ -29,9 +29,9 @@ all_from x bound [] low all = tt
 all_from x bound (y ∷ ys) low (here, all) = (omega arith, all_from x bound ys low all)
 
 -- An instruction has at least one byte.
-pub ends_behind : (bytes : List ℕ) (place bound : ℕ) (i : Instruction) → StandsAt bytes place bound i → place < bound
-ends_behind bytes place bound i (zero, within, spelled) = absurd (not_empty i spelled)
-ends_behind bytes place bound i (suc n, within, spelled) = omega arith
+pub ends_after : (bytes : List ℕ) (place bound : ℕ) (i : Instruction) → StandsAt bytes place bound i → place < bound
+ends_after bytes place bound i (zero, within, spelled) = absurd (not_empty i spelled)
+ends_after bytes place bound i (suc n, within, spelled) = omega arith
 
 onto : (x : ℕ) (xs ys : List ℕ) → reverse (x ∷ xs) ++ ys ≡ reverse xs ++ (x ∷ ys)
 onto x xs ys = ap (λ (zs : List ℕ). zs ++ ys) (reverse-append (x ∷ []) xs) ∙ append_assoc (reverse xs) (x ∷ []) ys
@@ -40,33 +40,33 @@ onto x xs ys = ap (λ (zs : List ℕ). zs ++ ys) (reverse-append (x ∷ []) xs) 
 links_rise : (bytes : List ℕ) (bound : ℕ) (pointer : ℤ) (chain later : List ℕ) → Links bytes bound pointer chain → AllByRecursion (λ (y : ℕ). bound ≤ y) later → Rises later → Rises (reverse chain ++ later)
 links_rise bytes bound pointer [] later links above rises = rises
 links_rise bytes bound pointer (place ∷ earlier) later (named, counts, before, stands, links) above rises =
-    let low : place < bound = ends_behind bytes place bound (Bop counts before) stands in
+    let low : place < bound = ends_after bytes place bound (Bop counts before) stands in
     subst Rises (sym (onto place earlier later))
     (links_rise bytes place before earlier (place ∷ later) links (omega arith, all_from place bound later low above) (all_less place bound later low above, rises))
 
 -- A bop that was found is among the places.
-found_in : (at : ℕ) (missed : Bool) (ps : List ℕ) (next : Left) → behind_bop at missed ps ≡ Some next → IsIn at ps
+found_in : (at : ℕ) (missed : Bool) (ps : List ℕ) (next : Left) → after_bop at missed ps ≡ Some next → IsIn at ps
 found_in at missed [] next e = absurd cc
 found_in at missed (p ∷ ps) next e = go (nat_eq p at) refl (found_in at true ps next) e
   where
-    go : (b : Bool) → nat_eq p at ≡ b → (behind_bop at true ps ≡ Some next → IsIn at ps) → (if b then Some (record { missed = missed; places = ps }) else behind_bop at true ps) ≡ Some next → (at ≡ p) ⊎ IsIn at ps
+    go : (b : Bool) → nat_eq p at ≡ b → (after_bop at true ps ≡ Some next → IsIn at ps) → (if b then Some (record { missed = missed; places = ps }) else after_bop at true ps) ≡ Some next → (at ≡ p) ⊎ IsIn at ps
     go true is rest e = inl (sym (eqb-true p at is))
     go false is rest e = inr (rest e)
 
 -- A bop that was not found is not among the places.
-pub lost_out : (at : ℕ) (missed : Bool) (ps : List ℕ) → behind_bop at missed ps ≡ None → IsIn at ps → ⊥
+pub lost_out : (at : ℕ) (missed : Bool) (ps : List ℕ) → after_bop at missed ps ≡ None → IsIn at ps → ⊥
 lost_out at missed [] e there = there
 lost_out at missed (p ∷ ps) e there = go (nat_eq p at) refl (lost_out at true ps) e there
   where
-    go : (b : Bool) → nat_eq p at ≡ b → (behind_bop at true ps ≡ None → IsIn at ps → ⊥) → (if b then Some (record { missed = missed; places = ps }) else behind_bop at true ps) ≡ None → (at ≡ p) ⊎ IsIn at ps → ⊥
+    go : (b : Bool) → nat_eq p at ≡ b → (after_bop at true ps ≡ None → IsIn at ps → ⊥) → (if b then Some (record { missed = missed; places = ps }) else after_bop at true ps) ≡ None → (at ≡ p) ⊎ IsIn at ps → ⊥
     go true is rest e there = absurd cc
     go false is rest e (inl same) = let both : false ≡ true = sym is ∙ eq-eqb p at (sym same) in absurd cc
     go false is rest e (inr there) = rest e there
 
-pub stray : (at : ℕ) (left : Left) → behind_bops (at ∷ []) left ≡ None → IsIn at left.places → ⊥
-stray at left e there = go (behind_bop at left.missed left.places) refl e
+pub stray : (at : ℕ) (left : Left) → after_bops (at ∷ []) left ≡ None → IsIn at left.places → ⊥
+stray at left e there = go (after_bop at left.missed left.places) refl e
   where
-    go : (o : Option Left) → behind_bop at left.missed left.places ≡ o → option_and_then (behind_bops []) o ≡ None → ⊥
+    go : (o : Option Left) → after_bop at left.missed left.places ≡ o → option_and_then (after_bops []) o ≡ None → ⊥
     go None is e = lost_out at left.missed left.places is there
     go (Some next) is e = cc
 
@@ -76,24 +76,24 @@ in_all P x (y ∷ ys) (here, all) (inl same) = subst P (sym same) here
 in_all P x (y ∷ ys) (here, all) (inr there) = in_all P x ys all there
 
 -- After a bop the places after its own are left.
-left_one : (c at : ℕ) (missed : Bool) (ps : List ℕ) (next : Left) → Rises ps → at < c → behind_bop at missed ps ≡ Some next → IsIn c ps → IsIn c next.places × Rises next.places
+left_one : (c at : ℕ) (missed : Bool) (ps : List ℕ) (next : Left) → Rises ps → at < c → after_bop at missed ps ≡ Some next → IsIn c ps → IsIn c next.places × Rises next.places
 left_one c at missed [] next rises low e there = absurd there
 left_one c at missed (p ∷ ps) next (above, rises) low e there = go (nat_eq p at) refl (left_one c at true ps next rises low) (found_in at true ps next) e there
   where
-    go : (b : Bool) → nat_eq p at ≡ b → (behind_bop at true ps ≡ Some next → IsIn c ps → IsIn c next.places × Rises next.places) → (behind_bop at true ps ≡ Some next → IsIn at ps)
-        → (if b then Some (record { missed = missed; places = ps }) else behind_bop at true ps) ≡ Some next → (c ≡ p) ⊎ IsIn c ps → IsIn c next.places × Rises next.places
+    go : (b : Bool) → nat_eq p at ≡ b → (after_bop at true ps ≡ Some next → IsIn c ps → IsIn c next.places × Rises next.places) → (after_bop at true ps ≡ Some next → IsIn at ps)
+        → (if b then Some (record { missed = missed; places = ps }) else after_bop at true ps) ≡ Some next → (c ≡ p) ⊎ IsIn c ps → IsIn c next.places × Rises next.places
     go true is rest found e (inl same) = let here = eqb-true p at is in absurd (omega arith)
     go true is rest found e (inr there) = let now : ps ≡ next.places = cc in (subst (IsIn c) now there, subst Rises now rises)
     go false is rest found e (inl same) = let below : p < at = in_all (λ (y : ℕ). p < y) at ps above (found e) in absurd (omega arith)
     go false is rest found e (inr there) = rest e there
 
-left_all : (c at : ℕ) (bops : List ℕ) (start left : Left) → Rises start.places → at ≤ c → AllByRecursion (λ (p : ℕ). p < at) bops → behind_bops bops start ≡ Some left → IsIn c start.places → IsIn c left.places
+left_all : (c at : ℕ) (bops : List ℕ) (start left : Left) → Rises start.places → at ≤ c → AllByRecursion (λ (p : ℕ). p < at) bops → after_bops bops start ≡ Some left → IsIn c start.places → IsIn c left.places
 left_all c at [] start left rises low all e there = let same : start ≡ left = cc in subst (λ (l : Left). IsIn c l.places) same there
-left_all c at (bop ∷ bops) start left rises low (here, all) e there = go (behind_bop bop start.missed start.places) refl (λ next. left_all c at bops next left) e
+left_all c at (bop ∷ bops) start left rises low (here, all) e there = go (after_bop bop start.missed start.places) refl (λ next. left_all c at bops next left) e
   where
-    go : (o : Option Left) → behind_bop bop start.missed start.places ≡ o
-        → ((next : Left) → Rises next.places → at ≤ c → AllByRecursion (λ (p : ℕ). p < at) bops → behind_bops bops next ≡ Some left → IsIn c next.places → IsIn c left.places)
-        → option_and_then (behind_bops bops) o ≡ Some left → IsIn c left.places
+    go : (o : Option Left) → after_bop bop start.missed start.places ≡ o
+        → ((next : Left) → Rises next.places → at ≤ c → AllByRecursion (λ (p : ℕ). p < at) bops → after_bops bops next ≡ Some left → IsIn c next.places → IsIn c left.places)
+        → option_and_then (after_bops bops) o ≡ Some left → IsIn c left.places
     go None is rest e = absurd cc
     go (Some next) is rest e =
         let (there_now, rises_now) = left_one c bop start.missed start.places next rises (omega arith) is there in rest next rises_now low all e there_now
@@ -126,7 +126,7 @@ module _ (metrics : WidthsByName) (ahead : List ℤ) (bytes : List ℕ) (stop : 
   pub all_met : places 0 r.before ≡ reverse chain → s.left ≡ all_left []
   all_met same =
       let whole : reverse chain ≡ places 0 r.before ++ [] = sym same ∙ sym (append-nil (places 0 r.before)) in
-      let met : behind_bops (places 0 r.before) (all_left chain) ≡ Some (record { missed = false; places = [] }) =
-      ap (λ (ns : List ℕ). behind_bops (places 0 r.before) (record { missed = false; places = ns })) whole ∙ bops_met (places 0 r.before) [] in
+      let met : after_bops (places 0 r.before) (all_left chain) ≡ Some (record { missed = false; places = [] }) =
+      ap (λ (ns : List ℕ). after_bops (places 0 r.before) (record { missed = false; places = ns })) whole ∙ bops_met (places 0 r.before) [] in
       let both : Some s.left ≡ Some (record { missed = false; places = [] }) = sym r.bops ∙ met in
       cc

@@ -16,7 +16,7 @@ StandsAt bytes place bound i = (size : ℕ) × (place + size ≤ bound) × Spell
 pub record IsTrailed (bytes : List ℕ) (e : ℕ) : Type 0 where
   pub room : 5 ≤ e
   pub padded : e + 5 ≤ length bytes
-  pub behind : (k : ℕ) → e < k → k < length bytes → slice_index bytes k ≡ 223
+  pub after : (k : ℕ) → e < k → k < length bytes → slice_index bytes k ≡ 223
   pub last : slice_index bytes e ≢ 223
 
 -- The version is at e, and the code of post_post five bytes before it (DVItype, 20).

@@ -13,11 +13,11 @@ use Rattle.dvi_scan.specs.Pass.{Between, passes}
 use Rattle.dvi_scan.specs.Reached.{HasWidths, IsDefined}
 
 -- The places of the parts that a file names at its end, and its pages from the last one back, as found before the pass.
-pub record IsFramed (bytes : List ℕ) (post behind last : ℕ) (stop : Postamble) (chain : List ℕ) : Type 0 where
+pub record IsFramed (bytes : List ℕ) (post after last : ℕ) (stop : Postamble) (chain : List ℕ) : Type 0 where
   pub ends : HasPostamble bytes post last stop
-  pub spelled : Spells (Post stop) (take (behind - post) (drop post bytes))
-  pub low : post ≤ behind
-  pub high : behind + 5 ≤ last
+  pub spelled : Spells (Post stop) (take (after - post) (drop post bytes))
+  pub low : post ≤ after
+  pub high : after + 5 ≤ last
   pub links : Links bytes post stop.last_bop chain
 
 -- The effects of the instructions of a body, with these metric files and the fonts that these instructions define, each by its first definition.
@@ -25,13 +25,13 @@ abbrev pub drawing_by : WidthsByName → List Token → Acts
 drawing_by metrics tokens = kept (acts (widths_of metrics (definitions (says tokens))))
 
 -- The pass over a file: its preamble, the instructions before post, and those between post and post_post.
-pub record IsPassed (metrics : WidthsByName) (bytes : List ℕ) (post behind last : ℕ) (stop : Postamble) (chain : List ℕ) (pages : List MarkedPage) : Type 0 where
+pub record IsPassed (metrics : WidthsByName) (bytes : List ℕ) (post after last : ℕ) (stop : Postamble) (chain : List ℕ) (pages : List MarkedPage) : Type 0 where
   pub front : List Token
   pub tail : List Token
   pub front_spelled : AllByRecursion IsSpelled front
   pub tail_spelled : AllByRecursion IsSpelled tail
   pub front_whole : written front ≡ take post bytes
-  pub tail_whole : written tail ≡ take (last - 5 - behind) (drop behind bytes)
+  pub tail_whole : written tail ≡ take (last - 5 - after) (drop after bytes)
   -- A preamble of version 2 with the units of the postamble, which are positive; then the instructions of the pass.
   pub comment : List ℕ
   pub body : List Instruction

@@ -8,10 +8,10 @@ use Rattle.dvi_scan.specs.declared.fault.BadDvi.{BadDvi}
 use Rattle.dvi_scan.specs.declared.fault.DviCause.TheVariants.{Preamble}
 
 -- The first bytes spell a preamble of version 2 with the units of the postamble, which are positive, and it ends at or before post.
-pub record HasPreamble (bytes : List ℕ) (post : ℕ) (stop : Postamble) (behind : ℕ) : Type 0 where
+pub record HasPreamble (bytes : List ℕ) (post : ℕ) (stop : Postamble) (after : ℕ) : Type 0 where
   pub comment : List ℕ
-  pub spelled : Spells (Pre 2 stop.units comment) (take behind bytes)
-  pub within : behind ≤ post
+  pub spelled : Spells (Pre 2 stop.units comment) (take after bytes)
+  pub within : after ≤ post
   pub units : AreUnits stop.units
 
 -- There is no such preamble, and the fault is Preamble at place 0.

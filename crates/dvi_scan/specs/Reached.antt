@@ -42,14 +42,14 @@ abbrev pub all_left : List ℕ → Left
 all_left chain = record { missed = false; places = reverse chain }
 
 -- The places left after a bop, where its own place is among them; those before it are missed.
-abbrev pub behind_bop : ℕ → (missed : Bool) → List ℕ → Option Left
-behind_bop at missed [] = None
-behind_bop at missed (place ∷ places) = if nat_eq place at then Some (record { missed = missed; places = places }) else behind_bop at true places
+abbrev pub after_bop : ℕ → (missed : Bool) → List ℕ → Option Left
+after_bop at missed [] = None
+after_bop at missed (place ∷ places) = if nat_eq place at then Some (record { missed = missed; places = places }) else after_bop at true places
 
 -- The places left after several bops.
-abbrev pub behind_bops : List ℕ → Left → Option Left
-behind_bops [] left = Some left
-behind_bops (at ∷ more) left = option_and_then (behind_bops more) (behind_bop at left.missed left.places)
+abbrev pub after_bops : List ℕ → Left → Option Left
+after_bops [] left = Some left
+after_bops (at ∷ more) left = option_and_then (after_bops more) (after_bop at left.missed left.places)
 
 -- What was read of a file up to a place (own): the state of the pass, the definitions and the selections of fonts so far in the order of the file,
 -- and what is left of the chain of pages.
@@ -76,7 +76,7 @@ pub record IsReached (metrics : WidthsByName) (ahead : List ℤ) (bytes : List �
   pub known_is : definitions (says before) ≡ s.known
   pub selected_is : selections (says before) ≡ s.selected
   pub passed : passes (kept (acts (widths_of metrics s.known))) (min 1024 stop.stack_depth) body (Between []) ≡ Some s.pass
-  pub bops : behind_bops (places 0 before) (all_left chain) ≡ Some s.left
+  pub bops : after_bops (places 0 before) (all_left chain) ≡ Some s.left
   pub fonts : FontsAreRight [] (says before)
   pub closing : AllByRecursion (HasWidths metrics s.known) s.selected
   pub named : AllByRecursion (λ f. has_number ahead f ≡ true) s.selected
@@ -85,7 +85,7 @@ pub record IsReached (metrics : WidthsByName) (ahead : List ℤ) (bytes : List �
 -- right; a selected font has widths, and its number is defined after post.
 pub record IsRightAt (metrics : WidthsByName) (ahead : List ℤ) (stop : Postamble) (at : ℕ) (old : ReadSoFar) (i : Instruction) (new : ReadSoFar) : Type 0 where
   pub goes_on : execute (kept (acts (widths_of metrics old.known))) (min 1024 stop.stack_depth) i old.pass ≡ Some new.pass
-  pub bop : behind_bops (bop_place at i) old.left ≡ Some new.left
+  pub bop : after_bops (bop_place at i) old.left ≡ Some new.left
   pub fonts : IsRightAfter old.known i
   pub known_is : new.known ≡ old.known ++ definitions_in i
   pub selected_is : new.selected ≡ old.selected ++ selection_of i
@@ -103,8 +103,8 @@ pub record HasRight (metrics : WidthsByName) (ahead : List ℤ) (bytes : List �
   pub right : IsRightAt metrics ahead stop at old here new
 
 -- The instructions between post and post_post: nops and font definitions that are right after the known definitions.
-pub record IsTail (bytes : List ℕ) (behind last : ℕ) (known : List Definition) (tail : List Token) : Type 0 where
+pub record IsTail (bytes : List ℕ) (after last : ℕ) (known : List Definition) (tail : List Token) : Type 0 where
   pub spelled : AllByRecursion IsSpelled tail
-  pub whole : written tail ≡ take (last - 5 - behind) (drop behind bytes)
+  pub whole : written tail ≡ take (last - 5 - after) (drop after bytes)
   pub idle : AllByRecursion IsIdle (says tail)
   pub fonts : FontsAreRight known (says tail)

@@ -15,7 +15,7 @@ pub fn read_at(bytes: &[u8], place: usize, bound: usize) -> Result<(Op<'_>, usiz
     requires high { bound ≤ length bytes.now }
     // The bytes from the place to the place after it spell the instruction.
     ensures found { IfOk result (λ found. Spells (view found.0) (take (found.1 - place) (drop place bytes.now))) }
-    ensures behind { IfOk result (λ found. place < found.1) }
+    ensures after { IfOk result (λ found. place < found.1) }
     ensures end_bounded { IfOk result (λ found. found.1 ≤ bound) }
     // A fault is returned only where no instruction is there.
     ensures none { OnErr result ((i : Instruction) → StandsAt bytes.now place bound i → ⊥) }

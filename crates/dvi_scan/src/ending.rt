@@ -23,7 +23,7 @@ pub struct FileEnd {
     /// The place of post.
     pub post: usize,
     /// The place after post.
-    pub behind: usize,
+    pub after: usize,
     /// The place of the version in post_post. After it there are only bytes 223.
     pub last: usize,
     /// The operands of post.
@@ -33,7 +33,7 @@ pub struct FileEnd {
 /// The number of bytes before the bytes 223 at the end.
 fn untrailed(bytes: &[u8]) -> usize
     ensures high { result ≤ length bytes.now }
-    ensures behind { (k : ℕ) → result ≤ k → k < length bytes.now → slice_index bytes.now k ≡ 223 }
+    ensures after { (k : ℕ) → result ≤ k → k < length bytes.now → slice_index bytes.now k ≡ 223 }
     ensures last { 0 < result → slice_index bytes.now (result - 1) ≢ 223 }
 {
     let mut end = bytes.len();
@@ -45,7 +45,7 @@ fn untrailed(bytes: &[u8]) -> usize
 
 /// The place of the last byte before the bytes 223 at the end; None where there are too few bytes of either kind.
 fn trailed(bytes: &[u8]) -> Option<usize>
-    ensures some { IfSome result (IsTrailed bytes.now) }
+    ensures is_trailed { IfSome result (IsTrailed bytes.now) }
     ensures none { result ≡ None → (e : ℕ) → IsTrailed bytes.now e → ⊥ }
 {
     let end = untrailed(bytes);
@@ -58,7 +58,7 @@ fn trailed(bytes: &[u8]) -> Option<usize>
 /// The place that four bytes at `at` give; None where they are a negative number.
 pub(crate) fn place_at(bytes: &[u8], at: usize) -> Option<usize>
     requires { at + 4 ≤ length bytes.now }
-    ensures some { IfSome result (λ place. signed 4 (drop at bytes.now) ≡ pos place) }
+    ensures place_read { IfSome result (λ place. signed 4 (drop at bytes.now) ≡ pos place) }
     ensures none { result ≡ None → (place : ℕ) → signed 4 (drop at bytes.now) ≡ pos place → ⊥ }
 {
     usize::try_from(BigEndian::read_i32(&bytes[at..])).ok()
@@ -67,7 +67,7 @@ pub(crate) fn place_at(bytes: &[u8], at: usize) -> Option<usize>
 /// Post and the place after it, where post is at a place and ends at or before `bound`.
 fn post_at(bytes: &[u8], place: usize, bound: usize) -> Option<(dvi_ops::Postamble, usize)>
     requires { bound ≤ length bytes.now }
-    ensures some { IfSome result (λ found. Spells (Post (postamble found.0)) (take (found.1 - place) (drop place bytes.now))) }
+    ensures post_read { IfSome result (λ found. Spells (Post (postamble found.0)) (take (found.1 - place) (drop place bytes.now))) }
     ensures low { IfSome result (λ found. place ≤ found.1) }
     ensures high { IfSome result (λ found. found.1 ≤ bound) }
     ensures none { result ≡ None → (stop : Postamble) → StandsAt bytes.now place bound (Post stop) → ⊥ }
@@ -75,22 +75,22 @@ fn post_at(bytes: &[u8], place: usize, bound: usize) -> Option<(dvi_ops::Postamb
     if bound < place {
         return None;
     }
-    let Ok((op, behind)) = read_at(bytes, place, bound) else {
+    let Ok((op, after)) = read_at(bytes, place, bound) else {
         return None;
     };
     let Op::Post(stop) = op else {
         return None;
     };
-    Some((stop, behind))
+    Some((stop, after))
 }
 
 /// Post, at the place that post_post names.
 fn post_of(bytes: &[u8], last: usize) -> Result<FileEnd, BadDvi>
     requires { IsClosed bytes.now last }
     ensures ok { IfOk result (λ ends. HasPostamble bytes.now ends.post ends.last (postamble ends.stop)) }
-    ensures behind { IfOk result (λ ends. Spells (Post (postamble ends.stop)) (take (ends.behind - ends.post) (drop ends.post bytes.now))) }
-    ensures low { IfOk result (λ ends. ends.post ≤ ends.behind) }
-    ensures high { IfOk result (λ ends. ends.behind + 5 ≤ ends.last) }
+    ensures after { IfOk result (λ ends. Spells (Post (postamble ends.stop)) (take (ends.after - ends.post) (drop ends.post bytes.now))) }
+    ensures low { IfOk result (λ ends. ends.post ≤ ends.after) }
+    ensures high { IfOk result (λ ends. ends.after + 5 ≤ ends.last) }
     ensures bad { IfErr result (IsEndFault bytes.now) }
 {
     let fault = BadDvi {
@@ -100,12 +100,12 @@ fn post_of(bytes: &[u8], last: usize) -> Result<FileEnd, BadDvi>
     let Some(post) = place_at(bytes, last - 4) else {
         return Err(fault);
     };
-    let Some((stop, behind)) = post_at(bytes, post, last - 5) else {
+    let Some((stop, after)) = post_at(bytes, post, last - 5) else {
         return Err(fault);
     };
     Ok(FileEnd {
         post,
-        behind,
+        after,
         last,
         stop,
     })
@@ -119,9 +119,9 @@ pub fn find_postamble(bytes: &[u8]) -> Result<FileEnd, BadDvi>
     // The instructions post and post_post are where they have to be.
     ensures ok { IfOk result (λ ends. HasPostamble bytes.now ends.post ends.last (postamble ends.stop)) }
     // The bytes from post to the place after it spell it.
-    ensures behind { IfOk result (λ ends. Spells (Post (postamble ends.stop)) (take (ends.behind - ends.post) (drop ends.post bytes.now))) }
-    ensures low { IfOk result (λ ends. ends.post ≤ ends.behind) }
-    ensures high { IfOk result (λ ends. ends.behind + 5 ≤ ends.last) }
+    ensures after { IfOk result (λ ends. Spells (Post (postamble ends.stop)) (take (ends.after - ends.post) (drop ends.post bytes.now))) }
+    ensures low { IfOk result (λ ends. ends.post ≤ ends.after) }
+    ensures high { IfOk result (λ ends. ends.after + 5 ≤ ends.last) }
     // The rule that a fault names is broken at its place, and the earlier rules hold.
     ensures bad { IfErr result (IsEndFault bytes.now) }
 {

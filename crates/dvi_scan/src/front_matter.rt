@@ -39,7 +39,7 @@ pub fn preamble(bytes: &[u8], ending: &FileEnd) -> Result<usize, BadDvi>
         place: 0,
         cause: DviCause::Preamble,
     };
-    let Ok((op, behind)) = read_at(bytes, 0, ending.post) else {
+    let Ok((op, after)) = read_at(bytes, 0, ending.post) else {
         return Err(fault);
     };
     let Op::Pre { id, units, .. } = op else {
@@ -54,5 +54,5 @@ pub fn preamble(bytes: &[u8], ending: &FileEnd) -> Result<usize, BadDvi>
     if !are_positive(&ending.stop.units) {
         return Err(fault);
     }
-    Ok(behind)
+    Ok(after)
 }

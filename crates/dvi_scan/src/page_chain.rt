@@ -32,7 +32,7 @@ enum Named {
 /// Whether a bop is at a place and ends at or before `bound`.
 fn is_page(bytes: &[u8], place: usize, bound: usize) -> bool
     requires { bound ≤ length bytes.now }
-    ensures some { result ≡ true → (counts : List ℤ) × (before : ℤ) × StandsAt bytes.now place bound (Bop counts before) }
+    ensures bop_found { result ≡ true → (counts : List ℤ) × (before : ℤ) × StandsAt bytes.now place bound (Bop counts before) }
     ensures low { result ≡ true → place < bound }
     ensures none { result ≡ false → (counts : List ℤ) (before : ℤ) → StandsAt bytes.now place bound (Bop counts before) → ⊥ }
 {

@@ -9,7 +9,7 @@ ghost use Rattle.dvi_ops.specs.Tokens.{Token, places, says};
 ghost use Rattle.dvi_scan.specs.Chain.{Links};
 ghost use Rattle.dvi_scan.specs.Passed.{IsPassed};
 ghost use Rattle.dvi_scan.specs.Pass.{Between};
-ghost use Rattle.dvi_scan.specs.Reached.{AreNumbersOf, HasRight, IsIn, IsReached, IsRightAt, IsTail, Left, ReadSoFar, all_left, before_pages, behind_bops};
+ghost use Rattle.dvi_scan.specs.Reached.{AreNumbersOf, HasRight, IsIn, IsReached, IsRightAt, IsTail, Left, ReadSoFar, all_left, before_pages, after_bops};
 
 /// A right instruction takes the pass forward.
 pub fn right_goes_on()
@@ -32,30 +32,30 @@ pub fn later_places_are_left()
     ensures left { (metrics : WidthsByName) (ahead : List ℤ) (bytes : List ℕ) (stop : Postamble) (chain : List ℕ) (at : ℕ) (s : ReadSoFar)
         (r : IsReached metrics ahead bytes stop chain at s) (bound : ℕ) (pointer : ℤ) (place : ℕ)
         → at ≤ length bytes → Links bytes bound pointer chain → IsIn place (reverse chain) → at ≤ place → IsIn place s.left.places }
-    ensures stray { (at : ℕ) (left : Left) → behind_bops (at ∷ []) left ≡ None → IsIn at left.places → ⊥ }
+    ensures stray { (at : ℕ) (left : Left) → after_bops (at ∷ []) left ≡ None → IsIn at left.places → ⊥ }
     ensures met { (metrics : WidthsByName) (ahead : List ℤ) (bytes : List ℕ) (stop : Postamble) (chain : List ℕ) (at : ℕ) (s : ReadSoFar)
         (r : IsReached metrics ahead bytes stop chain at s) → places 0 r.before ≡ reverse chain → s.left ≡ all_left [] }
 {}
 
 /// The pass ends at the place of post: between pages, with no page still to come, and with a right tail.
 pub fn pass_ends()
-    ensures { (metrics : WidthsByName) (bytes : List ℕ) (post behind last : ℕ) (stop : Postamble) (chain : List ℕ) (pages : List MarkedPage) (ahead : List ℤ) (s : ReadSoFar) (tail : List Token)
+    ensures { (metrics : WidthsByName) (bytes : List ℕ) (post after last : ℕ) (stop : Postamble) (chain : List ℕ) (pages : List MarkedPage) (ahead : List ℤ) (s : ReadSoFar) (tail : List Token)
         → AreUnits stop.units → AreNumbersOf ahead (definitions (says tail)) → IsReached metrics ahead bytes stop chain post s → s.pass ≡ Between pages → s.left ≡ all_left []
-        → IsTail bytes behind last s.known tail → IsPassed metrics bytes post behind last stop chain pages }
+        → IsTail bytes after last s.known tail → IsPassed metrics bytes post after last stop chain pages }
 {}
 
 /// In a file the pass goes on: a right instruction is at each place before post; at the place of post the pass is between pages, and no page is still
 /// to come; and the tail is right.
 pub fn files_are_right()
-    ensures next { (metrics : WidthsByName) (bytes : List ℕ) (post behind last : ℕ) (stop : Postamble) (chain : List ℕ) (pages : List MarkedPage)
-        (f : IsPassed metrics bytes post behind last stop chain pages) (small : post ≤ length bytes)
+    ensures next { (metrics : WidthsByName) (bytes : List ℕ) (post after last : ℕ) (stop : Postamble) (chain : List ℕ) (pages : List MarkedPage)
+        (f : IsPassed metrics bytes post after last stop chain pages) (small : post ≤ length bytes)
         (ahead : List ℤ) (numbers : AreNumbersOf ahead (definitions (says f.tail))) (at : ℕ) (s : ReadSoFar) (low : at ≤ post) (r : IsReached metrics ahead bytes stop chain at s)
         → at < post → HasRight metrics ahead bytes stop at post s }
-    ensures end { (metrics : WidthsByName) (bytes : List ℕ) (post behind last : ℕ) (stop : Postamble) (chain : List ℕ) (pages : List MarkedPage)
-        (f : IsPassed metrics bytes post behind last stop chain pages) (small : post ≤ length bytes)
+    ensures end { (metrics : WidthsByName) (bytes : List ℕ) (post after last : ℕ) (stop : Postamble) (chain : List ℕ) (pages : List MarkedPage)
+        (f : IsPassed metrics bytes post after last stop chain pages) (small : post ≤ length bytes)
         (ahead : List ℤ) (numbers : AreNumbersOf ahead (definitions (says f.tail))) (at : ℕ) (s : ReadSoFar) (low : at ≤ post) (r : IsReached metrics ahead bytes stop chain at s)
         → at ≡ post → (s.pass ≡ Between pages) × (s.left ≡ all_left []) }
-    ensures tail { (metrics : WidthsByName) (bytes : List ℕ) (post behind last : ℕ) (stop : Postamble) (chain : List ℕ) (pages : List MarkedPage)
-        (f : IsPassed metrics bytes post behind last stop chain pages) → post ≤ length bytes → (ahead : List ℤ) (s : ReadSoFar)
-        → IsReached metrics ahead bytes stop chain post s → IsTail bytes behind last s.known f.tail }
+    ensures tail { (metrics : WidthsByName) (bytes : List ℕ) (post after last : ℕ) (stop : Postamble) (chain : List ℕ) (pages : List MarkedPage)
+        (f : IsPassed metrics bytes post after last stop chain pages) → post ≤ length bytes → (ahead : List ℤ) (s : ReadSoFar)
+        → IsReached metrics ahead bytes stop chain post s → IsTail bytes after last s.known f.tail }
 {}

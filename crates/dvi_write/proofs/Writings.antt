@@ -69,8 +69,8 @@ written_more fonts before old new pages page written right kept bytes_written ru
     }
 
 -- A beginning of what follows other bytes.
-front_behind : (before old new : Option (List ℕ)) (front more whole : List ℕ) → old ≡ written_then before front → front ++ more ≡ whole → GrowsByFront old new more → GrowsByFront before new whole
-front_behind before old new front more whole bytes_written same grows =
+front_after : (before old new : Option (List ℕ)) (front more whole : List ℕ) → old ≡ written_then before front → front ++ more ≡ whole → GrowsByFront old new more → GrowsByFront before new whole
+front_after before old new front more whole bytes_written same grows =
     let n = grows.0 in (
       length front + n,
       omega (arith, ap length same, length-append front more, grows.1),
@@ -84,7 +84,7 @@ front_behind before old new front more whole bytes_written same grows =
 pub part_more : (fonts : Slots) (before new : Option (List ℕ)) (old : Writing) (pages : List ShippedPage) (page : ShippedPage) → HasWritten fonts before old pages
     → GrowsByFront old.bytes_written new (next_bytes fonts old.so_far page) → GrowsByFront before new (front fonts (pages ++ page ∷ []))
 part_more fonts before new old pages page written grows =
-    front_behind before old.bytes_written new (front fonts pages) (next_bytes fonts old.so_far page) (front fonts (pages ++ page ∷ [])) written.bytes_written
+    front_after before old.bytes_written new (front fonts pages) (next_bytes fonts old.so_far page) (front fonts (pages ++ page ∷ [])) written.bytes_written
     (next-same fonts before old pages page written) grows
 
 -- The pages are not empty where their number is not 0.
@@ -119,7 +119,7 @@ ended_none fonts before old pages written none =
 pub ended_part : (fonts : Slots) (before new : Option (List ℕ)) (old : Writing) (pages : List ShippedPage) → HasWritten fonts before old pages → old.so_far.pages ≢ 0
     → GrowsByFront old.bytes_written new (last_bytes fonts old.so_far) → GrowsByFront before new (whole fonts pages)
 ended_part fonts before new old pages written some grows =
-    front_behind before old.bytes_written new (front fonts pages) (last_bytes fonts old.so_far) (whole fonts pages) written.bytes_written (whole-same fonts before old pages written some) grows
+    front_after before old.bytes_written new (front fonts pages) (last_bytes fonts old.so_far) (whole fonts pages) written.bytes_written (whole-same fonts before old pages written some) grows
 
 -- The length of the file, and the number of its pages.
 pub ended_size : (fonts : Slots) (before : Option (List ℕ)) (w : Writing) (pages : List ShippedPage) → HasWritten fonts before w pages → w.so_far.pages ≢ 0

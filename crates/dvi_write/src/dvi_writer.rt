@@ -134,8 +134,8 @@ impl<D: Device> DviWriter<D> {
     ) -> Result<NextPage, WriteFault>
         requires { IsShippable fonts.now box_node.now }
         ensures bytes { IfOk result (λ next. next.bytes.items ≡ next_bytes fonts.now self.now.so_far (page_with counts.now offsets box_node.now)) }
-        ensures behind { IfOk result (λ next. next.behind ≡ with_next fonts.now self.now.so_far (page_with counts.now offsets box_node.now)) }
-        ensures room { IfOk result (λ next. HasRoom next.behind) }
+        ensures after { IfOk result (λ next. next.after ≡ with_next fonts.now self.now.so_far (page_with counts.now offsets box_node.now)) }
+        ensures room { IfOk result (λ next. HasRoom next.after) }
         ensures right { OnOk result (IsRightPage fonts.now (page_with counts.now offsets box_node.now)) }
         ensures may { OnOk result (refusal_of self.now (page_with counts.now offsets box_node.now) ≡ None) }
         ensures running { OnOk result (self.now.over ≡ false) }
@@ -189,7 +189,7 @@ impl<D: Device> DviWriter<D> {
     {
         let next = self.prepare(alloc, box_node, offsets, counts, fonts)?;
         self.send(&next.bytes)?;
-        self.progress = next.behind;
+        self.progress = next.after;
         Ok(())
     }
 

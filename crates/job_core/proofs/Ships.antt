@@ -121,8 +121,8 @@ module _ (kept : JobStateView) (w : Writing) (r : ℕ) (b : BoxNode) (page : Shi
     pages : new.so_far.pages ≡ w.so_far.pages + 1
     pages = ap (λ (x : ProgressView). x.pages) next ∙ next_pages fonts w.so_far page
 
-    behind : (view_of now new).state ≡ after s (Ship r)
-    behind =
+    following : (view_of now new).state ≡ after s (Ship r)
+    following =
         ap (λ kept. state_of kept new.so_far.load new.so_far.pages new.over) emptied
         ∙ (ap (λ (n : Load). state_of (record kept { registers = slice_set kept.registers r None }) n new.so_far.pages new.over) load
         ∙ (ap (λ n. state_of (record kept { registers = slice_set kept.registers r None }) (shipped_with w.so_far.load (held_in kept.registers r)) n new.over) pages
@@ -141,7 +141,7 @@ module _ (kept : JobStateView) (w : Writing) (r : ℕ) (b : BoxNode) (page : Shi
     shipped count counts stands on =
         replied (view_of kept w) (view_of now new) (Ship r) (Ok (Shipped count))
         (ap (λ n. reply_by None (Shipped n)) (counts ∙ pages) ∙ ap (λ refused. reply_by refused (Shipped (w.so_far.pages + 1))) (sym (accepted none)))
-        (behind ∙ ap (λ refused. state_by refused s (after s (Ship r))) (sym (accepted none)))
+        (following ∙ ap (λ refused. state_by refused s (after s (Ship r))) (sym (accepted none)))
         (λ running. goes_on on) (λ over. absurd (true_or_false over old_runs)) stands
 
   -- What the device reports if it failed.

@@ -2,3 +2,4 @@ pub mod Nests
 pub mod ParagraphEnds
 pub mod ShapedTexts
 pub mod BoundedLists
+pub mod FontReads

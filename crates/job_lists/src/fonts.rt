@@ -6,7 +6,7 @@ ghost use Rattle.job_machine.specs.FontSlots.{font_of_slot};
 
 use job_commands::Refusal;
 use std::alloc::{AllocError, Global};
-use tfm_core::{Font, FontFault, FontFile, FontSize, Tfm, TfmFault};
+use tfm_core::{Font, FontFile, FontReadFault, FontSize};
 
 /// The font that a font file gives at a size, or at its design size where none is given.
 ///
@@ -19,14 +19,10 @@ pub fn read_font(
     ensures value { IfOk result (λ read. read ≡ font_of_slot (Some file.now) size) }
     ensures numbers { IfOk result (λ read. IfOk read HasNumbers) }
 {
-    let tfm = match Tfm::read(alloc, file.bytes()) {
-        Ok(tfm) => tfm,
-        Err(TfmFault::OutOfMemory) => return Err(AllocError),
-        Err(TfmFault::Bad(cause)) => return Ok(Err(Refusal::BadTfm(cause))),
-    };
-    match Font::at_size(alloc, &tfm, size) {
+    match Font::read(alloc, file.bytes(), size) {
         Ok(font) => Ok(Ok(font)),
-        Err(FontFault::OutOfMemory) => Err(AllocError),
-        Err(FontFault::DimensionTooLarge) => Ok(Err(Refusal::DimensionTooLarge)),
+        Err(FontReadFault::OutOfMemory) => Err(AllocError),
+        Err(FontReadFault::BadTfm(cause)) => Ok(Err(Refusal::BadTfm(cause))),
+        Err(FontReadFault::DimensionTooLarge) => Ok(Err(Refusal::DimensionTooLarge)),
     }
 }

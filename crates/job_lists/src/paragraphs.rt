@@ -5,7 +5,7 @@ ghost use Rattle.job_machine.specs.State.{innermost, outer, items_in};
 ghost use Rattle.job_machine.specs.OpenLists.{opened_list};
 ghost use Rattle.job_machine.specs.Checks.{par_checks, first_refusal};
 ghost use Rattle.job_machine.specs.Machine.{reply_by, state_by};
-ghost use Rattle.job_machine.specs.Paragraphs.{pass_number, refusal_for, lines_checks, set_behind, paragraph_checks, early_paragraph_checks, paragraph_answer, with_paragraph};
+ghost use Rattle.job_machine.specs.Paragraphs.{pass_number, refusal_for, lines_checks, set_after, paragraph_checks, early_paragraph_checks, paragraph_answer, with_paragraph};
 
 use crate::nest::Nest;
 use break_core::Pass;
@@ -96,7 +96,7 @@ impl Nest {
     /// Where it is refused, or memory is, nothing changes. `AllocError` is returned only where a list is around it and it may be broken.
     #[tactic(auto, using(crate::proofs::ParagraphEnds::only_memory, crate::proofs::ParagraphEnds::early_free))]
     pub fn end_paragraph(&mut self, params: &Params) -> Result<Reply, AllocError>
-        ensures reply { IfOk result (λ reply. reply ≡ reply_by (first_refusal (paragraph_checks params.now (outer self.old) (items_in (innermost self.old)))) (paragraph_answer (set_behind params.now (outer self.old) (items_in (innermost self.old))))) }
+        ensures reply { IfOk result (λ reply. reply ≡ reply_by (first_refusal (paragraph_checks params.now (outer self.old) (items_in (innermost self.old)))) (paragraph_answer (set_after params.now (outer self.old) (items_in (innermost self.old))))) }
         ensures state { OnOk result (self.new ≡ state_by (first_refusal (paragraph_checks params.now (outer self.old) (items_in (innermost self.old)))) self.old (with_paragraph params.now (outer self.old) (items_in (innermost self.old)))) }
         ensures err { OnErr result (self.new ≡ self.old) }
         ensures early { OnErr result (first_refusal (early_paragraph_checks params.now (outer self.old) (items_in (innermost self.old))) ≡ None) }

@@ -29,7 +29,7 @@ use Rattle.vert_core.specs.declared.paragraph.SetParagraph.{SetParagraph}
 use Rattle.vert_core.specs.declared.paragraph.ParagraphFault.{ParagraphFault}
 use Rattle.vert_core.specs.declared.paragraph.ParagraphFault.TheVariants as faults
 use Rattle.job_machine.specs.OpenLists.{packed_list}
-use Rattle.job_machine.specs.Paragraphs.{set_behind, set_checks}
+use Rattle.job_machine.specs.Paragraphs.{set_after, set_checks}
 use Rattle.job_machine.specs.Checks.{box_checks, held_checks, home_checks, packed_checks, purpose_checks, close_checks, items_checks, split_checks, checks, first_refusal, refusal_in}
 use Rattle.job_machine.specs.Answers.{answer_of}
 use Rattle.job_machine.specs.Machine.{Machine, reply_by, reply_to, step}
@@ -91,7 +91,7 @@ chosen_by_set count (Err faults.OutOfMemory) = tt
 
 chosen_by_purpose : (params : Params) (around : List OpenList) (l : OpenList) (purpose : ListPurpose) → AreChosen (purpose_checks params around l purpose)
 chosen_by_purpose params around l (purposes.Box opening) = chosen_by_packed params around opening.into (packed_list params (Some l))
-chosen_by_purpose params around l purposes.Paragraph = (tt, chosen_by_set (length (nodes_of (items_in (innermost around)))) (set_behind params around l.list))
+chosen_by_purpose params around l purposes.Paragraph = (tt, chosen_by_set (length (nodes_of (items_in (innermost around)))) (set_after params around l.list))
 
 chosen_by_end : (params : Params) (around : List OpenList) (l : Option OpenList) → AreChosen (close_checks params around l)
 chosen_by_end params around None = (tt, tt)

@@ -19,7 +19,7 @@ use Rattle.vert_split.specs.Split.{front_of, rest_of}
 use Rattle.job_machine.specs.FontSlots.{CharacterItems, text_shaped, character_shaped}
 use Rattle.job_machine.specs.State.{State, innermost, outer, held_in, nodes_in}
 use Rattle.job_machine.specs.OpenLists.{box_items, packed_list}
-use Rattle.job_machine.specs.Paragraphs.{set_behind, paragraph_answer}
+use Rattle.job_machine.specs.Paragraphs.{set_after, paragraph_answer}
 
 -- The sizes of a box, as answers report them.
 abbrev pub sizes_of : BoxNode → Sizes
@@ -33,7 +33,7 @@ packed_answer (Some packed) = Packed (sizes_of packed.box_node) packed.badness
 -- The answer to the end of an open list, by what it was opened for and with these lists around.
 abbrev pub purpose_answer : Params → (around : List OpenList) → OpenList → ListPurpose → Answer
 purpose_answer params around open_list (purposes.Box opening) = packed_answer (packed_list params (Some open_list))
-purpose_answer params around open_list purposes.Paragraph = paragraph_answer (set_behind params around open_list.list)
+purpose_answer params around open_list purposes.Paragraph = paragraph_answer (set_after params around open_list.list)
 
 -- The answer to the end of an open list with these lists around. Where no list is open the end is refused, and this answer is not given.
 abbrev pub end_answer : Params → (around : List OpenList) → Option OpenList → Answer

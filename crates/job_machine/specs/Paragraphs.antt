@@ -28,8 +28,8 @@ depth_in None = ignored_depth
 depth_in (Some open_list) = open_list.previous_depth
 
 -- How a paragraph of these items is set after the innermost of the lists around it, whose previous depth decides the glue before the first line.
-abbrev pub set_behind : Params → (around : List OpenList) → Items → Result SetParagraph ParagraphFault
-set_behind params around items = setting (nodes_of items) params (depth_in (innermost around))
+abbrev pub set_after : Params → (around : List OpenList) → Items → Result SetParagraph ParagraphFault
+set_after params around items = setting (nodes_of items) params (depth_in (innermost around))
 
 -- The number of the pass that found the breaks: 0 for an empty paragraph, which has none.
 abbrev pub pass_number : Option Pass → ℕ
@@ -67,7 +67,7 @@ set_checks count (Err fault) = refused_by (refusal_for fault)
 -- The refusals of the end of a paragraph of these items with these lists around.
 abbrev pub paragraph_checks : Params → (around : List OpenList) → Items → List (Bool × Refusal)
 paragraph_checks params around items =
-    (is_none (innermost around), NoOpenList) ∷ set_checks (length (nodes_of (items_in (innermost around)))) (set_behind params around items)
+    (is_none (innermost around), NoOpenList) ∷ set_checks (length (nodes_of (items_in (innermost around)))) (set_after params around items)
 
 -- The refusals of a paragraph that may not be broken: its glue shrinks in an infinite order, or else it has too many legal breakpoints.
 abbrev pub unbroken_checks : Option BreakFault → List (Bool × Refusal)
@@ -90,4 +90,4 @@ with_lines around (Some open_list) (Ok set) =
 
 -- The lists around a paragraph of these items after its end.
 abbrev pub with_paragraph : Params → (around : List OpenList) → Items → List OpenList
-with_paragraph params around items = with_lines around (innermost around) (set_behind params around items)
+with_paragraph params around items = with_lines around (innermost around) (set_after params around items)

@@ -14,7 +14,7 @@ use Rattle.job_machine.specs.Checks.{par_checks, checks, first_refusal}
 use Rattle.job_machine.specs.Answers.{answer_of}
 use Rattle.job_machine.specs.Effects.{after}
 use Rattle.job_machine.specs.Machine.{reply_by, reply_to, state_by, state_after}
-use Rattle.job_machine.specs.Paragraphs.{set_behind, paragraph_checks, early_paragraph_checks, paragraph_answer, with_paragraph}
+use Rattle.job_machine.specs.Paragraphs.{set_after, paragraph_checks, early_paragraph_checks, paragraph_answer, with_paragraph}
 use Rattle.job_machine.specs.Runs.{early_checks}
 
 -- Why a paragraph does not end; then the answer and the open lists after its end.
@@ -22,7 +22,7 @@ abbrev pub refused : State → Option Refusal
 refused s = first_refusal (paragraph_checks s.params (outer s.nest) (items_in (innermost s.nest)))
 
 abbrev pub given : State → Answer
-given s = paragraph_answer (set_behind s.params (outer s.nest) (items_in (innermost s.nest)))
+given s = paragraph_answer (set_after s.params (outer s.nest) (items_in (innermost s.nest)))
 
 abbrev pub lists_left : State → List OpenList
 lists_left s = with_paragraph s.params (outer s.nest) (items_in (innermost s.nest))

@@ -20,7 +20,7 @@ use Rattle.vert_core.specs.Interline.{interline, glue_of, appended}
 use Rattle.vert_core.specs.declared.paragraph.SetParagraph.{SetParagraph}
 use Rattle.vert_core.specs.declared.paragraph.ParagraphFault.{ParagraphFault}
 use Rattle.vert_core.specs.declared.paragraph.ParagraphFault.TheVariants.{DimensionTooLarge}
-use Rattle.vert_core.specs.Lines.{BrokenParagraph, boxed_line, line_box, line_begin, line_items, depth_before, penalty_behind, penalty_nodes, brought_by, vertical_items, lines_fit}
+use Rattle.vert_core.specs.Lines.{BrokenParagraph, boxed_line, line_box, line_begin, line_items, depth_before, penalty_after, penalty_nodes, brought_by, vertical_items, lines_fit}
 use Rattle.vert_core.specs.Finished.{final_glue, without_glue, finished}
 use Rattle.vert_core.specs.Setting.{ChosenLines, chosen_lines, lined, set_by, set_if_fit, set_or, list_setting, setting}
 use Rattle.dvi_ops.proofs.Appends.{all_append, all_weaker}
@@ -121,9 +121,9 @@ module _ (fonts : Slots) where
   penalty_by penalty true = tt
   penalty_by penalty false = (tt, tt)
 
-  behind_by : (penalty : ℤ) (more : Bool) → HaveGlyphs fonts (if◌then◌else◌ {A = List Node} more (penalty_nodes penalty) [])
-  behind_by penalty true = penalty_by penalty (is_zero penalty)
-  behind_by penalty false = tt
+  step_after : (penalty : ℤ) (more : Bool) → HaveGlyphs fonts (if◌then◌else◌ {A = List Node} more (penalty_nodes penalty) [])
+  step_after penalty true = penalty_by penalty (is_zero penalty)
+  step_after penalty false = tt
 
   brought_have : (p : BrokenParagraph) (line : ℕ) → HaveGlyphs fonts p.nodes → HaveGlyphs fonts (brought_by p line)
   unfolding brought_by
@@ -131,7 +131,7 @@ module _ (fonts : Slots) where
       let b = line_box p line in
       all_append (HasGlyphs fonts) (appended (glue_of (interline p.params (depth_before p line) b.height)) (pos 0) b) _
       (appended_have (glue_of (interline p.params (depth_before p line) b.height)) b (line_have p line all))
-      (behind_by (penalty_behind p.params (length p.places) line) _)
+      (step_after (penalty_after p.params (length p.places) line) _)
 
   all_brought : (p : BrokenParagraph) (lines : List ℕ) → HaveGlyphs fonts p.nodes → HaveGlyphs fonts (flat_map (brought_by p) lines)
   all_brought p [] all = tt

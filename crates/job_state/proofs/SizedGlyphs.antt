@@ -41,7 +41,7 @@ use Rattle.job_state.specs.Sized.{HasSizes, IsSizedLeaf, IsSoundBox, IsSized, Ar
 use Rattle.job_state.proofs.SetLines.{set_sized}
 use Rattle.vert_core.specs.declared.paragraph.SetParagraph.{SetParagraph}
 use Rattle.vert_core.specs.declared.paragraph.ParagraphFault.{ParagraphFault}
-use Rattle.job_machine.specs.Paragraphs.{depth_in, set_behind, set_checks, with_lines}
+use Rattle.job_machine.specs.Paragraphs.{depth_in, set_after, set_checks, with_lines}
 use Rattle.job_machine.specs.declared.ListPurpose.{ListPurpose}
 use Rattle.job_machine.specs.declared.ListPurpose.TheVariants as purposes
 use Rattle.job_commands.specs.declared.command.Splitting.{Splitting}
@@ -370,7 +370,7 @@ purpose_sized s l purposes.Paragraph is may sized =
     let list = each_at (IsSizedList s.fonts) s.nest (length s.nest - 1) l sized.nest is in
     record {
       nest =
-          lines_sized s.fonts around (innermost around) (set_behind s.params around l.list) s.over (is_none (innermost around)) (length (nodes_of (items_in (innermost around)))) refl
+          lines_sized s.fonts around (innermost around) (set_after s.params around l.list) s.over (is_none (innermost around)) (length (nodes_of (items_in (innermost around)))) refl
           (λ (set : SetParagraph) told. set_sized s.fonts (nodes_of l.list) s.params (depth_in (innermost around)) set list told)
           may (each_taken (IsSizedList s.fonts) (length s.nest - 1) s.nest sized.nest);
       registers = sized.registers;

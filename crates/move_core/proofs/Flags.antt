@@ -6,7 +6,7 @@ use Rattle.dvi_ops.specs.Instruction.{Across, Downward, By, Set, Again, Move, In
 use Rattle.dvi_ops.specs.View.{body_view}
 use Rattle.dvi_ops.specs.declared.body_op.BodyOp.{BodyOp}
 use Rattle.move_core.specs.Registers.{Known}
-use Rattle.move_core.specs.Passes.{Groups, again_in, entered, flags_of, is_move, known_behind, op_written, rewritten}
+use Rattle.move_core.specs.Passes.{Groups, again_in, entered, flags_of, is_move, amounts_after, op_written, rewritten}
 
 -- The instructions from the one before i on.
 pub in_front : (ops : List BodyOp) (i : ℕ) (d : BodyOp) → 0 < i → i - 1 < length ops →
@@ -29,8 +29,8 @@ flags_at_other i rest e = rw e refl
 -- One more flag.
 pub pushed_flag : (flags flags' : List Bool) (again : Bool) (i : Instruction) (rest : List Instruction) → is_move i ≡ true → flags' ≡ flags ++ again ∷ [] →
     again ≡ again_in i rest → reverse flags ≡ flags_of rest → reverse flags' ≡ flags_of (i ∷ rest)
-pushed_flag flags flags' again i rest move e here behind =
-    ap reverse e ∙ (reverse-append flags (again ∷ []) ∙ (ap₂ ◌∷◌ here behind ∙ sym (flags_at_move i rest move)))
+pushed_flag flags flags' again i rest move e here after =
+    ap reverse e ∙ (reverse-append flags (again ∷ []) ∙ (ap₂ ◌∷◌ here after ∙ sym (flags_at_move i rest move)))
 
 -- One flag less.
 pub popped_flag : (flags flags' : List Bool) (popped : Option Bool) (i : Instruction) (rest : List Instruction) (n n' : ℕ) → is_move i ≡ true →
@@ -45,7 +45,7 @@ popped_flag flags flags' (Some again) i rest n n' move e l some all =
 
 -- A movement is written by the known values, and enters and leaves no group.
 pub written_move : (known known' : Known) (outer : List Known) (i written : Instruction) (again : Bool) (rest : List Instruction) → is_move i ≡ true →
-    again ≡ again_in i rest → written ≡ op_written known i again → known' ≡ known_behind known i again →
+    again ≡ again_in i rest → written ≡ op_written known i again → known' ≡ amounts_after known i again →
     rewritten (i ∷ rest) (record { known = known; outer = outer }) ≡ written ∷ rewritten rest (record { known = known'; outer = outer })
 written_move known known' outer (Do (Move axis (By n))) written again rest move e w k = rw (w, k, e) refl
 written_move known known' outer (Do (Move axis (Set register n))) written again rest move e w k = absurd (cc)

@@ -34,5 +34,5 @@ knows_push here fresh outer outer' None rest m m' none e l l' (all, left) knows 
 knows_push here fresh outer outer' None rest m m' none e l l' (all, left) knows (suc pops) axis n =
     ap (λ (outer : List Amounts). held_at (reverse outer) pops axis n) (nil_from_length outer' (l' ∙ left))
     ∙ (sym (ap (λ (outer : List Amounts). held_at (reverse outer) (suc pops) axis n) (nil_from_length outer (l ∙ all))) ∙ knows (suc (suc pops)) axis n)
-knows_push here fresh outer outer' (Some behind) rest m m' none e l l' some knows pops axis n =
-    sym (ap (λ (outer : List Amounts). held_at outer pops axis n) (ap reverse e ∙ reverse-append outer' (behind ∷ []))) ∙ knows (suc pops) axis n
+knows_push here fresh outer outer' (Some after) rest m m' none e l l' some knows pops axis n =
+    sym (ap (λ (outer : List Amounts). held_at outer pops axis n) (ap reverse e ∙ reverse-append outer' (after ∷ []))) ∙ knows (suc pops) axis n

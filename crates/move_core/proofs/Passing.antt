@@ -40,9 +40,9 @@ unfolding onto IsNoPush
 body_keeps_pop Empty last rest out h = keeps_pop last rest out h
 body_keeps_pop (Then leaf f) last rest out h = body_keeps_pop f (Do leaf) rest (last ∷ out) tt
 body_keeps_pop (Group inner f) last rest out h =
-    let behind = onto (flat inner) (Push ∷ last ∷ out) in
+    let after = onto (flat inner) (Push ∷ last ∷ out) in
     let e = onto-append (flat inner) (Pop ∷ flat f) (Push ∷ last ∷ out) in
-    ap (λ (is : List Instruction). trimmed (Pop ∷ rest) is) e ∙ (body_keeps_pop f Pop rest behind tt ∙ sym (ap (λ (is : List Instruction). trimmed rest (Pop ∷ is)) e))
+    ap (λ (is : List Instruction). trimmed (Pop ∷ rest) is) e ∙ (body_keeps_pop f Pop rest after tt ∙ sym (ap (λ (is : List Instruction). trimmed rest (Pop ∷ is)) e))
 
 -- What is kept at the pop of a group with the body f: nothing of the group, where f is empty.
 closed : Forest → List Instruction → List Instruction
@@ -54,9 +54,9 @@ unfolding onto closed IsNoPush
 closes Empty rest out = refl
 closes (Then leaf f) rest out = body_keeps_pop f (Do leaf) rest (Push ∷ out) tt
 closes (Group inner f) rest out =
-    let behind = onto (flat inner) (Push ∷ Push ∷ out) in
+    let after = onto (flat inner) (Push ∷ Push ∷ out) in
     let e = onto-append (flat inner) (Pop ∷ flat f) (Push ∷ Push ∷ out) in
-    ap (λ (is : List Instruction). trimmed (Pop ∷ rest) is) e ∙ (body_keeps_pop f Pop rest behind tt ∙ sym (ap (λ (is : List Instruction). trimmed rest (Pop ∷ is)) e))
+    ap (λ (is : List Instruction). trimmed (Pop ∷ rest) is) e ∙ (body_keeps_pop f Pop rest after tt ∙ sym (ap (λ (is : List Instruction). trimmed rest (Pop ∷ is)) e))
 
 closed-grouped : (f g : Forest) (out : List Instruction) → onto (flat g) (closed f out) ≡ onto (flat (grouped f g)) out
 unfolding onto closed
@@ -111,8 +111,8 @@ rewritten_forest : (f : Forest) (k : Known) (outer : List Known) (rest : List In
 unfolding Ends
 rewritten_forest Empty k outer rest ends = (k, refl)
 rewritten_forest (Then leaf f) k outer rest ends =
-    let behind = (written k leaf (comes_again leaf (has_move f))).known in
-    let next = rewritten_forest f behind outer rest ends in (
+    let after = (written k leaf (comes_again leaf (has_move f))).known in
+    let next = rewritten_forest f after outer rest ends in (
       next.0,
       ap (λ (again : Bool). Do (written k leaf again).leaf ∷ rewritten (flat f ++ rest) (record { known = (written k leaf again).known; outer = outer })) (again_same leaf f rest ends)
           ∙ ap (λ (is : List Instruction). Do (written k leaf (comes_again leaf (has_move f))).leaf ∷ is) next.1,

@@ -126,8 +126,8 @@ reused_writable k Empty all = tt
 reused_writable k (Then leaf rest) (here, all) =
     let again = comes_again leaf (has_move rest) in (leaf_writable k leaf again here, reused_writable (written k leaf again).known rest all)
 reused_writable k (Group inner rest) (push, all) =
-    let behind = group_back IsWritable inner rest (push, all) in
-    (push, all_append IsWritable (flat (reused_from k inner)) (Pop ∷ flat (reused_from k rest)) (reused_writable k inner (group_front IsWritable inner rest (push, all))) (behind.0, reused_writable k rest behind.1))
+    let after = group_back IsWritable inner rest (push, all) in
+    (push, all_append IsWritable (flat (reused_from k inner)) (Pop ∷ flat (reused_from k rest)) (reused_writable k inner (group_front IsWritable inner rest (push, all))) (after.0, reused_writable k rest after.1))
 
 grouped_writable : (inner rest : Forest) → AllByRecursion IsWritable (flat (Group inner rest)) → AllByRecursion IsWritable (flat (grouped inner rest))
 grouped_writable Empty rest (push, (pop, all)) = all
@@ -138,6 +138,6 @@ pub pruned_writable : (f : Forest) → AllByRecursion IsWritable (flat f) → Al
 pruned_writable Empty all = tt
 pruned_writable (Then leaf rest) (here, all) = (here, pruned_writable rest all)
 pruned_writable (Group inner rest) (push, all) =
-    let behind = group_back IsWritable inner rest (push, all) in
+    let after = group_back IsWritable inner rest (push, all) in
     grouped_writable (pruned inner) (pruned rest)
-    (push, all_append IsWritable (flat (pruned inner)) (Pop ∷ flat (pruned rest)) (pruned_writable inner (group_front IsWritable inner rest (push, all))) (behind.0, pruned_writable rest behind.1))
+    (push, all_append IsWritable (flat (pruned inner)) (Pop ∷ flat (pruned rest)) (pruned_writable inner (group_front IsWritable inner rest (push, all))) (after.0, pruned_writable rest after.1))

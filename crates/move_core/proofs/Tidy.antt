@@ -150,11 +150,11 @@ sets_ahead axis k Empty plain = tt
 sets_ahead axis k (Then leaf rest) (here, plain) =
     let out = written k leaf (comes_again leaf (has_move rest)) in
     let fit = fits axis k leaf (has_move rest) here in
-    let behind = reused_from out.known rest in (
-      no_later_from axis (stored_of (known_in axis k)) (along axis out.leaf) behind
-          (subst (λ (s : Stored). GoesNoLater axis s (along axis out.leaf) behind) fit.keeps
-          (no_later axis (stored_of (known_in axis out.known)) (along axis out.leaf) (has_move rest axis) behind fit.last (λ n. later_same axis out.known rest n plain))),
-      subst (λ (s : Stored). SetsAhead axis s behind) fit.keeps (sets_ahead axis out.known rest plain),
+    let after = reused_from out.known rest in (
+      no_later_from axis (stored_of (known_in axis k)) (along axis out.leaf) after
+          (subst (λ (s : Stored). GoesNoLater axis s (along axis out.leaf) after) fit.keeps
+          (no_later axis (stored_of (known_in axis out.known)) (along axis out.leaf) (has_move rest axis) after fit.last (λ n. later_same axis out.known rest n plain))),
+      subst (λ (s : Stored). SetsAhead axis s after) fit.keeps (sets_ahead axis out.known rest plain),
     )
 sets_ahead axis k (Group inner rest) (within, plain) = (sets_ahead axis k inner within, sets_ahead axis k rest plain)
 

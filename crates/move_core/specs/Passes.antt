@@ -125,16 +125,16 @@ op_written k (Do leaf) again = Do (written k leaf again).leaf
 op_written k i again = i
 
 -- The known values after an instruction.
-abbrev pub known_behind : Known → Instruction → (again : Bool) → Known
-known_behind k (Do leaf) again = (written k leaf again).known
-known_behind k i again = k
+abbrev pub amounts_after : Known → Instruction → (again : Bool) → Known
+amounts_after k (Do leaf) again = (written k leaf again).known
+amounts_after k i again = k
 
 -- Instructions written with registers.
 abbrev pub rewritten : List Instruction → Groups → List Instruction
 rewritten [] g = []
 rewritten (i ∷ rest) g =
     op_written (entered i g).known i (again_in i rest)
-    ∷ rewritten rest (record { known = known_behind (entered i g).known i (again_in i rest); outer = (entered i g).outer })
+    ∷ rewritten rest (record { known = amounts_after (entered i g).known i (again_in i rest); outer = (entered i g).outer })
 
 -- Whether a set of amounts contains this one.
 unfoldable pub has_amount : AmountSet → ℤ → Bool

@@ -58,8 +58,8 @@ impl Later {
             BodyOp::Right(amount) => Ok(!self.here.across.insert(amount)?),
             BodyOp::Down(amount) => Ok(!self.here.down.insert(amount)?),
             BodyOp::Pop => {
-                let behind = replace(&mut self.here, Amounts::new(alloc));
-                self.outer.push(behind)?;
+                let after = replace(&mut self.here, Amounts::new(alloc));
+                self.outer.push(after)?;
                 Ok(false)
             }
             BodyOp::Push => {

@@ -4,7 +4,7 @@ ghost use Rattle.std.specs.Prelude.{◌≡◌};
 ghost use Rattle.dvi_ops.specs.Instruction.{Across, Downward, Do, Move};
 ghost use Rattle.dvi_ops.specs.View.{body_view};
 ghost use Rattle.move_core.specs.Registers.{nothing_known, choose, other};
-ghost use Rattle.move_core.specs.Passes.{register_view, step_view, held_view, known_view, op_written, known_behind};
+ghost use Rattle.move_core.specs.Passes.{register_view, step_view, held_view, known_view, op_written, amounts_after};
 
 use dvi_ops::BodyOp;
 
@@ -128,7 +128,7 @@ impl Known {
     /// The instruction that is written for an instruction, where `again` is whether it is a movement whose amount comes again.
     pub fn write<'a>(&mut self, op: BodyOp<'a>, again: bool) -> BodyOp<'a>
         ensures op { body_view result ≡ op_written (known_view self.old) (body_view op.entry) again }
-        ensures known { known_view self.new ≡ known_behind (known_view self.old) (body_view op.entry) again }
+        ensures known { known_view self.new ≡ amounts_after (known_view self.old) (body_view op.entry) again }
     {
         match op {
             BodyOp::Right(amount) => across_op(self.across.choose(amount, again)),

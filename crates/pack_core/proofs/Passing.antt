@@ -14,7 +14,7 @@ use Rattle.pack_core.specs.Totals.{total, pending_depth}
 use Rattle.pack_core.specs.Glue.{stretch_totals, shrink_totals}
 use Rattle.pack_core.specs.Orders.{order_amounts, plus, AreWithin}
 use Rattle.pack_core.specs.declared.orders.OrderAmounts.{OrderAmounts}
-use Rattle.pack_core.specs.ListTotals.{ListTotals, totals_of, with_item, pending_behind}
+use Rattle.pack_core.specs.ListTotals.{ListTotals, totals_of, with_item, pending_after}
 use Rattle.pack_core.proofs.Sums.{total-append, pending-append}
 
 total-one : (size : Node → ℤ) (xs : List Node) (x : Node) → total size xs +ℤ size x ≡ total size (xs ++ x ∷ [])
@@ -95,7 +95,7 @@ plus-nothing amounts more none =
 -- A node that is not glue leaves the amounts as they are.
 pub with_item-no_glue :
     (totals : ListTotals) (node : Node) → IsNoGlue node
-    → record totals { advance = totals.advance +ℤ advance totals.kind node; pending_depth = pending_behind totals.pending_depth node; passed = totals.passed + 1 }
+    → record totals { advance = totals.advance +ℤ advance totals.kind node; pending_depth = pending_after totals.pending_depth node; passed = totals.passed + 1 }
     ≡ with_item totals node
 with_item-no_glue totals node other =
     let stretch = plus-nothing totals.stretch (λ order. stretch_in order node) (no_stretch node other) in
@@ -105,7 +105,7 @@ with_item-no_glue totals node other =
       advance = totals.advance +ℤ advance totals.kind node;
       stretch = stretch i;
       shrink = shrink i;
-      pending_depth = pending_behind totals.pending_depth node;
+      pending_depth = pending_after totals.pending_depth node;
       passed = totals.passed + 1;
     }
 

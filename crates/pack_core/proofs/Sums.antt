@@ -7,7 +7,7 @@ use Rattle.std.proofs.lemmas.List.{take_more}
 use Rattle.std.proofs.lemmas.List.Folds.{list_all-append}
 use Rattle.std.specs.List.{list_all}
 use Rattle.pack_core.specs.Items.{is_sizeless, last_below}
-use Rattle.pack_core.specs.ListTotals.{pending_behind}
+use Rattle.pack_core.specs.ListTotals.{pending_after}
 use Rattle.node_core.specs.declared.tree.Node.{Node}
 use Rattle.node_core.specs.declared.tree.Node.TheVariants as nodes
 use Rattle.std.proofs.Math.Bool.{and-true, and-false}
@@ -54,7 +54,7 @@ choice true false p q r = refl
 choice false true p q r = refl
 choice false false p q r = refl
 
-pub pending-append : (xs : List Node) (x : Node) → pending_depth (xs ++ x ∷ []) ≡ pending_behind (pending_depth xs) x
+pub pending-append : (xs : List Node) (x : Node) → pending_depth (xs ++ x ∷ []) ≡ pending_after (pending_depth xs) x
 pending-append [] (nodes.Glyph g) = refl
 pending-append [] (nodes.FontKern width) = refl
 pending-append [] (nodes.Kern width) = refl

@@ -32,8 +32,8 @@ totals_of kind nodes =
     }
 
 -- The pending depth after one more item: a penalty or a special leaves it as it is, and every other item sets it.
-abbrev pub pending_behind : ℤ → Node → ℤ
-pending_behind before node = if is_sizeless node then before else last_below node
+abbrev pub pending_after : ℤ → Node → ℤ
+pending_after before node = if is_sizeless node then before else last_below node
 
 -- The totals with one more item, which adds what it has to each total.
 abbrev pub with_item : ListTotals → Node → ListTotals
@@ -43,7 +43,7 @@ with_item totals node =
       advance = totals.advance +ℤ advance totals.kind node;
       stretch = plus totals.stretch (λ order. stretch_in order node);
       shrink = plus totals.shrink (λ order. shrink_in order node);
-      pending_depth = pending_behind totals.pending_depth node;
+      pending_depth = pending_after totals.pending_depth node;
       passed = totals.passed + 1;
     }
 

@@ -7,7 +7,7 @@ ghost use Rattle.pack_core.specs.Items.{advance};
 ghost use Rattle.pack_core.specs.Totals.{total, pending_depth};
 ghost use Rattle.pack_core.specs.Glue.{stretch_totals, shrink_totals};
 ghost use Rattle.pack_core.specs.Orders.{order_amounts, AreWithin};
-ghost use Rattle.pack_core.specs.ListTotals.{totals_of, with_item, pending_behind};
+ghost use Rattle.pack_core.specs.ListTotals.{totals_of, with_item, pending_after};
 
 use crate::orders::{OrderAmounts, in_one_order, no_amounts, plus};
 use crate::sizes::{advance_of, depth_by_itself};
@@ -62,7 +62,7 @@ impl Totals {
         ensures totals { (before : List Node) → self.old ≡ totals_of self.old.kind before → self.new ≡ totals_of self.old.kind (before ++ node.now ∷ []) }
     {
         self.advance += i128::from(advance_of(self.kind, node));
-        self.pending_depth = pending_behind(self.pending_depth, node);
+        self.pending_depth = pending_after(self.pending_depth, node);
         self.passed += 1;
         // Only glue changes the amounts of the orders. Most items are not glue, so the additions are skipped for them.
         let Node::Glue(glue) = node else {
@@ -127,8 +127,8 @@ impl Totals {
 }
 
 /// The pending depth after one more item.
-fn pending_behind(before: Dimen, node: &Node) -> Dimen
-    ensures { result ≡ pending_behind before node.now }
+fn pending_after(before: Dimen, node: &Node) -> Dimen
+    ensures { result ≡ pending_after before node.now }
 {
     match node.class() {
         ItemClass::Penalty | ItemClass::Special => before,

@@ -7,7 +7,7 @@ use Rattle.std.specs.Str.{bytes_eq}
 use Rattle.std.proofs.Common.{length-append}
 use Rattle.std.proofs.Math.Numerals.{one-add}
 use Rattle.scaled_core.specs.declared.units.LengthUnit.TheVariants.{Point}
-use Rattle.scaled_core.specs.ParsedTexts.{unit_named, is_negative, behind_sign, front_digits, behind_digits, point_digits, behind_fraction, parsed_value, written_value, dimension_value, read_dimension}
+use Rattle.scaled_core.specs.ParsedTexts.{unit_named, is_negative, text_after_sign, front_digits, text_after_digits, point_digits, text_after_fraction, parsed_value, written_value, dimension_value, read_dimension}
 
 -- The unit that is left out.
 abbrev pt : List ℕ
@@ -22,10 +22,10 @@ unfolding is_negative
 is_negative-points [] = refl
 is_negative-points (c ∷ cs) = refl
 
-behind_sign-points : (text : List ℕ) → behind_sign (text ++ pt) ≡ behind_sign text ++ pt
-unfolding behind_sign
-behind_sign-points [] = refl
-behind_sign-points (c ∷ cs) =
+text_after_sign-points : (text : List ℕ) → text_after_sign (text ++ pt) ≡ text_after_sign text ++ pt
+unfolding text_after_sign
+text_after_sign-points [] = refl
+text_after_sign-points (c ∷ cs) =
     ap (λ (xs : List ℕ). if c == 45 then cs ++ pt else xs) (if-append (c == 43) cs (c ∷ cs) pt)
     ∙ if-append (c == 45) cs (if c == 43 then cs else c ∷ cs) pt
 
@@ -36,32 +36,32 @@ front_step : (c : ℕ) (cs : List ℕ) (b : Bool) → is_ascii_digit c ≡ b
 front_step c cs true e rest = rw (e, one-add (prefix_len is_ascii_digit (cs ++ pt)), one-add (prefix_len is_ascii_digit cs)) (ap (λ (xs : List ℕ). c ∷ xs) rest)
 front_step c cs false e rest = rw e refl
 
-behind_step : (c : ℕ) (cs : List ℕ) (b : Bool) → is_ascii_digit c ≡ b
+after_step : (c : ℕ) (cs : List ℕ) (b : Bool) → is_ascii_digit c ≡ b
     → drop (prefix_len is_ascii_digit (cs ++ pt)) (cs ++ pt) ≡ drop (prefix_len is_ascii_digit cs) cs ++ pt
     → drop (prefix_len is_ascii_digit (c ∷ cs ++ pt)) (c ∷ cs ++ pt) ≡ drop (prefix_len is_ascii_digit (c ∷ cs)) (c ∷ cs) ++ pt
-behind_step c cs true e rest = rw (e, one-add (prefix_len is_ascii_digit (cs ++ pt)), one-add (prefix_len is_ascii_digit cs)) rest
-behind_step c cs false e rest = rw e refl
+after_step c cs true e rest = rw (e, one-add (prefix_len is_ascii_digit (cs ++ pt)), one-add (prefix_len is_ascii_digit cs)) rest
+after_step c cs false e rest = rw e refl
 
 front_digits-points : (text : List ℕ) → front_digits (text ++ pt) ≡ front_digits text
 unfolding front_digits
 front_digits-points [] = refl
 front_digits-points (c ∷ cs) = front_step c cs (is_ascii_digit c) refl (front_digits-points cs)
 
-behind_digits-points : (text : List ℕ) → behind_digits (text ++ pt) ≡ behind_digits text ++ pt
-unfolding behind_digits
-behind_digits-points [] = refl
-behind_digits-points (c ∷ cs) = behind_step c cs (is_ascii_digit c) refl (behind_digits-points cs)
+text_after_digits-points : (text : List ℕ) → text_after_digits (text ++ pt) ≡ text_after_digits text ++ pt
+unfolding text_after_digits
+text_after_digits-points [] = refl
+text_after_digits-points (c ∷ cs) = after_step c cs (is_ascii_digit c) refl (text_after_digits-points cs)
 
 point_digits-points : (text : List ℕ) → point_digits (text ++ pt) ≡ point_digits text
 unfolding point_digits
 point_digits-points [] = refl
 point_digits-points (c ∷ cs) = ap (λ (xs : List ℕ). if c == 46 then xs else []) (front_digits-points cs)
 
-behind_fraction-points : (text : List ℕ) → behind_fraction (text ++ pt) ≡ behind_fraction text ++ pt
-unfolding behind_fraction
-behind_fraction-points [] = refl
-behind_fraction-points (c ∷ cs) =
-    ap (λ (xs : List ℕ). if c == 46 then xs else c ∷ cs ++ pt) (behind_digits-points cs) ∙ if-append (c == 46) (behind_digits cs) (c ∷ cs) pt
+text_after_fraction-points : (text : List ℕ) → text_after_fraction (text ++ pt) ≡ text_after_fraction text ++ pt
+unfolding text_after_fraction
+text_after_fraction-points [] = refl
+text_after_fraction-points (c ∷ cs) =
+    ap (λ (xs : List ℕ). if c == 46 then xs else c ∷ cs ++ pt) (text_after_digits-points cs) ∙ if-append (c == 46) (text_after_digits cs) (c ∷ cs) pt
 
 -- No unit has more than two letters.
 and_false : (a b : Bool) → (a && (b && false)) ≡ false
@@ -90,9 +90,9 @@ the_unit (c ∷ cs) none = absurd (omega (arith, none))
 
 -- The parts of such a text give its value.
 pub read_dimension-points : (text : List ℕ) → read_dimension (text ++ codes "pt")
-    ≡ parsed_value (written_value (is_negative text) (front_digits (behind_sign text)) (point_digits (behind_digits (behind_sign text))) (unit_named (behind_fraction (behind_digits (behind_sign text)) ++ codes "pt")))
+    ≡ parsed_value (written_value (is_negative text) (front_digits (text_after_sign text)) (point_digits (text_after_digits (text_after_sign text))) (unit_named (text_after_fraction (text_after_digits (text_after_sign text)) ++ codes "pt")))
 unfolding read_dimension dimension_value
 read_dimension-points text =
-    rw (is_negative-points text, behind_sign-points text, front_digits-points (behind_sign text), behind_digits-points (behind_sign text), point_digits-points (behind_digits (behind_sign text)), behind_fraction-points (behind_digits (behind_sign text))) refl
+    rw (is_negative-points text, text_after_sign-points text, front_digits-points (text_after_sign text), text_after_digits-points (text_after_sign text), point_digits-points (text_after_digits (text_after_sign text)), text_after_fraction-points (text_after_digits (text_after_sign text))) refl
 
 pub ruleset points = (no_unit, the_unit)

@@ -13,7 +13,7 @@ use Rattle.scaled_core.specs.declared.units.LengthUnit.{LengthUnit}
 use Rattle.scaled_core.specs.declared.units.LengthUnit.TheVariants.{Point, Inch, Pica, Centimeter, Millimeter, BigPoint, DidotPoint, Cicero, ScaledPoint}
 use Rattle.scaled_core.specs.DimensionTexts.{Sign, unsigned, plus, minus, sign_text, with_sign, DimensionParts, fraction_digits, fraction_text, parts_text, parts_value, IsDimensionText, decimal_fraction}
 use Rattle.scaled_core.specs.Units.{unit_text, scaled_points}
-use Rattle.scaled_core.specs.ParsedTexts.{behind_digits, behind_fraction, behind_sign, dimension_value, front_digits, is_negative, written_value, point_digits, unit_named, with_minus}
+use Rattle.scaled_core.specs.ParsedTexts.{text_after_digits, text_after_fraction, text_after_sign, dimension_value, front_digits, is_negative, written_value, point_digits, unit_named, with_minus}
 use Rattle.scaled_core.proofs.DigitLemmas.{digit_code, front_are_digits}
 
 -- Digits before a text that does not begin with one.
@@ -37,9 +37,9 @@ unfolding front_digits
 front_digits-append xs ys h none = rw (prefix_len-digits xs ys h none) (take-append_seam xs ys)
 
 -- The text after them is the rest.
-pub behind_digits-append : (xs ys : List ℕ) → all_ascii_digits xs ≡ true → NoDigitFirst ys → behind_digits (xs ++ ys) ≡ ys
-unfolding behind_digits
-behind_digits-append xs ys h none = rw (prefix_len-digits xs ys h none) (drop-append_seam xs ys)
+pub text_after_digits-append : (xs ys : List ℕ) → all_ascii_digits xs ≡ true → NoDigitFirst ys → text_after_digits (xs ++ ys) ≡ ys
+unfolding text_after_digits
+text_after_digits-append xs ys h none = rw (prefix_len-digits xs ys h none) (drop-append_seam xs ys)
 
 -- The unit.
 
@@ -85,53 +85,53 @@ unit-no_point DidotPoint = refl
 unit-no_point Cicero = refl
 unit-no_point ScaledPoint = refl
 
-unit-behind_fraction : (u : LengthUnit) → behind_fraction (unit_text u) ≡ unit_text u
-unfolding behind_fraction
-unit-behind_fraction Point = refl
-unit-behind_fraction Inch = refl
-unit-behind_fraction Pica = refl
-unit-behind_fraction Centimeter = refl
-unit-behind_fraction Millimeter = refl
-unit-behind_fraction BigPoint = refl
-unit-behind_fraction DidotPoint = refl
-unit-behind_fraction Cicero = refl
-unit-behind_fraction ScaledPoint = refl
+unit-text_after_fraction : (u : LengthUnit) → text_after_fraction (unit_text u) ≡ unit_text u
+unfolding text_after_fraction
+unit-text_after_fraction Point = refl
+unit-text_after_fraction Inch = refl
+unit-text_after_fraction Pica = refl
+unit-text_after_fraction Centimeter = refl
+unit-text_after_fraction Millimeter = refl
+unit-text_after_fraction BigPoint = refl
+unit-text_after_fraction DidotPoint = refl
+unit-text_after_fraction Cicero = refl
+unit-text_after_fraction ScaledPoint = refl
 
 point_digits-text : (fraction : Option (List ℕ)) (u : LengthUnit) → all_ascii_digits (fraction_digits fraction) ≡ true → point_digits (fraction_text fraction ++ unit_text u) ≡ fraction_digits fraction
 unfolding point_digits
 point_digits-text None u h = unit-no_point u
 point_digits-text (Some ds) u h = front_digits-append ds (unit_text u) h (unit-no_digit u)
 
-behind_fraction-text : (fraction : Option (List ℕ)) (u : LengthUnit) → all_ascii_digits (fraction_digits fraction) ≡ true → behind_fraction (fraction_text fraction ++ unit_text u) ≡ unit_text u
-unfolding behind_fraction
-behind_fraction-text None u h = unit-behind_fraction u
-behind_fraction-text (Some ds) u h = behind_digits-append ds (unit_text u) h (unit-no_digit u)
+text_after_fraction-text : (fraction : Option (List ℕ)) (u : LengthUnit) → all_ascii_digits (fraction_digits fraction) ≡ true → text_after_fraction (fraction_text fraction ++ unit_text u) ≡ unit_text u
+unfolding text_after_fraction
+text_after_fraction-text None u h = unit-text_after_fraction u
+text_after_fraction-text (Some ds) u h = text_after_digits-append ds (unit_text u) h (unit-no_digit u)
 
 -- The sign.
 
 -- The text does not begin with a sign.
 pub record NoSignFirst (text : List ℕ) : Type 0 where
-  pub behind : behind_sign text ≡ text
+  pub after : text_after_sign text ≡ text
   pub negative : is_negative text ≡ false
 
 no_sign : (c : ℕ) (cs : List ℕ) → c ≢ 45 → c ≢ 43 → NoSignFirst (c ∷ cs)
-unfolding behind_sign is_negative
+unfolding text_after_sign is_negative
 no_sign c cs m p = record {
-  behind = rw (ne_eqb c 45 m) (rw (ne_eqb c 43 p) refl);
+  after = rw (ne_eqb c 45 m) (rw (ne_eqb c 43 p) refl);
   negative = ne_eqb c 45 m;
 }
 
 unit-no_sign : (u : LengthUnit) → NoSignFirst (unit_text u)
-unfolding behind_sign is_negative
-unit-no_sign Point = record { behind = refl; negative = refl }
-unit-no_sign Inch = record { behind = refl; negative = refl }
-unit-no_sign Pica = record { behind = refl; negative = refl }
-unit-no_sign Centimeter = record { behind = refl; negative = refl }
-unit-no_sign Millimeter = record { behind = refl; negative = refl }
-unit-no_sign BigPoint = record { behind = refl; negative = refl }
-unit-no_sign DidotPoint = record { behind = refl; negative = refl }
-unit-no_sign Cicero = record { behind = refl; negative = refl }
-unit-no_sign ScaledPoint = record { behind = refl; negative = refl }
+unfolding text_after_sign is_negative
+unit-no_sign Point = record { after = refl; negative = refl }
+unit-no_sign Inch = record { after = refl; negative = refl }
+unit-no_sign Pica = record { after = refl; negative = refl }
+unit-no_sign Centimeter = record { after = refl; negative = refl }
+unit-no_sign Millimeter = record { after = refl; negative = refl }
+unit-no_sign BigPoint = record { after = refl; negative = refl }
+unit-no_sign DidotPoint = record { after = refl; negative = refl }
+unit-no_sign Cicero = record { after = refl; negative = refl }
+unit-no_sign ScaledPoint = record { after = refl; negative = refl }
 
 body-no_sign : (whole : List ℕ) (fraction : Option (List ℕ)) (u : LengthUnit) → all_ascii_digits whole ≡ true → NoSignFirst (whole ++ (fraction_text fraction ++ unit_text u))
 body-no_sign [] None u h = unit-no_sign u
@@ -146,11 +146,11 @@ is_minus unsigned = false
 is_minus plus = false
 is_minus minus = true
 
-behind_sign-text : (sign : Sign) (body : List ℕ) → NoSignFirst body → behind_sign (sign_text sign ++ body) ≡ body
-unfolding behind_sign
-behind_sign-text unsigned body h = h.behind
-behind_sign-text plus body h = refl
-behind_sign-text minus body h = refl
+text_after_sign-text : (sign : Sign) (body : List ℕ) → NoSignFirst body → text_after_sign (sign_text sign ++ body) ≡ body
+unfolding text_after_sign
+text_after_sign-text unsigned body h = h.after
+text_after_sign-text plus body h = refl
+text_after_sign-text minus body h = refl
 
 is_negative-text : (sign : Sign) (body : List ℕ) → NoSignFirst body → is_negative (sign_text sign ++ body) ≡ is_minus sign
 unfolding is_negative
@@ -179,11 +179,11 @@ dimension_value-parts p w f some =
     let body = p.whole ++ rest in
     let no_sign_first = body-no_sign p.whole p.fraction p.unit w in
     let no_digit = fraction-no_digit p.fraction p.unit in
-    let number : behind_sign (parts_text p) ≡ body = behind_sign-text p.sign body no_sign_first in
-    let front : front_digits (behind_sign (parts_text p)) ≡ p.whole = ap front_digits number ∙ front_digits-append p.whole rest w no_digit in
-    let behind : behind_digits (behind_sign (parts_text p)) ≡ rest = ap behind_digits number ∙ behind_digits-append p.whole rest w no_digit in
-    let points : point_digits (behind_digits (behind_sign (parts_text p))) ≡ fraction_digits p.fraction = ap point_digits behind ∙ point_digits-text p.fraction p.unit f in
-    let unit : unit_named (behind_fraction (behind_digits (behind_sign (parts_text p)))) ≡ Some p.unit = ap unit_named (ap behind_fraction behind ∙ behind_fraction-text p.fraction p.unit f) ∙ unit_named-text p.unit in
+    let number : text_after_sign (parts_text p) ≡ body = text_after_sign-text p.sign body no_sign_first in
+    let front : front_digits (text_after_sign (parts_text p)) ≡ p.whole = ap front_digits number ∙ front_digits-append p.whole rest w no_digit in
+    let after : text_after_digits (text_after_sign (parts_text p)) ≡ rest = ap text_after_digits number ∙ text_after_digits-append p.whole rest w no_digit in
+    let points : point_digits (text_after_digits (text_after_sign (parts_text p))) ≡ fraction_digits p.fraction = ap point_digits after ∙ point_digits-text p.fraction p.unit f in
+    let unit : unit_named (text_after_fraction (text_after_digits (text_after_sign (parts_text p)))) ≡ Some p.unit = ap unit_named (ap text_after_fraction after ∙ text_after_fraction-text p.fraction p.unit f) ∙ unit_named-text p.unit in
     rw (is_negative-text p.sign body no_sign_first, front, points, unit) (written_value-some (is_minus p.sign) p.whole (fraction_digits p.fraction) p.unit some ∙ ap Some (with_minus-sign p.sign (scaled_points p.unit (digits_value 10 p.whole) (decimal_fraction (fraction_digits p.fraction)))))
 
 -- A dimension text has the value that the function gives.
@@ -197,14 +197,14 @@ abbrev sign_of : List ℕ → Sign
 sign_of [] = unsigned
 sign_of (c ∷ cs) = cond (eqb c 45) minus (cond (eqb c 43) plus unsigned)
 
-sign_step : (c : ℕ) (cs : List ℕ) (m p : Bool) → eqb c 45 ≡ m → eqb c 43 ≡ p → c ∷ cs ≡ sign_text (sign_of (c ∷ cs)) ++ behind_sign (c ∷ cs)
-unfolding behind_sign
+sign_step : (c : ℕ) (cs : List ℕ) (m p : Bool) → eqb c 45 ≡ m → eqb c 43 ≡ p → c ∷ cs ≡ sign_text (sign_of (c ∷ cs)) ++ text_after_sign (c ∷ cs)
+unfolding text_after_sign
 sign_step c cs true p em ep = rw em (ap (λ (x : ℕ). x ∷ cs) (eqb-true c 45 em))
 sign_step c cs false true em ep = rw (em, ep) (ap (λ (x : ℕ). x ∷ cs) (eqb-true c 43 ep))
 sign_step c cs false false em ep = rw (em, ep) refl
 
-text_by_sign : (text : List ℕ) → text ≡ sign_text (sign_of text) ++ behind_sign text
-unfolding behind_sign
+text_by_sign : (text : List ℕ) → text ≡ sign_text (sign_of text) ++ text_after_sign text
+unfolding text_after_sign
 text_by_sign [] = refl
 text_by_sign (c ∷ cs) = sign_step c cs (eqb c 45) (eqb c 43) refl refl
 
@@ -219,8 +219,8 @@ unfolding is_negative
 is_negative-sign_of [] = refl
 is_negative-sign_of (c ∷ cs) = negative_step c cs (eqb c 45) (eqb c 43) refl refl
 
-text_by_digits : (text : List ℕ) → text ≡ front_digits text ++ behind_digits text
-unfolding front_digits behind_digits
+text_by_digits : (text : List ℕ) → text ≡ front_digits text ++ text_after_digits text
+unfolding front_digits text_after_digits
 text_by_digits text = sym (take-append-drop (prefix_len is_ascii_digit text) text)
 
 front_digits-digits : (text : List ℕ) → all_ascii_digits (front_digits text) ≡ true
@@ -232,13 +232,13 @@ abbrev fraction_at : List ℕ → Option (List ℕ)
 fraction_at [] = None
 fraction_at (c ∷ cs) = cond (eqb c 46) (Some (front_digits cs)) None
 
-fraction_step : (c : ℕ) (cs : List ℕ) (b : Bool) → eqb c 46 ≡ b → c ∷ cs ≡ fraction_text (fraction_at (c ∷ cs)) ++ behind_fraction (c ∷ cs)
-unfolding behind_fraction
+fraction_step : (c : ℕ) (cs : List ℕ) (b : Bool) → eqb c 46 ≡ b → c ∷ cs ≡ fraction_text (fraction_at (c ∷ cs)) ++ text_after_fraction (c ∷ cs)
+unfolding text_after_fraction
 fraction_step c cs true e = rw e (ap (λ (x : ℕ). x ∷ cs) (eqb-true c 46 e) ∙ ap (λ (xs : List ℕ). 46 ∷ xs) (text_by_digits cs))
 fraction_step c cs false e = rw e refl
 
-text_by_fraction : (text : List ℕ) → text ≡ fraction_text (fraction_at text) ++ behind_fraction text
-unfolding behind_fraction
+text_by_fraction : (text : List ℕ) → text ≡ fraction_text (fraction_at text) ++ text_after_fraction text
+unfolding text_after_fraction
 text_by_fraction [] = refl
 text_by_fraction (c ∷ cs) = fraction_step c cs (eqb c 46) refl
 
@@ -302,9 +302,9 @@ value_by_sign negative sign whole read written u e f = rw (e, f) (with_minus-sig
 pub IsDimensionText-from_value : (text : List ℕ) (value : ℤ) → dimension_value text ≡ Some value → IsDimensionText text value
 unfolding dimension_value
 IsDimensionText-from_value text value h =
-    let number = behind_sign text in
-    let rest = behind_digits number in
-    let name = behind_fraction rest in
+    let number = text_after_sign text in
+    let rest = text_after_digits number in
+    let name = text_after_fraction rest in
     let m = measured_parts (is_negative text) (front_digits number) (point_digits rest) (unit_named name) value h in
     let points = point_digits-at rest in
     record {

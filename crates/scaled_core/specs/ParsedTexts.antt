@@ -26,17 +26,17 @@ is_negative [] = false
 is_negative (c ∷ cs) = c == 45
 
 -- The text after an optional sign (own).
-unfoldable pub behind_sign : List ℕ → List ℕ
-behind_sign [] = []
-behind_sign (c ∷ cs) = if c == 45 then cs else (if c == 43 then cs else c ∷ cs)
+unfoldable pub text_after_sign : List ℕ → List ℕ
+text_after_sign [] = []
+text_after_sign (c ∷ cs) = if c == 45 then cs else (if c == 43 then cs else c ∷ cs)
 
 -- The digits at the beginning of the text (own).
 unfoldable pub front_digits : List ℕ → List ℕ
 front_digits text = take_while is_ascii_digit text
 
 -- The text after the digits at its beginning (own).
-unfoldable pub behind_digits : List ℕ → List ℕ
-behind_digits text = drop (prefix_len is_ascii_digit text) text
+unfoldable pub text_after_digits : List ℕ → List ℕ
+text_after_digits text = drop (prefix_len is_ascii_digit text) text
 
 -- The digits after a point at the beginning of the text, or none (own).
 unfoldable pub point_digits : List ℕ → List ℕ
@@ -44,9 +44,9 @@ point_digits [] = []
 point_digits (c ∷ cs) = if c == 46 then front_digits cs else []
 
 -- The text after an optional point and its digits (own).
-unfoldable pub behind_fraction : List ℕ → List ℕ
-behind_fraction [] = []
-behind_fraction (c ∷ cs) = if c == 46 then behind_digits cs else c ∷ cs
+unfoldable pub text_after_fraction : List ℕ → List ℕ
+text_after_fraction [] = []
+text_after_fraction (c ∷ cs) = if c == 46 then text_after_digits cs else c ∷ cs
 
 -- The number of this size, negative or not (own).
 abbrev pub with_minus : Bool → ℕ → ℤ
@@ -63,8 +63,8 @@ written_value negative whole fraction unit =
 -- The number of scaled points that a dimension text writes; none exactly when the text is no dimension (TeX: The Program, part 26, §448, scan_dimen).
 unfoldable pub dimension_value : List ℕ → Option ℤ
 dimension_value text =
-    let number = behind_sign text in
-    written_value (is_negative text) (front_digits number) (point_digits (behind_digits number)) (unit_named (behind_fraction (behind_digits number)))
+    let number = text_after_sign text in
+    written_value (is_negative text) (front_digits number) (point_digits (text_after_digits number)) (unit_named (text_after_fraction (text_after_digits number)))
 
 -- The dimension of a value, or why there is none: no value, or a value that does not fit (own).
 unfoldable pub parsed_value : Option ℤ → Result ℤ DimenFault

@@ -68,7 +68,7 @@ fn push_fraction(fraction: u32, out: &mut Vec<u8>) -> Result<(), AllocError>
 
 /// The remainder with TeX's rounding, which applies only to the fifth and last digit.
 fn rounded_last(rest: u32, unit: u32) -> u32
-    requires rest { rest < 2 ^ 31 }
+    requires rest_bounded { rest < 2 ^ 31 }
     requires room { 65536 < unit → 17232 ≤ rest }
     ensures { result ≡ (if nat_lt 65536 unit then rest - 17232 else rest) }
 {

@@ -8,7 +8,7 @@ ghost use Rattle.std.specs.Str.Parse.{digits_value};
 ghost use Rattle.scaled_core.specs.Dimensions.{Fits};
 ghost use Rattle.scaled_core.specs.DimensionTexts.{IsDimensionText, IsNoDimension, IsTooLargeText, decimal_fraction};
 ghost use Rattle.scaled_core.specs.Rounding.{nearest};
-ghost use Rattle.scaled_core.specs.ParsedTexts.{parsed_value, written_value, behind_digits, behind_fraction, behind_sign, front_digits, is_negative, point_digits, read_dimension, unit_named, with_minus};
+ghost use Rattle.scaled_core.specs.ParsedTexts.{parsed_value, written_value, text_after_digits, text_after_fraction, text_after_sign, front_digits, is_negative, point_digits, read_dimension, unit_named, with_minus};
 
 use crate::dimen::Dimen;
 use crate::fault::DimenFault;
@@ -27,8 +27,8 @@ pub fn parse_dimen(text: &[u8]) -> Result<Dimen, DimenFault>
     ensures value { result ≡ read_dimension text.now }
 {
     let (negative, number) = after_sign(text);
-    let (whole, behind) = digits_first(number);
-    let (fraction, name) = fraction_first(behind);
+    let (whole, after) = digits_first(number);
+    let (fraction, name) = fraction_first(after);
     written_value(negative, whole, fraction, LengthUnit::from_name(name))
 }
 
@@ -42,8 +42,8 @@ pub fn parse_points(text: &[u8]) -> Result<Dimen, DimenFault>
     ensures value { result ≡ read_dimension (text.now ++ codes "pt") }
 {
     let (negative, number) = after_sign(text);
-    let (whole, behind) = digits_first(number);
-    let (fraction, name) = fraction_first(behind);
+    let (whole, after) = digits_first(number);
+    let (fraction, name) = fraction_first(after);
     written_value(negative, whole, fraction, unit_of_points(name))
 }
 
@@ -83,24 +83,24 @@ fn written_value(
 }
 
 /// Whether the text begins with a minus, and the text after the sign.
-#[tactic(auto, unfolding(crate::specs::ParsedTexts::is_negative, crate::specs::ParsedTexts::behind_sign))]
+#[tactic(auto, unfolding(crate::specs::ParsedTexts::is_negative, crate::specs::ParsedTexts::text_after_sign))]
 fn after_sign(text: &[u8]) -> (bool, &[u8])
     ensures sign { result.0 ≡ is_negative text.now }
-    ensures behind { result.1.now ≡ behind_sign text.now }
+    ensures after { result.1.now ≡ text_after_sign text.now }
 {
     match text {
-        [b'-', behind @ ..] => (true, behind),
-        [b'+', behind @ ..] => (false, behind),
+        [b'-', after @ ..] => (true, after),
+        [b'+', after @ ..] => (false, after),
         _ => (false, text),
     }
 }
 
 /// The digits at the beginning of the text, and the text after them.
-#[tactic(auto, using(crate::proofs::DigitLemmas::digits), unfolding(crate::specs::ParsedTexts::front_digits, crate::specs::ParsedTexts::behind_digits))]
+#[tactic(auto, using(crate::proofs::DigitLemmas::digits), unfolding(crate::specs::ParsedTexts::front_digits, crate::specs::ParsedTexts::text_after_digits))]
 fn digits_first(text: &[u8]) -> (&[u8], &[u8])
     ensures digits { result.0.now ≡ front_digits text.now }
     ensures all { IsTrue (all_ascii_digits result.0.now) }
-    ensures behind { result.1.now ≡ behind_digits text.now }
+    ensures after { result.1.now ≡ text_after_digits text.now }
 {
     text.split_at(digit_count(text))
 }
@@ -108,20 +108,20 @@ fn digits_first(text: &[u8]) -> (&[u8], &[u8])
 /// The number of digits at the beginning of the text.
 fn digit_count(text: &[u8]) -> usize
     ensures count { result ≡ prefix_len is_ascii_digit text.now }
-    ensures within { result ≤ length text.now }
+    ensures count_bounded { result ≤ length text.now }
 {
     text.iter().take_while(|c| c.is_ascii_digit()).count()
 }
 
 /// The digits after a point at the beginning of the text, if there is one, and the text after them.
-#[tactic(auto, unfolding(crate::specs::ParsedTexts::point_digits, crate::specs::ParsedTexts::behind_fraction))]
+#[tactic(auto, unfolding(crate::specs::ParsedTexts::point_digits, crate::specs::ParsedTexts::text_after_fraction))]
 fn fraction_first(text: &[u8]) -> (&[u8], &[u8])
     ensures digits { result.0.now ≡ point_digits text.now }
     ensures all { IsTrue (all_ascii_digits result.0.now) }
-    ensures behind { result.1.now ≡ behind_fraction text.now }
+    ensures after { result.1.now ≡ text_after_fraction text.now }
 {
     match text {
-        [b'.', behind @ ..] => digits_first(behind),
+        [b'.', after @ ..] => digits_first(after),
         _ => text.split_at(0),
     }
 }

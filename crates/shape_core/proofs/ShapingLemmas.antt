@@ -47,14 +47,14 @@ end-missing sizes steps c word i all held m o past e eo em =
 
 -- What a character becomes, by the cases of its shaping.
 Shaping-case : (slot : ℕ) (sizes : ℕ → Option GlyphSize) (steps : ℕ → ℕ → Option Step) (c d : ℕ) (word : List ℕ) (size : Option GlyphSize) (step : Option Step) → sizes c ≡ size → step_to sizes steps c (Some d) ≡ step → ((e : ℕ) → Shaping slot sizes steps (e ∷ word) (items_from slot sizes steps e word) (missing_from sizes steps e word)) → Shaping slot sizes steps (c ∷ d ∷ word) (outcome_items slot c (outcome_of size step) ++ items_from slot sizes steps (outcome_next d (outcome_of size step)) word) (outcome_missing (outcome_of size step) + missing_from sizes steps (outcome_next d (outcome_of size step)) word)
-Shaping-case slot sizes steps c d word None step at behind later =
+Shaping-case slot sizes steps c d word None step at after later =
     subst (λ n. Shaping slot sizes steps (c ∷ d ∷ word) (items_from slot sizes steps d word) n) (omega arith) (missing at (later d))
-Shaping-case slot sizes steps c d word (Some size) None at behind later =
-    subst (λ n. Shaping slot sizes steps (c ∷ d ∷ word) (glyph_node slot c size ∷ items_from slot sizes steps d word) n) (omega arith) (alone at behind (later d))
-Shaping-case slot sizes steps c d word (Some size) (Some (Kern width)) at behind later =
-    subst (λ n. Shaping slot sizes steps (c ∷ d ∷ word) (glyph_node slot c size ∷ FontKern width ∷ items_from slot sizes steps d word) n) (omega arith) (kern at behind (later d))
-Shaping-case slot sizes steps c d word (Some size) (Some (Ligature e)) at behind later =
-    subst (λ n. Shaping slot sizes steps (c ∷ d ∷ word) (items_from slot sizes steps e word) n) (omega arith) (ligature at behind (later e))
+Shaping-case slot sizes steps c d word (Some size) None at after later =
+    subst (λ n. Shaping slot sizes steps (c ∷ d ∷ word) (glyph_node slot c size ∷ items_from slot sizes steps d word) n) (omega arith) (alone at after (later d))
+Shaping-case slot sizes steps c d word (Some size) (Some (Kern width)) at after later =
+    subst (λ n. Shaping slot sizes steps (c ∷ d ∷ word) (glyph_node slot c size ∷ FontKern width ∷ items_from slot sizes steps d word) n) (omega arith) (kern at after (later d))
+Shaping-case slot sizes steps c d word (Some size) (Some (Ligature e)) at after later =
+    subst (λ n. Shaping slot sizes steps (c ∷ d ∷ word) (items_from slot sizes steps e word) n) (omega arith) (ligature at after (later e))
 
 Shaping-last : (slot : ℕ) (sizes : ℕ → Option GlyphSize) (steps : ℕ → ℕ → Option Step) (c : ℕ) (size : Option GlyphSize) → sizes c ≡ size → Shaping slot sizes steps (c ∷ []) (outcome_items slot c (outcome_of size None)) (outcome_missing (outcome_of size None))
 Shaping-last slot sizes steps c None at = missing at empty
@@ -79,17 +79,17 @@ shaped-missing slot sizes steps c (d ∷ word) at = (rw at refl, rw at (omega ar
 
 shaped-alone : (slot : ℕ) (sizes : ℕ → Option GlyphSize) (steps : ℕ → ℕ → Option Step) (c : ℕ) (size : GlyphSize) (word : List ℕ) → sizes c ≡ Some size → step_to sizes steps c (slice_get word 0) ≡ None → (shaped_items slot sizes steps (c ∷ word) ≡ glyph_node slot c size ∷ shaped_items slot sizes steps word) × (shaped_missing sizes steps (c ∷ word) ≡ shaped_missing sizes steps word)
 unfolding outcome_at
-shaped-alone slot sizes steps c size [] at behind = (rw at refl, rw at refl)
-shaped-alone slot sizes steps c size (d ∷ word) at behind = (rw (at, behind) refl, rw (at, behind) (omega arith))
+shaped-alone slot sizes steps c size [] at after = (rw at refl, rw at refl)
+shaped-alone slot sizes steps c size (d ∷ word) at after = (rw (at, after) refl, rw (at, after) (omega arith))
 
 shaped-kern : (slot : ℕ) (sizes : ℕ → Option GlyphSize) (steps : ℕ → ℕ → Option Step) (c : ℕ) (size : GlyphSize) (width : ℤ) (word : List ℕ) → sizes c ≡ Some size → step_to sizes steps c (slice_get word 0) ≡ Some (Kern width) → (shaped_items slot sizes steps (c ∷ word) ≡ glyph_node slot c size ∷ FontKern width ∷ shaped_items slot sizes steps word) × (shaped_missing sizes steps (c ∷ word) ≡ shaped_missing sizes steps word)
 unfolding outcome_at
-shaped-kern slot sizes steps c size width [] at behind = absurd (cc)
-shaped-kern slot sizes steps c size width (d ∷ word) at behind = (rw (at, behind) refl, rw (at, behind) (omega arith))
+shaped-kern slot sizes steps c size width [] at after = absurd (cc)
+shaped-kern slot sizes steps c size width (d ∷ word) at after = (rw (at, after) refl, rw (at, after) (omega arith))
 
 shaped-ligature : (slot : ℕ) (sizes : ℕ → Option GlyphSize) (steps : ℕ → ℕ → Option Step) (c d e : ℕ) (size : GlyphSize) (word : List ℕ) → sizes c ≡ Some size → step_to sizes steps c (Some d) ≡ Some (Ligature e) → (shaped_items slot sizes steps (c ∷ d ∷ word) ≡ shaped_items slot sizes steps (e ∷ word)) × (shaped_missing sizes steps (c ∷ d ∷ word) ≡ shaped_missing sizes steps (e ∷ word))
 unfolding outcome_at
-shaped-ligature slot sizes steps c d e size word at behind = (rw (at, behind) refl, rw (at, behind) (omega arith))
+shaped-ligature slot sizes steps c d e size word at after = (rw (at, after) refl, rw (at, after) (omega arith))
 
 -- A word has no other shaping.
 pub shaped-unique : (slot : ℕ) (sizes : ℕ → Option GlyphSize) (steps : ℕ → ℕ → Option Step) {word : List ℕ} {items : List Node} {n : ℕ} → Shaping slot sizes steps word items n → (items ≡ shaped_items slot sizes steps word) × (n ≡ shaped_missing sizes steps word)
@@ -98,16 +98,16 @@ shaped-unique slot sizes steps (missing {c = c} {word = word} at rest) =
     let same = shaped-missing slot sizes steps c word at in
     let later = shaped-unique slot sizes steps rest in
     (later.0 ∙ sym same.0, omega (arith, later.1, same.1))
-shaped-unique slot sizes steps (alone {c = c} {word = word} {size = size} at behind rest) =
-    let same = shaped-alone slot sizes steps c size word at behind in
+shaped-unique slot sizes steps (alone {c = c} {word = word} {size = size} at after rest) =
+    let same = shaped-alone slot sizes steps c size word at after in
     let later = shaped-unique slot sizes steps rest in
     (ap (λ items. glyph_node slot c size ∷ items) later.0 ∙ sym same.0, later.1 ∙ sym same.1)
-shaped-unique slot sizes steps (kern {c = c} {word = word} {size = size} {width = width} at behind rest) =
-    let same = shaped-kern slot sizes steps c size width word at behind in
+shaped-unique slot sizes steps (kern {c = c} {word = word} {size = size} {width = width} at after rest) =
+    let same = shaped-kern slot sizes steps c size width word at after in
     let later = shaped-unique slot sizes steps rest in
     (ap (λ items. glyph_node slot c size ∷ FontKern width ∷ items) later.0 ∙ sym same.0, later.1 ∙ sym same.1)
-shaped-unique slot sizes steps (ligature {c = c} {d = d} {e = e} {word = word} {size = size} at behind rest) =
-    let same = shaped-ligature slot sizes steps c d e size word at behind in
+shaped-unique slot sizes steps (ligature {c = c} {d = d} {e = e} {word = word} {size = size} at after rest) =
+    let same = shaped-ligature slot sizes steps c d e size word at after in
     let later = shaped-unique slot sizes steps rest in
     (later.0 ∙ sym same.0, later.1 ∙ sym same.1)
 

@@ -21,7 +21,7 @@ use Rattle.ship_core.specs.Marks.{ShippedPage, rule_below, rule_tall, rule_wide,
 use Rattle.ship_core.specs.Drawing.{Picture, blank, stroke, group, width_in, moved_by, selected, ruled, after_rule, font_after, body_of_picture, picture_of_page, body_of}
 use Rattle.ship_core.specs.Shown.{HasWidth}
 use Rattle.ship_core.proofs.DrawnMarks.{EachStroke, IsByte}
-use Rattle.ship_core.proofs.Pictures.{parts, texts, each_rule, each_glyph, each_behind, few_parts, few_texts}
+use Rattle.ship_core.proofs.Pictures.{parts, texts, each_rule, each_glyph, each_after, few_parts, few_texts}
 
 moved_bytes : (axis : Axis) (z : ℤ) (rest : Forest) → length (bytes_of (flat (moved_by axis z rest))) ≤ 5 + length (bytes_of (flat rest))
 moved_bytes axis (pos zero) rest = omega arith
@@ -145,7 +145,7 @@ body_bytes widths page all =
     let b = page.box_node in
     omega (
       arith,
-      drawing_bytes b.kind (pos 0) (pos 0) None (picture_of_page page) (each_behind IsOfBytes (HasWidth widths) (leaf_bytes widths) b page.h (page_v page) [] b.list all),
+      drawing_bytes b.kind (pos 0) (pos 0) None (picture_of_page page) (each_after IsOfBytes (HasWidth widths) (leaf_bytes widths) b page.h (page_v page) [] b.list all),
       few_parts b page.h (page_v page) [] b.list,
       few_texts b page.h (page_v page) [] b.list,
     )

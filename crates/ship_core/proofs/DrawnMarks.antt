@@ -186,10 +186,10 @@ module _ (widths : Widths) (held : MoveRegisters) where
   noted h v text font rest can = rw (point_within h can.h, point_within v can.v) refl
 
   -- After a group, the rest begins at the place before the group, with the font from its end.
-  behind_group :
+  group_left :
       (m : Meaning) (p : Position) (marks : List Mark) (last : DviState) (font : Option ℤ) (next : DviState → Meaning) → m ≡ Some (marks, last) → last.font ≡ font
       → and_then (restored p m) next ≡ ahead marks (next (record { place = p; font = font }))
-  behind_group m p marks last font next is left = rw (is, left) refl
+  group_left m p marks last font next is left = rw (is, left) refl
 
   -- The body drawn for a picture has its marks, and ends with its font.
   pub drawn_marks :
@@ -231,7 +231,7 @@ module _ (widths : Widths) (held : MoveRegisters) where
       record {
         last = later.last;
         left = later.left;
-        shows = behind_group (shown (body_of_picture own h v current inner) h v current) (at h v held current).place (marks_in inner) first.last (font_after current inner)
+        shows = group_left (shown (body_of_picture own h v current inner) h v current) (at h v held current).place (marks_in inner) first.last (font_after current inner)
             (λ t. meaning (kept (acts widths)) (body_of_picture kind h v (font_after current inner) rest) t) first.shows first.left
             ∙ ap (ahead (marks_in inner)) later.shows;
       }

@@ -16,26 +16,26 @@ use Rattle.dvi_ops.specs.Fonts.{definitions_in, definitions, selection_of, selec
 use Rattle.dvi_ops.specs.Spelling.{HasSpelling}
 use Rattle.dvi_ops.specs.Layout.{IsWritable}
 use Rattle.dvi_ops.proofs.Appends.{all_append}
-use Rattle.ship_core.specs.Marks.{ShippedPage, rule_below, rule_tall, rule_wide, marks_of_item, marks_of_box, marks_of_page, page_v, numbers_behind, is_huge}
+use Rattle.ship_core.specs.Marks.{ShippedPage, rule_below, rule_tall, rule_wide, marks_of_item, marks_of_box, marks_of_page, page_v, numbers_after, is_huge}
 use Rattle.ship_core.specs.Drawing.{width_in, picture_of_page, body_of}
 use Rattle.dvi_ops.specs.Plain.{NamesNoRegister}
 use Rattle.ship_core.specs.Shown.{HasWidth, at}
 use Rattle.ship_core.proofs.Places.{first_of_three, second_of_three, items_fit}
 use Rattle.ship_core.proofs.DrawnMarks.{EachStroke, IsDrawn, IsInked, IsShort, HoldsBetween, HoldsOfAll, every_stroke, all_within, drawn_marks, drawn_writable, each_drawn, all_drawn, nests-body_of_picture}
-use Rattle.ship_core.proofs.Pictures.{marks-picture, each_rule, each_glyph, each_behind, strokes_drawn, few_groups}
+use Rattle.ship_core.proofs.Pictures.{marks-picture, each_rule, each_glyph, each_after, strokes_drawn, few_groups}
 
 -- The bottom and the right edge of a page that is not huge fit.
 pub fits_down : (page : ShippedPage) → is_huge page ≡ false → fits (page.v +ℤ page.box_node.depth) ≡ true
 unfolding is_huge
 fits_down page small =
     first_of_three (fits (page.v +ℤ page.box_node.depth)) (fits (page.h +ℤ page.box_node.width))
-    (list_all fits (numbers_behind page.box_node page.h (page_v page) [] page.box_node.list)) small
+    (list_all fits (numbers_after page.box_node page.h (page_v page) [] page.box_node.list)) small
 
 pub fits_right : (page : ShippedPage) → is_huge page ≡ false → fits (page.h +ℤ page.box_node.width) ≡ true
 unfolding is_huge
 fits_right page small =
     second_of_three (fits (page.v +ℤ page.box_node.depth)) (fits (page.h +ℤ page.box_node.width))
-    (list_all fits (numbers_behind page.box_node page.h (page_v page) [] page.box_node.list)) small
+    (list_all fits (numbers_after page.box_node page.h (page_v page) [] page.box_node.list)) small
 
 -- The strokes of a page that is not huge can be drawn.
 page_drawn :
@@ -43,7 +43,7 @@ page_drawn :
     → EachStroke (IsDrawn widths) page.box_node.kind (picture_of_page page)
 page_drawn widths page small wide =
     strokes_drawn widths page.box_node page.h (page_v page) [] page.box_node.list wide
-    (all_within (numbers_behind page.box_node page.h (page_v page) [] page.box_node.list) (items_fit page small))
+    (all_within (numbers_after page.box_node page.h (page_v page) [] page.box_node.list) (items_fit page small))
 
 -- The body shows the marks of the page, whatever the values of w, x, y and z are at its start.
 pub drawn_page :
@@ -81,7 +81,7 @@ leaf_short b h v (rule r) short =
 
 short_page : (page : ShippedPage) → items_text page.box_node.list < 2 ^ 32 → EachStroke IsShort page.box_node.kind (picture_of_page page)
 short_page page few =
-    each_behind IsShort HasShort leaf_short page.box_node page.h (page_v page) [] page.box_node.list (each_short page.box_node.list few)
+    each_after IsShort HasShort leaf_short page.box_node page.h (page_v page) [] page.box_node.list (each_short page.box_node.list few)
 
 -- The body can be written.
 pub writable_page :
@@ -198,5 +198,5 @@ unfolding body_of
 selections_page P page all =
     all_selections P (flat (body_of page)) (
     each_drawn (Selects P) (record { moves = λ axis z. tt; push = tt; pop = tt }) page.box_node.kind (pos 0) (pos 0) None (picture_of_page page)
-    (each_behind (IsInked (Selects P)) (HasFont P) (leaf_selects P) page.box_node page.h (page_v page) [] page.box_node.list all)
+    (each_after (IsInked (Selects P)) (HasFont P) (leaf_selects P) page.box_node page.h (page_v page) [] page.box_node.list all)
     )

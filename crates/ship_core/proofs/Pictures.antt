@@ -17,7 +17,7 @@ use Rattle.dvi_ops.specs.Body as body
 use Rattle.dvi_ops.specs.Body.{Mark, Widths}
 use Rattle.dvi_ops.proofs.Appends.{all_front, all_back}
 use Rattle.pack_core.specs.Items.{own_size}
-use Rattle.ship_core.specs.Marks.{right_at, rule_below, rule_tall, rule_wide, rule_mark, glyph_mark, marks_of_item, list_v, item_h, item_v, box_h, box_v, marks_behind, numbers_at, numbers_behind}
+use Rattle.ship_core.specs.Marks.{right_at, rule_below, rule_tall, rule_wide, rule_mark, glyph_mark, marks_of_item, list_v, item_h, item_v, box_h, box_v, marks_after, numbers_at, numbers_after}
 use Rattle.ship_core.specs.Drawing.{Picture, blank, stroke, group, width_in, in_front, grouped, picture_after, after_rule}
 use Rattle.ship_core.specs.Shown.{HasWidth}
 use Rattle.ship_core.proofs.Places.{reach}
@@ -35,7 +35,7 @@ marks-grouped c h v own none rest = refl
 marks-grouped c h v own (leaf x items) rest = refl
 marks-grouped c h v own (box shift frame inner items) rest = refl
 
-pub marks-picture : (b : BoxNode) (h v : ℤ) (before : List Node) (after : Items) → marks_in (picture_after b h v before after) ≡ marks_behind b h v before after
+pub marks-picture : (b : BoxNode) (h v : ℤ) (before : List Node) (after : Items) → marks_in (picture_after b h v before after) ≡ marks_after b h v before after
 marks-picture b h v before none = refl
 marks-picture b h v before (leaf x after) =
     let here = marks_of_item b (item_h b h before) (item_v b v before) x in
@@ -47,7 +47,7 @@ marks-picture b h v before (box shift frame inner after) =
     let later = picture_after b h v (before ++ Box shift (box_of frame inner) ∷ []) after in
     marks-grouped (box_of frame inner) x y frame.kind inner later
     ∙ (ap (λ marks. marks ++ marks_in later) (marks-picture (box_of frame inner) x y [] inner)
-    ∙ ap (λ marks. marks_behind (box_of frame inner) x y [] inner ++ marks) (marks-picture b h v (before ++ Box shift (box_of frame inner) ∷ []) after))
+    ∙ ap (λ marks. marks_after (box_of frame inner) x y [] inner ++ marks) (marks-picture b h v (before ++ Box shift (box_of frame inner) ∷ []) after))
 
 -- A property of a rule or a glyph of a box is one of its marks.
 module _ (P : Mark → Type 0) where
@@ -77,19 +77,19 @@ module _ (P : Kind → Mark → (by : ℤ) → Type 0) where
   each_grouped kind own (box shift frame more items) inner rest within later = (within, later)
 
   -- A property of the strokes of each leaf of a list is one of all strokes.
-  pub each_behind :
+  pub each_after :
       (Q : Leaf → Type 0) → ((b : BoxNode) (h v : ℤ) (x : Leaf) → Q x → AllByRecursion (λ mark. P b.kind mark (width_in b x)) (marks_of_item b h v x))
       → (b : BoxNode) (h v : ℤ) (before : List Node) (after : Items) → EachLeaf Q after → EachStroke P b.kind (picture_after b h v before after)
-  each_behind Q each b h v before none all = tt
-  each_behind Q each b h v before (leaf x after) (here, all) =
+  each_after Q each b h v before none all = tt
+  each_after Q each b h v before (leaf x after) (here, all) =
       each_in_front b.kind (marks_of_item b (item_h b h before) (item_v b v before) x) (width_in b x) (picture_after b h v (before ++ node_of x ∷ []) after)
       (each b (item_h b h before) (item_v b v before) x here)
-      (each_behind Q each b h v (before ++ node_of x ∷ []) after all)
-  each_behind Q each b h v before (box shift frame inner after) (within, all) =
+      (each_after Q each b h v (before ++ node_of x ∷ []) after all)
+  each_after Q each b h v before (box shift frame inner after) (within, all) =
       each_grouped b.kind frame.kind inner _ _
-      (each_behind Q each (box_of frame inner) (box_h b.kind (item_h b h before) shift)
+      (each_after Q each (box_of frame inner) (box_h b.kind (item_h b h before) shift)
       (list_v frame.kind frame.height (box_v b.kind (item_v b v before) shift frame.height)) [] inner within)
-      (each_behind Q each b h v (before ++ Box shift (box_of frame inner) ∷ []) after all)
+      (each_after Q each b h v (before ++ Box shift (box_of frame inner) ∷ []) after all)
 
 -- The value of h after a rule.
 rule_end : (kind : Kind) (b : BoxNode) (h next_h : ℤ) (r : Rule) → next_h ≡ right_at kind h (own_size r.width) → next_h ≡ after_rule kind h (rule_wide kind b r)
@@ -134,19 +134,19 @@ leaf_drawn widths b h v before (rule r) wide (left, (low, (right, (next, fit))))
 -- All strokes of a list can be drawn where all its numbers fit.
 pub strokes_drawn :
     (widths : Widths) (b : BoxNode) (h v : ℤ) (before : List Node) (after : Items) → EachLeaf (HasWidth widths) after
-    → AllByRecursion (Within 1073741823) (numbers_behind b h v before after) → EachStroke (IsDrawn widths) b.kind (picture_after b h v before after)
+    → AllByRecursion (Within 1073741823) (numbers_after b h v before after) → EachStroke (IsDrawn widths) b.kind (picture_after b h v before after)
 strokes_drawn widths b h v before none wide fit = tt
 strokes_drawn widths b h v before (leaf x after) (here, wide) fit =
     let own = numbers_at b h v before (node_of x) in
-    let rest = numbers_behind b h v (before ++ node_of x ∷ []) after in
+    let rest = numbers_after b h v (before ++ node_of x ∷ []) after in
     each_in_front (IsDrawn widths) b.kind (marks_of_item b (item_h b h before) (item_v b v before) x) (width_in b x) (picture_after b h v (before ++ node_of x ∷ []) after)
     (leaf_drawn widths b h v before x here (all_front (Within 1073741823) own rest fit))
     (strokes_drawn widths b h v (before ++ node_of x ∷ []) after wide (all_back (Within 1073741823) own rest fit))
 strokes_drawn widths b h v before (box shift frame inner after) (within, wide) (left, (low, (right, (next, (across, (down, fit)))))) =
     let x = box_h b.kind (item_h b h before) shift in
     let y = list_v frame.kind frame.height (box_v b.kind (item_v b v before) shift frame.height) in
-    let own = numbers_behind (box_of frame inner) x y [] inner in
-    let rest = numbers_behind b h v (before ++ Box shift (box_of frame inner) ∷ []) after in
+    let own = numbers_after (box_of frame inner) x y [] inner in
+    let rest = numbers_after b h v (before ++ Box shift (box_of frame inner) ∷ []) after in
     each_grouped (IsDrawn widths) b.kind frame.kind inner _ _
     (strokes_drawn widths (box_of frame inner) x y [] inner within (all_front (Within 1073741823) own rest fit))
     (strokes_drawn widths b h v (before ++ Box shift (box_of frame inner) ∷ []) after wide (all_back (Within 1073741823) own rest fit))

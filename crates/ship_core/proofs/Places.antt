@@ -17,7 +17,7 @@ use Rattle.scaled_core.specs.Dimensions.{fits}
 use Rattle.pack_core.specs.Places.{place}
 use Rattle.pack_core.specs.Cursors.{Reached, reached, one_more, place_at}
 use Rattle.pack_core.proofs.Walks.{one_more-reached, place-reached, reached-passed}
-use Rattle.ship_core.specs.Marks.{ShippedPage, page_v, is_huge, right_at, down_at, list_v, item_h, item_v, box_h, box_v, numbers_at, numbers_behind}
+use Rattle.ship_core.specs.Marks.{ShippedPage, page_v, is_huge, right_at, down_at, list_v, item_h, item_v, box_h, box_v, numbers_at, numbers_after}
 use Rattle.dvi_ops.specs.Body as body
 use Rattle.ship_core.specs.Drawing.{Picture, stroke, grouped, picture_after}
 use Rattle.ship_core.specs.Placing.{Reaches, numbers_between, strokes_of, strokes_at, reference_h, reference_v}
@@ -41,7 +41,7 @@ inside b h v other rest = rest
 
 abbrev pub numbers_inside : BoxNode → (h v : ℤ) → Node → List ℤ
 numbers_inside b h v (nodes.Box shift inner) =
-    numbers_behind inner (box_h b.kind h shift) (list_v inner.kind inner.height (box_v b.kind v shift inner.height)) [] inner.list
+    numbers_after inner (box_h b.kind h shift) (list_v inner.kind inner.height (box_v b.kind v shift inner.height)) [] inner.list
 numbers_inside b h v other = []
 
 -- The picture of an item and of the items after it, and their numbers, by cases on the item.
@@ -61,9 +61,9 @@ picture-one b h v before rest (nodes.Box shift inner) = refl
 
 pub numbers-one :
     (b : BoxNode) (h v : ℤ) (before rest : List Node) (x : Node)
-    → numbers_behind b h v before (items_of (x ∷ rest))
+    → numbers_after b h v before (items_of (x ∷ rest))
     ≡ numbers_at b h v before x
-    ++ (numbers_inside b (item_h b h before) (item_v b v before) x ++ numbers_behind b h v (before ++ x ∷ []) (items_of rest))
+    ++ (numbers_inside b (item_h b h before) (item_v b v before) x ++ numbers_after b h v (before ++ x ∷ []) (items_of rest))
 numbers-one b h v before rest (nodes.Glyph g) = refl
 numbers-one b h v before rest (nodes.FontKern width) = refl
 numbers-one b h v before rest (nodes.Kern width) = refl
@@ -78,7 +78,7 @@ abbrev pub picture_left : BoxNode → (h v : ℤ) → List Node → ℕ → Pict
 picture_left b h v xs i = picture_after b h v (take i xs) (items_of (drop i xs))
 
 abbrev pub numbers_left : BoxNode → (h v : ℤ) → List Node → ℕ → List ℤ
-numbers_left b h v xs i = numbers_behind b h v (take i xs) (items_of (drop i xs))
+numbers_left b h v xs i = numbers_after b h v (take i xs) (items_of (drop i xs))
 
 pub picture_more :
     (b : BoxNode) (h v : ℤ) (xs : List Node) (i : ℕ) (x : Node) → i < length xs → x ≡ get_or xs i x
@@ -96,10 +96,10 @@ pub numbers_more :
     → numbers_left b h v xs i
     ≡ numbers_at b h v (take i xs) x ++ (numbers_inside b (item_h b h (take i xs)) (item_v b v (take i xs)) x ++ numbers_left b h v xs (i + 1))
 numbers_more b h v xs i x within is =
-    ap (λ after. numbers_behind b h v (take i xs) (items_of after)) (left_at xs i x within is)
+    ap (λ after. numbers_after b h v (take i xs) (items_of after)) (left_at xs i x within is)
     ∙ (numbers-one b h v (take i xs) (drop (i + 1) xs) x
     ∙ ap (λ before. numbers_at b h v (take i xs) x
-    ++ (numbers_inside b (item_h b h (take i xs)) (item_v b v (take i xs)) x ++ numbers_behind b h v before (items_of (drop (i + 1) xs)))) (taken_at xs i x within is))
+    ++ (numbers_inside b (item_h b h (take i xs)) (item_v b v (take i xs)) x ++ numbers_after b h v before (items_of (drop (i + 1) xs)))) (taken_at xs i x within is))
 
 -- Whether the numbers of the items that are left fit.
 pub fits_more :
@@ -215,7 +215,7 @@ inner_begin b inner h v before x shift from at_h at_v begin_h begin_v at is righ
 pub inner_numbers :
     (b inner : BoxNode) (h v shift begin_h begin_v : ℤ) (x : Node) → x ≡ nodes.Box shift inner
     → (begin_h ≡ box_h b.kind h shift) × (begin_v ≡ list_v inner.kind inner.height (box_v b.kind v shift inner.height))
-    → numbers_inside b h v x ≡ numbers_behind inner begin_h begin_v [] inner.list
+    → numbers_inside b h v x ≡ numbers_after inner begin_h begin_v [] inner.list
 inner_numbers b inner h v shift begin_h begin_v x is (right, down) = rw (is, right, down) refl
 
 pub inner_picture :
@@ -237,8 +237,8 @@ no_items (box shift frame some items) empty =
     more : (n : ℕ) → suc n ≡ 0 → ⊥
     more n is = omega (arith, is)
 
-pub no_numbers : (b : BoxNode) (h v : ℤ) (items : Items) → (length (nodes_of items) == 0) ≡ true → list_all fits (numbers_behind b h v [] items) ≡ true
-no_numbers b h v items empty = ap (λ items. list_all fits (numbers_behind b h v [] items)) (no_items items empty)
+pub no_numbers : (b : BoxNode) (h v : ℤ) (items : Items) → (length (nodes_of items) == 0) ≡ true → list_all fits (numbers_after b h v [] items) ≡ true
+no_numbers b h v items empty = ap (λ items. list_all fits (numbers_after b h v [] items)) (no_items items empty)
 
 -- An item that is no box has no items.
 pub leaf_numbers : (b : BoxNode) (h v : ℤ) (x : Node) → ((shift : ℤ) (inner : BoxNode) → x ≢ nodes.Box shift inner) → numbers_inside b h v x ≡ []
@@ -305,7 +305,7 @@ pub ends_huge : (page : ShippedPage) → (fits (page.v +ℤ page.box_node.depth)
 unfolding is_huge
 ends_huge page over =
     by_tests (fits (page.v +ℤ page.box_node.depth)) (fits (page.h +ℤ page.box_node.width))
-    (list_all fits (numbers_behind page.box_node page.h (page_v page) [] page.box_node.list)) over
+    (list_all fits (numbers_after page.box_node page.h (page_v page) [] page.box_node.list)) over
   where
     by_tests : (a b c : Bool) → (a && b) ≡ false → not (a && (b && c)) ≡ true
     by_tests true true c over = absurd (cc)
@@ -314,11 +314,11 @@ ends_huge page over =
 
 pub items_huge :
     (page : ShippedPage) (fit : Bool) → (fits (page.v +ℤ page.box_node.depth) && fits (page.h +ℤ page.box_node.width)) ≡ true
-    → fit ≡ list_all fits (numbers_behind page.box_node page.h (page_v page) [] page.box_node.list) → is_huge page ≡ not fit
+    → fit ≡ list_all fits (numbers_after page.box_node page.h (page_v page) [] page.box_node.list) → is_huge page ≡ not fit
 unfolding is_huge
 items_huge page fit within is =
     by_tests (fits (page.v +ℤ page.box_node.depth)) (fits (page.h +ℤ page.box_node.width))
-    (list_all fits (numbers_behind page.box_node page.h (page_v page) [] page.box_node.list)) within
+    (list_all fits (numbers_after page.box_node page.h (page_v page) [] page.box_node.list)) within
     ∙ ap not (sym is)
   where
     by_tests : (a b c : Bool) → (a && b) ≡ true → not (a && (b && c)) ≡ not c
@@ -327,6 +327,6 @@ items_huge page fit within is =
     by_tests false b c within = absurd (cc)
 
 -- The numbers of the items of a page that is not huge fit.
-pub items_fit : (page : ShippedPage) → is_huge page ≡ false → list_all fits (numbers_behind page.box_node page.h (page_v page) [] page.box_node.list) ≡ true
+pub items_fit : (page : ShippedPage) → is_huge page ≡ false → list_all fits (numbers_after page.box_node page.h (page_v page) [] page.box_node.list) ≡ true
 unfolding is_huge
 items_fit page small = last_of_three _ _ _ small

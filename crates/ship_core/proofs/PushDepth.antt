@@ -21,15 +21,15 @@ most_pushed-flat pushed Empty is = omega (arith, pushed_before pushed is)
 most_pushed-flat pushed (Then i rest) is = omega (arith, most_pushed-flat pushed rest is)
 most_pushed-flat pushed (Group inner rest) is =
     let all = (flat inner ++ Pop ∷ flat rest) ++ is in
-    let behind = flat rest ++ is in
+    let after = flat rest ++ is in
     let start : max_pushed pushed (flat (Group inner rest) ++ is) ≡ max pushed (max_pushed (pushed + 1) all) = refl in
-    let back : max_pushed (pushed + 1) (Pop ∷ behind) ≡ max (pushed + 1) (max_pushed pushed behind) =
-    ap (λ n. max (pushed + 1) (max_pushed n behind)) (popped pushed) in
+    let back : max_pushed (pushed + 1) (Pop ∷ after) ≡ max (pushed + 1) (max_pushed pushed after) =
+    ap (λ n. max (pushed + 1) (max_pushed n after)) (popped pushed) in
     omega (
       arith,
       start,
       ap (max_pushed (pushed + 1)) (append_assoc (flat inner) (Pop ∷ flat rest) is),
-      most_pushed-flat (pushed + 1) inner (Pop ∷ behind),
+      most_pushed-flat (pushed + 1) inner (Pop ∷ after),
       back,
       most_pushed-flat pushed rest is,
     )

@@ -77,11 +77,11 @@ between-none b h v place next x is = by_node x
 
 -- An item whose two places fit.
 pub between-points :
-    (b : BoxNode) (h v place next : ℤ) (at behind : PagePosition) (x : Node) → point_in b h v place ≡ Some at → point_in b h v next ≡ Some behind
-    → numbers_between b h v place next x ≡ points_and_sizes b at.h at.v behind.h behind.v x
-between-points b h v place next at behind x here there =
+    (b : BoxNode) (h v place next : ℤ) (at after : PagePosition) (x : Node) → point_in b h v place ≡ Some at → point_in b h v next ≡ Some after
+    → numbers_between b h v place next x ≡ points_and_sizes b at.h at.v after.h after.v x
+between-points b h v place next at after x here there =
     let p = point-is (right_at b.kind h place) (down_at b.kind v place) at here in
-    let q = point-is (right_at b.kind h next) (down_at b.kind v next) behind there in
+    let q = point-is (right_at b.kind h next) (down_at b.kind v next) after there in
     cc (p.0, p.1, q.0, q.1)
 
 pub strokes-point :
@@ -115,27 +115,27 @@ right_by setting from h by part none x y here there = there ∙ (right_more sett
 
 -- The item after it is therefore where h is after it.
 pub reach_by :
-    (kind : Kind) (setting : Setting) (from : Reached) (h at behind : ℤ) (x : Node) → at ≡ right_at kind h (place_at setting from)
-    → behind ≡ right_at kind h (place_at setting (one_more kind setting from x)) → Reaches kind at behind x
-reach_by Horizontal setting from h at behind (nodes.Glyph g) first next = right_by setting from h g.width (share setting (nodes.Glyph g)) (share_glyph setting g) at behind first next
-reach_by Vertical setting from h at behind (nodes.Glyph g) first next = next ∙ sym first
-reach_by kind setting from h at behind (nodes.FontKern w) first next = tt
-reach_by kind setting from h at behind (nodes.Kern w) first next = tt
-reach_by kind setting from h at behind (nodes.Glue g) first next = tt
-reach_by kind setting from h at behind (nodes.Penalty n) first next = tt
-reach_by kind setting from h at behind (nodes.Special text) first next = tt
-reach_by Horizontal setting from h at behind (nodes.Rule r) first next = right_by setting from h (own_size r.width) (share setting (nodes.Rule r)) (share_rule setting r) at behind first next
-reach_by Vertical setting from h at behind (nodes.Rule r) first next = next ∙ sym first
-reach_by kind setting from h at behind (nodes.Box shift inner) first next = tt
+    (kind : Kind) (setting : Setting) (from : Reached) (h at after : ℤ) (x : Node) → at ≡ right_at kind h (place_at setting from)
+    → after ≡ right_at kind h (place_at setting (one_more kind setting from x)) → Reaches kind at after x
+reach_by Horizontal setting from h at after (nodes.Glyph g) first next = right_by setting from h g.width (share setting (nodes.Glyph g)) (share_glyph setting g) at after first next
+reach_by Vertical setting from h at after (nodes.Glyph g) first next = next ∙ sym first
+reach_by kind setting from h at after (nodes.FontKern w) first next = tt
+reach_by kind setting from h at after (nodes.Kern w) first next = tt
+reach_by kind setting from h at after (nodes.Glue g) first next = tt
+reach_by kind setting from h at after (nodes.Penalty n) first next = tt
+reach_by kind setting from h at after (nodes.Special text) first next = tt
+reach_by Horizontal setting from h at after (nodes.Rule r) first next = right_by setting from h (own_size r.width) (share setting (nodes.Rule r)) (share_rule setting r) at after first next
+reach_by Vertical setting from h at after (nodes.Rule r) first next = next ∙ sym first
+reach_by kind setting from h at after (nodes.Box shift inner) first next = tt
 
 pub reaches :
-    (b : BoxNode) (h v : ℤ) (from : Reached) (at behind : PagePosition) (x : Node) → point_in b h v (place_at b.setting from) ≡ Some at
-    → point_in b h v (place_at b.setting (one_more b.kind b.setting from x)) ≡ Some behind → Reaches b.kind at.h behind.h x
-reaches b h v from at behind x here there =
+    (b : BoxNode) (h v : ℤ) (from : Reached) (at after : PagePosition) (x : Node) → point_in b h v (place_at b.setting from) ≡ Some at
+    → point_in b h v (place_at b.setting (one_more b.kind b.setting from x)) ≡ Some after → Reaches b.kind at.h after.h x
+reaches b h v from at after x here there =
     let p = point-is (right_at b.kind h (place_at b.setting from)) (down_at b.kind v (place_at b.setting from)) at here in
     let next = place_at b.setting (one_more b.kind b.setting from x) in
-    let q = point-is (right_at b.kind h next) (down_at b.kind v next) behind there in
-    reach_by b.kind b.setting from h at.h behind.h x p.0 q.0
+    let q = point-is (right_at b.kind h next) (down_at b.kind v next) after there in
+    reach_by b.kind b.setting from h at.h after.h x p.0 q.0
 
 -- An item other than glue is independent of the glue setting.
 share_rigid : (setting : Setting) (x : Node) → is_rigid x ≡ true → share setting x ≡ pos 0
@@ -172,26 +172,26 @@ pub rigid_more :
 rigid_more kind setting from x distance rigid same =
     ap₂ (λ (natural shares : ℤ). reaching natural shares (from.passed + 1)) (ap (λ (n : ℤ). from.natural +ℤ n) same) (omega (arith, ints, share_rigid setting x rigid))
 
-behind_by :
+step_after :
     (kind : Kind) (setting : Setting) (from : Reached) (h v x y by part : ℤ) → part ≡ pos 0
     → x ≡ right_at kind h (place_at setting from) → y ≡ down_at kind v (place_at setting from)
     → point (right_at kind x by) (down_at kind y by)
     ≡ point (right_at kind h ((from.natural +ℤ by) +ℤ set_by setting (from.shares +ℤ part))) (down_at kind v ((from.natural +ℤ by) +ℤ set_by setting (from.shares +ℤ part)))
-behind_by Horizontal setting from h v x y by part none across down =
+step_after Horizontal setting from h v x y by part none across down =
     let next = (from.natural +ℤ by) +ℤ set_by setting (from.shares +ℤ part) in
     ap (λ z. point z y) (sym (right_by setting from h by part none x (h +ℤ next) across refl)) ∙ ap (λ z. point (h +ℤ next) z) down
-behind_by Vertical setting from h v x y by part none across down =
+step_after Vertical setting from h v x y by part none across down =
     let next = (from.natural +ℤ by) +ℤ set_by setting (from.shares +ℤ part) in
     ap (λ z. point x z) (sym (right_by setting from v by part none y (v +ℤ next) down refl)) ∙ ap (λ z. point z (v +ℤ next)) across
 
 -- The position after an item that is independent of the setting is its own plus the advance of the item.
-pub rigid_behind :
+pub rigid_after :
     (b : BoxNode) (h v : ℤ) (from : Reached) (at : PagePosition) (x : Node) → is_rigid x ≡ true → point_in b h v (place_at b.setting from) ≡ Some at
     → point (right_at b.kind at.h (advance b.kind x)) (down_at b.kind at.v (advance b.kind x))
     ≡ point_in b h v (place_at b.setting (one_more b.kind b.setting from x))
-rigid_behind b h v from at x rigid here =
+rigid_after b h v from at x rigid here =
     let p = point-is (right_at b.kind h (place_at b.setting from)) (down_at b.kind v (place_at b.setting from)) at here in
-    behind_by b.kind b.setting from h v at.h at.v (advance b.kind x) (share b.setting x) (share_rigid b.setting x rigid) p.0 p.1
+    step_after b.kind b.setting from h v at.h at.v (advance b.kind x) (share b.setting x) (share_rigid b.setting x rigid) p.0 p.1
 
 -- The facts about an item that was found, stated in another way.
 pub found_so : (P Q : PlacedItem → Type 0) → ((s : PlacedItem) → P s → Q s) → (result : Option PlacedItem) → IfSome result P → IfSome result Q

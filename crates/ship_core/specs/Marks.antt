@@ -96,18 +96,18 @@ box_v Horizontal v shift height = v +ℤ shift
 box_v Vertical v shift height = v +ℤ height
 
 -- The marks of the items `after`, which follow the items `before` in the list of the box; the list begins at (h, v).
-abbrev pub marks_behind : BoxNode → (h v : ℤ) → (before : List Node) → (after : Items) → List Mark
-marks_behind b h v before none = []
-marks_behind b h v before (leaf x after) =
-    marks_of_item b (item_h b h before) (item_v b v before) x ++ marks_behind b h v (before ++ node_of x ∷ []) after
-marks_behind b h v before (box shift frame inner after) =
-    marks_behind (box_of frame inner) (box_h b.kind (item_h b h before) shift)
+abbrev pub marks_after : BoxNode → (h v : ℤ) → (before : List Node) → (after : Items) → List Mark
+marks_after b h v before none = []
+marks_after b h v before (leaf x after) =
+    marks_of_item b (item_h b h before) (item_v b v before) x ++ marks_after b h v (before ++ node_of x ∷ []) after
+marks_after b h v before (box shift frame inner after) =
+    marks_after (box_of frame inner) (box_h b.kind (item_h b h before) shift)
     (list_v frame.kind frame.height (box_v b.kind (item_v b v before) shift frame.height)) [] inner
-    ++ marks_behind b h v (before ++ nodes.Box shift (box_of frame inner) ∷ []) after
+    ++ marks_after b h v (before ++ nodes.Box shift (box_of frame inner) ∷ []) after
 
 -- The marks of a box with the reference point (h, v). They are a recursion over the tree of the box.
 unfoldable pub marks_of_box : BoxNode → (h v : ℤ) → List Mark
-marks_of_box b h v = marks_behind b h (list_v b.kind b.height v) [] b.list
+marks_of_box b h v = marks_after b h (list_v b.kind b.height v) [] b.list
 
 -- The numbers of an item at (h, v), where the next item is at (next_h, next_v): the two places; for a rule also its corner and its sizes; for a box
 -- also its reference point (own).
@@ -124,14 +124,14 @@ numbers_at b h v before x =
     points_and_sizes b (item_h b h before) (item_v b v before) (item_h b h (before ++ x ∷ [])) (item_v b v (before ++ x ∷ [])) x
 
 -- The numbers of the items `after`, which follow the items `before` in the list of the box, and of the items of inner boxes (own).
-abbrev pub numbers_behind : BoxNode → (h v : ℤ) → (before : List Node) → (after : Items) → List ℤ
-numbers_behind b h v before none = []
-numbers_behind b h v before (leaf x after) = numbers_at b h v before (node_of x) ++ numbers_behind b h v (before ++ node_of x ∷ []) after
-numbers_behind b h v before (box shift frame inner after) =
+abbrev pub numbers_after : BoxNode → (h v : ℤ) → (before : List Node) → (after : Items) → List ℤ
+numbers_after b h v before none = []
+numbers_after b h v before (leaf x after) = numbers_at b h v before (node_of x) ++ numbers_after b h v (before ++ node_of x ∷ []) after
+numbers_after b h v before (box shift frame inner after) =
     numbers_at b h v before (nodes.Box shift (box_of frame inner))
-    ++ (numbers_behind (box_of frame inner) (box_h b.kind (item_h b h before) shift)
+    ++ (numbers_after (box_of frame inner) (box_h b.kind (item_h b h before) shift)
     (list_v frame.kind frame.height (box_v b.kind (item_v b v before) shift frame.height)) [] inner
-    ++ numbers_behind b h v (before ++ nodes.Box shift (box_of frame inner) ∷ []) after)
+    ++ numbers_after b h v (before ++ nodes.Box shift (box_of frame inner) ∷ []) after)
 
 -- A page: its ten counts, and a box with its reference point.
 pub record ShippedPage : Type 0 where
@@ -151,7 +151,7 @@ page_v page = list_v page.box_node.kind page.box_node.height page.v
 -- The numbers of a page that have to fit: its bottom, its right edge, and those of its items, inner boxes included (own).
 abbrev pub numbers_of_page : ShippedPage → List ℤ
 numbers_of_page page =
-    (page.v +ℤ page.box_node.depth) ∷ (page.h +ℤ page.box_node.width) ∷ numbers_behind page.box_node page.h (page_v page) [] page.box_node.list
+    (page.v +ℤ page.box_node.depth) ∷ (page.h +ℤ page.box_node.width) ∷ numbers_after page.box_node page.h (page_v page) [] page.box_node.list
 
 -- Whether a page is huge: one of those numbers does not fit (own). The reference point is not among them, so that it may be wider than a dimension.
 unfoldable pub is_huge : ShippedPage → Bool

@@ -10,7 +10,7 @@ ghost use Rattle.ship_core.specs.Drawing.{Picture};
 ghost use Rattle.node_core.specs.declared.tree.Node.TheVariants as nodes;
 ghost use Rattle.ship_core.specs.Placing.{IsMarkEnd, point_in, numbers_between, strokes_at, strokes_in, reference_h, reference_v, is_rigid};
 
-use crate::placing::{PagePoint, PagePosition, PlacedItem, place_item, point_at, position_behind};
+use crate::placing::{PagePoint, PagePosition, PlacedItem, place_item, point_at, position_after};
 use node_core::{BoxNode, Glyph, Kind, Node};
 use pack_core::{Cursor, advance_of};
 
@@ -97,7 +97,7 @@ impl ItemWalk {
     {
         if is_rigid(node) {
             let distance = advance_of(box_node.kind, node);
-            self.here = position_behind(box_node.kind, at, distance);
+            self.here = position_after(box_node.kind, at, distance);
             self.cursor.move_on(distance);
             return;
         }
@@ -123,7 +123,7 @@ impl ItemWalk {
     {
         let _h = begin.h;
         let distance = i64::from(glyph.width.get());
-        self.here = position_behind(box_node.kind, at, distance);
+        self.here = position_after(box_node.kind, at, distance);
         self.cursor.move_on(distance);
     }
 

@@ -7,7 +7,7 @@ ghost use Rattle.node_core.specs.Nodes.{max_nodes};
 ghost use Rattle.dvi_ops.specs.View.{body_view};
 ghost use Rattle.scaled_core.specs.Dimensions.{fits};
 ghost use Rattle.pack_core.specs.Cursors.{one_more, place_at};
-ghost use Rattle.ship_core.specs.Marks.{right_at, down_at, numbers_behind, points_and_sizes};
+ghost use Rattle.ship_core.specs.Marks.{right_at, down_at, numbers_after, points_and_sizes};
 ghost use Rattle.ship_core.specs.Drawing.{Picture, picture_after};
 ghost use Rattle.node_core.specs.declared.tree.Node.TheVariants as nodes;
 ghost use Rattle.ship_core.specs.Placing.{Reaches, point_in, numbers_between, strokes_at, strokes_of, reference_h, reference_v, makes, leaves};
@@ -135,7 +135,7 @@ pub fn draw_list<'a>(
     box_node: &'a BoxNode,
     begin: &ListOrigin,
 ) -> Result<bool, AllocError>
-    ensures fits { IfOk result (λ fit. fit ≡ list_all fits (numbers_behind box_node.now begin.now.h begin.now.v [] box_node.now.list)) }
+    ensures fits { IfOk result (λ fit. fit ≡ list_all fits (numbers_after box_node.now begin.now.h begin.now.v [] box_node.now.list)) }
     ensures ops { IfOk result (λ fit. fit ≡ true → map body_view drawing.new.ops.items
         ≡ makes box_node.now.kind drawing.old (picture_after box_node.now begin.now.h begin.now.v [] box_node.now.list)) }
     ensures font { IfOk result (λ fit. fit ≡ true → option_map pos drawing.new.font

@@ -5,7 +5,7 @@ ghost use Rattle.std.specs.List.{list_all};
 ghost use Rattle.dvi_ops.specs.Forest.{flat};
 ghost use Rattle.dvi_ops.specs.View.{body_view};
 ghost use Rattle.scaled_core.specs.Dimensions.{fits};
-ghost use Rattle.ship_core.specs.Marks.{numbers_behind, is_huge};
+ghost use Rattle.ship_core.specs.Marks.{numbers_after, is_huge};
 ghost use Rattle.ship_core.specs.Pages.{page_at};
 ghost use Rattle.ship_core.specs.Drawing.{body_of};
 
@@ -32,7 +32,7 @@ pub enum ShipFault {
 
 /// Whether the numbers of all items of a list fit, those of inner boxes included.
 fn all_fit(box_node: &BoxNode, begin: &ListOrigin) -> bool
-    ensures { result ≡ list_all fits (numbers_behind box_node.now begin.now.h begin.now.v [] box_node.now.list) }
+    ensures { result ≡ list_all fits (numbers_after box_node.now begin.now.h begin.now.v [] box_node.now.list) }
 {
     let mut walk = ItemWalk::new(box_node, begin);
     for node in box_node.list.as_slice() {

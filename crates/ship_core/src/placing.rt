@@ -97,7 +97,7 @@ fn point(h: i128, v: i128) -> Option<PagePosition>
 }
 
 /// A number plus a distance.
-fn number_behind(from: i64, distance: i128) -> i128
+fn coordinate_after(from: i64, distance: i128) -> i128
     requires { Within (2 ^ 126 + 2 ^ 63) distance }
     ensures { result ≡ from +ℤ distance }
 {
@@ -110,14 +110,14 @@ pub fn point_at(kind: Kind, h: i64, v: i64, distance: i128) -> Option<PagePositi
     ensures { result ≡ point (right_at kind h distance) (down_at kind v distance) }
 {
     match kind {
-        Kind::Horizontal => point(number_behind(h, distance), i128::from(v)),
-        Kind::Vertical => point(i128::from(h), number_behind(v, distance)),
+        Kind::Horizontal => point(coordinate_after(h, distance), i128::from(v)),
+        Kind::Vertical => point(i128::from(h), coordinate_after(v, distance)),
     }
 }
 
 /// A dimension plus a distance, where the sum fits.
 #[inline(always)]
-fn dimension_behind(from: Dimen, distance: i64) -> Option<Dimen>
+fn dimension_after(from: Dimen, distance: i64) -> Option<Dimen>
     requires distance_bounded { Within (2 ^ 31) distance }
     ensures { result ≡ dimension_of (from +ℤ distance) }
 {
@@ -127,13 +127,13 @@ fn dimension_behind(from: Dimen, distance: i64) -> Option<Dimen>
 /// The position at a distance from another one, in a list of that kind.
 #[tactic(auto, using(scaled_core::proofs::Fitting::dimension_fits), unfolding(scaled_core::specs::Dimensions::dimension_of))]
 #[inline(always)]
-pub fn position_behind(kind: Kind, at: &PagePosition, distance: i64) -> Option<PagePosition>
+pub fn position_after(kind: Kind, at: &PagePosition, distance: i64) -> Option<PagePosition>
     requires distance_bounded { Within (2 ^ 31) distance }
     ensures { result ≡ point (right_at kind at.now.h distance) (down_at kind at.now.v distance) }
 {
     let (h, v) = match kind {
-        Kind::Horizontal => (dimension_behind(at.h, distance), Some(at.v)),
-        Kind::Vertical => (Some(at.h), dimension_behind(at.v, distance)),
+        Kind::Horizontal => (dimension_after(at.h, distance), Some(at.v)),
+        Kind::Vertical => (Some(at.h), dimension_after(at.v, distance)),
     };
     Some(PagePosition { h: h?, v: v? })
 }

@@ -89,7 +89,7 @@ fn two_pages_point_back(rt: HostRuntime) -> Result<(), Fail> {
 }
 
 #[test]
-fn no_pages_and_a_page_behind_the_end(rt: HostRuntime) -> Result<(), Fail> {
+fn no_pages_and_a_page_after_the_end(rt: HostRuntime) -> Result<(), Fail> {
     let alloc = rt.alloc();
     let (nothing, file) = written(alloc, 0, offsets(0, 0), true)?;
     assert!(rt; nothing.bytes().is_empty());

@@ -24,13 +24,13 @@ taken_steps_from-step j k [] s h = absurd (cc)
 taken_steps_from-step j zero (t ∷ rest) s h =
     let same : t ≡ s = cc in
     let here : j + 0 ≡ j = omega arith in
-    let behind : 0 + (s.skip + 1) ≡ suc s.skip = omega arith in
-    rw (here, behind) (ap (λ (u : LigKernStep). j ∷ cond (ltb u.skip 128) (taken_steps_from (j + 1) u.skip rest) []) same)
+    let after : 0 + (s.skip + 1) ≡ suc s.skip = omega arith in
+    rw (here, after) (ap (λ (u : LigKernStep). j ∷ cond (ltb u.skip 128) (taken_steps_from (j + 1) u.skip rest) []) same)
 taken_steps_from-step j (suc k) (t ∷ rest) s h =
     let later = taken_steps_from-step (j + 1) k rest s h in
     let here : j + suc k ≡ j + 1 + k = omega arith in
-    let behind : suc k + (s.skip + 1) ≡ suc (k + (s.skip + 1)) = omega arith in
-    rw (here, behind) later
+    let after : suc k + (s.skip + 1) ≡ suc (k + (s.skip + 1)) = omega arith in
+    rw (here, after) later
 
 -- The steps that are taken from step k on, by the step at k.
 pub taken_steps-past : (steps : List LigKernStep) (k : ℕ) → slice_get steps k ≡ None → taken_steps steps k ≡ []

@@ -54,8 +54,8 @@ none_joined xs ys left right = list_any-append shrinks_infinitely xs ys ∙ ap (
 none_taken : (list : List Node) (n : ℕ) → list_any shrinks_infinitely list ≡ false → list_any shrinks_infinitely (take n list) ≡ false
 none_taken list n is = none_left (take n list) (drop n list) (ap (list_any shrinks_infinitely) (take-append-drop n list) ∙ is)
 
-none_behind : (list : List Node) (n : ℕ) → list_any shrinks_infinitely list ≡ false → list_any shrinks_infinitely (drop n list) ≡ false
-none_behind list n is = none_right (take n list) (drop n list) (ap (list_any shrinks_infinitely) (take-append-drop n list) ∙ is)
+none_after : (list : List Node) (n : ℕ) → list_any shrinks_infinitely list ≡ false → list_any shrinks_infinitely (drop n list) ≡ false
+none_after list n is = none_right (take n list) (drop n list) (ap (list_any shrinks_infinitely) (take-append-drop n list) ∙ is)
 
 none_after_first : (list : List Node) → list_any shrinks_infinitely list ≡ false → list_any shrinks_infinitely (without_first list) ≡ false
 none_after_first [] is = is
@@ -80,7 +80,7 @@ none_kept : (list : List Node) (begin : Option ℕ) (end : ℕ) → list_any shr
 none_kept list None end is = none_joined (take end list) (at_break (slice_get list end)) (none_taken list end is) (none_at_break (slice_get list end))
 none_kept list (Some a) end is =
     none_joined (without_first (drop (a + 1) (take end list))) (at_break (slice_get list end))
-    (none_after_first (drop (a + 1) (take end list)) (none_behind (take end list) (a + 1) (none_taken list end is)))
+    (none_after_first (drop (a + 1) (take end list)) (none_after (take end list) (a + 1) (none_taken list end is)))
     (none_at_break (slice_get list end))
 
 -- Then the totals of shrink in infinite orders are 0.

@@ -36,12 +36,12 @@ ends_in_glue list g is =
     (last_item list (length list - 1) (nodes.Glue g) at last, omega (arith, length-take (length list - 1) list))
 
 -- Replacing a node in the middle of a list.
-set_behind : (front behind : List Node) (x y : Node) → slice_set (front ++ x ∷ behind) (length front) y ≡ front ++ y ∷ behind
-set_behind [] behind x y = refl
-set_behind (z ∷ front) behind x y = ap (λ l. z ∷ l) (set_behind front behind x y)
+set_after : (front after : List Node) (x y : Node) → slice_set (front ++ x ∷ after) (length front) y ≡ front ++ y ∷ after
+set_after [] after x y = refl
+set_after (z ∷ front) after x y = ap (λ l. z ∷ l) (set_after front after x y)
 
-set_at : (list front behind : List Node) (x y : Node) (k : ℕ) → list ≡ front ++ x ∷ behind → k ≡ length front → slice_set list k y ≡ front ++ y ∷ behind
-set_at list front behind x y k is at = ap (λ l. slice_set l k y) is ∙ ap (λ i. slice_set (front ++ x ∷ behind) i y) at ∙ set_behind front behind x y
+set_at : (list front after : List Node) (x y : Node) (k : ℕ) → list ≡ front ++ x ∷ after → k ≡ length front → slice_set list k y ≡ front ++ y ∷ after
+set_at list front after x y k is at = ap (λ l. slice_set l k y) is ∙ ap (λ i. slice_set (front ++ x ∷ after) i y) at ∙ set_after front after x y
 
 joined_more : (front : List Node) (x y : Node) → (front ++ x ∷ []) ++ y ∷ [] ≡ front ++ x ∷ y ∷ []
 joined_more [] x y = refl

@@ -19,7 +19,7 @@ use Rattle.break_lines.specs.Facts.{facts_of, refusal}
 use Rattle.break_lines.proofs.Refusals.{few_places}
 use Rattle.break_core.specs.Passes.{line_end_at, IsBroken}
 use Rattle.vert_core.specs.Interline.{interline, glue_of, appended}
-use Rattle.vert_core.specs.Lines.{BrokenParagraph, penalty_nodes, penalty_behind, behind_line, brought_by, depth_before, line_box, vertical_items}
+use Rattle.vert_core.specs.Lines.{BrokenParagraph, penalty_nodes, penalty_after, after_line, brought_by, depth_before, line_box, vertical_items}
 
 -- A falling list has at most as many places as the number of its first place.
 falling_length : (places : List ℕ) → IsFalling places → length places ≤ top places
@@ -54,11 +54,11 @@ one_node : (b : Bool) (x : Node) → length (cond b [] (x ∷ [])) ≤ 1
 one_node true x = omega arith
 one_node false x = omega arith
 
-one_penalty : (params : Params) (count line : ℕ) → length (behind_line params count line) ≤ 1
+one_penalty : (params : Params) (count line : ℕ) → length (after_line params count line) ≤ 1
 one_penalty params count line = cases (nat_lt (line + 1) count)
   where
-    cases : (b : Bool) → length (cond b (penalty_nodes (penalty_behind params count line)) []) ≤ 1
-    cases true = one_node (is_zero (penalty_behind params count line)) (nodes.Penalty (penalty_behind params count line))
+    cases : (b : Bool) → length (cond b (penalty_nodes (penalty_after params count line)) []) ≤ 1
+    cases true = one_node (is_zero (penalty_after params count line)) (nodes.Penalty (penalty_after params count line))
     cases false = omega arith
 
 brings_three : (p : BrokenParagraph) (line : ℕ) → length (brought_by p line) ≤ 3
@@ -67,7 +67,7 @@ brings_three p line =
     let glue = glue_of (interline p.params (depth_before p line) (line_box p line).height) in
     omega (
       arith,
-      length-append (appended glue (pos 0) (line_box p line)) (behind_line p.params (length p.places) line),
+      length-append (appended glue (pos 0) (line_box p line)) (after_line p.params (length p.places) line),
       box_and_glue glue (pos 0) (line_box p line),
       one_penalty p.params (length p.places) line,
     )

@@ -49,9 +49,9 @@ module _ {A : Type 0} where
   in_front (y ∷ xs) ys x (inl h) = inl h
   in_front (y ∷ xs) ys x (inr h) = inr (in_front xs ys x h)
 
-  in_behind : (xs ys : List A) (x : A) → IsIn ys x → IsIn (xs ++ ys) x
-  in_behind [] ys x h = h
-  in_behind (y ∷ xs) ys x h = inr (in_behind xs ys x h)
+  in_after : (xs ys : List A) (x : A) → IsIn ys x → IsIn (xs ++ ys) x
+  in_after [] ys x h = h
+  in_after (y ∷ xs) ys x h = inr (in_after xs ys x h)
 
   in_either : (xs ys : List A) (x : A) → IsIn (xs ++ ys) x → IsIn xs x ⊎ IsIn ys x
   in_either [] ys x h = inr h
@@ -143,7 +143,7 @@ tried_below p (suc n) (b ∷ rest) is =
     by_last : (n < b) ⊎ (b ≤ n) → (IsTried p n rest → IsIn (lists_up_to p n) rest) → (IsTried p n (b ∷ rest) → IsIn (lists_up_to p n) (b ∷ rest))
         → IsIn ((if p.forced (suc n) then [] else lists_up_to p n) ++ map (λ (places : List ℕ). suc n ∷ places) (lists_up_to p n)) (b ∷ rest)
     by_last (inl last) shorter same =
-        in_behind (if p.forced (suc n) then [] else lists_up_to p n) _ (b ∷ rest) (with_last last (shorter (has_rest last)))
+        in_after (if p.forced (suc n) then [] else lists_up_to p n) _ (b ∷ rest) (with_last last (shorter (has_rest last)))
     by_last (inr most) shorter same = without (p.forced (suc n)) refl most (same (has_all most))
 
 -- Each list that is tried is falling and contains each forced place.

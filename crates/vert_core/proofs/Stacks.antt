@@ -8,12 +8,12 @@ use Rattle.break_lines.specs.Sizes.{line_size}
 use Rattle.break_core.specs.declared.broken.LineEnd.{LineEnd}
 use Rattle.break_lines.specs.Legal.{up_to}
 use Rattle.node_core.specs.declared.tree.Node.{Node}
-use Rattle.vert_core.specs.Lines.{BrokenParagraph, line_places, line_begin, line_items, boxed_line, line_box, line_brings, depth_before, brought_by, fits_behind, line_fits}
+use Rattle.vert_core.specs.Lines.{BrokenParagraph, line_places, line_begin, line_items, boxed_line, line_box, line_brings, depth_before, brought_by, fits_after, line_fits}
 
 -- The place where a line other than the first one begins.
-pub begin_behind : (ends : List LineEnd) (line : ℕ) (other : LineEnd) → 0 < line → line ≤ length ends → line_begin (line_places ends) line ≡ Some (get_or ends (line - 1) other).place
-begin_behind ends zero other some within = absurd (omega arith)
-begin_behind ends (suc line) other some within =
+pub begin_after : (ends : List LineEnd) (line : ℕ) (other : LineEnd) → 0 < line → line ≤ length ends → line_begin (line_places ends) line ≡ Some (get_or ends (line - 1) other).place
+begin_after ends zero other some within = absurd (omega arith)
+begin_after ends (suc line) other some within =
     let same : suc line - 1 ≡ line = omega arith in
     at ends line (omega arith) ∙ ap (λ i. Some (get_or ends i other).place) (sym same)
   where
@@ -72,16 +72,16 @@ stacked_one p line old new depth items is more =
     ∙ ap (λ d. flat_map (brought_by p) (up_to line) ++ line_brings p.params (length p.places) line d (boxed_line (line_size p.params line) (line_items p line))) is
     ∙ sym (brought_more (brought_by p) line)
 
-pub depth_behind : (p : BrokenParagraph) (line : ℕ) (depth : ℤ) → depth ≡ (boxed_line (line_size p.params line) (line_items p line)).depth → depth ≡ depth_before p (line + 1)
+pub depth_after_line : (p : BrokenParagraph) (line : ℕ) (depth : ℤ) → depth ≡ (boxed_line (line_size p.params line) (line_items p line)).depth → depth ≡ depth_before p (line + 1)
 unfolding line_box
-depth_behind p line depth is =
+depth_after_line p line depth is =
     let one : line + 1 ≡ suc line = omega arith in
     is ∙ ap (depth_before p) (sym one)
 
 pub fits_one :
-    (p : BrokenParagraph) (line : ℕ) (depth : ℤ) (b : Bool) → depth ≡ depth_before p line → fits_behind p.params (line_size p.params line) depth (line_items p line) ≡ b → line_fits p line ≡ b
+    (p : BrokenParagraph) (line : ℕ) (depth : ℤ) (b : Bool) → depth ≡ depth_before p line → fits_after p.params (line_size p.params line) depth (line_items p line) ≡ b → line_fits p line ≡ b
 unfolding line_fits
-fits_one p line depth b is fits = ap (λ d. fits_behind p.params (line_size p.params line) d (line_items p line)) (sym is) ∙ fits
+fits_one p line depth b is fits = ap (λ d. fits_after p.params (line_size p.params line) d (line_items p line)) (sym is) ∙ fits
 
 -- There are as many lines as ends.
 pub count_places : (ends : List LineEnd) → length (line_places ends) ≡ length ends

@@ -61,11 +61,11 @@ unfolding is_legal is_glue
 legal_left front rest i within bare =
     ap (λ before. is_break before (slice_get (front ++ rest) i) (slice_get (front ++ rest) (i + 1))) (before_left front rest i within)
     ∙ ap (λ here. is_break (node_before front i) here (slice_get (front ++ rest) (i + 1))) (slice_get_left front rest i within)
-    ∙ break_by_glue (node_before front i) (slice_get front i) (slice_get (front ++ rest) (i + 1)) (slice_get front (i + 1)) (behind (search arith))
+    ∙ break_by_glue (node_before front i) (slice_get front i) (slice_get (front ++ rest) (i + 1)) (slice_get front (i + 1)) (after (search arith))
   where
-    behind : (i + 1 < length front) ⊎ (i + 1 ≡ length front) → is_glue (slice_get (front ++ rest) (i + 1)) ≡ is_glue (slice_get front (i + 1))
-    behind (inl inner) = ap is_glue (slice_get_left front rest (i + 1) inner)
-    behind (inr last) =
+    after : (i + 1 < length front) ⊎ (i + 1 ≡ length front) → is_glue (slice_get (front ++ rest) (i + 1)) ≡ is_glue (slice_get front (i + 1))
+    after (inl inner) = ap is_glue (slice_get_left front rest (i + 1) inner)
+    after (inr last) =
         ap is_glue (slice_get_right front rest (i + 1) 0 (omega arith)) ∙ bare
         ∙ sym (ap is_glue (slice_get_past front (i + 1) (omega arith)))
 
@@ -79,10 +79,10 @@ not_at_penalty : (list : List Node) (i : ℕ) → slice_get list i ≡ Some (nod
 unfolding is_legal is_break
 not_at_penalty list i here = ap (λ node. is_break (node_before list i) node (slice_get list (i + 1))) here
 
-not_behind_penalty :
+not_after_penalty :
     (list : List Node) (i : ℕ) (g : Glue) → slice_get list i ≡ Some (nodes.Penalty (pos 10000)) → slice_get list (suc i) ≡ Some (nodes.Glue g) → is_legal list (suc i) ≡ false
 unfolding is_legal is_break
-not_behind_penalty list i g before here =
+not_after_penalty list i g before here =
     ap (λ node. is_break (slice_get list i) node (slice_get list (suc i + 1))) here
     ∙ ap (λ node. is_break node (Some (nodes.Glue g)) (slice_get list (suc i + 1))) before
 
@@ -99,7 +99,7 @@ as_many_places front skip =
     let penalty : slice_get all n ≡ Some (nodes.Penalty (pos 10000)) = slice_get_right front (ending skip) n 0 (omega arith) in
     let glue : slice_get all (suc n) ≡ Some (nodes.Glue skip) = slice_get_right front (ending skip) (suc n) 1 (omega arith) in
     let next : n + 1 ≡ suc n = omega arith in
-    let at_glue : is_legal all (n + 1) ≡ false = ap (is_legal all) next ∙ not_behind_penalty all n skip penalty glue in
+    let at_glue : is_legal all (n + 1) ≡ false = ap (is_legal all) next ∙ not_after_penalty all n skip penalty glue in
     let old = ap length (filter_alike (is_legal all) (is_legal front) n (λ i below. legal_left front (ending skip) i below refl)) in
     ap (λ k. length (filter (is_legal all) (up_to (k + 1)))) count
     ∙ count_passed (is_legal all) (n + 1 + 1) (legal_end all (n + 1 + 1) (sym count))

@@ -63,8 +63,8 @@ depth_before p (suc line) = (line_box p line).depth
 
 -- The penalty between a line and the next one, of `count` lines: interlinepenalty, plus clubpenalty after the first line, plus widowpenalty before
 -- the last line (TeX: The Program, part 39, §890).
-abbrev pub penalty_behind : Params → (count line : ℕ) → ℤ
-penalty_behind params count line =
+abbrev pub penalty_after : Params → (count line : ℕ) → ℤ
+penalty_after params count line =
     (params.interline_penalty +ℤ (if line == 0 then params.club_penalty else pos 0)) +ℤ (if line + 2 == count then params.widow_penalty else pos 0)
 
 -- A penalty as a node; 0 gives no node.
@@ -72,13 +72,13 @@ abbrev pub penalty_nodes : ℤ → List Node
 penalty_nodes penalty = if is_zero penalty then [] else (nodes.Penalty penalty ∷ [])
 
 -- The nodes after a line, of `count` lines: a penalty, but nothing after the last line.
-abbrev pub behind_line : Params → (count line : ℕ) → List Node
-behind_line params count line = if nat_lt (line + 1) count then penalty_nodes (penalty_behind params count line) else []
+abbrev pub after_line : Params → (count line : ℕ) → List Node
+after_line params count line = if nat_lt (line + 1) count then penalty_nodes (penalty_after params count line) else []
 
 -- The nodes that a line with this box adds to a vertical list with this previous depth: the glue that any box gets, the box, and the nodes after it.
 abbrev pub line_brings : Params → (count line : ℕ) → (previous_depth : ℤ) → BoxNode → List Node
 line_brings params count line previous_depth b =
-    appended (glue_of (interline params previous_depth b.height)) (pos 0) b ++ behind_line params count line
+    appended (glue_of (interline params previous_depth b.height)) (pos 0) b ++ after_line params count line
 
 -- The nodes that each line adds, by its box and the depth of the line before it.
 unfoldable pub brought_by : BrokenParagraph → ℕ → List Node
@@ -93,12 +93,12 @@ unfoldable pub last_depth : BrokenParagraph → ℤ
 last_depth p = depth_before p (length p.places)
 
 -- Whether a line of this width with these items fits after this previous depth: its box, and the glue before it (own: TeX does not test it).
-abbrev pub fits_behind : Params → (size previous_depth : ℤ) → List Node → Bool
-fits_behind params size previous_depth items = items_fit size items && is_ok (interline params previous_depth (boxed_line size items).height)
+abbrev pub fits_after : Params → (size previous_depth : ℤ) → List Node → Bool
+fits_after params size previous_depth items = items_fit size items && is_ok (interline params previous_depth (boxed_line size items).height)
 
 -- Whether a line fits.
 unfoldable pub line_fits : BrokenParagraph → ℕ → Bool
-line_fits p line = fits_behind p.params (line_size p.params line) (depth_before p line) (line_items p line)
+line_fits p line = fits_after p.params (line_size p.params line) (depth_before p line) (line_items p line)
 
 -- Whether each line fits.
 unfoldable pub lines_fit : BrokenParagraph → Bool

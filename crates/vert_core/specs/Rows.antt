@@ -7,7 +7,7 @@ use Rattle.node_core.specs.declared.tree.RuleSize.TheVariants.{Fixed}
 use Rattle.node_core.specs.Parameters.{rigid, first_params}
 use Rattle.break_lines.specs.Legal.{up_to}
 use Rattle.vert_core.specs.Interline.{ignored_depth}
-use Rattle.vert_core.specs.Lines.{BrokenParagraph, behind_line}
+use Rattle.vert_core.specs.Lines.{BrokenParagraph, after_line}
 use Rattle.vert_core.specs.Finished.{finished}
 
 -- The number of a penalty.
@@ -17,7 +17,7 @@ penalty_in other = []
 
 -- The penalties of `count` lines, in order.
 abbrev pub penalties_of : Params → (count : ℕ) → List ℤ
-penalties_of params count = flat_map penalty_in (flat_map (behind_line params count) (up_to count))
+penalties_of params count = flat_map penalty_in (flat_map (after_line params count) (up_to count))
 
 -- Interlinepenalty 1, clubpenalty 10 and widowpenalty 100.
 abbrev pub with_penalties : Params

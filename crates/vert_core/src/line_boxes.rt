@@ -46,7 +46,7 @@ fn without_first(nodes: &[Node]) -> &[Node]
 }
 
 /// The items after a place.
-fn behind(nodes: &[Node], place: usize) -> &[Node]
+fn after(nodes: &[Node], place: usize) -> &[Node]
     ensures { result.now ≡ drop (place + 1) nodes.now }
 {
     if place >= nodes.len() {
@@ -62,7 +62,7 @@ fn front_of(nodes: &[Node], begin: Option<usize>, end: usize) -> &[Node]
     let front = &nodes[..end.min(nodes.len())];
     match begin {
         None => front,
-        Some(begin) => without_first(behind(front, begin)),
+        Some(begin) => without_first(after(front, begin)),
     }
 }
 

@@ -5,11 +5,11 @@ ghost use Rattle.std.specs.Result.{is_ok};
 ghost use Rattle.node_core.specs.Nodes.{max_nodes};
 ghost use Rattle.vert_core.specs.Interline.{interline};
 ghost use Rattle.break_lines.specs.Sizes.{line_size};
-ghost use Rattle.vert_core.specs.Lines.{line_places, broken_list, line_begin, line_items, boxed_line, line_brings, fits_behind, vertical_items, last_depth, lines_fit};
+ghost use Rattle.vert_core.specs.Lines.{line_places, broken_list, line_begin, line_items, boxed_line, line_brings, fits_after, vertical_items, last_depth, lines_fit};
 
 use crate::append::{AppendFault, append_box};
 use crate::line_boxes::{LinesFault, set_line};
-use crate::penalties::push_behind_line;
+use crate::penalties::push_after_line;
 use break_core::{Breaks, LineEnd};
 use break_lines::line_size;
 use node_core::{BoxNode, Node, Params};
@@ -71,7 +71,7 @@ fn stack_line(
             AppendFault::DimensionTooLarge => Err(LinesFault::DimensionTooLarge),
             AppendFault::OutOfMemory => Err(LinesFault::OutOfMemory),
         },
-        Ok(depth) => match push_behind_line(list, params, count, line) {
+        Ok(depth) => match push_after_line(list, params, count, line) {
             Err(_) => Err(LinesFault::OutOfMemory),
             Ok(()) => Ok(depth),
         },
@@ -91,9 +91,9 @@ fn add_line(
     ensures ok { OnOk result (list.new.items ≡ list.old.items
         ++ line_brings broken.now.params.now (length broken.now.ends.now) line previous_depth (boxed_line (line_size broken.now.params.now line) (line_items (broken_list broken.now.nodes.now broken.now.ends.now broken.now.params.now previous_depth) line))) }
     ensures depth { IfOk result (λ depth. depth ≡ (boxed_line (line_size broken.now.params.now line) (line_items (broken_list broken.now.nodes.now broken.now.ends.now broken.now.params.now previous_depth) line)).depth) }
-    ensures fits { OnOk result (fits_behind broken.now.params.now (line_size broken.now.params.now line) previous_depth (line_items (broken_list broken.now.nodes.now broken.now.ends.now broken.now.params.now previous_depth) line) ≡ true) }
+    ensures fits { OnOk result (fits_after broken.now.params.now (line_size broken.now.params.now line) previous_depth (line_items (broken_list broken.now.nodes.now broken.now.ends.now broken.now.params.now previous_depth) line) ≡ true) }
     ensures refused { IfErr result (λ fault. fault ≡ LinesFault.DimensionTooLarge →
-        fits_behind broken.now.params.now (line_size broken.now.params.now line) previous_depth (line_items (broken_list broken.now.nodes.now broken.now.ends.now broken.now.params.now previous_depth) line) ≡ false) }
+        fits_after broken.now.params.now (line_size broken.now.params.now line) previous_depth (line_items (broken_list broken.now.nodes.now broken.now.ends.now broken.now.params.now previous_depth) line) ≡ false) }
 {
     let ends = broken.ends;
     let line_box = set_line(

@@ -68,10 +68,10 @@ none-all s (x ∷ xs) e = absurd (none-step x xs (list_all (is_cheaper x) xs) re
 
 -- A trial of the places from the next one on is one of the places from this one on.
 widened : (f : ℕ → Option Trial) (i b : ℕ) (t : Trial) → IsAllowedTrial f (i + 1) b t → IsAllowedTrial f i b t
-widened f i b t al = record { behind = omega (arith, al.behind); below = al.below; allowed = al.allowed }
+widened f i b t al = record { after = omega (arith, al.after); below = al.below; allowed = al.allowed }
 
 shrunk : (f : ℕ → Option Trial) (i b : ℕ) (t : Trial) → t.place ≢ i → IsAllowedTrial f i b t → IsAllowedTrial f (i + 1) b t
-shrunk f i b t apart al = record { behind = omega (arith, al.behind, apart); below = al.below; allowed = al.allowed }
+shrunk f i b t apart al = record { after = omega (arith, al.after, apart); below = al.below; allowed = al.allowed }
 
 tried-shrunk : (f : ℕ → Option Trial) (i b : ℕ) (t : Trial) → t.place ≢ i → IsTried f i b t → IsTried f (i + 1) b t
 tried-shrunk f i b t apart tr = record { allowed = shrunk f i b t apart tr.allowed; reached = λ o al less. tr.reached o (widened f i b o al) less }
@@ -104,13 +104,13 @@ found-widened f i b (Some t) none found = chosen-widened f i b t none found
 
 -- The first trial is chosen if each one that is tried after it costs more.
 allowed-here : (f : ℕ → Option Trial) (i b : ℕ) (s : Trial) → f i ≡ Some s → s.place ≡ i → i < b → IsAllowedTrial f i b s
-allowed-here f i b s is at below = record { behind = omega (arith, at); below = omega (arith, at); allowed = ap f at ∙ is }
+allowed-here f i b s is at below = record { after = omega (arith, at); below = omega (arith, at); allowed = ap f at ∙ is }
 
 first-chosen :
     (f : ℕ → Option Trial) (i b : ℕ) (s : Trial) → f i ≡ Some s → s.place ≡ i → i < b
     → ((o : Trial) → IsTried f i b o → o.place ≢ i → cost s <ℤ cost o) → IsChosenTrial f i b s
 first-chosen f i b s is at below dearer = record {
-  tried = record { allowed = allowed-here f i b s is at below; reached = λ o al less. absurd (omega (arith, al.behind, less, at)) };
+  tried = record { allowed = allowed-here f i b s is at below; reached = λ o al less. absurd (omega (arith, al.after, less, at)) };
   least = λ o tr. least o tr (cases_eq o.place i);
   latest = λ o tr less. dearer o tr (λ e. absurd (omega (arith, e, less, at)));
 }
@@ -125,7 +125,7 @@ later-chosen :
 later-chosen f i b s u is more le ch = record {
   tried = record { allowed = widened f i b u ch.tried.allowed; reached = λ o al less. reached o al less (cases_eq o.place i) };
   least = λ o tr. least o tr (cases_eq o.place i);
-  latest = λ o tr less. ch.latest o (tried-shrunk f i b o (λ e. absurd (omega (arith, e, less, ch.tried.allowed.behind))) tr) less;
+  latest = λ o tr less. ch.latest o (tried-shrunk f i b o (λ e. absurd (omega (arith, e, less, ch.tried.allowed.after))) tr) less;
 }
   where
     reached : (o : Trial) → IsAllowedTrial f i b o → o.place < u.place → (o.place ≡ i) ⊎ (o.place ≢ i) → is_last o ≡ false
@@ -156,7 +156,7 @@ found-first :
     → Found f (i + 1) b (last_cheapest (up_to_last ts)) → Found f i b (last_cheapest (if last then s ∷ [] else s ∷ up_to_last ts))
 found-first f i b s ts true is at below last found =
     first-chosen f i b s is at below
-    (λ o tr apart. let first : is_last s ≡ false = tr.reached s (allowed-here f i b s is at below) (omega (arith, at, apart, tr.allowed.behind)) in absurd (cc))
+    (λ o tr apart. let first : is_last s ≡ false = tr.reached s (allowed-here f i b s is at below) (omega (arith, at, apart, tr.allowed.after)) in absurd (cc))
 found-first f i b s ts false is at below last found =
     found-more f i b s (up_to_last ts) (list_all (is_cheaper s) (up_to_last ts)) (last_cheapest (up_to_last ts)) is at below last refl refl found
 
@@ -169,7 +169,7 @@ found-step-on f i b ts (Some s) is at below found = found-first f i b s ts (is_l
 found-from :
     (f : ℕ → Option Trial) → ((i : ℕ) (t : Trial) → f i ≡ Some t → t.place ≡ i) → (n i b : ℕ) → b ≡ i + n
     → Found f i b (last_cheapest (up_to_last (filter_map f (range_with_len i n))))
-found-from f at zero i b end = λ t al. absurd (omega (arith, al.behind, al.below, end))
+found-from f at zero i b end = λ t al. absurd (omega (arith, al.after, al.below, end))
 found-from f at (suc n) i b end =
     found-step-on f i b (filter_map f (range_with_len (i + 1) n)) (f i) refl (at i) (omega (arith, end)) (found-from f at n (i + 1) b (omega (arith, end)))
 
@@ -183,7 +183,7 @@ chosen-of :
     → IsSplitPlace params goal items (trial_place best)
 chosen-of params goal items None found =
     absurd (found (record { place = length items; penalty = eject; badness = front_badness params goal items })
-    (record { behind = omega arith; below = omega arith; allowed = trial-end params goal items (front_badness params goal items) refl }))
+    (record { after = omega arith; below = omega arith; allowed = trial-end params goal items (front_badness params goal items) refl }))
 chosen-of params goal items (Some t) found = record { trial = t; here = refl; chosen = found }
 
 -- Only one trial is chosen.

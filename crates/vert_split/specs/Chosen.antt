@@ -8,7 +8,7 @@ use Rattle.vert_split.specs.Split.{trial_at}
 
 -- The trial of a place from `first` on and below `end` where a split is allowed.
 pub record IsAllowedTrial (trials : ℕ → Option Trial) (first end : ℕ) (t : Trial) : Type 0 where
-  pub behind : first ≤ t.place
+  pub after : first ≤ t.place
   pub below : t.place < end
   pub allowed : trials t.place ≡ Some t
 

@@ -20,21 +20,21 @@ pub fn forced_place()
     ensures place { split_place first_split_params (points 20) forced ≡ 3 }
     ensures height { front_height first_split_params (points 20) forced ≡ points 20 }
     ensures badness { badness_of_front first_split_params (points 20) forced ≡ 10000 }
-    ensures rest { rest_height first_split_params (points 20) forced ≡ Some (points 10) }
+    ensures rest_height { rest_height first_split_params (points 20) forced ≡ Some (points 10) }
 {}
 
 /// Of two places with the same cost the later one is taken. The end is awful, and costs more.
 pub fn later_of_two_places()
     ensures place { split_place first_split_params (points 15) spaced ≡ 3 }
     ensures badness { badness_of_front first_split_params (points 15) spaced ≡ 10000 }
-    ensures rest { rest_height first_split_params (points 15) spaced ≡ Some (points 10) }
+    ensures rest_height { rest_height first_split_params (points 15) spaced ≡ Some (points 10) }
 {}
 
 /// If the first place is awful, it is taken. Above a rule that is higher than splittopskip the glue has width 0.
 pub fn awful_first_place()
     ensures place { split_place first_split_params (points 20) high ≡ 1 }
     ensures badness { badness_of_front first_split_params (points 20) high ≡ 1000000 }
-    ensures rest { rest_height first_split_params (points 20) high ≡ Some (points 30) }
+    ensures rest_height { rest_height first_split_params (points 20) high ≡ Some (points 30) }
 {}
 
 /// A list without another place is split at its end, and there is no rest. If only glue is left, there is no rest either.

@@ -64,7 +64,7 @@ fn first_kept(nodes: &[Node], place: usize) -> usize
     ensures solid { from_box_or_rule (drop result nodes.now) ≡ from_box_or_rule (drop place nodes.now) }
     ensures kept { result < length nodes.now → is_some_before_break (slice_get nodes.now result) ≡ true }
     ensures after { place ≤ result }
-    ensures within { result ≤ length nodes.now }
+    ensures place_bounded { result ≤ length nodes.now }
 {
     for first in place..nodes.len() {
         if precedes_break(&nodes[first]) {
@@ -79,7 +79,7 @@ fn rest_start(nodes: &[Node], place: usize) -> usize
     requires { place ≤ length nodes.now }
     ensures value { drop result nodes.now ≡ from_box_or_rule (drop place nodes.now) }
     ensures after { place ≤ result }
-    ensures within { result ≤ length nodes.now }
+    ensures place_bounded { result ≤ length nodes.now }
 {
     for start in place..nodes.len() {
         if is_box_or_rule(&nodes[start]) {
@@ -136,7 +136,7 @@ fn plan_rest(
     params: &SplitParams,
 ) -> Result<Option<SplitRest>, SplitFault>
     requires list_bounded { length nodes.now ≤ max_nodes }
-    requires within { place ≤ length nodes.now }
+    requires place_bounded { place ≤ length nodes.now }
     requires dropped { is_some_before_break (slice_get nodes.now place) ≡ false }
     ensures ok { IfOk result (λ rest. left_items rest nodes.now ≡ left_of params.now (drop place nodes.now)) }
     ensures after { IfOk result (λ rest. IfSome rest (λ r. place < r.first)) }
@@ -163,7 +163,7 @@ fn plan_rest(
 pub fn plan_split(nodes: &[Node], height: Dimen, params: &SplitParams) -> Result<Plan, SplitFault>
     requires list_bounded { length nodes.now ≤ max_nodes }
     ensures place { IfOk result (λ p. p.place ≡ split_place params.now height nodes.now) }
-    ensures rest { IfOk result (λ p. left_items p.rest nodes.now ≡ left_of params.now (items_after params.now height nodes.now)) }
+    ensures rest_planned { IfOk result (λ p. left_items p.rest nodes.now ≡ left_of params.now (items_after params.now height nodes.now)) }
     ensures front { IfOk result (λ p. p.front ≡ vbox_shell (Target.To height) params.now.split_max_depth (take p.place nodes.now)) }
     ensures shell { IfOk result (λ p. IfSome p.rest (λ r. r.shell ≡ vbox_shell Target.Natural no_limit (rest_list r nodes.now))) }
     ensures sound { IfOk result (λ p. PlanFits nodes.now p) }

@@ -18,8 +18,8 @@ fn is_special(node: &Node) -> bool
 /// Moves the specials among the first `count` nodes, except the first node, to the front, and returns how many there are. The order of the other
 /// nodes does not matter, because they are dropped.
 fn gather_specials(nodes: &mut Vec<Node>, count: usize) -> usize
-    requires some { 0 < count }
-    requires within { count ≤ length nodes.old.items }
+    requires count_positive { 0 < count }
+    requires count_bounded { count ≤ length nodes.old.items }
     ensures specials { take result nodes.new.items ≡ filter is_special (take (count - 1) (drop 1 nodes.old.items)) }
     ensures below { drop count nodes.new.items ≡ drop count nodes.old.items }
     ensures specials_bounded { result < count }
@@ -38,8 +38,8 @@ fn gather_specials(nodes: &mut Vec<Node>, count: usize) -> usize
 /// Keeps only the specials among the first `count` nodes, followed by the glue, if there is any. The specials stay because TeX's prune_page_top keeps
 /// whatsits; a rest with only specials has no splittopskip glue. The first node is not a special, so its slot is free for the glue.
 fn prune_top(nodes: &mut Vec<Node>, count: usize, glue: Option<Glue>)
-    requires some { 0 < count }
-    requires within { count ≤ length nodes.old.items }
+    requires count_positive { 0 < count }
+    requires count_bounded { count ≤ length nodes.old.items }
     ensures { nodes.new.items ≡ filter is_special (take (count - 1) (drop 1 nodes.old.items)) ++ glued glue (drop count nodes.old.items) }
 {
     let specials = gather_specials(nodes, count);
@@ -57,7 +57,7 @@ fn prune_top(nodes: &mut Vec<Node>, count: usize, glue: Option<Glue>)
 /// single allocation has space for the glue. If memory is refused, the nodes are as they were before the call.
 pub fn take_rest(nodes: &mut Vec<Node>, rest: &SplitRest) -> Result<Vec<Node>, AllocError>
     requires { IsInside rest.now nodes.old.items }
-    ensures rest { IfOk result (λ left. left.items ≡ rest_list rest.now nodes.old.items) }
+    ensures items_returned { IfOk result (λ left. left.items ≡ rest_list rest.now nodes.old.items) }
     ensures front { OnOk result (nodes.new.items ≡ take (rest.now.first - 1) nodes.old.items) }
     ensures err { OnErr result (nodes.new.items ≡ nodes.old.items) }
 {

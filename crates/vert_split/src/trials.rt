@@ -101,7 +101,7 @@ fn trial_at(
     height: Dimen,
     params: &SplitParams,
 ) -> Option<Trial>
-    requires within { place ≤ length nodes.now }
+    requires place_bounded { place ≤ length nodes.now }
     requires list_bounded { length nodes.now ≤ max_nodes }
     requires passed { totals.now ≡ totals_of Kind.Vertical (take place nodes.now) }
     ensures value { result ≡ trial_at params.now height nodes.now place }

@@ -7,7 +7,7 @@ pub returns : goal.returns
 returns g c =
     let run = c.typeset_file-written.result in
     typeset_ended (g.H.Host.file c.args.host) (g.H.Host.input c.args.host) c.args.fonts.now c.args.out.now _ _ _ run.created run.written c.in-Ok.inputs.bytes.items
-    c.in-Ok.inputs.files.items run.end _ _ _ _ _ _ _ c.in-Ok.ensures.script c.in-Ok.ensures.files c.typeset_file-written.ensures.ends c.typeset_file-written.ensures.left c.tell_unwritten.ensures
+    c.in-Ok.inputs.files.items run.end _ _ _ _ _ _ _ c.in-Ok.ensures.script c.in-Ok.ensures.files c.typeset_file-written.ensures.task_ended c.typeset_file-written.ensures.left c.tell_unwritten.ensures
     c.typeset_file-written.ensures.blamed c.finish-2.ensures.output c.finish-2.ensures.errors c.finish-2.ensures.status
 
 pub returns-in-Err : goal.returns-in-Err

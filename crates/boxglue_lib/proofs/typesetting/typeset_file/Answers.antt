@@ -4,8 +4,8 @@ use Rattle.dvi_device.specs.Beginnings.{begun_after}
 use Rattle.boxglue_lib.proofs.EndLemmas.{answered_to_file, failed_since, left_to_file}
 use Rattle.boxglue_lib.proofs.typesetting.typeset_file.Goals as goal
 
-pub returns-in-Ok-clause-ends : goal.returns-in-Ok-clause-ends
-returns-in-Ok-clause-ends g c =
+pub returns-in-Ok-clause-task_ended : goal.returns-in-Ok-clause-task_ended
+returns-in-Ok-clause-task_ended g c =
     let done = rw (c.deref.ensures.value, c.deref-2.ensures.value) at c.in-Ok.ensures.answers in
     rw c.end_with.ensures.end (
       done.0,
@@ -15,8 +15,8 @@ returns-in-Ok-clause-ends g c =
       done.2,
     )
 
-pub returns-in-Err-Answers-clause-ends : goal.returns-in-Err-Answers-clause-ends
-returns-in-Err-Answers-clause-ends g c =
+pub returns-in-Err-Answers-clause-task_ended : goal.returns-in-Err-Answers-clause-task_ended
+returns-in-Err-Answers-clause-task_ended g c =
     let left = rw c.in-Err-Answers.field-0-is at c.in-Err-Answers.ensures.left in
     let done = rw (c.deref.ensures.value, c.deref-2.ensures.value) at left in
     rw c.end_with-in-Err-Answers.ensures.end (

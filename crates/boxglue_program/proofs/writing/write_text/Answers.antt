@@ -9,7 +9,7 @@ loop-preserved g c =
     let s = c.loop.written in
     let n = c.in_ok-written.field-0 in
     let taken = rw take_rest at c.in_ok-written.ensures.taken in
-    let within = rw take_rest at c.in_ok-written.ensures.within in
+    let within = rw take_rest at c.in_ok-written.ensures.count_bounded in
     record {
       within = omega (arith, within, length-drop s xs);
       begun = appends_more _ _ _ xs s n c.loop.invariant.begun taken;

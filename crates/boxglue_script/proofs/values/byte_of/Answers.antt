@@ -6,4 +6,4 @@ use Rattle.boxglue_script.proofs.Numbers.{small_tried}
 use Rattle.boxglue_script.proofs.values.byte_of.Goals as goal
 
 pub returns-in-Some : goal.returns-in-Some
-returns-in-Some c = small_tried slot_count c.args.field.now c.in-Some.number c.byte_numbered.result c.in-Some.ensures.some (grind (arith, to_z-of_z, c.byte_numbered.ensures))
+returns-in-Some c = small_tried slot_count c.args.field.now c.in-Some.number c.byte_numbered.result c.in-Some.ensures.integer_read (grind (arith, to_z-of_z, c.byte_numbered.ensures))

@@ -8,4 +8,4 @@ use Rattle.boxglue_script.proofs.values.count_of.Goals as goal
 pub returns-in-Some : goal.returns-in-Some
 returns-in-Some c =
     let fits : FitsSigned w64 c.in-Some.number = search rules in
-    (simp to_z-of_z at c.count_value.ensures) ∙ sym (count_names c.args.field.now c.in-Some.number c.in-Some.ensures.some)
+    (simp to_z-of_z at c.count_value.ensures) ∙ sym (count_names c.args.field.now c.in-Some.number c.in-Some.ensures.integer_read)

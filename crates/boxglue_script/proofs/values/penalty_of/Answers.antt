@@ -8,4 +8,4 @@ use Rattle.boxglue_script.proofs.values.penalty_of.Goals as goal
 pub returns-in-Some : goal.returns-in-Some
 returns-in-Some c =
     let fits : FitsSigned w64 c.in-Some.number = search rules in
-    penalty_tried c.args.field.now c.in-Some.number c.try_new.result c.in-Some.ensures.some (simp to_z-of_z at c.try_new.ensures)
+    penalty_tried c.args.field.now c.in-Some.number c.try_new.result c.in-Some.ensures.integer_read (simp to_z-of_z at c.try_new.ensures)

@@ -6,4 +6,4 @@ use Rattle.boxglue_script.proofs.Numbers.{small_tried}
 use Rattle.boxglue_script.proofs.values.register_of.Goals as goal
 
 pub returns-in-Some : goal.returns-in-Some
-returns-in-Some c = small_tried register_count c.args.field.now c.in-Some.number c.register_numbered.result c.in-Some.ensures.some (grind (arith, to_z-of_z, c.register_numbered.ensures))
+returns-in-Some c = small_tried register_count c.args.field.now c.in-Some.number c.register_numbered.result c.in-Some.ensures.integer_read (grind (arith, to_z-of_z, c.register_numbered.ensures))

@@ -19,8 +19,8 @@ returns-then-number-lt1-clause-none c = λ e number h.
       | then-number-lt1-via-else-number-lt1+then-number-most w ↦ let above = w.if-number-most.true in let greatest = h.most_is in absurd (omega arith)
     ]
 
-pub returns-clause-some : goal.returns-clause-some
-returns-clause-some c =
+pub returns-clause-number_in_range : goal.returns-clause-number_in_range
+returns-clause-number_in_range c =
     let reads = rw c.in_ok-number.was at c.get_one.ensures.value in
     let none = rw c.in_ok-number.was at c.get_one.ensures.none in
     let not_below = c.if-number-lt1.false in

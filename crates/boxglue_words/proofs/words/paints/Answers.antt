@@ -23,7 +23,7 @@ pub returns-clause-ok : goal.returns-clause-ok
 returns-clause-ok c =
     let rows = rows_of (found_of c.args.matches.now) in
     let given : first_of (codes "DVI") rows ≡ Some c.in-Some-get_str.dvi.now = sym (first_value-rows (found_of c.args.matches.now) (codes "DVI")) ∙ sym c.in-Some-get_str.ensures in
-    (paints c.in-Some.sheet c.in-Some-get_str.dvi.now (font_words rows), (refl, c.in-Some.ensures.some, given, refl), (refl, refl, c.in_ok-fonts.ensures.ok))
+    (paints c.in-Some.sheet c.in-Some-get_str.dvi.now (font_words rows), (refl, c.in-Some.ensures.sheet_returned, given, refl), (refl, refl, c.in_ok-fonts.ensures.ok))
 
 pub returns-in_err-fonts-clause-err : goal.returns-in_err-fonts-clause-err
 returns-in_err-fonts-clause-err c =
@@ -31,4 +31,4 @@ returns-in_err-fonts-clause-err c =
     let given : first_of (codes "DVI") rows ≡ Some c.in-Some-get_str.dvi.now = sym (first_value-rows (found_of c.args.matches.now) (codes "DVI")) ∙ sym c.in-Some-get_str.ensures in
     handed_on (IsRefusedBy (AsksBy (codes "paint") rows)) c.from_residual.result c.in_err-fonts.field-0.0 c.from_residual.ensures.1
     (refused_fonts (AsksBy (codes "paint") rows) (paints c.in-Some.sheet c.in-Some-get_str.dvi.now (font_words rows)) c.in_err-fonts.field-0.0
-    (refl, c.in-Some.ensures.some, given, refl) c.in_err-fonts.ensures.err)
+    (refl, c.in-Some.ensures.sheet_returned, given, refl) c.in_err-fonts.ensures.err)

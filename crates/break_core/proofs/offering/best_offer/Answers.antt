@@ -14,7 +14,7 @@ pub loop-index-init : goal.loop-index-init
 loop-index-init c =
     let table = c.args.table.now in
     let start = c.args.group.start in
-    let first = get_at table start (omega (arith, c.requires.has_entries, c.requires.within)) in
+    let first = get_at table start (omega (arith, c.requires.has_entries, c.requires.group_bounded)) in
     record {
       low = omega arith;
       best = best_first table c.args.params.now c.args.place c.args.alone.now start (start + 1) first.0 c.offer_from-best.result first.1 refl
@@ -34,7 +34,7 @@ loop-index-preserved c =
     let table = c.args.table.now in
     let index = c.loop-index.index in
     let inv = c.loop-index.invariant in
-    let here = get_at table index (omega (arith, c.loop-index-test.true, c.requires.within)) in
+    let here = get_at table index (omega (arith, c.loop-index-test.true, c.requires.group_bounded)) in
     record {
       low = omega (arith, inv.low);
       best = best_more table c.args.params.now c.args.place c.args.alone.now c.args.group.start index here.0 c.loop-index.best c.offer_from-offered.result

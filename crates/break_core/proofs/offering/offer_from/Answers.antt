@@ -9,20 +9,20 @@ pub extended-requires-clause-counted : goal.extended-requires-clause-counted
 extended-requires-clause-counted c =
     let table = c.args.table.now in
     let e = c.index-table-index.result in
-    c.requires.uncounted e (slice_get_read table (length table) c.args.index e refl c.requires.within c.index-table-index.is)
+    c.requires.uncounted e (slice_get_read table (length table) c.args.index e refl c.requires.index_bounded c.index-table-index.is)
 
 pub extended-requires-clause-later : goal.extended-requires-clause-later
 extended-requires-clause-later c =
     let table = c.args.table.now in
     let e = c.index-table-index.result in
-    c.requires.later e (slice_get_read table (length table) c.args.index e refl c.requires.within c.index-table-index.is)
+    c.requires.later e (slice_get_read table (length table) c.args.index e refl c.requires.index_bounded c.index-table-index.is)
 
 pub returns : goal.returns
 returns c = λ e at.
     let table = c.args.table.now in
     let params = c.args.params.now in
     let x = c.index-table-index.result in
-    let stands = slice_get_read table (length table) c.args.index x refl c.requires.within c.index-table-index.is in
+    let stands = slice_get_read table (length table) c.args.index x refl c.requires.index_bounded c.index-table-index.is in
     c.extended.ensures
     ∙ ap (extended 0 x c.args.index c.args.place) (c.line_after-line.ensures.value ∙ ap (λ s. line_after params s.class c.args.alone.now) c.end.ensures.end)
     ∙ ap (λ y. offer_from params y c.args.index c.args.place c.args.alone.now) (same_Some x e (sym stands ∙ at))

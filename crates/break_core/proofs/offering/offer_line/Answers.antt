@@ -22,8 +22,8 @@ offer_best-requires-clause-wide c =
 pub offer_best-requires-clause-rises : goal.offer_best-requires-clause-rises
 offer_best-requires-clause-rises c = c.requires.can.rises
 
-pub offer_best-requires-clause-within : goal.offer_best-requires-clause-within
-offer_best-requires-clause-within c = c.requires.can.within
+pub offer_best-requires-clause-group_bounded : goal.offer_best-requires-clause-group_bounded
+offer_best-requires-clause-group_bounded c = c.requires.can.within
 
 pub offer_best-requires-clause-earlier : goal.offer_best-requires-clause-earlier
 offer_best-requires-clause-earlier c = c.requires.can.earlier

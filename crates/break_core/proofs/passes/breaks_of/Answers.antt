@@ -8,6 +8,6 @@ pub line_ends-requires : goal.line_ends-requires
 line_ends-requires g c =
     let is = answer_within (g.M.Meter.facts c.args.meter.now) c.args.params.now (bound_of c.args.params.now c.in_ok-pass.pass) c.in_ok-pass.least c.in_ok-pass.ensures.decided.answer in
     record {
-      within = subst (λ f. AreEndsInParagraph f c.deref.result.now) (sym c.in_ok-pass.ensures.facts)
+      ends_bounded = subst (λ f. AreEndsInParagraph f c.deref.result.now) (sym c.in_ok-pass.ensures.facts)
           (subst (λ xs. AreEndsInParagraph (g.M.Meter.facts c.args.meter.now) xs) (sym c.deref.ensures.value) is);
     }

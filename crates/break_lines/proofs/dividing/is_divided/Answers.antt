@@ -58,5 +58,5 @@ loop-next-preserved c list is m some within = cases (cases_lt (m + 1) c.loop-nex
 pub returns-clause-yes : goal.returns-clause-yes
 returns-clause-yes c list is steady divided =
     let end : length c.args.marks.now ≤ c.loop-next.next = search rules in
-    divided_by list c.args.amount steady c.requires.some
+    divided_by list c.args.amount steady c.requires.amount_positive
     (λ m some within. c.loop-next.invariant list is m some (omega (arith, end, within, count_is list c.args.marks.now is)))

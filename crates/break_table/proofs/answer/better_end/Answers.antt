@@ -8,14 +8,14 @@ use Rattle.break_table.proofs.answer.better_end.Goals as goal
 pub returns-then-end-place : goal.returns-then-end-place
 returns-then-end-place c =
     let table = c.args.table.now in
-    let stands = slice_get_read table (length table) c.args.index c.index-table-index.result refl c.requires.within c.index-table-index.is in
+    let stands = slice_get_read table (length table) c.args.index c.index-table-index.result refl c.requires.index_bounded c.index-table-index.is in
     best_other table c.args.place c.args.index c.index-table-index.result c.args.best stands
     (λ here. c.if-end-place.true (ap (λ s. s.place) c.end.ensures.end ∙ here)) c.requires.best
 
 pub returns-in_default : goal.returns-in_default
 returns-in_default c =
     let table = c.args.table.now in
-    let stands = slice_get_read table (length table) c.args.index c.index-table-index.result refl c.requires.within c.index-table-index.is in
+    let stands = slice_get_read table (length table) c.args.index c.index-table-index.result refl c.requires.index_bounded c.index-table-index.is in
     let none = MatchOption-at_none (HasNoEnd table c.args.place c.args.index) (IsBestEnd table c.args.place c.args.index) c.in_default.is c.requires.best in
     best_first table c.args.place c.args.index c.index-table-index.result stands
     (sym (ap (λ s. s.place) c.end.ensures.end) ∙ c.if-end-place.false) none
@@ -36,7 +36,7 @@ offset_bounds-table-old c =
 pub returns-then-is_not_after : goal.returns-then-is_not_after
 returns-then-is_not_after c =
     let table = c.args.table.now in
-    let stands = slice_get_read table (length table) c.args.index c.index-table-index.result refl c.requires.within c.index-table-index.is in
+    let stands = slice_get_read table (length table) c.args.index c.index-table-index.result refl c.requires.index_bounded c.index-table-index.is in
     let best = MatchOption-at_some (HasNoEnd table c.args.place c.args.index) (IsBestEnd table c.args.place c.args.index) c.in-Some.old c.in-Some.is c.requires.best in
     let old = slice_get_read table (length table) c.in-Some.old c.index-table-old.result refl (slice_get_within table c.in-Some.old best.entry best.stands) c.index-table-old.is in
     let same = same_Some c.index-table-old.result best.entry (sym old ∙ best.stands) in
@@ -46,7 +46,7 @@ returns-then-is_not_after c =
 pub returns : goal.returns
 returns c =
     let table = c.args.table.now in
-    let stands = slice_get_read table (length table) c.args.index c.index-table-index.result refl c.requires.within c.index-table-index.is in
+    let stands = slice_get_read table (length table) c.args.index c.index-table-index.result refl c.requires.index_bounded c.index-table-index.is in
     let best = MatchOption-at_some (HasNoEnd table c.args.place c.args.index) (IsBestEnd table c.args.place c.args.index) c.in-Some.old c.in-Some.is c.requires.best in
     let old = slice_get_read table (length table) c.in-Some.old c.index-table-old.result refl (slice_get_within table c.in-Some.old best.entry best.stands) c.index-table-old.is in
     let same = same_Some c.index-table-old.result best.entry (sym old ∙ best.stands) in

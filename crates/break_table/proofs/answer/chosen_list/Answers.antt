@@ -22,8 +22,8 @@ offset_bounds-table-index c =
 pub bounds-table-index : goal.bounds-table-index
 bounds-table-index c = slice_get_within c.args.table.now c.in-Some.index c.in-Some.ensures.entry c.in-Some.ensures.stands
 
-pub read_back-requires-clause-within : goal.read_back-requires-clause-within
-read_back-requires-clause-within c = slice_get_within c.args.table.now c.in-Some.index c.in-Some.ensures.entry c.in-Some.ensures.stands
+pub read_back-requires-clause-index_bounded : goal.read_back-requires-clause-index_bounded
+read_back-requires-clause-index_bounded c = slice_get_within c.args.table.now c.in-Some.index c.in-Some.ensures.entry c.in-Some.ensures.stands
 
 pub returns : goal.returns
 returns c = λ p same is.

@@ -8,7 +8,7 @@ use Rattle.break_table.proofs.answer.read_back.Goals as goal
 pub loop-index-init : goal.loop-index-init
 loop-index-init c =
     record {
-      within = c.requires.within;
+      within = c.requires.index_bounded;
       read = subst (λ xs. AreEndsUpTo c.args.table.now c.args.at c.args.at xs) (sym c.new-ends.ensures.items) (read_none c.args.table.now c.args.at);
     }
 

@@ -13,11 +13,11 @@ use Rattle.dvi_fonts.proofs.ahead.look_one.Goals as goal
 pub returns-in-Err-clause-none : goal.returns-in-Err-clause-none
 returns-in-Err-clause-none c = (λ i stands idle. c.in-Err.ensures.none i stands, refl)
 
-pub returns-in_ok-insert-in-FontDef-clause-some : goal.returns-in_ok-insert-in-FontDef-clause-some
-returns-in_ok-insert-in-FontDef-clause-some c =
+pub returns-in_ok-insert-in-FontDef-clause-definition_found : goal.returns-in_ok-insert-in-FontDef-clause-definition_found
+returns-in_ok-insert-in-FontDef-clause-definition_found c =
     let updates : Updates int_cmp c.args.numbers.now c.insert.new.self c.in-FontDef.font.number true = search rules in
     record {
-      forward = c.in-Ok.ensures.behind;
+      forward = c.in-Ok.ensures.after;
       within = c.in-Ok.ensures.end_bounded;
       here = Do (FontDef (definition c.in-FontDef.font));
       spelled = subst (λ (i : Instruction). Spells i (take (c.in-Ok.found.1 - c.args.at) (drop c.args.at c.args.bytes.now))) (ap view c.in-FontDef.is) c.in-Ok.ensures.found;
@@ -28,11 +28,11 @@ returns-in_ok-insert-in-FontDef-clause-some c =
 pub returns-in_err-insert-in-FontDef-clause-memory : goal.returns-in_err-insert-in-FontDef-clause-memory
 returns-in_err-insert-in-FontDef-clause-memory c =
     let absent : contains int_cmp c.args.numbers.now c.in-FontDef.font.number ≡ false = search rules in
-    let stands = read_found c.args.bytes.now c.args.at c.in-Ok.found.1 c.args.to (view c.in-Ok.found.0) (Do (FontDef (definition c.in-FontDef.font))) c.in-Ok.ensures.behind c.in-Ok.ensures.end_bounded c.in-Ok.ensures.found (ap view c.in-FontDef.is) in
+    let stands = read_found c.args.bytes.now c.args.at c.in-Ok.found.1 c.args.to (view c.in-Ok.found.0) (Do (FontDef (definition c.in-FontDef.font))) c.in-Ok.ensures.after c.in-Ok.ensures.end_bounded c.in-Ok.ensures.found (ap view c.in-FontDef.is) in
     on_any (MeetsNumber c.args.bytes.now c.args.at c.args.to c.args.numbers.now.keys) c.from_residual.result (definition c.in-FontDef.font, stands, absent)
 
 pub returns-in_default : goal.returns-in_default
 returns-in_default c =
     let other : IsIdle (view c.in-Ok.found.0) → ⊥ = search rules in
-    let stands = read_found c.args.bytes.now c.args.at c.in-Ok.found.1 c.args.to (view c.in-Ok.found.0) (view c.in-Ok.found.0) c.in-Ok.ensures.behind c.in-Ok.ensures.end_bounded c.in-Ok.ensures.found refl in
-    record { some = tt; none = (none_idle c.args.bytes.now c.args.at c.args.to (view c.in-Ok.found.0) stands other, refl); memory = tt }
+    let stands = read_found c.args.bytes.now c.args.at c.in-Ok.found.1 c.args.to (view c.in-Ok.found.0) (view c.in-Ok.found.0) c.in-Ok.ensures.after c.in-Ok.ensures.end_bounded c.in-Ok.ensures.found refl in
+    record { definition_found = tt; none = (none_idle c.args.bytes.now c.args.at c.args.to (view c.in-Ok.found.0) stands other, refl); memory = tt }

@@ -18,7 +18,7 @@ returns-in-None-clause-ok c =
 pub loop-at-preserved : goal.loop-at-preserved
 loop-at-preserved c =
     let (low, high, tokens, idle, has) = c.loop-at.invariant in
-    let one = subst (λ (o : Option ℕ). IfSome o (LooksOne c.args.bytes.now c.loop-at.at c.args.to c.loop-at.numbers.keys c.look_one.new.numbers.keys)) c.in-Some.is c.in_ok-next.ensures.some in
+    let one = subst (λ (o : Option ℕ). IfSome o (LooksOne c.args.bytes.now c.loop-at.at c.args.to c.loop-at.numbers.keys c.look_one.new.numbers.keys)) c.in-Some.is c.in_ok-next.ensures.definition_found in
     let forward = one.forward in
     let (more, there, kept) = idle_more c.args.bytes.now c.args.from c.loop-at.at c.args.to c.in-Some.next tokens c.loop-at.numbers.keys c.look_one.new.numbers.keys low c.requires.high idle has one in
     (omega arith, one.within, more, there, kept)

@@ -28,9 +28,9 @@ returns-in_err-from-clause-bad c =
     let bad = c.in_err-from.field-0.0 in
     handed_on (λ (fault : DviFault). (files : List NamedBytes) → IsDviFault files c.args.bytes.now fault) c.from_residual-in_err-from.result (Bad bad) c.from_residual-in_err-from.ensures.1
     (λ files.
-    InThePreamble bad ending.post ending.behind ending.last (postamble ending.stop) c.in_ok-chain.chain.items refl
+    InThePreamble bad ending.post ending.after ending.last (postamble ending.stop) c.in_ok-chain.chain.items refl
     (record {
-      framed = record { ends = c.in_ok-ending.ensures.ok; spelled = c.in_ok-ending.ensures.behind; low = c.in_ok-ending.ensures.low; high = c.in_ok-ending.ensures.high; links = c.in_ok-chain.ensures.found };
+      framed = record { ends = c.in_ok-ending.ensures.ok; spelled = c.in_ok-ending.ensures.after; low = c.in_ok-ending.ensures.low; high = c.in_ok-ending.ensures.high; links = c.in_ok-chain.ensures.found };
       count = c.in_ok-chain.ensures.count;
     })
     c.in_err-from.ensures.bad)

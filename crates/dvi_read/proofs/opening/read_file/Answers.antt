@@ -22,7 +22,7 @@ returns-in_err-finish-clause-bad c =
     let fault = c.in_err-finish.field-0.0 in
     let (ahead, selected, has) = c.in_ok-walk.ensures.ok in
     handed_on (IsDviFault c.args.files.now c.args.bytes.now) c.from_residual-in_err-finish.result fault c.from_residual-in_err-finish.ensures.1
-    (finish_refused c.args.files.now c.args.bytes.now ending.post ending.behind ending.last (postamble ending.stop) front.chain.items front.from ahead (so_far selected c.in_ok-walk.walk) fault has
+    (finish_refused c.args.files.now c.args.bytes.now ending.post ending.after ending.last (postamble ending.stop) front.chain.items front.from ahead (so_far selected c.in_ok-walk.walk) fault has
     c.in_err-finish.ensures.bad)
 
 pub returns-clause-ok : goal.returns-clause-ok
@@ -31,6 +31,6 @@ returns-clause-ok c =
     let ending = front.ending in
     let (ahead, selected, has) = c.in_ok-walk.ensures.ok in
     subst (λ (dvi : Opened). IsReadFrom c.args.files.now c.args.bytes.now dvi) (sym c.kept.ensures)
-    (read_kept c.args.files.now c.args.bytes.now ending.post ending.behind ending.last (postamble ending.stop) front.chain.items front.from ahead
+    (read_kept c.args.files.now c.args.bytes.now ending.post ending.after ending.last (postamble ending.stop) front.chain.items front.from ahead
     (so_far selected c.in_ok-walk.walk) (map marked_page c.in_ok-walk.walk.done.items) (map marked_page c.finish.new.walk.done.items) c.finish.new.walk.known has c.in_ok-finish.ensures.ended
     c.in_ok-finish.ensures.closed (ap (λ pages. map marked_page pages) c.in_ok-finish.ensures.done))

@@ -15,12 +15,12 @@ pub returns-in_err-ahead-clause-bad : goal.returns-in_err-ahead-clause-bad
 returns-in_err-ahead-clause-bad c =
     let ending = c.args.ending.now in
     handed_on (IsDviFault c.args.files.now c.args.bytes.now) c.from_residual.result OutOfMemory c.from_residual.ensures.1
-    (LookingAhead ending.post ending.behind ending.last (postamble ending.stop) c.args.chain.items c.args.from refl c.requires.starts c.in_err-ahead.ensures.memory)
+    (LookingAhead ending.post ending.after ending.last (postamble ending.stop) c.args.chain.items c.args.from refl c.requires.starts c.in_err-ahead.ensures.memory)
 
 pub walk_pages-requires-clause-reached : goal.walk_pages-requires-clause-reached
 walk_pages-requires-clause-reached c =
     let ending = c.args.ending.now in
-    starts_reached c.args.files.now c.args.bytes.now ending.post ending.behind ending.last (postamble ending.stop) c.args.chain.items c.args.from c.in_ok-ahead.ahead.keys c.requires.starts
+    starts_reached c.args.files.now c.args.bytes.now ending.post ending.after ending.last (postamble ending.stop) c.args.chain.items c.args.from c.in_ok-ahead.ahead.keys c.requires.starts
 
 pub returns-clause-ok : goal.returns-clause-ok
 returns-clause-ok c =
@@ -28,7 +28,7 @@ returns-clause-ok c =
     let stop = postamble ending.stop in
     let ahead = c.in_ok-ahead.ahead.keys in
     IfOk-weaker c.walk_pages.result (IsWalked (file_widths c.args.files.now) ahead c.args.bytes.now stop c.args.chain.items ending.post)
-    (HoldsPages c.args.files.now c.args.bytes.now ending.post ending.behind ending.last stop c.args.chain.items c.args.from)
+    (HoldsPages c.args.files.now c.args.bytes.now ending.post ending.after ending.last stop c.args.chain.items c.args.from)
     (λ walk walked. (ahead, walked.selected, record { starts = c.requires.starts; looked = c.in_ok-ahead.ensures.ok; reached = walked.reached })) c.walk_pages.ensures.ok
 
 pub returns-clause-bad : goal.returns-clause-bad
@@ -39,5 +39,5 @@ returns-clause-bad c =
     let ahead = c.in_ok-ahead.ahead.keys in
     IfErr-weaker c.walk_pages.result (IsWalkFault files ahead c.args.bytes.now stop c.args.chain.items ending.post) (IsDviFault files c.args.bytes.now)
     (λ fault broken.
-    InThePages ending.post ending.behind ending.last stop c.args.chain.items c.args.from ahead c.requires.starts c.in_ok-ahead.ensures.ok broken
-    (strays files ahead c.args.bytes.now ending.post ending.behind ending.last stop c.args.chain.items fault c.requires.starts.chained.framed broken)) c.walk_pages.ensures.bad
+    InThePages ending.post ending.after ending.last stop c.args.chain.items c.args.from ahead c.requires.starts c.in_ok-ahead.ensures.ok broken
+    (strays files ahead c.args.bytes.now ending.post ending.after ending.last stop c.args.chain.items fault c.requires.starts.chained.framed broken)) c.walk_pages.ensures.bad

@@ -10,7 +10,7 @@ pub returns-in-Err-step-clause-bad : goal.returns-in-Err-step-clause-bad
 returns-in-Err-step-clause-bad c =
     let source = c.args.source.now in
     let post = source.ending.now.post in
-    let behind = c.in-Ok.ensures.behind in
+    let after = c.in-Ok.ensures.after in
     let within = c.in-Ok.ensures.end_bounded in
     let stands : StandsAt source.bytes.now c.args.at post (view c.in-Ok.found.0) = (c.in-Ok.found.1 - c.args.at, omega arith, c.in-Ok.ensures.found) in
     subst (λ (fault : DviFault). StopsReading source.files.now source.ahead.now.keys source.bytes.now (postamble source.ending.now.stop) c.args.at post c.args.walk.now fault) (sym c.at.ensures)

@@ -8,7 +8,7 @@ use Rattle.dvi_scan.proofs.ending.post_at.Goals as goal
 pub returns-in_default-op-clause-none : goal.returns-in_default-op-clause-none
 returns-in_default-op-clause-none c = λ e stop stands.
     no_post c.in-Ok.op c.in_default-op.not-Post stop
-    (one_spelled c.args.bytes.now c.args.place c.args.bound (view c.in-Ok.op) (Post stop) (c.in-Ok.behind - c.args.place) c.in-Ok.ensures.found stands)
+    (one_spelled c.args.bytes.now c.args.place c.args.bound (view c.in-Ok.op) (Post stop) (c.in-Ok.after - c.args.place) c.in-Ok.ensures.found stands)
 
 pub returns-in_default-clause-none : goal.returns-in_default-clause-none
 returns-in_default-clause-none c = λ e stop. c.in_default.ensures.none (Post stop)

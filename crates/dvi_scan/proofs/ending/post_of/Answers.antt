@@ -21,10 +21,10 @@ only bytes at bound place is none post stop names stands =
 
 pub returns-in_default-post_at-clause-bad : goal.returns-in_default-post_at-clause-bad
 returns-in_default-post_at-clause-bad c =
-    named c.args.bytes.now c.args.last c.requires (only c.args.bytes.now (c.args.last - 4) (c.args.last - 5) c.in-Some.post c.in-Some.ensures.some (c.in_default-post_at.ensures.none refl))
+    named c.args.bytes.now c.args.last c.requires (only c.args.bytes.now (c.args.last - 4) (c.args.last - 5) c.in-Some.post c.in-Some.ensures.place_read (c.in_default-post_at.ensures.none refl))
 
 pub returns-clause-ok : goal.returns-clause-ok
 returns-clause-ok c =
     let low = c.in-Some-post_at.ensures.low in
     let high = c.in-Some-post_at.ensures.high in
-    record { closed = c.requires; named = c.in-Some.ensures.some; stands = (c.in-Some-post_at.behind - c.in-Some.post, omega arith, c.in-Some-post_at.ensures.some) }
+    record { closed = c.requires; named = c.in-Some.ensures.place_read; stands = (c.in-Some-post_at.after - c.in-Some.post, omega arith, c.in-Some-post_at.ensures.post_read) }

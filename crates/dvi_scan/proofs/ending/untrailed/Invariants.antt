@@ -4,7 +4,7 @@ use Rattle.dvi_scan.proofs.ending.untrailed.Given as goal
 -- After the end so far there are only bytes 223.
 pub record TrailedSo (bytes : List ℕ) (end : ℕ) : Type 0 where
   pub high : end ≤ length bytes
-  pub behind : (k : ℕ) → end ≤ k → k < length bytes → slice_index bytes k ≡ 223
+  pub after : (k : ℕ) → end ≤ k → k < length bytes → slice_index bytes k ≡ 223
 
 abbrev pub invariant-loop-end : goal.invariant-loop-end
 invariant-loop-end l = TrailedSo l.bytes l.end

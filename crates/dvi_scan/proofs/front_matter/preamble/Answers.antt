@@ -20,15 +20,15 @@ returns-in_default-op-clause-bad c =
       cause = refl;
       none = λ comment stands positive.
           no_pre c.in-Ok.op c.in_default-op.not-Pre 2 (units c.args.ending.now.stop.units) comment
-          (one_spelled c.args.bytes.now 0 c.args.ending.now.post (view c.in-Ok.op) (Pre 2 (units c.args.ending.now.stop.units) comment) (c.in-Ok.behind - 0) c.in-Ok.ensures.found stands);
+          (one_spelled c.args.bytes.now 0 c.args.ending.now.post (view c.in-Ok.op) (Pre 2 (units c.args.ending.now.stop.units) comment) (c.in-Ok.after - 0) c.in-Ok.ensures.found stands);
     }
 
 -- A preamble that was read.
-pre_spelled : (bytes : List ℕ) (behind : ℕ) (op : Op) (id : ℕ) (u : Measures) (v : Units) (comment : _) → op ≡ ops.Pre id u comment → id ≡ 2 → units u ≡ v
-    → Spells (view op) (take (behind - 0) (drop 0 bytes)) → Spells (Pre 2 v comment.now) (take behind bytes)
-pre_spelled bytes behind op id u v comment is version same spelled =
+pre_spelled : (bytes : List ℕ) (after : ℕ) (op : Op) (id : ℕ) (u : Measures) (v : Units) (comment : _) → op ≡ ops.Pre id u comment → id ≡ 2 → units u ≡ v
+    → Spells (view op) (take (after - 0) (drop 0 bytes)) → Spells (Pre 2 v comment.now) (take after bytes)
+pre_spelled bytes after op id u v comment is version same spelled =
     let whole : view op ≡ Pre 2 v comment.now = ap view is ∙ ap₂ (λ (n : ℕ) (w : Units). Pre n w comment.now) version same in
-    let none : behind - 0 ≡ behind = omega arith in
+    let none : after - 0 ≡ after = omega arith in
     subst₂ (λ (i : Instruction) (n : ℕ). Spells i (take n bytes)) whole none spelled
 
 pub returns-then-id-ne-FORMAT-clause-bad : goal.returns-then-id-ne-FORMAT-clause-bad
@@ -38,7 +38,7 @@ returns-then-id-ne-FORMAT-clause-bad c =
       cause = refl;
       none = λ comment stands positive. (
           let wanted = units c.args.ending.now.stop.units in
-          let e = one_spelled c.args.bytes.now 0 c.args.ending.now.post (view c.in-Ok.op) (Pre 2 wanted comment) (c.in-Ok.behind - 0) c.in-Ok.ensures.found stands in
+          let e = one_spelled c.args.bytes.now 0 c.args.ending.now.post (view c.in-Ok.op) (Pre 2 wanted comment) (c.in-Ok.after - 0) c.in-Ok.ensures.found stands in
           let same = same_pre c.in-Ok.op c.in-Pre.id 2 c.in-Pre.units wanted c.in-Pre.comment comment c.in-Pre.is e in
           let two : c.in-Pre.id ≡ 2 = same.0 in
           c.if-id-ne-FORMAT.true two);
@@ -52,7 +52,7 @@ returns-then-not-are_same-clause-bad c =
       cause = refl;
       none = λ comment stands positive. (
           let wanted = units c.args.ending.now.stop.units in
-          let e = one_spelled c.args.bytes.now 0 c.args.ending.now.post (view c.in-Ok.op) (Pre 2 wanted comment) (c.in-Ok.behind - 0) c.in-Ok.ensures.found stands in
+          let e = one_spelled c.args.bytes.now 0 c.args.ending.now.post (view c.in-Ok.op) (Pre 2 wanted comment) (c.in-Ok.after - 0) c.in-Ok.ensures.found stands in
           let same = same_pre c.in-Ok.op c.in-Pre.id 2 c.in-Pre.units wanted c.in-Pre.comment comment c.in-Pre.is e in
           c.are_same.ensures.no no same.1);
     }
@@ -64,7 +64,7 @@ returns-clause-ok c =
     let positive : c.are_positive.result ≡ true = search rules in
     record {
       comment = c.in-Pre.comment.now;
-      spelled = pre_spelled c.args.bytes.now c.in-Ok.behind c.in-Ok.op c.in-Pre.id c.in-Pre.units (units c.args.ending.now.stop.units) c.in-Pre.comment c.in-Pre.is version (c.are_same.ensures.yes yes) c.in-Ok.ensures.found;
+      spelled = pre_spelled c.args.bytes.now c.in-Ok.after c.in-Ok.op c.in-Pre.id c.in-Pre.units (units c.args.ending.now.stop.units) c.in-Pre.comment c.in-Pre.is version (c.are_same.ensures.yes yes) c.in-Ok.ensures.found;
       within = c.in-Ok.ensures.end_bounded;
       units = c.are_positive.ensures.yes positive;
     }

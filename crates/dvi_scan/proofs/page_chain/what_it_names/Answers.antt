@@ -18,9 +18,9 @@ returns-in_default c =
 
 pub returns-then-is_page : goal.returns-then-is_page
 returns-then-is_page c =
-    let some = c.is_page.ensures.some c.if-is_page.true in
-    (c.in-Some.ensures.some, c.is_page.ensures.low c.if-is_page.true, some)
+    let some = c.is_page.ensures.bop_found c.if-is_page.true in
+    (c.in-Some.ensures.place_read, c.is_page.ensures.low c.if-is_page.true, some)
 
 pub returns : goal.returns
 returns c =
-    (refl, lost c.args.bytes.now c.args.bound c.in-Some.place (signed 4 (drop c.args.at c.args.bytes.now)) c.in-Some.ensures.some (c.is_start.ensures.no c.if-is_start.false) (c.is_page.ensures.none c.if-is_page.false))
+    (refl, lost c.args.bytes.now c.args.bound c.in-Some.place (signed 4 (drop c.args.at c.args.bytes.now)) c.in-Some.ensures.place_read (c.is_start.ensures.no c.if-is_start.false) (c.is_page.ensures.none c.if-is_page.false))

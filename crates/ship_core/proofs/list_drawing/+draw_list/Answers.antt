@@ -7,7 +7,7 @@ use Rattle.node_core.proofs.NodeLemmas.{items_of-nodes_of}
 use Rattle.scaled_core.specs.Dimensions.{fits}
 use Rattle.pack_core.specs.Cursors.{one_more, place_at}
 use Rattle.pack_core.proofs.Walks.{reached-more}
-use Rattle.ship_core.specs.Marks.{right_at, down_at, item_h, item_v, box_h, box_v, list_v, numbers_behind}
+use Rattle.ship_core.specs.Marks.{right_at, down_at, item_h, item_v, box_h, box_v, list_v, numbers_after}
 use Rattle.std.specs.Prelude.{pos, List, ℕ, true, false, is_some}
 use Rattle.dvi_ops.specs.Body.{Special}
 use Rattle.ship_core.specs.Drawing.{Picture, group, stroke, picture_after}
@@ -57,7 +57,7 @@ returns-in_default-clause-fits t c =
     let whole : items_of xs ≡ b.list = ap items_of c.as_slice-node-items.ensures.nodes ∙ items_of-nodes_of b.list in
     sym (first_false _ _ here)
     ∙ (sym (fits_more b h v xs i x c.loop-node-test.true c.node-item.is)
-    ∙ (c.loop-node.invariant.left ∙ ap (λ items. list_all fits (numbers_behind b h v [] items)) whole))
+    ∙ (c.loop-node.invariant.left ∙ ap (λ items. list_all fits (numbers_after b h v [] items)) whole))
 
 pub returns-then-not-fit-clause-fits : goal.returns-then-not-fit-clause-fits
 returns-then-not-fit-clause-fits t c =
@@ -79,7 +79,7 @@ returns-then-not-fit-clause-fits t c =
     let whole : items_of xs ≡ b.list = ap items_of c.as_slice-node-items.ensures.nodes ∙ items_of-nodes_of b.list in
     sym (second_false _ _ _ none)
     ∙ (sym (fits_more b h v xs i x c.loop-node-test.true c.node-item.is)
-    ∙ (c.loop-node.invariant.left ∙ ap (λ items. list_all fits (numbers_behind b h v [] items)) whole))
+    ∙ (c.loop-node.invariant.left ∙ ap (λ items. list_all fits (numbers_after b h v [] items)) whole))
 
 pub loop-node-preserved : goal.loop-node-preserved
 loop-node-preserved t c =
@@ -179,8 +179,8 @@ returns-clause-fits t c =
     let xs = c.as_slice-node-items.result.now in
     let i = c.loop-node.node-index in
     let whole : items_of xs ≡ b.list = ap items_of c.as_slice-node-items.ensures.nodes ∙ items_of-nodes_of b.list in
-    sym (ap (λ after. list_all fits (numbers_behind b h v (take i xs) (items_of after))) (drop_all i xs c.loop-node-test.false))
-    ∙ (c.loop-node.invariant.left ∙ ap (λ items. list_all fits (numbers_behind b h v [] items)) whole)
+    sym (ap (λ after. list_all fits (numbers_after b h v (take i xs) (items_of after))) (drop_all i xs c.loop-node-test.false))
+    ∙ (c.loop-node.invariant.left ∙ ap (λ items. list_all fits (numbers_after b h v [] items)) whole)
 
 pub returns-clause-ops : goal.returns-clause-ops
 returns-clause-ops t c all =

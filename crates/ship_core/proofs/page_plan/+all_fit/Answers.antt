@@ -7,7 +7,7 @@ use Rattle.node_core.proofs.NodeLemmas.{items_of-nodes_of}
 use Rattle.scaled_core.specs.Dimensions.{fits}
 use Rattle.pack_core.specs.Cursors.{one_more}
 use Rattle.pack_core.proofs.Walks.{reached-more}
-use Rattle.ship_core.specs.Marks.{item_h, item_v, list_v, numbers_behind}
+use Rattle.ship_core.specs.Marks.{item_h, item_v, list_v, numbers_after}
 use Rattle.ship_core.proofs.Places.{numbers_inside, fits_more, item_fits, inner_begin, inner_numbers, inner_depth, leaf_numbers, rest_of_and, first_false, second_false, few_passed, reached-none}
 use Rattle.ship_core.proofs.page_plan.+all_fit.Goals as goal
 use Rattle.ship_core.proofs.page_plan.+all_fit.Goals.{in-Box+else-not-all_fit, in_default-node}
@@ -42,7 +42,7 @@ returns-in_default t c =
     let whole : items_of xs ≡ b.list = ap items_of c.as_slice-node-items.ensures.nodes ∙ items_of-nodes_of b.list in
     sym (first_false _ _ here)
     ∙ (sym (fits_more b h v xs i x c.loop-node-test.true c.node-item.is)
-    ∙ (c.loop-node.invariant.left ∙ ap (λ items. list_all fits (numbers_behind b h v [] items)) whole))
+    ∙ (c.loop-node.invariant.left ∙ ap (λ items. list_all fits (numbers_after b h v [] items)) whole))
 
 pub returns-then-not-all_fit : goal.returns-then-not-all_fit
 returns-then-not-all_fit t c =
@@ -61,7 +61,7 @@ returns-then-not-all_fit t c =
     let whole : items_of xs ≡ b.list = ap items_of c.as_slice-node-items.ensures.nodes ∙ items_of-nodes_of b.list in
     sym (second_false _ _ _ none)
     ∙ (sym (fits_more b h v xs i x c.loop-node-test.true c.node-item.is)
-    ∙ (c.loop-node.invariant.left ∙ ap (λ items. list_all fits (numbers_behind b h v [] items)) whole))
+    ∙ (c.loop-node.invariant.left ∙ ap (λ items. list_all fits (numbers_after b h v [] items)) whole))
 
 pub loop-node-preserved : goal.loop-node-preserved
 loop-node-preserved t c =
@@ -97,5 +97,5 @@ returns t c =
     let xs = c.as_slice-node-items.result.now in
     let i = c.loop-node.node-index in
     let whole : items_of xs ≡ b.list = ap items_of c.as_slice-node-items.ensures.nodes ∙ items_of-nodes_of b.list in
-    sym (ap (λ after. list_all fits (numbers_behind b h v (take i xs) (items_of after))) (drop_all i xs c.loop-node-test.false))
-    ∙ (c.loop-node.invariant.left ∙ ap (λ items. list_all fits (numbers_behind b h v [] items)) whole)
+    sym (ap (λ after. list_all fits (numbers_after b h v (take i xs) (items_of after))) (drop_all i xs c.loop-node-test.false))
+    ∙ (c.loop-node.invariant.left ∙ ap (λ items. list_all fits (numbers_after b h v [] items)) whole)

@@ -2,7 +2,7 @@ use Rattle.std.proofs.Common.{◌≡◌, ◌∙◌, [], refl, sym, ap}
 use Rattle.std.specs.Prelude.{not}
 use Rattle.std.specs.List.{list_all}
 use Rattle.scaled_core.specs.Dimensions.{fits}
-use Rattle.ship_core.specs.Marks.{numbers_behind}
+use Rattle.ship_core.specs.Marks.{numbers_after}
 use Rattle.ship_core.specs.Pages.{page_at}
 use Rattle.ship_core.proofs.Places.{ends_huge, items_huge}
 use Rattle.ship_core.proofs.page_plan.draw_page.Goals as goal

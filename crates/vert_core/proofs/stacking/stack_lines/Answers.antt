@@ -4,7 +4,7 @@ use Rattle.std.specs.List.{list_all}
 use Rattle.break_lines.specs.Legal.{up_to}
 use Rattle.break_lines.specs.Sizes.{line_size}
 use Rattle.vert_core.specs.Lines.{BrokenParagraph, broken_list, line_items, boxed_line, line_brings, depth_before, brought_by, line_fits, vertical_items, last_depth, lines_fit}
-use Rattle.vert_core.proofs.Stacks.{count_places, stacked_one, depth_behind, fits_one, all_more, all_but}
+use Rattle.vert_core.proofs.Stacks.{count_places, stacked_one, depth_after_line, fits_one, all_more, all_but}
 use Rattle.vert_split.proofs.Rests.{handed_on}
 use Rattle.vert_core.specs.declared.line_boxes.LinesFault.{LinesFault}
 use Rattle.vert_core.specs.declared.line_boxes.LinesFault.TheVariants.{DimensionTooLarge}
@@ -20,7 +20,7 @@ loop-line-preserved c =
     ∙ ap (λ (n : ℕ). c.loop-line.list.items ++ line_brings c.args.params.now n line c.loop-line.depth (boxed_line (line_size c.args.params.now line) items)) count in
     record {
       items = stacked_one p line c.loop-line.list.items c.add_line.new.list.items c.loop-line.depth c.loop-line.invariant.items c.loop-line.invariant.depth ok;
-      depth = depth_behind p line c.in_ok-depth.depth c.in_ok-depth.ensures.depth;
+      depth = depth_after_line p line c.in_ok-depth.depth c.in_ok-depth.ensures.depth;
       fit = all_more (line_fits p) line c.loop-line.invariant.fit (fits_one p line c.loop-line.depth true c.loop-line.invariant.depth c.in_ok-depth.ensures.fits);
     }
 

@@ -15,11 +15,11 @@ returns-in-Ok-carry_out-clause-front c =
     ∙ front-planned c.args.params.now c.args.height (nodes_of c.args.list) c.in-Ok.plan.place c.in-Ok.plan.front (rw c.as_slice.ensures.nodes at c.in-Ok.ensures.place)
     (rw c.as_slice.ensures.nodes at c.in-Ok.ensures.front)
 
-pub returns-in-Ok-carry_out-clause-rest : goal.returns-in-Ok-carry_out-clause-rest
-returns-in-Ok-carry_out-clause-rest c =
-    c.in-Ok-carry_out.ensures.rest
+pub returns-in-Ok-carry_out-clause-rest_returned : goal.returns-in-Ok-carry_out-clause-rest_returned
+returns-in-Ok-carry_out-clause-rest_returned c =
+    c.in-Ok-carry_out.ensures.rest_returned
     ∙ ap (λ (xs : List Node). packed_left c.in-Ok.plan.rest xs) c.into_vec.ensures
-    ∙ rest-planned c.args.params.now c.args.height (nodes_of c.args.list) c.in-Ok.plan.rest (rw c.as_slice.ensures.nodes at c.in-Ok.ensures.rest)
+    ∙ rest-planned c.args.params.now c.args.height (nodes_of c.args.list) c.in-Ok.plan.rest (rw c.as_slice.ensures.nodes at c.in-Ok.ensures.rest_planned)
     (rw c.as_slice.ensures.nodes at c.in-Ok.ensures.sound.inside) (rw c.as_slice.ensures.nodes at c.in-Ok.ensures.shell)
 
 pub returns-in-Err-carry_out-clause-list_returned : goal.returns-in-Err-carry_out-clause-list_returned
@@ -29,6 +29,6 @@ returns-in-Err-carry_out-clause-list_returned c =
 pub returns-in-Err-carry_out-clause-growth : goal.returns-in-Err-carry_out-clause-growth
 returns-in-Err-carry_out-clause-growth c =
     let same =
-    rest-planned c.args.params.now c.args.height (nodes_of c.args.list) c.in-Ok.plan.rest (rw c.as_slice.ensures.nodes at c.in-Ok.ensures.rest)
+    rest-planned c.args.params.now c.args.height (nodes_of c.args.list) c.in-Ok.plan.rest (rw c.as_slice.ensures.nodes at c.in-Ok.ensures.rest_planned)
     (rw c.as_slice.ensures.nodes at c.in-Ok.ensures.sound.inside) (rw c.as_slice.ensures.nodes at c.in-Ok.ensures.shell) in
     λ none. rest-some (nodes_of c.args.list) c.in-Ok.plan.rest (rest_of c.args.params.now c.args.height (nodes_of c.args.list)) same c.in-Err-carry_out.ensures.growth

@@ -10,4 +10,4 @@ use Rattle.vert_split.proofs.laws.forced_place.Goals as goal
 
 pub returns : goal.returns
 unfolding split_place place_penalty front_badness badness_to stretching_badness shrinking_badness cost is_last front_of rest_of refusal split_numbers vbox setting_of setting_badness highest badness_of badness_ratio ratio_badness nearest
-returns c = record { place = refl; height = refl; badness = refl; rest = refl }
+returns c = record { place = refl; height = refl; badness = refl; rest_height = refl }

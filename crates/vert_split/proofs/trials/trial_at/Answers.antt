@@ -13,5 +13,5 @@ front_badness-requires c =
 
 pub returns-in-Some-clause-open : goal.returns-in-Some-clause-open
 returns-in-Some-clause-open c =
-    open-at c.args.nodes.now c.args.place c.in-Some.penalty c.requires.within
+    open-at c.args.nodes.now c.args.place c.in-Some.penalty c.requires.place_bounded
     (rw (take_rest c.args.nodes.now c.args.place) at (sym c.place_penalty.ensures ∙ c.in-Some.is))

@@ -19,7 +19,7 @@ keep_size-requires-clause-slots_bounded c =
     let body = ap (map body_view) c.deref.ensures.value ∙ c.in_ok-body.ensures.ok in
     let few = next_few c.args.fonts.now c.args.self.now page c.deref-4.result.now c.requires.room
     (c.deref-4.ensures.value ∙ (c.in_ok-fresh.ensures.slots ∙ ap₂ (fresh_slots c.args.fonts.now) (c.as_slice.ensures ∙ ap (λ (s : ProgressView). s.defined) c.self.view_is) body)) in
-    omega (arith, few, ap (λ (s : ProgressView). length s.defined) c.copied-behind.ensures)
+    omega (arith, few, ap (λ (s : ProgressView). length s.defined) c.copied-after.ensures)
 
 pub keep_size-requires-clause-room : goal.keep_size-requires-clause-room
 keep_size-requires-clause-room c =
@@ -31,7 +31,7 @@ keep_size-requires-clause-room c =
       arith,
       next_small c.args.fonts.now c.args.self.now page c.in_ok-bytes.bytes.items c.deref-2.result.now (map body_view c.deref-3.result.now) c.requires.room fresh again c.in_ok-bytes.ensures.bytes,
       c.len.ensures,
-      ap (λ (s : ProgressView). s.size) c.copied-behind.ensures,
+      ap (λ (s : ProgressView). s.size) c.copied-after.ensures,
     )
 
 pub returns-in_err-fresh-clause-err : goal.returns-in_err-fresh-clause-err

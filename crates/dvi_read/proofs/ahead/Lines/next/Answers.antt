@@ -6,8 +6,8 @@ use Rattle.dvi_read.specs.Listing.{mark_line, pages_lines}
 use Rattle.dvi_read.proofs.NextLines.{line_there, no_marks, no_text, page_first}
 use Rattle.dvi_read.proofs.ahead.Lines.next.Goals as goal
 
-pub returns-clause-some : goal.returns-clause-some
-returns-clause-some c fine =
+pub returns-clause-part_returned : goal.returns-clause-part_returned
+returns-clause-part_returned c fine =
     let old = c.args.self.now in
     let bytes = c.put_counts.new.part in
     let none = no_text old.text c.in_default.not-Some in

@@ -14,5 +14,5 @@ pub returns-clause-written : goal.returns-clause-written
 returns-clause-written g c before pages written =
     let page = page_with c.args.counts.now c.args.offsets c.args.box_node.now in
     let bytes_written = rw (c.deref.ensures.value, c.in_ok-next.ensures.bytes) at c.in_ok-send.ensures.bytes_written in
-    written_more c.args.fonts.now before c.args.self.now _ pages page written c.in_ok-next.ensures.right c.in_ok-next.ensures.behind
+    written_more c.args.fonts.now before c.args.self.now _ pages page written c.in_ok-next.ensures.right c.in_ok-next.ensures.after
     (ap (λ (w : Writing). w.bytes_written) c.self.view_is ∙ bytes_written) (ap (λ (w : Writing). w.over) c.self.view_is ∙ c.in_ok-send.ensures.running)

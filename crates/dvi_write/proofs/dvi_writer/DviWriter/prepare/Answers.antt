@@ -19,7 +19,7 @@ next_page-requires-clause-room g c =
 pub returns-clause-room : goal.returns-clause-room
 returns-clause-room g c =
     let page = page_at c.args.counts.now c.point_of-at.result.h c.point_of-at.result.v c.args.box_node.now in
-    subst HasRoom (sym c.in_ok-next.ensures.behind)
+    subst HasRoom (sym c.in_ok-next.ensures.after)
     (room_next c.args.fonts.now c.self.inside.progress page c.can_be_defined.ensures c.requires c.counts_fit.ensures.ten
     (c.in_ok-load.ensures.ok c.args.counts.now c.point_of-at.result.h c.point_of-at.result.v) c.self.invariant.0)
 

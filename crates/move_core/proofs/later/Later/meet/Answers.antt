@@ -10,10 +10,10 @@ use Rattle.move_core.proofs.later.Later.meet.Goals as goal
 pub returns-in_ok-push-in-Pop-clause-knows : goal.returns-in_ok-push-in-Pop-clause-knows
 returns-in_ok-push-in-Pop-clause-knows c rest knows =
     let self = c.args.self.now in
-    let fresh = c.replace-behind.new.dest in
+    let fresh = c.replace-after.new.dest in
     let outer = c.push.new.self.items in
-    let none : HasNone fresh = λ axis n. ap (λ (a : Amounts). has a axis n) c.replace-behind.ensures.after ∙ c.new.ensures axis n in
-    let pushed : outer ≡ self.outer.items ++ (self.here ∷ []) = cc (c.in_ok-push-in-Pop.ensures.items, c.replace-behind.ensures.value) in
+    let none : HasNone fresh = λ axis n. ap (λ (a : Amounts). has a axis n) c.replace-after.ensures.after ∙ c.new.ensures axis n in
+    let pushed : outer ≡ self.outer.items ++ (self.here ∷ []) = cc (c.in_ok-push-in-Pop.ensures.items, c.replace-after.ensures.value) in
     subst (λ (op : BodyOp). KnowsAt fresh outer (body_view op ∷ rest)) (sym c.in-Pop.is) (knows_pop self.here fresh self.outer.items outer rest none pushed knows)
 
 pub returns-in-Push-clause-knows : goal.returns-in-Push-clause-knows

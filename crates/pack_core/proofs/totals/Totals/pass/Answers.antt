@@ -30,7 +30,7 @@ returns-in_default c =
     } in
     let far : to_z w128 (of_z w128 (to_z w128 (of_z w128 c.self.inside.advance) +ℤ to_z w128 (of_z w128 c.from.result))) ≡ c.self.inside.advance +ℤ advance c.self.inside.kind c.args.node.now =
     omega (arith, ints) in
-    let e = rw (far, c.pending_behind-self-inside.ensures) (with_item-no_glue from c.args.node.now c.in_default.not-Glue) ∙ ap (λ (t : ListTotals). with_item t c.args.node.now) c.self.view_is in
+    let e = rw (far, c.pending_after-self-inside.ensures) (with_item-no_glue from c.args.node.now c.in_default.not-Glue) ∙ ap (λ (t : ListTotals). with_item t c.args.node.now) c.self.view_is in
     record {
       value = e;
       totals = λ before at. e ∙ ap (λ (t : ListTotals). with_item t c.args.node.now) at ∙ with_item-totals c.args.self.now.kind before c.args.node.now;
@@ -57,7 +57,7 @@ returns c =
     c.plus-self-inside-2.ensures.value
     ∙ ap (λ (more : OrderDimens). plus c.self.inside.shrink (by_order more)) c.in_one_order-shrink.ensures
     ∙ ap (λ (node : Node). plus c.self.inside.shrink (λ order. shrink_in order node)) (sym c.in-Glue.is) in
-    let e = rw (far, stretch, shrink, c.pending_behind-self-inside.ensures) refl ∙ ap (λ (t : ListTotals). with_item t c.args.node.now) c.self.view_is in
+    let e = rw (far, stretch, shrink, c.pending_after-self-inside.ensures) refl ∙ ap (λ (t : ListTotals). with_item t c.args.node.now) c.self.view_is in
     record {
       value = e;
       totals = λ before at. e ∙ ap (λ (t : ListTotals). with_item t c.args.node.now) at ∙ with_item-totals c.args.self.now.kind before c.args.node.now;

@@ -3,7 +3,7 @@ use Rattle.std.proofs.lemmas.Int.{ints}
 use Rattle.pack_core.specs.Items.{advance}
 use Rattle.ship_core.specs.Marks.{right_at, down_at}
 use Rattle.ship_core.specs.Placing.{point}
-use Rattle.ship_core.proofs.Walked.{rigid_behind, rigid_more}
+use Rattle.ship_core.proofs.Walked.{rigid_after, rigid_more}
 use Rattle.ship_core.proofs.item_walk.ItemWalk.go_past.Goals as goal
 
 pub returns-then-is_rigid-clause-cursor : goal.returns-then-is_rigid-clause-cursor
@@ -16,6 +16,6 @@ pub returns-then-is_rigid-clause-here : goal.returns-then-is_rigid-clause-here
 returns-then-is_rigid-clause-here c =
     let b = c.args.box_node.now in
     let same : to_z w64 (of_z w64 c.advance_of-distance.result) ≡ advance b.kind c.args.node.now = omega (arith, ints, c.advance_of-distance.ensures.value, c.advance_of-distance.ensures.value_bounded) in
-    c.position_behind-self.ensures ∙ (ap (λ n. point (right_at b.kind c.args.at.now.h n) (down_at b.kind c.args.at.now.v n)) same
-    ∙ rigid_behind b c.args.begin.now.h c.args.begin.now.v c.args.self.now.cursor c.args.at.now c.args.node.now (sym c.is_rigid.ensures ∙ c.if-is_rigid.true)
+    c.position_after-self.ensures ∙ (ap (λ n. point (right_at b.kind c.args.at.now.h n) (down_at b.kind c.args.at.now.v n)) same
+    ∙ rigid_after b c.args.begin.now.h c.args.begin.now.v c.args.self.now.cursor c.args.at.now c.args.node.now (sym c.is_rigid.ensures ∙ c.if-is_rigid.true)
     c.requires.at)

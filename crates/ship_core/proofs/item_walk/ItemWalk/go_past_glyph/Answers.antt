@@ -6,7 +6,7 @@ use Rattle.node_core.specs.declared.tree.Kind.{Kind}
 use Rattle.pack_core.specs.Items.{advance}
 use Rattle.ship_core.specs.Marks.{right_at, down_at}
 use Rattle.ship_core.specs.Placing.{point}
-use Rattle.ship_core.proofs.Walked.{rigid_behind, rigid_more}
+use Rattle.ship_core.proofs.Walked.{rigid_after, rigid_more}
 use Rattle.ship_core.proofs.item_walk.ItemWalk.go_past_glyph.Goals as goal
 
 pub returns-clause-cursor : goal.returns-clause-cursor
@@ -23,5 +23,5 @@ returns-clause-here c =
     let x : Node = nodes.Glyph c.args.glyph.now in
     let width : to_z w64 (of_z w64 c.from-distance.result) ≡ c.args.glyph.now.width = omega (arith, ints, c.from-distance.ensures, c.get.ensures.value, c.get.ensures.fits) in
     let same : to_z w64 (of_z w64 c.from-distance.result) ≡ advance b.kind x = width ∙ sym (ap (λ (kind : Kind). advance kind x) c.requires.kind) in
-    c.position_behind-self.ensures ∙ (ap (λ n. point (right_at b.kind c.args.at.now.h n) (down_at b.kind c.args.at.now.v n)) same
-    ∙ rigid_behind b c.args.begin.now.h c.args.begin.now.v c.args.self.now.cursor c.args.at.now x refl c.requires.at)
+    c.position_after-self.ensures ∙ (ap (λ n. point (right_at b.kind c.args.at.now.h n) (down_at b.kind c.args.at.now.v n)) same
+    ∙ rigid_after b c.args.begin.now.h c.args.begin.now.v c.args.self.now.cursor c.args.at.now x refl c.requires.at)
