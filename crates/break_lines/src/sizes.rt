@@ -54,7 +54,7 @@ impl LineFits {
         requires penalty { penalty <ℤ pos 10000 }
         requires fit_bounded { IsSmallLineFits self.now }
         ensures first { result.first ≡ line_alone params.now bound.now penalty (if nat_lt 0 params.now.first_lines then self.now.first else self.now.rest) }
-        ensures rest_returned { result.rest ≡ line_alone params.now bound.now penalty self.now.rest }
+        ensures later_lines { result.rest ≡ line_alone params.now bound.now penalty self.now.rest }
         ensures costs_bounded { IsSmallCosts result }
     {
         let rest = line_alone(params, bound, penalty, &self.rest);

@@ -37,7 +37,7 @@ pub fn split_box(
     params: &SplitParams,
 ) -> Result<Split, UnsplitBox>
     ensures front { IfOk result (λ parts. parts.front ≡ front_of params.now height (nodes_of box_node.list)) }
-    ensures rest_returned { IfOk result (λ parts. parts.rest ≡ rest_of params.now height (nodes_of box_node.list)) }
+    ensures rest_part { IfOk result (λ parts. parts.rest ≡ rest_of params.now height (nodes_of box_node.list)) }
     ensures ok { OnOk result (first_refusal (split_checks params.now height (Some box_node)) ≡ None) }
     ensures err { IfErr result (λ unsplit. unsplit.refusal ≡ first_refusal (split_checks params.now height (Some box_node))) }
     // Only a split that leaves a rest takes memory.

@@ -40,7 +40,7 @@ fn carry_out(mut nodes: Vec<Node>, plan: &Plan) -> Result<Split, Vec<Node>>
     requires list_bounded { length nodes.items ≤ max_nodes }
     requires sound { PlanFits nodes.items plan.now }
     ensures front { IfOk result (λ s. s.front ≡ packed_of (items_of (take plan.now.place nodes.items)) plan.now.front) }
-    ensures rest_returned { IfOk result (λ s. s.rest ≡ packed_left plan.now.rest nodes.items) }
+    ensures rest_part { IfOk result (λ s. s.rest ≡ packed_left plan.now.rest nodes.items) }
     ensures growth { OnErr result (is_some plan.now.rest ≡ true) }
     ensures items_returned { IfErr result (λ back. back.items ≡ nodes.items) }
 {
@@ -66,7 +66,7 @@ fn carry_out(mut nodes: Vec<Node>, plan: &Plan) -> Result<Split, Vec<Node>>
 /// no such glue but a size of the parts does not fit; and `OutOfMemory` if the allocation is refused.
 pub fn split_list(list: NodeList, height: Dimen, params: &SplitParams) -> Result<Split, Unsplit>
     ensures front { IfOk result (λ s. s.front ≡ front_of params.now height (nodes_of list)) }
-    ensures rest_returned { IfOk result (λ s. s.rest ≡ rest_of params.now height (nodes_of list)) }
+    ensures rest_part { IfOk result (λ s. s.rest ≡ rest_of params.now height (nodes_of list)) }
     // The split is allowed; otherwise the fault is the reason, even if memory would be refused too.
     ensures ok { OnOk result (refusal params.now height (nodes_of list) ≡ None) }
     ensures fault { IfErr result (λ e. e.fault ≡ fault_of (refusal params.now height (nodes_of list))) }
@@ -102,7 +102,7 @@ fn split_copy(alloc: Global, nodes: &[Node], plan: &Plan) -> Result<Split, Alloc
     requires list_bounded { length nodes.now ≤ max_nodes }
     requires sound { PlanFits nodes.now plan.now }
     ensures front { IfOk result (λ s. s.front ≡ packed_of (items_of (take plan.now.place nodes.now)) plan.now.front) }
-    ensures rest_returned { IfOk result (λ s. s.rest ≡ packed_left plan.now.rest nodes.now) }
+    ensures rest_part { IfOk result (λ s. s.rest ≡ packed_left plan.now.rest nodes.now) }
 {
     match carry_out(copied(alloc, nodes)?, plan) {
         Ok(parts) => Ok(parts),
@@ -119,7 +119,7 @@ pub fn split(
 ) -> Result<Split, SplitFault>
     requires list_bounded { length nodes.now ≤ max_nodes }
     ensures front { IfOk result (λ s. s.front ≡ front_of params.now height nodes.now) }
-    ensures rest_returned { IfOk result (λ s. s.rest ≡ rest_of params.now height nodes.now) }
+    ensures rest_part { IfOk result (λ s. s.rest ≡ rest_of params.now height nodes.now) }
     ensures ok { OnOk result (refusal params.now height nodes.now ≡ None) }
     ensures fault { IfErr result (λ e. e ≡ fault_of (refusal params.now height nodes.now)) }
 {

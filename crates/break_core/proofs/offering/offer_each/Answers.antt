@@ -44,7 +44,7 @@ loop-index-preserved c =
     let costs = c.alone-costs.result in
     let line = c.after-offered.ensures.value
     ∙ ap (λ s. after_class rules.params.now s.class (if nat_lt s.lines rules.params.now.first_lines then costs.first else costs.rest)) c.end-end.ensures.end
-    ∙ alone_is rules.params.now rules.bound p c.args.line.now costs.first costs.rest e.end.lines e.end.class c.alone-costs.ensures.first c.alone-costs.ensures.rest_returned
+    ∙ alone_is rules.params.now rules.bound p c.args.line.now costs.first costs.rest e.end.lines e.end.class c.alone-costs.ensures.first c.alone-costs.ensures.later_lines
     ∙ ap (λ x. line_of rules.params.now rules.bound x e.end.class (fit_after rules.params.now.first_lines e.end.lines c.args.line.now)) penalty in
     record {
       low = omega (arith, c.loop-index.invariant.low);
@@ -72,7 +72,7 @@ returns-then-is_none-clause-row c =
     penalty
     (none_offered c.args.table.now rules.params.now rules.bound c.args.group c.args.tried.now.place (to_z w32 (of_z w32 c.args.tried.now.penalty))
     c.args.line.now c.alone-costs.result.first c.alone-costs.result.rest c.args.row.now.items c.requires.can.rises c.requires.can.entries
-    c.alone-costs.ensures.first c.alone-costs.ensures.rest_returned none.0 none.1)
+    c.alone-costs.ensures.first c.alone-costs.ensures.later_lines none.0 none.1)
 
 pub alone-costs-requires-clause-penalty : goal.alone-costs-requires-clause-penalty
 alone-costs-requires-clause-penalty c = omega (arith, ints, c.requires.can.penalty)

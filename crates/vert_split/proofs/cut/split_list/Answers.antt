@@ -15,9 +15,9 @@ returns-in-Ok-carry_out-clause-front c =
     ∙ front-planned c.args.params.now c.args.height (nodes_of c.args.list) c.in-Ok.plan.place c.in-Ok.plan.front (rw c.as_slice.ensures.nodes at c.in-Ok.ensures.place)
     (rw c.as_slice.ensures.nodes at c.in-Ok.ensures.front)
 
-pub returns-in-Ok-carry_out-clause-rest_returned : goal.returns-in-Ok-carry_out-clause-rest_returned
-returns-in-Ok-carry_out-clause-rest_returned c =
-    c.in-Ok-carry_out.ensures.rest_returned
+pub returns-in-Ok-carry_out-clause-rest_part : goal.returns-in-Ok-carry_out-clause-rest_part
+returns-in-Ok-carry_out-clause-rest_part c =
+    c.in-Ok-carry_out.ensures.rest_part
     ∙ ap (λ (xs : List Node). packed_left c.in-Ok.plan.rest xs) c.into_vec.ensures
     ∙ rest-planned c.args.params.now c.args.height (nodes_of c.args.list) c.in-Ok.plan.rest (rw c.as_slice.ensures.nodes at c.in-Ok.ensures.rest_planned)
     (rw c.as_slice.ensures.nodes at c.in-Ok.ensures.sound.inside) (rw c.as_slice.ensures.nodes at c.in-Ok.ensures.shell)

@@ -12,7 +12,7 @@ returns-in_default-clause-state c =
 pub returns-in-Ok-clause-state : goal.returns-in-Ok-clause-state
 returns-in-Ok-clause-state c =
     parts_split c.args.params.now c.args.splitting.now c.args.self.now c.take.new.self c.take.ensures.void c.in-Some.box_node (sym c.take.ensures.value ∙ c.in-Some.is) c.put_parts.new.self
-    c.in-Ok.parts.front c.in-Ok.parts.rest c.in-Ok.ensures.front c.in-Ok.ensures.rest_returned c.in-Ok.ensures.ok c.put_parts.ensures.parts
+    c.in-Ok.parts.front c.in-Ok.parts.rest c.in-Ok.ensures.front c.in-Ok.ensures.rest_part c.in-Ok.ensures.ok c.put_parts.ensures.parts
 
 pub returns-in-Some-refusal-clause-state : goal.returns-in-Some-refusal-clause-state
 returns-in-Some-refusal-clause-state c =
