@@ -1,0 +1,146 @@
+"""tests/claims.tsv: each sentence that boxglue promises, and the contracts, definitions, tests and edits that carry it.
+A case for each subject: its lines have their columns, and what they refer to is in the tree. Only texts are compared, and no program is run."""
+import functools
+import glob
+import os
+import re
+from functools import partial
+
+TITLE = "tests/claims.tsv: what carries each claim is in the tree"
+TRIES = False
+FILE = "tests/claims.tsv"
+HEAD = "subject\tclause\tcarried by\tnote"
+MOST = 4
+# The marks by which an outside text numbers its sentences. The table has to be readable without that text.
+FOREIGN = re.compile(r"\b(?:[DTWR]\d{1,2}|[Pp]apers?|[Tt]heorems?)\b")
+# Where the clauses of a function end: at its body, at the end of its declaration, or before the next function.
+BODY = re.compile(r"\n[ ]*\{|;[ ]*\n[ ]*(?:\n|\})|\bfn \w")
+CLAUSE = r"\b(?:requires|ensures|invariant) {0} \{{"
+
+
+@functools.lru_cache(None)
+def texts(pattern):
+    """The texts of the files of a pattern."""
+    found = []
+    for path in sorted(glob.glob(pattern, recursive=True)):
+        with open(path, encoding="utf-8") as it:
+            found.append(it.read())
+    return found
+
+
+def sources(root, crate):
+    """The texts of the sources of a crate."""
+    return texts(f"{root}/crates/{crate}/src/**/*.rt")
+
+
+def contracts(root, crate, name):
+    """What stands between the name and the body of each function with this name; a type before it, as in Type::name, chooses the files that have it."""
+    *kinds, last = name.split("::")
+    for text in sources(root, crate):
+        if all(re.search(rf"\b{kind}\b", text) for kind in kinds):
+            for match in re.finditer(rf"\bfn {last}\b", text):
+                rest = text[match.end():]
+                body = BODY.search(rest)
+                yield rest[:body.start() + 1] if body else rest
+
+
+def declared(root, given):
+    """Whether the definitions of a crate declare a name."""
+    crate, _, name = given.partition("::")
+    line = re.compile(rf"(?m)^(?:(?:unfoldable|abbrev|pub|total|record|data) )*{re.escape(name)}\b[^\n]*:")
+    return any(line.search(it) for it in texts(f"{root}/crates/{crate}/specs/**/*.antt"))
+
+
+def function(root, given):
+    """Whether there is a function, and its clause if one is named."""
+    match = re.fullmatch(r"(\w+)::((?:\w+::)*\w+)(?:\.(\w+))?", given)
+    if not match:
+        return False
+    crate, name, clause = match.groups()
+    found = list(contracts(root, crate, name))
+    if clause:
+        return any(re.search(CLAUSE.format(clause), it) for it in found)
+    return bool(found) or declared(root, given)
+
+
+def kind(root, given):
+    """Whether there is a type or trait."""
+    crate, _, name = given.partition("::")
+    return any(re.search(rf"\b(?:struct|enum|trait|type) {name}\b", it) for it in sources(root, crate))
+
+
+def test(root, given):
+    """Whether there is a test."""
+    crate, _, name = given.partition("::")
+    return any(re.search(rf"#\[test\][^{{}}]*?\bfn {name}\b", it) for it in sources(root, crate))
+
+
+@functools.lru_cache(None)
+def by_name(root):
+    """The parts of tests/run. They are asked for here, as this module is one of them."""
+    from steps.part import all_parts
+    return {it.name: it for it in all_parts(root)}
+
+
+@functools.lru_cache(None)
+def names_of(root, part):
+    """The names of the cases of a part."""
+    return {name for name, _ in by_name(root)[part].cases([], root)} if part in by_name(root) else set()
+
+
+def case(root, given):
+    """Whether there is a case of a part."""
+    part, _, name = given.partition("/")
+    return name in names_of(root, part)
+
+
+def edit(root, given):
+    """Whether there is an edit that has to fail."""
+    crate, _, name = given.partition("/")
+    return any(os.path.exists(f"{root}/crates/{crate}/{folder}/{name}.edit") for folder in ("must-fail", "wrong-bodies"))
+
+
+FORMS = {"spec": declared, "type": kind, "test": test, "case": case, "edit": edit,
+         "run": lambda root, given: given in by_name(root), "file": lambda root, given: os.path.exists(f"{root}/{given}")}
+
+
+def is_there(root, reference):
+    """Whether the tree has what a reference names."""
+    form, _, given = reference.partition(" ")
+    return FORMS[form](root, given) if given and form in FORMS else function(root, reference)
+
+
+def wrong_in(root, number, line):
+    """What is wrong with a line."""
+    columns = line.split("\t")
+    if len(columns) != 4 or not all(it.strip() for it in columns[:3]) or any(it != it.strip() for it in columns):
+        yield f"line {number}: not four columns, the first three not empty, without spaces at their ends"
+        return
+    carried = columns[2].split("; ")
+    if carried == ["none"]:
+        yield from [] if columns[3] else [f"line {number}: nothing carries it, and no note says why"]
+    else:
+        yield from (f"line {number}: no {it}" for it in carried if not is_there(root, it))
+    if len(carried) > MOST:
+        yield f"line {number}: more than {MOST} references"
+    if FOREIGN.search(f"{columns[0]} {columns[1]} {columns[3]}"):
+        yield f"line {number}: a mark of another text"
+
+
+def outcome(root, lines):
+    """What is wrong with the lines of one subject."""
+    twice = {line.split("\t")[1] for _, line in lines if sum(it.split("\t")[1:2] == line.split("\t")[1:2] for _, it in lines) > 1 and "\t" in line}
+    wrong = [it for number, line in lines for it in wrong_in(root, number, line)] + [f"two lines say: {it}" for it in sorted(twice)]
+    return "; ".join(wrong) or None
+
+
+def cases(_programs, root):
+    """A case for the head of the table, and one for each subject."""
+    with open(f"{root}/{FILE}", encoding="utf-8") as it:
+        head, *lines = it.read().splitlines()
+    yield "the head", lambda: None if head == HEAD else f"{FILE} does not begin with its head"
+    subjects = {}
+    for number, line in enumerate(lines, 2):
+        subjects.setdefault(line.split("\t")[0], []).append((number, line))
+    for subject, its in subjects.items():
+        yield subject, partial(outcome, root, its)
