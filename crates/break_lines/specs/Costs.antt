@@ -20,7 +20,7 @@ stretched_class badness = if nat_lt 99 badness then VeryLoose else (if nat_lt 12
 unfoldable pub shrunk_class : (badness : ℕ) → Fitness
 shrunk_class badness = if nat_lt 12 badness then Tight else Decent
 
--- Whether there is stretch of an infinite order.
+-- Whether the total stretch of an infinite order is not 0.
 unfoldable pub stretches_forever : Sums → Bool
 stretches_forever sums = not (is_zero sums.fil) || (not (is_zero sums.fill) || not (is_zero sums.filll))
 
@@ -82,7 +82,8 @@ unfoldable pub demerits_of : Params → (penalty : ℤ) → (before : Fitness) �
 demerits_of params penalty before line =
     (base_demerits params line.badness +ℤ penalty_demerits penalty) +ℤ adjacent_demerits params before line.class
 
--- Whether a bound admits a line: every line, or those that are not overfull and whose badness is at most a number.
+-- Whether a bound admits a line: one that is not overfull and whose badness is at most a number, or every line (TeX: The Program, part 38, §851; own:
+-- every line).
 unfoldable pub admits : Bound → LineFit → Bool
 admits Any line = true
 admits (AtMost most) line = not line.overfull && int_le (pos line.badness) most

@@ -22,7 +22,7 @@ pub record Facts : Type 0 where
   -- The sums over the items of the line from a place to another one.
   pub sums : (from to : ℕ) → Sums
 
--- The position of a place in a list.
+-- The position of a place in a list; for the start, which has no position, it is that of the first place.
 unfoldable pub position_of : List Node → ℕ → ℕ
 position_of list place = get_or (legal_places list) (place - 1) 0
 

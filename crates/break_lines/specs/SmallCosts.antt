@@ -1,4 +1,5 @@
--- The numbers of lines are small (own; no public clause of the crates that use this one speaks of it).
+-- The numbers of lines are small (own; `IsSmallSums` is in the contract of a meter, and no public clause of the crates that use this one speaks of
+-- the others).
 use Rattle.std.specs.Prelude.{◌≤◌, ◌^◌}
 use Rattle.scaled_core.specs.Dimensions.{Within}
 use Rattle.break_table.specs.Tables.{max_overhang}

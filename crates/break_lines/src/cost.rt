@@ -54,7 +54,7 @@ fn shrunk_class(badness: u32) -> Fitness
     Fitness::Decent
 }
 
-/// Whether there is stretch of an infinite order.
+/// Whether the total stretch of an infinite order is not 0.
 #[tactic(auto, unfolding(crate::specs::Costs::stretches_forever))]
 fn stretches_forever(sums: &Sums) -> bool
     ensures { result ≡ stretches_forever sums.now }

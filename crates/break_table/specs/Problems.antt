@@ -58,6 +58,7 @@ abbrev pub with_line_if : Problem → Path → ℕ → Option LineCost → Optio
 with_line_if p q place None = None
 with_line_if p q place (Some line) = Some (with_line p q place line)
 
+-- A path with one more line to a place, if there is a path and its line is admitted.
 abbrev pub lengthened : Problem → Option Path → ℕ → Option Path
 lengthened p None place = None
 lengthened p (Some q) place = with_line_if p q place (p.line q.last place)
@@ -72,6 +73,7 @@ abbrev pub ends_from : BreakState → List BreakState → List BreakState
 ends_from last [] = []
 ends_from last (s ∷ before) = last ∷ ends_from s before
 
+-- The ends of the lines of a path, with the last one first; the start is not one of them.
 abbrev pub ends_of : Path → List BreakState
 ends_of q = ends_from q.last q.before
 
@@ -86,6 +88,7 @@ abbrev pub tie_numbers : List BreakState → List ℤ
 tie_numbers [] = []
 tie_numbers (s ∷ states) = neg_ℤ (pos s.place) ∷ pos s.lines ∷ pos (rank s.class) ∷ tie_numbers states
 
--- The numbers by which lists of breaks are compared: the total overhang, the total demerits, and then the ends.
+-- The numbers by which lists of breaks are compared: the total overhang, the total demerits, and then the ends (TeX: The Program, part 39, §874, for
+-- the demerits; own: the overhang and the ends).
 abbrev pub key : Path → List ℤ
 key q = q.overhang ∷ q.demerits ∷ tie_numbers (q.last ∷ q.before)

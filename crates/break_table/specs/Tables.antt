@@ -1,5 +1,5 @@
--- The table of the best ways so far, with one entry for each state that can be reached (own; no public clause of the crates that use this one speaks
--- of it).
+-- The table of the best ways so far, with one entry for each state that can be reached (own; `max_places` bounds the places of a meter, `IsSmallLine`
+-- the costs of a line, and no public clause of the crates that use this one speaks of the others).
 use Rattle.std.specs.Prelude.{◌≡◌, ◌<◌, ◌≤◌, ◌⊎◌, ◌+◌, ◌*◌, ◌^◌, ◌+ℤ◌, ◌++◌, ℕ, ℤ, pos, nat_le, if◌then◌else◌, List, [], ◌∷◌, length, slice_get, set, Option, Some, None}
 use Rattle.scaled_core.specs.Dimensions.{Within}
 use Rattle.break_table.specs.declared.state.BreakState.{BreakState}
@@ -24,12 +24,13 @@ pub record Entry : Type 0 where
 abbrev pub max_overhang : ℕ
 max_overhang = 3 * 2 ^ 48 + 2 ^ 31
 
--- The costs of each line are so small that the totals for the greatest number of lines are below 2 ^ 63.
+-- The costs of an entry are at most those of as many small lines as there are places up to it, and so they are below 2 ^ 63.
 pub record IsSmall (e : Entry) : Type 0 where
   pub places : e.end.place ≤ max_places
   pub overhang : Within (max_overhang * e.end.place) e.overhang
   pub demerits : Within (2 ^ 30 * e.end.place) e.demerits
 
+-- The costs of a line are so small that the totals for the greatest number of lines are below 2 ^ 63.
 pub record IsSmallLine (line : LineCost) : Type 0 where
   pub overhang : Within max_overhang line.overhang
   pub demerits : Within (2 ^ 30) line.demerits
@@ -101,11 +102,12 @@ pub record IsTable (p : Problem) (b : ℕ) (table : List Entry) : Type 0 where
   pub below : (k : ℕ) (e : Entry) → slice_get table k ≡ Some e → (e.end.place < b) × (e.end.lines ≤ p.cut)
   pub whole : (w : Path) → Way p w → w.last.place < b → (k : ℕ) × (e : Entry) × (slice_get table k ≡ Some e) × (e.end ≡ w.last)
 
--- The offer of entry k for a place: the entry extended, if its line is admitted and passes over no forced place.
+-- Entry k extended by a line to a place, if there is a line.
 abbrev pub offer_of : (cut : ℕ) → Entry → (k b : ℕ) → Option LineCost → Option Entry
 offer_of cut e k b None = None
 offer_of cut e k b (Some line) = Some (extended cut e k b line)
 
+-- The offer of entry k for a place: the entry extended, if its line is admitted and passes over no forced place.
 abbrev pub offer : Problem → Entry → (k b : ℕ) → Option Entry
 offer p e k b = if nat_le (since p b) e.end.place then offer_of p.cut e k b (p.line e.end b) else None
 

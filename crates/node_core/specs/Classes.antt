@@ -1,5 +1,5 @@
 -- What matters about an item when lists are broken and packed (TeX: The Program, part 10, §148: precedes_break and non_discardable; kerns of a font:
--- part 39, §866 and §879; glue that shrinks in an infinite order: part 38, §825, and part 44, §976).
+-- part 39, §866, §868 and §879; glue that shrinks in an infinite order: part 38, §825, and part 44, §976).
 use Rattle.std.specs.Prelude.{ℤ, pos, negsuc, zero, suc, Bool, true, false, not, ◌&&◌}
 use Rattle.node_core.specs.declared.tree.Kind.{Kind}
 use Rattle.node_core.specs.declared.tree.Kind.TheVariants.{Horizontal, Vertical}

@@ -99,7 +99,8 @@ vbox_height target limit nodes = wanted target (natural_height limit nodes)
 abbrev pub vbox_excess : Target → (limit : ℤ) → List Node → ℤ
 vbox_excess target limit nodes = vbox_height target limit nodes -ℤ natural_height limit nodes
 
--- The frame of a vbox: it is as wide as its widest item, and its baseline is at the bottom (TeX: The Program, part 33, §668).
+-- The frame of a vbox: it is as wide as its widest item, and its baseline is that of its last rule or box, but at most the limit above its bottom
+-- (TeX: The Program, part 33, §668).
 abbrev pub vbox_frame : Target → (limit : ℤ) → List Node → BoxFrame
 vbox_frame target limit nodes =
     record {

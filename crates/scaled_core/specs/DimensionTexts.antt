@@ -12,13 +12,13 @@ use Rattle.scaled_core.specs.Units.{unit_text, scaled_points}
 unfoldable pub decimal_fraction : List ℕ → ℕ
 decimal_fraction digits = nearest (digits_value 10 (take 17 digits) * 65536) (10 ^ length (take 17 digits))
 
--- The sign of a dimension text, if there is one (TeX: The Program, part 26).
+-- The sign of a dimension text, if there is one (TeX: The Program, part 26, §441).
 pub data Sign : Type 0 where
   unsigned : Sign
   plus : Sign
   minus : Sign
 
--- How a sign is written (TeX: The Program, part 26).
+-- How a sign is written (TeX: The Program, part 26, §441).
 abbrev pub sign_text : Sign → List ℕ
 sign_text unsigned = []
 sign_text plus = codes "+"

@@ -29,12 +29,12 @@ impl Dimen {
     /// The length 0 sp.
     pub const ZERO: Dimen = Dimen { value: 0 };
 
-    /// The greatest length: 1073741823 sp (TeX: The Program, part 26, `max_dimen`).
+    /// The greatest length: 1073741823 sp (TeX: The Program, part 26, §421, `max_dimen`).
     pub const MAX: Dimen = Dimen {
         value: 1_073_741_823,
     };
 
-    /// -1000pt: a previous depth with this value suppresses interline glue (TeX: The Program, part 16, `ignore_depth`).
+    /// -1000pt: a previous depth with this value suppresses interline glue (TeX: The Program, part 16, §212, `ignore_depth`).
     pub const IGNORE_DEPTH: Dimen = Dimen { value: -65_536_000 };
 
     /// The dimension of `number` points, of 65,536 sp each.

@@ -38,14 +38,14 @@ file_is_whole f = IsWhole (file_view f)
 abbrev pub is_in : CharacterSet → ℕ → Bool
 is_in set c = bit_at (get_or set.words (c / 64) 0) (c % 64) == 1
 
--- The step at which a tag's program begins, if the tag has a program (TFtoPL, 11 and 13).
+-- The step at which a tag's program begins, if the tag has a program (TFtoPL, 12 and 13).
 abbrev pub tag_start : List LigKernStep → Tag → Option ℕ
 tag_start steps (Program k) = Some (first_step steps k)
 tag_start steps Plain = None
 tag_start steps (Larger c) = None
 tag_start steps (Recipe r) = None
 
--- The step at which a character's program begins, if it has a program (TFtoPL, 11 and 13).
+-- The step at which a character's program begins, if it has a program (TFtoPL, 11 to 13).
 unfoldable pub start_of : SizedFont → ℕ → Option ℕ
 start_of font code = option_and_then (λ (c : CharInfo). tag_start font.steps c.tag) (character_at font.first font.characters code)
 

@@ -25,7 +25,7 @@ counts_in bytes = record {
   parameters = halfword bytes 11;
 }
 
--- The meaning of a tag; the remainder is the character's first step, its larger character or its recipe (TFtoPL, 11).
+-- The meaning of a tag; the remainder is the character's first step, its larger character or its recipe (TFtoPL, 12).
 abbrev pub tag_of : ℕ → ℕ → Tag
 tag_of tag remainder =
     if tag == 0 then Plain
@@ -102,7 +102,7 @@ kerns_place c = steps_place c + c.steps
 abbrev pub parameters_place : Counts → ℕ
 parameters_place c = kerns_place c + c.kerns + c.recipes
 
--- The word after the parameters, the last table; it equals lf (TFtoPL, 8).
+-- The word after the parameters, the last table; in a file that keeps the rule Counts it is lf (TFtoPL, 8).
 abbrev pub end_place : Counts → ℕ
 end_place c = parameters_place c + c.parameters
 

@@ -34,14 +34,14 @@ restart k (Some s) = if nat_lt 128 s.skip then 256 * s.op + s.remainder else k
 unfoldable pub first_step : List LigKernStep → ℕ → ℕ
 first_step steps k = restart k (slice_get steps k)
 
--- The numbers of the steps of a tag's program, in increasing order (TFtoPL, 11 and 13).
+-- The numbers of the steps of a tag's program, in increasing order (TFtoPL, 12 and 13).
 abbrev pub tag_program : List LigKernStep → Tag → List ℕ
 tag_program steps (Program k) = taken_steps steps (first_step steps k)
 tag_program steps Plain = []
 tag_program steps (Larger c) = []
 tag_program steps (Recipe r) = []
 
--- The numbers of the steps of a character's program, in increasing order; none if the font does not have the character (TFtoPL, 11 and 13).
+-- The numbers of the steps of a character's program, in increasing order; none if the font does not have the character (TFtoPL, 11 to 13).
 abbrev pub info_program : List LigKernStep → Option CharInfo → List ℕ
 info_program steps None = []
 info_program steps (Some c) = tag_program steps c.tag

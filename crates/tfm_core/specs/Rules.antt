@@ -43,7 +43,7 @@ breaks_counts c = has_large_number c || has_wrong_codes c || lacks_a_table c || 
 unfoldable pub breaks_design_size : ℤ → Bool
 breaks_design_size word = int_lt word (pos 0) || nat_lt (unsigned_abs word / 16) 65536
 
--- A program begins after the last step (TFtoPL, 11).
+-- A program begins after the last step (TFtoPL, 12; TeX: The Program, part 30, §569).
 abbrev pub begins_past_steps : ℕ → Tag → Bool
 begins_past_steps steps (Program start) = nat_le steps start
 begins_past_steps steps Plain = false

@@ -2,7 +2,7 @@
 use Rattle.std.specs.Prelude.{◌≡◌, ◌==◌, ◌||◌, ◌^◌, ◌+◌, ◌-◌, ◌/◌, ◌%◌, ◌<◌, ◌≤◌, ◌+ℤ◌, ◌*ℤ◌, ◌≤ℤ◌, ◌<ℤ◌, ℕ, ℤ, pos, Bool, Option, Some, None, if◌then◌else◌, int_div, nat_lt, unsigned_abs}
 use Rattle.std.specs.Int.{w32, cast_unsigned, int_div_euclid}
 
--- A font's size in scaled points: positive and below 2^27 (TeX: The Program, part 30).
+-- A font's size in scaled points: positive and below 2^27 (TeX: The Program, part 30, and part 49, §1259).
 pub record IsFontSize (size : ℤ) : Type 0 where
   pub positive : pos 0 <ℤ size
   pub below : size <ℤ pos (2 ^ 27)

@@ -44,7 +44,7 @@ pub enum TfmFault {
 /// Why a metric file gives no font at a size.
 #[derive(Clone, Copy, Debug, PartialEq, Eq, Error)]
 pub enum FontFault {
-    /// A width, height, depth, kern or size of the space is above 2^30 - 1 scaled points.
+    /// The absolute value of a width, height, depth, kern or size of the space is above 2^30 - 1 scaled points.
     #[error("a dimension of the font is too large")]
     DimensionTooLarge,
     /// Out of memory: an allocation was refused.

@@ -114,9 +114,9 @@ fn font_at(alloc: Global, file: &Entries, size: FontSize) -> Result<Font, AllocE
 impl Font {
     /// The font of a metric file at this size, or at its design size (TeX: The Program, part 30). Allocates its tables.
     ///
-    /// `DimensionTooLarge` is returned exactly when a width, height, depth, kern or size of the space is 2^30 scaled points or more. All sizes are
-    /// tested before the font is built; otherwise this error could come after memory was refused. `OutOfMemory` is returned if an allocation is
-    /// refused.
+    /// `DimensionTooLarge` is returned exactly when the absolute value of a width, height, depth, kern or size of the space is 2^30 scaled points or
+    /// more. All sizes are tested before the font is built; otherwise this error could come after memory was refused. `OutOfMemory` is returned if an
+    /// allocation is refused.
     pub fn at_size(alloc: Global, tfm: &Tfm, size: Option<FontSize>) -> Result<Font, FontFault>
         ensures ok { IfOk result (λ font. font ≡ font_at tfm.now (chosen_size tfm.now size)) }
         ensures fits { OnOk result (fits_at tfm.now (chosen_size tfm.now size) ≡ true) }

@@ -20,7 +20,7 @@ pub enum FontReadFault {
     /// The bytes break this rule of a metric file.
     #[error("{0}")]
     BadTfm(TfmCause),
-    /// A width, height, depth, kern or size of the space is above 2^30 - 1 scaled points.
+    /// The absolute value of a width, height, depth, kern or size of the space is above 2^30 - 1 scaled points.
     #[error("a dimension of the font is too large")]
     DimensionTooLarge,
 }

@@ -8,8 +8,8 @@ use Rattle.node_core.specs.declared.tree.Node.TheVariants as nodes
 use Rattle.scaled_core.specs.Dimensions.{fits}
 use Rattle.vert_core.specs.declared.interline.DimensionTooLarge.{DimensionTooLarge}
 
--- The depth -1000pt: a depth of this value or less suppresses the glue (TeX: The Program, part 16, ignore_depth). The constant `Dimen::IGNORE_DEPTH`
--- has this value.
+-- The depth -1000pt: a depth of this value or less suppresses the glue (TeX: The Program, part 16, §212, ignore_depth). The constant
+-- `Dimen::IGNORE_DEPTH` has this value.
 abbrev pub ignored_depth : ℤ
 ignored_depth = negsuc 65535999
 

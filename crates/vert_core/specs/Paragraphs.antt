@@ -34,7 +34,7 @@ pub record IsSet (list : List Node) (params : Params) (previous_depth : ℤ) (se
   pub overhang : set.overhang ≡ breaks.overhang
   pub demerits : set.demerits ≡ breaks.demerits
 
--- An empty paragraph has no lines.
+-- An empty paragraph has no lines (TeX: The Program, part 47, §1096).
 abbrev pub set_empty : (previous_depth : ℤ) → SetParagraph
 set_empty previous_depth = record { items = none; depth = previous_depth; lines = 0; pass = None; overhang = pos 0; demerits = pos 0 }
 
@@ -44,36 +44,36 @@ IsSetParagraph [] params previous_depth set = set ≡ set_empty previous_depth
 IsSetParagraph (x ∷ rest) params previous_depth set = IsSet (finished (x ∷ rest) params.par_fill_skip) params previous_depth set
 
 -- Why a paragraph cannot be broken into lines, which depends on its list and parfillskip: its finished list has glue that shrinks in an infinite
--- order, or otherwise too many legal places. An empty paragraph can always be broken.
+-- order, or otherwise too many legal places. An empty paragraph can always be broken (TeX: The Program, part 38, §825; own: the number of places).
 abbrev pub unbroken : List Node → (par_fill_skip : Glue) → Option BreakFault
 unbroken [] par_fill_skip = None
 unbroken (x ∷ rest) par_fill_skip = refusal (finished (x ∷ rest) par_fill_skip)
 
--- A finished list has breaks for which a line does not fit.
+-- A finished list has breaks for which a line does not fit (own).
 abbrev pub HasLargeLine : List Node → Params → (previous_depth : ℤ) → Type 0
 HasLargeLine list params previous_depth =
     (breaks : Breaks) × IsBroken (facts_of list) params breaks × (lines_fit (with_breaks list params previous_depth breaks) ≡ false)
 
 -- Why a finished list is not set: glue that shrinks in an infinite order, or otherwise too many legal places, both exactly; or otherwise a line that
--- does not fit. Memory can be refused if the list can be broken, before all lines are stacked.
+-- does not fit. Memory can be refused if the list can be broken, before all lines are stacked (own).
 abbrev pub IsUnsetList : List Node → Params → (previous_depth : ℤ) → ParagraphFault → Type 0
 IsUnsetList list params previous_depth InfiniteShrink = refusal list ≡ Some breaking.InfiniteShrink
 IsUnsetList list params previous_depth TooManyBreaks = refusal list ≡ Some breaking.TooManyBreaks
 IsUnsetList list params previous_depth DimensionTooLarge = (refusal list ≡ None) × HasLargeLine list params previous_depth
 IsUnsetList list params previous_depth OutOfMemory = refusal list ≡ None
 
--- Why a finished list is not set that cannot be broken into lines.
+-- Why a finished list is not set that cannot be broken into lines (own).
 abbrev pub unset_by : BreakFault → ParagraphFault
 unset_by breaking.InfiniteShrink = InfiniteShrink
 unset_by breaking.TooManyBreaks = TooManyBreaks
 unset_by breaking.OutOfMemory = OutOfMemory
 
--- Why a finished list is not set whose lines cannot be stacked.
+-- Why a finished list is not set whose lines cannot be stacked (own).
 abbrev pub unstacked_by : LinesFault → ParagraphFault
 unstacked_by stacking.DimensionTooLarge = DimensionTooLarge
 unstacked_by stacking.OutOfMemory = OutOfMemory
 
--- Why a paragraph is not set: it is not empty, and its finished list is not set.
+-- Why a paragraph is not set: it is not empty, and its finished list is not set (own).
 abbrev pub IsUnset : List Node → Params → (previous_depth : ℤ) → ParagraphFault → Type 0
 IsUnset [] params previous_depth fault = ⊥
 IsUnset (x ∷ rest) params previous_depth fault = IsUnsetList (finished (x ∷ rest) params.par_fill_skip) params previous_depth fault

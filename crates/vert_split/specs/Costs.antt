@@ -18,7 +18,7 @@ awful = 1073741823
 abbrev pub is_only_normal : (Order → ℤ) → Bool
 is_only_normal totals = is_zero (totals Fil) && (is_zero (totals Fill) && is_zero (totals Filll))
 
--- The badness of stretching glue by an amount; 0 if glue of an infinite order can stretch (TeX: The Program, part 44, §975).
+-- The badness of stretching glue by an amount; 0 if the total of an infinite order is not 0 (TeX: The Program, part 44, §975).
 unfoldable pub stretching_badness : (amount : ℤ) → (totals : Order → ℤ) → ℕ
 stretching_badness amount totals = if is_only_normal totals then badness_of amount (totals Normal) else 0
 

@@ -28,10 +28,11 @@ space width = nodes.Glue (rigid width)
 abbrev pub shrinking : ℤ → Node
 shrinking shrink = nodes.Glue (record { width = pos 0; stretch = pos 0; stretch_order = Normal; shrink = shrink; shrink_order = Fil })
 
--- The height of the front of a split, and its badness.
+-- The height of the front of a split.
 abbrev pub front_height : SplitParams → (goal : ℤ) → List Node → ℤ
 front_height params goal items = (front_of params goal items).box_node.height
 
+-- The badness of the front of a split.
 abbrev pub badness_of_front : SplitParams → (goal : ℤ) → List Node → ℕ
 badness_of_front params goal items = (front_of params goal items).badness
 
