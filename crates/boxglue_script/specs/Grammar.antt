@@ -37,7 +37,7 @@ register_count = REGISTERS
 abbrev pub slot_count : ℕ
 slot_count = FONT_SLOTS
 
--- The number of characters that a font may have, by their codes from 0 (TFtoPL, 11).
+-- The number of characters that a font may have, by their codes from 0 (TFtoPL, 8).
 abbrev pub character_count : ℕ
 character_count = 256
 

@@ -33,7 +33,7 @@ abbrev pub IsFontSize : ℤ → Type 0
 IsFontSize z = (pos 0 <ℤ z) × (z <ℤ pos (2 ^ 27))
 
 -- Two definitions of one number are the same in every field (DVItype, 18; there only the postamble may define a font again: that it may be anywhere
--- is own).
+-- is own, and so is that both parts of the name count, where DVItype compares them as one).
 abbrev pub AgreesWith : Definition → Definition → Type 0
 AgreesWith d e = d.number ≡ e.number → d ≡ e
 

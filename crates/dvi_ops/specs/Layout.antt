@@ -13,7 +13,7 @@ use Rattle.dvi_ops.specs.File.{MarkedPage}
 abbrev pub bytes_of : List Instruction → List ℕ
 bytes_of is = flat_map spelling is
 
--- The units of a scaled point: 25400000 / 473628672 times 10^-7 metres.
+-- The units of a scaled point: 25400000 / 473628672 times 10^-7 metres (TeX: The Program, part 32, §617).
 abbrev pub scaled_points : Units
 scaled_points = record { num = pos 25400000; den = pos 473628672; mag = pos 1000 }
 
@@ -85,7 +85,7 @@ abbrev pub whole_of : List Sheet → (tall wide : ℤ) → List Definition → (
 whole_of sheets tall wide closing padding =
     front_of sheets ++ ending_of (after_all after_preamble sheets) (stop_of (after_all after_preamble sheets) tall wide (length sheets)) closing padding
 
--- How many bytes 223 follow `size` bytes: 4 to 7, so that the length is a multiple of 4.
+-- How many bytes 223 follow `size` bytes: 4 to 7, so that the length is a multiple of 4 (TeX: The Program, part 32, §642).
 abbrev pub padding_after : ℕ → ℕ
 padding_after size = 7 - (size + 3) % 4
 

@@ -70,7 +70,7 @@ abbrev pub Executes : {A : Type 0} → Acts → (most : ℕ) → Instruction →
 Executes does most i old new (Ok done) = execute (kept does) most i old ≡ Some new
 Executes does most i old new (Err fault) = IsTurnFault does most i old fault
 
--- The result for an instruction in an open page that stays open. A refusal leaves the page as it was.
+-- The result for an instruction in an open page that stays open. A refusal leaves the page as it was (own; private calls alone).
 abbrev pub TurnsPage : {A : Type 0} → Acts → (most : ℕ) → Instruction → List MarkedPage → (old new : OpenPage) → Result A PassFault → Type 0
 TurnsPage does most i pages old new (Ok done) = execute (kept does) most i (inside_of pages old) ≡ Some (inside_of pages new)
 TurnsPage does most i pages old new (Err fault) = IsTurnFault does most i (inside_of pages old) fault × (inside_of pages new ≡ inside_of pages old)

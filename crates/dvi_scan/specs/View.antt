@@ -27,7 +27,7 @@ placed p =
 abbrev pub stated : Standing → DviState
 stated s = record { place = placed s.place; font = s.font }
 
--- The mark of a value that is a mark or none.
+-- The mark of a value that is a mark or none (own; private calls alone).
 abbrev pub marks_in : Option PassMark → List Mark
 marks_in None = []
 marks_in (Some m) = mark_of m ∷ []

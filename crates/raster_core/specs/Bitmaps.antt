@@ -9,7 +9,7 @@ use Rattle.raster_core.specs.declared.painting.Bitmap.TheInside.{Inside}
 abbrev pub picture : Inside → PixelGrid
 picture b = drawn b.width b.height (in_rows (boxed_slice_items b.words) (length (boxed_slice_items b.mask)))
 
--- The words have room for the pixels, and for a bit for each word of a row; a row has at most 192 words (own).
+-- The words have room for the pixels, at most 157 of them a row, and `full` has 192 bits a row for these words (own).
 pub record IsBitmap (b : Inside) : Type 0 where
   pub some_columns : 1 ≤ b.width
   pub some_rows : 1 ≤ b.height

@@ -19,7 +19,7 @@ abbrev pub between : (first end x : ℕ) → Bool
 between first end x = nat_le first x && nat_lt x end
 
 -- The words `from` to `to` (excluded) of a mask are put into a list of words with "or", where word 0 of the mask falls on the word `at`; the other
--- words are unchanged (own).
+-- words are unchanged (own; private calls alone).
 pub record Ors (old new : List ℕ) (at : ℕ) (mask : List ℕ) (from to : ℕ) : Type 0 where
   pub inside : (k : ℕ) → from ≤ k → k < to → slice_index new (at + k) ≡ bit_or (slice_index old (at + k)) (slice_index mask k)
   pub before : (j : ℕ) → j < at + from → slice_index new j ≡ slice_index old j
