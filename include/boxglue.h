@@ -114,7 +114,7 @@ uint32_t boxglue_list(const uint8_t *dvi, size_t dvi_size,
 
 /* Paints the rules of a page of a DVI file.
  *
- * page is counted from 1. dpi is the number of pixels an inch, 0 to 10000. width and height are those of the bitmap in pixels, 1 to 10000.
+ * page is counted from 1. dpi is the number of pixels an inch, 1 to 10000. width and height are those of the bitmap in pixels, 1 to 10000.
  * text takes the bitmap as plain PBM (docs/FORMATS.md), or the line of the refusal, and *size the number of its bytes. The rest of the buffer is as it was.
  *
  * Returns 0 to 6. The names are tested first, then the numbers. At 4 *size says what the buffer needs. At 2, 3, 5 and 6 *size is as it was. */

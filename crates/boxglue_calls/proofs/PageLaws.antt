@@ -1,22 +1,7 @@
--- A file whose page is painted has that page, and what is handed over has a status that says so.
-use Rattle.std.proofs.Common.{◌≡◌, ◌⊎◌, ◌-◌, List, ℕ, Bool, true, false, length, ap, inl, inr, arith, ◌∙◌}
-use Rattle.std.proofs.lemmas.Option.{slice_get_within}
-use Rattle.dvi_ops.specs.File.{MarkedPage}
-use Rattle.dvi_ops.proofs.Frames.{one_list_of_pages}
-use Rattle.boxglue_print.specs.Outputs.{IsPainted, LacksPage}
-use Rattle.tfm_core.specs.FileWidths.{file_widths}
-use Rattle.tfm_core.specs.NamedBytes.{NamedBytes}
+-- What is handed over has a status that says so.
+use Rattle.std.proofs.Common.{◌≡◌, ◌⊎◌, List, ℕ, Bool, true, false, inl, inr, arith, ◌∙◌}
 use Rattle.boxglue_calls.specs.Buffers.{HandsOver}
 use Rattle.boxglue_calls.specs.Pages.{status_of}
-
-pub has_page : (files : List NamedBytes) (bytes : List ℕ) (page dpi width height : ℕ) (text : List ℕ) (accepted : Bool) → IsPainted files bytes page dpi width height text accepted
-    → LacksPage files bytes page → ⊥
-has_page files bytes page dpi width height text accepted (inl paints) lacks =
-    let same = ap (λ (pages : List MarkedPage). length pages) (one_list_of_pages (file_widths files) bytes paints.pages lacks.pages paints.file lacks.file) in
-    let within = slice_get_within paints.pages (page - 1) paints.shown paints.page_is in
-    let few = lacks.few in
-    absurd (omega arith)
-has_page files bytes page dpi width height text accepted (inr refuses) lacks = refuses.none lacks.pages lacks.file
 
 -- The status of what is handed over is 0, 1 or 4.
 done_small : (accepted : Bool) (done : ℕ) → done ≡ status_of accepted → (done ≡ 0) ⊎ (done ≡ 1)

@@ -6,9 +6,9 @@ use Rattle.boxglue_calls.specs.Buffers.{HandsOver}
 abbrev pub status_of : (accepted : Bool) → ℕ
 status_of accepted = if accepted then 0 else 1
 
--- Whether the numbers of a page are in their ranges: the page 1 or more, the pixels an inch at most 10,000, width and height 1 to 10,000.
+-- Whether the numbers of a page are in their ranges: the page 1 or more, the pixels an inch, width and height 1 to 10,000.
 abbrev pub is_in_range : (page dpi width height : ℕ) → Bool
-is_in_range page dpi width height = nat_le 1 page && (nat_le dpi 10000 && (nat_le 1 width && (nat_le width 10000 && (nat_le 1 height && nat_le height 10000))))
+is_in_range page dpi width height = nat_le 1 page && (nat_le 1 dpi && (nat_le dpi 10000 && (nat_le 1 width && (nat_le width 10000 && (nat_le 1 height && nat_le height 10000)))))
 
 -- The text of a DVI file is handed over, and the size is its length.
 pub record HandsOverPages (Is : (text : List ℕ) → (accepted : Bool) → Type 0) (old new : List ℕ) (size status : ℕ) : Type 0 where

@@ -50,11 +50,17 @@ pub fn list(alloc: Global, dvi: &[u8], fonts: &[Font<'_>], text: &mut [u8], size
     }
 }
 
-/// Whether the numbers of a page are in their ranges: the page 1 or more, the pixels an inch at most 10,000, width and height 1 to 10,000.
+/// Whether the numbers of a page are in their ranges: the page 1 or more, the pixels an inch, width and height 1 to 10,000.
 fn is_in_range(page: u32, dpi: u32, width: u32, height: u32) -> bool
     ensures { result ≡ is_in_range page dpi width height }
 {
-    1 <= page && dpi <= 10_000 && 1 <= width && width <= 10_000 && 1 <= height && height <= 10_000
+    1 <= page
+        && 1 <= dpi
+        && dpi <= 10_000
+        && 1 <= width
+        && width <= 10_000
+        && 1 <= height
+        && height <= 10_000
 }
 
 /// The bitmap of a page of a DVI file with these fonts, which have names, or the line of the file's refusal.

@@ -1,6 +1,6 @@
 //! Printing the listing of a DVI file, or a page as a bitmap.
 
-ghost use Rattle.std.specs.Prelude.{◌≡◌, ◌≢◌, ◌≤◌, ℕ, Bool, List, vec_capacity, Err, IfOk, OnErr, OnOk};
+ghost use Rattle.std.specs.Prelude.{◌≡◌, ◌≢◌, ◌≤◌, ◌⊎◌, ℕ, Bool, List, vec_capacity, Err, IfOk, OnErr, OnOk};
 ghost use Rattle.std.specs.Io.KnownBytes.{Appends, Keeps};
 ghost use Rattle.dvi_read.specs.Listing.{listing};
 ghost use Rattle.dvi_read.specs.declared.part.TheConstants.{PART};
@@ -135,6 +135,7 @@ pub fn paint_file<W: Write>(
     ensures silent { result ≡ Err PrintFault.OutOfMemory → Keeps (W.contents writer.old) (W.contents writer.new) }
     ensures unpainted { result ≡ Err PrintFault.NoSuchPage → Keeps (W.contents writer.old) (W.contents writer.new) }
     ensures missing { result ≡ Err PrintFault.NoSuchPage → LacksPage files.now dvi.now sheet.page }
+    ensures found { LacksPage files.now dvi.now sheet.page → (result ≡ Err PrintFault.NoSuchPage) ⊎ (result ≡ Err PrintFault.OutOfMemory) }
 {
     let PaintOptions {
         page,

@@ -1,13 +1,15 @@
 -- The texts for refused files, and for pages.
-use Rattle.std.proofs.Common.{◌≡◌, ℕ, Bool, true, false, List, Result, Ok, Err, OnOk, IfOk, inr, refl, ◌∙◌, ap}
+use Rattle.std.proofs.Common.{◌≡◌, ◌-◌, ℕ, Bool, true, false, List, length, Result, Ok, Err, OnOk, IfOk, inl, inr, refl, arith, ◌∙◌, ap}
+use Rattle.std.proofs.lemmas.Option.{slice_get_within}
 use Rattle.std.specs.Prelude.{◌≢◌}
 use Rattle.std.specs.declared.alloc.AllocError.{AllocError}
-use Rattle.dvi_ops.specs.File.{IsFile}
+use Rattle.dvi_ops.specs.File.{IsFile, MarkedPage}
+use Rattle.dvi_ops.proofs.Frames.{one_list_of_pages}
 use Rattle.dvi_ops.specs.Instruction.{Units}
 use Rattle.std.specs.Fmt.{digits}
 use Rattle.boxglue_program.specs.Texts.{refusal_line, refusal_text}
 use Rattle.boxglue_print.specs.Faults.{KnownLines, fault_line}
-use Rattle.boxglue_print.specs.Outputs.{IsListed, Paints, RefusesFile, ShowsPage}
+use Rattle.boxglue_print.specs.Outputs.{IsListed, IsPainted, LacksPage, Paints, RefusesFile, ShowsPage}
 use Rattle.boxglue_print.specs.declared.output.Output.{Output}
 use Rattle.dvi_read.specs.Opened.{HasUnitsOf, IsNoFile, Opened}
 use Rattle.dvi_read.specs.Opening.{IsDviFault}
@@ -51,6 +53,16 @@ paints files bytes page dpi width height dvi picture text file units shows text_
   text_is = text_is ∙ (ap pbm shows.picture_is ∙ ap (λ (u : Units). pbm (painted (is_covered (scale_of u dpi) shows.shown.marks) (white width height))) (units file.frame));
   accepted_is = refl;
 }
+
+-- A file whose page is painted has that page.
+pub has_page : (files : List NamedBytes) (bytes : List ℕ) (page dpi width height : ℕ) (text : List ℕ) (accepted : Bool) → IsPainted files bytes page dpi width height text accepted
+    → LacksPage files bytes page → ⊥
+has_page files bytes page dpi width height text accepted (inl paints) lacks =
+    let same = ap (λ (pages : List MarkedPage). length pages) (one_list_of_pages (file_widths files) bytes paints.pages lacks.pages paints.file lacks.file) in
+    let within = slice_get_within paints.pages (page - 1) paints.shown paints.page_is in
+    let few = lacks.few in
+    absurd (omega arith)
+has_page files bytes page dpi width height text accepted (inr refuses) lacks = refuses.none lacks.pages lacks.file
 
 -- The known lines, computed by the definitions.
 pub known_lines : KnownLines

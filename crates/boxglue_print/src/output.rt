@@ -1,6 +1,6 @@
 //! The listing of a DVI file and the bitmap of one of its pages.
 
-ghost use Rattle.std.specs.Prelude.{◌≡◌, ◌≢◌, ◌<◌, ◌≤◌, ◌↔◌, false, length, Err, IfOk, IsTrue, OnOk};
+ghost use Rattle.std.specs.Prelude.{◌≡◌, ◌≢◌, ◌<◌, ◌≤◌, ◌↔◌, ◌⊎◌, false, length, Err, IfOk, IsTrue, OnOk};
 ghost use Rattle.dvi_ops.specs.File.{AreUnits};
 ghost use Rattle.dvi_ops.specs.View.{units as units_of};
 ghost use Rattle.dvi_scan.specs.View.{marked_page};
@@ -128,7 +128,7 @@ pub fn page_bitmap(
     requires width { (1 ≤ size.width) × (size.width ≤ 10000) }
     requires height { (1 ≤ size.height) × (size.height ≤ 10000) }
     ensures ok { IfOk result (ShowsPage opened.now page size.dpi size.width size.height) }
-    ensures missing { result ≡ Err PaintFault.NoSuchPage → length opened.now.pages < page }
+    ensures missing { result ≡ Err PaintFault.NoSuchPage ↔ length opened.now.pages < page }
 {
     let index = page as usize - 1;
     if index >= opened.pages() {
@@ -139,7 +139,7 @@ pub fn page_bitmap(
 }
 
 /// The bitmap of a page of a DVI file with these metric files, or the line of the file's refusal. Pages are counted from 1. The whole file is checked
-/// before NoSuchPage is returned. Where memory is refused, the fault is OutOfMemory.
+/// before NoSuchPage is returned, which is the fault exactly where it is accepted and has fewer pages, unless memory is refused: then it is OutOfMemory.
 pub fn paint_text(
     alloc: Global,
     dvi: &[u8],
@@ -153,6 +153,7 @@ pub fn paint_text(
     requires height { (1 ≤ size.height) × (size.height ≤ 10000) }
     ensures ok { IfOk result (λ output. IsPainted files.now dvi.now page size.dpi size.width size.height output.text.items output.accepted) }
     ensures missing { result ≡ Err PaintFault.NoSuchPage → LacksPage files.now dvi.now page }
+    ensures found { LacksPage files.now dvi.now page → (result ≡ Err PaintFault.NoSuchPage) ⊎ (result ≡ Err PaintFault.OutOfMemory) }
 {
     let opened = match Dvi::open(alloc, dvi, files) {
         Ok(opened) => opened,

@@ -10,6 +10,8 @@ mod interline;
 #[cfg(test)]
 mod nodes;
 #[cfg(test)]
+mod offsets;
+#[cfg(test)]
 mod reused_bodies;
 #[cfg(test)]
 mod scaled_values;

@@ -1,7 +1,8 @@
 -- A page that is painted is there, and where one is painted the status is none of those that write nothing.
 use Rattle.std.proofs.Common.{Err, ap}
 use Rattle.boxglue_calls.specs.Fonts.{files_of}
-use Rattle.boxglue_calls.proofs.PageLaws.{handed_status, has_page, not_silent}
+use Rattle.boxglue_print.proofs.PrintLemmas.{has_page}
+use Rattle.boxglue_calls.proofs.PageLaws.{handed_status, not_silent}
 use Rattle.boxglue_calls.proofs.pages.paint.Goals as goal
 
 pub returns-in-Ok-clause-found : goal.returns-in-Ok-clause-found

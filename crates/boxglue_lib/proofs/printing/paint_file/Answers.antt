@@ -1,7 +1,7 @@
 -- The line of the refusal, or the pieces of the bitmap: all of it, or a beginning.
 use Rattle.std.proofs.Common.{true, inl, inr, refl}
 use Rattle.raster_core.specs.PlainText.{pbm}
-use Rattle.boxglue_print.proofs.PrintLemmas.{paints, refuses}
+use Rattle.boxglue_print.proofs.PrintLemmas.{has_page, paints, refuses}
 use Rattle.boxglue_lib.proofs.printing.paint_file.Goals as goal
 
 pub returns-in_err-write_text-in-Err-clause-unwritten : goal.returns-in_err-write_text-in-Err-clause-unwritten
@@ -43,3 +43,23 @@ returns-in_err-write_bitmap-clause-unwritten g c said = (
       c.in-Ok.ensures.ok c.in-Ok.ensures.units c.in-Ok-page_bitmap.ensures.ok refl),
   c.in_err-write_bitmap.ensures.front,
 )
+
+pub returns-in_err-write_text-in-Err-clause-found : goal.returns-in_err-write_text-in-Err-clause-found
+returns-in_err-write_text-in-Err-clause-found g c =
+    λ lacks. absurd (c.in-Err.ensures.refused c.in_ok-text-in-Err.ensures.other lacks.pages lacks.file)
+
+pub returns-in-Err-clause-found : goal.returns-in-Err-clause-found
+returns-in-Err-clause-found g c =
+    λ lacks. absurd (c.in-Err.ensures.refused c.in_ok-text-in-Err.ensures.other lacks.pages lacks.file)
+
+pub returns-clause-found : goal.returns-clause-found
+returns-clause-found g c =
+    λ lacks. absurd (has_page c.args.files.now c.args.dvi.now c.args.sheet.page c.args.sheet.dpi c.args.sheet.width c.args.sheet.height (pbm c.in-Ok-page_bitmap.bitmap) true
+    (inl (paints c.args.files.now c.args.dvi.now c.args.sheet.page c.args.sheet.dpi c.args.sheet.width c.args.sheet.height c.in-Ok.opened c.in-Ok-page_bitmap.bitmap _
+    c.in-Ok.ensures.ok c.in-Ok.ensures.units c.in-Ok-page_bitmap.ensures.ok refl)) lacks)
+
+pub returns-in_err-write_bitmap-clause-found : goal.returns-in_err-write_bitmap-clause-found
+returns-in_err-write_bitmap-clause-found g c =
+    λ lacks. absurd (has_page c.args.files.now c.args.dvi.now c.args.sheet.page c.args.sheet.dpi c.args.sheet.width c.args.sheet.height (pbm c.in-Ok-page_bitmap.bitmap) true
+    (inl (paints c.args.files.now c.args.dvi.now c.args.sheet.page c.args.sheet.dpi c.args.sheet.width c.args.sheet.height c.in-Ok.opened c.in-Ok-page_bitmap.bitmap _
+    c.in-Ok.ensures.ok c.in-Ok.ensures.units c.in-Ok-page_bitmap.ensures.ok refl)) lacks)

@@ -1,6 +1,6 @@
 -- The line of the refusal, or the page with its units.
 use Rattle.std.proofs.Common.{◌≡◌, rules, inl, inr}
-use Rattle.boxglue_print.proofs.PrintLemmas.{paints, refuses}
+use Rattle.boxglue_print.proofs.PrintLemmas.{has_page, paints, refuses}
 use Rattle.raster_core.specs.PlainText.{pbm}
 use Rattle.boxglue_print.proofs.output.paint_text.Goals as goal
 
@@ -14,3 +14,11 @@ returns-clause-ok c =
     let text_is : c.write_pbm.new.out.items ≡ pbm c.in_ok-bitmap.bitmap = search rules in
     inl (paints c.args.files.now c.args.dvi.now c.args.page c.args.size.dpi c.args.size.width c.args.size.height c.in-Ok.opened c.in_ok-bitmap.bitmap _
     c.in-Ok.ensures.ok c.in-Ok.ensures.units c.in_ok-bitmap.ensures.ok text_is)
+
+pub returns-in-Err-clause-found : goal.returns-in-Err-clause-found
+returns-in-Err-clause-found c =
+    λ lacks. absurd (has_page c.args.files.now c.args.dvi.now c.args.page c.args.size.dpi c.args.size.width c.args.size.height _ _ (returns-in-Err-clause-ok c) lacks)
+
+pub returns-clause-found : goal.returns-clause-found
+returns-clause-found c =
+    λ lacks. absurd (has_page c.args.files.now c.args.dvi.now c.args.page c.args.size.dpi c.args.size.width c.args.size.height _ _ (returns-clause-ok c) lacks)
