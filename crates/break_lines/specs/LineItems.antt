@@ -1,8 +1,9 @@
 -- The items of a list that a line keeps, and the sums over them (TeX: The Program, part 38, §822 and §837; part 39, §879 to §882).
-use Rattle.std.specs.Prelude.{◌<◌, ◌+◌, ◌-ℤ◌, ◌++◌, ℕ, pos, List, [], ◌∷◌, take, drop, slice_get, Option, Some, None, if◌then◌else◌}
+use Rattle.std.specs.Prelude.{◌<◌, ◌+◌, ◌^◌, ◌-ℤ◌, ◌++◌, ℕ, pos, List, [], ◌∷◌, take, drop, slice_get, Option, Some, None, if◌then◌else◌}
 use Rattle.node_core.specs.declared.tree.Node.{Node}
 use Rattle.node_core.specs.declared.tree.Node.TheVariants as nodes
 use Rattle.node_core.specs.declared.tree.Order.TheVariants.{Normal, Fil, Fill, Filll}
+use Rattle.scaled_core.specs.Dimensions.{Within}
 use Rattle.pack_core.specs.Items.{across, stretch_in, shrink_in}
 use Rattle.pack_core.specs.Totals.{total}
 use Rattle.break_lines.specs.declared.sums.Sums.{Sums}
@@ -67,3 +68,9 @@ next_kept list k = k + lead (drop k list)
 abbrev pub first_item_kept : List Node → Option ℕ → ℕ
 first_item_kept list None = 0
 first_item_kept list (Some a) = next_kept list (a + 1)
+
+-- The sums over at most 131,072 items are below these bounds (own).
+pub record IsSmallSums (sums : Sums) : Type 0 where
+  pub width : Within (2 ^ 49) sums.width
+  pub stretch : Within (2 ^ 48) sums.stretch
+  pub shrink : Within (2 ^ 48) sums.shrink

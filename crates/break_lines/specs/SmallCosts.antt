@@ -1,17 +1,10 @@
--- The numbers of lines are small (own; `IsSmallSums` is in the contract of a meter, and no public clause of the crates that use this one speaks of
--- the others).
+-- The numbers of lines are small (own; no public clause of the crates that use this one speaks of them).
 use Rattle.std.specs.Prelude.{◌≤◌, ◌^◌}
 use Rattle.scaled_core.specs.Dimensions.{Within}
 use Rattle.break_table.specs.Tables.{max_overhang}
 use Rattle.break_table.specs.declared.state.LineCost.{LineCost}
-use Rattle.break_lines.specs.declared.sums.Sums.{Sums}
 use Rattle.break_lines.specs.declared.cost.LineFit.{LineFit}
-
--- The sums over at most 131,072 items are small.
-pub record IsSmallSums (sums : Sums) : Type 0 where
-  pub width : Within (2 ^ 49) sums.width
-  pub stretch : Within (2 ^ 48) sums.stretch
-  pub shrink : Within (2 ^ 48) sums.shrink
+pub use Rattle.break_lines.specs.LineItems.{IsSmallSums}
 
 -- The badness and the overhang of a line are small.
 pub record IsSmallLineFit (line : LineFit) : Type 0 where

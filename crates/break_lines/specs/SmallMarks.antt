@@ -1,10 +1,10 @@
--- The numbers of lines are small (own; `IsSmallSums` is in the contract of a meter, and no public clause speaks of the others).
+-- The numbers of marks are small (own; no public clause speaks of them).
 use Rattle.std.specs.Prelude.{◌≡◌, ◌^◌, ◌*◌, ℕ, List, slice_get, Some}
 use Rattle.node_core.specs.Nodes.{max_nodes}
 use Rattle.scaled_core.specs.Dimensions.{Within}
 use Rattle.break_lines.specs.declared.sums.Sums.{Sums}
 use Rattle.break_lines.specs.declared.mark.MeasuredBreak.{MeasuredBreak}
-pub use Rattle.break_lines.specs.SmallCosts.{IsSmallSums}
+pub use Rattle.break_lines.specs.LineItems.{IsSmallSums}
 
 -- Sums over n items are small.
 pub record IsPrefix (n : ℕ) (sums : Sums) : Type 0 where

@@ -6,7 +6,7 @@ ghost use Rattle.std.specs.Int.{sum_through};
 ghost use Rattle.break_lines.specs.Facts.{facts_of, refusal};
 ghost use Rattle.break_lines.specs.Steady.{IsSteady};
 ghost use Rattle.node_core.specs.Nodes.{max_nodes};
-ghost use Rattle.break_table.specs.Tables.{max_places};
+ghost use Rattle.break_table.specs.Problems.{max_places};
 ghost use Rattle.break_lines.specs.Legal.{legal_places};
 ghost use Rattle.break_lines.specs.Marks.{marks_of};
 ghost use Rattle.break_lines.specs.SmallMarks.{AreSmallMarks};
@@ -69,8 +69,8 @@ impl<'a> ListMeter<'a> {
     /// glue but more than 8,192 legal places, and `OutOfMemory` only if an allocation is refused.
     pub fn new(alloc: Global, nodes: &'a [Node]) -> Result<ListMeter<'a>, BreakFault>
         requires list_bounded { length nodes.now ≤ max_nodes }
-        ensures nodes { IfOk result (λ meter. meter.nodes.now ≡ nodes.now) }
-        ensures trials { IfOk result (λ meter. (place : ℕ) → get_or meter.trials.items place 0 ≡ 0) }
+        ensures facts { IfOk result (λ meter. ⟦<ListMeter<'a> as Meter>⟧.facts meter ≡ facts_of nodes.now) }
+        ensures trials { IfOk result (λ meter. (place : ℕ) → ⟦<ListMeter<'a> as Meter>⟧.trials meter place ≡ 0) }
         ensures fits { OnOk result (refusal nodes.now ≡ None) }
         ensures fault { IfErr result (λ fault. fault ≡ unwrap_or (refusal nodes.now) BreakFault.OutOfMemory) }
     {
@@ -92,7 +92,7 @@ impl<'a> ListMeter<'a> {
 
     /// The number of all lines that were tried.
     pub fn all_trials(&self) -> u128
-        ensures { result ≡ sum_through (⟦<ListMeter<'a> as Meter>⟧.trials self.now) (length (legal_places self.now.nodes.now)) }
+        ensures { result ≡ sum_through (⟦<ListMeter<'a> as Meter>⟧.trials self.now) (length (⟦<ListMeter<'a> as Meter>⟧.facts self.now).places) }
     {
         let mut all = u128::from(self.trials(0));
         for place in 0..self.marks.len() - 1 {

@@ -1,10 +1,10 @@
 //! Meters: what the breaker knows about a paragraph.
 
 ghost use Rattle.std.specs.Prelude.{◌≡◌, ◌≢◌, ◌+◌, ◌<◌, ◌≤◌, ◌^◌, ◌<ℤ◌, pos, ℕ, true};
-ghost use Rattle.break_table.specs.Tables.{max_places};
+ghost use Rattle.break_table.specs.Problems.{max_places};
 ghost use Rattle.break_lines.specs.Legal.{is_forced};
 ghost use Rattle.break_lines.specs.Facts.{Facts};
-ghost use Rattle.break_lines.specs.SmallMarks.{IsSmallSums};
+ghost use Rattle.break_lines.specs.LineItems.{IsSmallSums};
 ghost use Rattle.break_lines.specs.Steady.{IsSteady};
 ghost use Rattle.break_lines.specs.Divided.{IsDivided};
 

@@ -6,6 +6,10 @@ use Rattle.break_table.specs.declared.state.Fitness.TheVariants.{VeryLoose, Loos
 use Rattle.break_table.specs.declared.state.BreakState.{BreakState}
 use Rattle.break_table.specs.declared.state.LineCost.{LineCost}
 
+-- The greatest number of legal places of a paragraph (own).
+abbrev pub max_places : ℕ
+max_places = 8192
+
 -- A paragraph in a pass. Its legal places are numbered from 1; the last one is its end, and 0 is its start.
 pub record Problem : Type 0 where
   -- The number of legal places.

@@ -1,5 +1,5 @@
--- The table of the best ways so far, with one entry for each state that can be reached (own; `max_places` bounds the places of a meter, `IsSmallLine`
--- the costs of a line, and no public clause of the crates that use this one speaks of the others).
+-- The table of the best ways so far, with one entry for each state that can be reached (own; `IsSmallLine` bounds the costs of a line, and no public
+-- clause of the crates that use this one speaks of the others).
 use Rattle.std.specs.Prelude.{◌≡◌, ◌<◌, ◌≤◌, ◌⊎◌, ◌+◌, ◌*◌, ◌^◌, ◌+ℤ◌, ◌++◌, ℕ, ℤ, pos, nat_le, if◌then◌else◌, List, [], ◌∷◌, length, slice_get, set, Option, Some, None}
 use Rattle.scaled_core.specs.Dimensions.{Within}
 use Rattle.break_table.specs.declared.state.BreakState.{BreakState}
@@ -7,10 +7,7 @@ use Rattle.break_table.specs.declared.state.LineCost.{LineCost}
 use Rattle.break_table.specs.Orders.{NotAfter}
 use Rattle.break_table.specs.Problems.{Problem, Path, rank, start, end_after, with_line, tie_numbers, ends_of}
 use Rattle.break_table.specs.Ways.{since, Way, IsLeast}
-
--- The greatest number of legal places of a paragraph.
-abbrev pub max_places : ℕ
-max_places = 8192
+pub use Rattle.break_table.specs.Problems.{max_places}
 
 -- An entry: a state, the costs of the best way to it, the state before it, and the number of the entry for that state.
 pub record Entry : Type 0 where

@@ -75,7 +75,3 @@ IfGlyph P (glue g) = Unit {0}
 IfGlyph P (penalty p) = Unit {0}
 IfGlyph P (rule sizes) = Unit {0}
 IfGlyph P (special text) = Unit {0}
-
--- Each glyph of a list has a property, including those in its boxes (own).
-abbrev pub EachGlyph : (Glyph → Type 0) → Items → Type 0
-EachGlyph P items = EachLeaf (IfGlyph P) items

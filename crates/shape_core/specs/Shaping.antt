@@ -96,13 +96,13 @@ abbrev pub shaped_missing : (ℕ → Option GlyphSize) → (ℕ → ℕ → Opti
 shaped_missing sizes steps [] = 0
 shaped_missing sizes steps (c ∷ word) = missing_from sizes steps c word
 
--- A node that comes from characters: a glyph has this slot and the sizes of its character, and specials and boxes do not occur (own).
+-- A node that comes from characters: a glyph with this slot and the sizes of its character, a font kern, or the glue of spaces (own).
 abbrev pub IsGlyphOf : ℕ → (ℕ → Option GlyphSize) → Node → Type 0
 IsGlyphOf slot sizes (Glyph g) = (g.slot ≡ slot) × (sizes g.code ≡ Some (record { width = g.width; height = g.height; depth = g.depth }))
 IsGlyphOf slot sizes (FontKern width) = Unit {0}
-IsGlyphOf slot sizes (nodes.Kern width) = Unit {0}
+IsGlyphOf slot sizes (nodes.Kern width) = ⊥
 IsGlyphOf slot sizes (nodes.Glue g) = Unit {0}
-IsGlyphOf slot sizes (nodes.Penalty penalty) = Unit {0}
-IsGlyphOf slot sizes (nodes.Rule rule) = Unit {0}
+IsGlyphOf slot sizes (nodes.Penalty penalty) = ⊥
+IsGlyphOf slot sizes (nodes.Rule rule) = ⊥
 IsGlyphOf slot sizes (nodes.Special text) = ⊥
 IsGlyphOf slot sizes (nodes.Box shift b) = ⊥
