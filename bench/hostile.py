@@ -3,11 +3,12 @@
 
 The inputs are scripts, DVI files, metric files and command lines, the same in every run (hostile_inputs.py). Each is run in a process of its own.
 What it prints, writes and returns has to be of a documented form (hostile_answers.py), its file is absent or one that `list` reads, and one input in fifty is run a second time.
-Printed are the inputs by kind and by what came of them, the slowest, the greatest memory, and all that is wrong; the status is 1 where something is.
-The memory of a small run cannot be told from that of this process, from which it starts."""
+Printed are the inputs by kind and by what came of them, the slowest, the greatest memory, and all that is wrong; the status is 1 where something is."""
 
 import argparse
 import collections
+import copy
+import ctypes
 import os
 import resource
 import shutil
@@ -20,8 +21,11 @@ from hostile_answers import HEX, Ran, Wrong, check_listing, check_reading, check
 from hostile_inputs import Good, font_paths, font_words, input_of
 
 HERE = os.path.dirname(os.path.abspath(__file__))
-SECONDS, MEMORY, AGAIN = 60, 2 << 30, 50
-STREAMS = ("given", "output", "errors")
+ctypes.CDLL(None).prctl(36, 1, 0, 0, 0)  # a process that lost its parent becomes a child of this one
+SECONDS, MEMORY, AGAIN, SHOWN = 60, 2 << 30, 50, 100
+STREAMS, ENVIRONMENT = ("given", "output", "errors"), {"LANG": "C.UTF-8"}
+# The shell gives a program in the background another standard input, where none is named. It ends at once, so it cannot wait for the program itself.
+START = '"$@" <&3 3<&- &'
 # Where these are written, the answers and the file may be in one place.
 ODD_OUTS = ("/dev/stdout", "/dev/stderr", "/dev/stdin", "script")
 
@@ -34,12 +38,13 @@ class Room:
         os.mkdir(self.streams)
         os.mkdir(self.folder)
         os.chdir(self.folder)
-        self.pid = None
         signal.signal(signal.SIGALRM, self.stop)
 
-    def stop(self, *_):
-        if self.pid:
-            os.kill(self.pid, signal.SIGKILL)
+    @staticmethod
+    def stop(*_):
+        with open("/proc/thread-self/children") as file:
+            for pid in file.read().split():
+                os.kill(int(pid), signal.SIGKILL)
 
     def fill(self, files):
         """Makes the folder anew. Beside the files it has a folder, a link to nothing, and a file that cannot be a folder."""
@@ -60,16 +65,21 @@ class Room:
         with open(path, "rb") as file:
             return file.read()
 
+    def other(self, program):
+        """A room in the same folder for another program."""
+        room = copy.copy(self)
+        room.program = program
+        return room
+
     def run(self, words, given=b"", out=None):
-        """One run. The program gets its signals back, since this process ignores two of them."""
+        """One run. A small shell starts the program and leaves it to this process, so that its peak memory is its own. The shell gets the signals back that this process ignores."""
         given_path, output, errors = ("%s/%s" % (self.streams, it) for it in STREAMS)
         self.write(given_path, given)
-        made = os.O_WRONLY | os.O_CREAT | os.O_TRUNC
-        actions = [(os.POSIX_SPAWN_OPEN, 0, given_path, os.O_RDWR, 0), (os.POSIX_SPAWN_OPEN, 1, output, made, 0o600), (os.POSIX_SPAWN_OPEN, 2, errors, made, 0o600)]
+        actions = [(os.POSIX_SPAWN_OPEN, number, path, os.O_RDWR | os.O_CREAT | os.O_TRUNC * (number < 3), 0o600) for number, path in ((3, given_path), (1, output), (2, errors))]
+        started = os.posix_spawn("/bin/sh", ["sh", "-c", START, "sh", self.program, *words], ENVIRONMENT, file_actions=actions, setsigdef=[signal.SIGPIPE, signal.SIGXFSZ])
+        os.waitpid(started, 0)
         signal.setitimer(signal.ITIMER_REAL, SECONDS)
-        self.pid = os.posix_spawn(self.program, [self.program, *words], {"LANG": "C.UTF-8"}, file_actions=actions, setsigdef=[signal.SIGPIPE, signal.SIGXFSZ])
-        _, status, used = os.wait4(self.pid, 0)
-        self.pid = None
+        _, status, used = os.wait4(-1, 0)
         signal.setitimer(signal.ITIMER_REAL, 0)
         file = self.read(out) if out and os.path.isfile(out) else None
         return Ran(os.waitstatus_to_exitcode(status), self.read(output), self.read(errors), file, used.ru_utime + used.ru_stime, used.ru_maxrss * 1024)
@@ -189,7 +199,8 @@ def try_all(room, good, numbers, kept):
             table.add(number, it, *checked(room, it, number))
         except Wrong as wrong:
             table.wrong.append(number)
-            print("input %d, %s, %s: %s" % (number, it.kind, it.way, wrong), flush=True)
+            if len(table.wrong) <= SHOWN:
+                print("input %d, %s, %s: %s" % (number, it.kind, it.way, wrong), flush=True)
             if kept:
                 keep(kept, number, it)
         if (number + 1) % 10_000 == 0:
@@ -220,4 +231,5 @@ def main():
     sys.exit(bool(table.wrong))
 
 
-main()
+if __name__ == "__main__":
+    main()
