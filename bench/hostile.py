@@ -3,7 +3,8 @@
 
 The inputs are scripts, DVI files, metric files and command lines, the same in every run (hostile_inputs.py). Each is run in a process of its own.
 What it prints, writes and returns has to be of a documented form (hostile_answers.py), its file is absent or one that `list` reads, and one input in fifty is run a second time.
-Printed are the inputs by kind and by what came of them, the slowest, the greatest memory, and all that is wrong; the status is 1 where something is."""
+Printed are the inputs by kind and by what came of them, the slowest, the greatest memory, and all that is wrong; the status is 1 where something is.
+SIGTERM ends it early. The memory of a run that takes less than this process is known of one input in ten alone."""
 
 import argparse
 import collections
@@ -71,18 +72,25 @@ class Room:
         room.program = program
         return room
 
-    def run(self, words, given=b"", out=None):
-        """One run. A small shell starts the program and leaves it to this process, so that its peak memory is its own. The shell gets the signals back that this process ignores."""
+    def run(self, words, given=b"", out=None, small=False):
+        """One run. The peak memory of what this process starts is at least that of this process, so for `small` a small shell starts the program and leaves it to this process.
+        The program gets the signals back that this process ignores."""
         given_path, output, errors = ("%s/%s" % (self.streams, it) for it in STREAMS)
         self.write(given_path, given)
-        actions = [(os.POSIX_SPAWN_OPEN, number, path, os.O_RDWR | os.O_CREAT | os.O_TRUNC * (number < 3), 0o600) for number, path in ((3, given_path), (1, output), (2, errors))]
-        started = os.posix_spawn("/bin/sh", ["sh", "-c", START, "sh", self.program, *words], ENVIRONMENT, file_actions=actions, setsigdef=[signal.SIGPIPE, signal.SIGXFSZ])
-        os.waitpid(started, 0)
+        actions = [(os.POSIX_SPAWN_OPEN, number, path, os.O_RDWR | os.O_CREAT | os.O_TRUNC * (number > 0), 0o600) for number, path in ((0, given_path), (1, output), (2, errors))]
+        command = [self.program, *words]
+        if small:
+            command = ["/bin/sh", "-c", START, "sh", *command]
+            actions.append((os.POSIX_SPAWN_DUP2, 0, 3))
+        started = os.posix_spawn(command[0], command, ENVIRONMENT, file_actions=actions, setsigdef=[signal.SIGPIPE, signal.SIGXFSZ])
+        if small:
+            os.waitpid(started, 0)
         signal.setitimer(signal.ITIMER_REAL, SECONDS)
         _, status, used = os.wait4(-1, 0)
         signal.setitimer(signal.ITIMER_REAL, 0)
+        memory = used.ru_maxrss if small or used.ru_maxrss > resource.getrusage(resource.RUSAGE_SELF).ru_maxrss else 0
         file = self.read(out) if out and os.path.isfile(out) else None
-        return Ran(os.waitstatus_to_exitcode(status), self.read(output), self.read(errors), file, used.ru_utime + used.ru_stime, used.ru_maxrss * 1024)
+        return Ran(os.waitstatus_to_exitcode(status), self.read(output), self.read(errors), file, used.ru_utime + used.ru_stime, memory * 1024)
 
     def typeset(self, script, fonts):
         """The file of a good script, or None."""
@@ -146,7 +154,7 @@ def check_words(room, it, ran):
 def checked(room, it, number):
     """Runs an input, again where its number says so, and checks it. Returns the run and what came of it."""
     room.fill(it.files)
-    ran = room.run(it.words, it.given, it.out)
+    ran = room.run(it.words, it.given, it.out, it.way == "large" or number // 20 % 10 == 0)
     if number % AGAIN == AGAIN - 1 - number // AGAIN % 20:  # over the time each of the twenty places of a kind
         room.fill(it.files)
         require(ran.same(room.run(it.words, it.given, it.out)), "the second run differs")
@@ -192,8 +200,12 @@ def keep(folder, number, it):
 
 def try_all(room, good, numbers, kept):
     """Tries the inputs of these numbers."""
-    table, start = Table(), time.monotonic()
+    table, start, stopped = Table(), time.monotonic(), []
+    signal.signal(signal.SIGTERM, lambda *_: stopped.append(True))
     for number in numbers:
+        if stopped:
+            print("stopped before input %d" % number)
+            break
         it = input_of(number, good)
         try:
             table.add(number, it, *checked(room, it, number))

@@ -18,7 +18,6 @@ from hostile_answers import Wrong, require
 from hostile_inputs import ROOT, Good, input_of
 from steps.library_build import build_calls
 
-MAKERS = {True: "job", False: "run"}
 NO_SUCH_PAGE = 5
 
 
