@@ -1,4 +1,5 @@
-"""Hostile inputs, always the same ones: input NUMBER depends on its number and on the files of the repository alone, so that each can be made again by itself.
+"""Hostile inputs, always the same ones: an input depends on its number, on files of the repository, and on the DVI files that the program makes of good scripts. So each can be
+made again by itself.
 
 Most inputs are good ones with a few changes, since random bytes are refused at the first of them. hostile_scripts.py makes the scripts."""
 
