@@ -29,6 +29,7 @@ class Pair:
     `paragraphs` the line of the answer to each paragraph, with its parameters; `kinds` the registers with boxes, and whether they are horizontal."""
 
     def __init__(self, seed):
+        self.used, self.slot, self.hsize = {}, 0, None
         self.random, self.box, self.tex, self.expected, self.paragraphs, self.kinds = random.Random(seed), [], [TEX_HEAD], [], [], {}
         for slot, name, size in FONTS:
             self.add("font %d %s%s" % (slot, name, " at " + size if size else ""),
@@ -219,10 +220,13 @@ class Pair:
             self.inner_box(4)
 
     def paragraph(self, number, pieces, kinds):
-        """A paragraph in the open vertical list. TeX says in its log which one it was and how many lines it has; its trace is before that."""
+        """A paragraph in the open vertical list. TeX says in its log which one it was and how many lines it has; its trace is before that.
+        It is `loose` where a break near its end may leave no items for a line."""
         self.add("par", "\\noindent")
-        for _ in range(pieces):
-            self.piece(self.random.choice(kinds))
+        chosen = [self.random.choice(kinds) for _ in range(pieces)]
+        for kind in chosen:
+            self.piece(kind)
+        self.used["loose"] = len(chosen) > 1 and {"skip", "kern", "penalty"}.issuperset(chosen[-2:])
         self.add("end", "\\par\\count250=\\prevgraf\\immediate\\write-1{@paragraph %d \\the\\count250}" % number)
         self.paragraphs.append((number, len(self.box), dict(self.used)))
 

@@ -51,10 +51,10 @@ def alike(found, name, ours, theirs, unequal, without=()):
             found.ours.page("%s, page with count %d" % (name, count), ours[count], theirs[count])
 
 
-def said(work, part, found, more=""):
-    """The line of a part of random work, and the seeds' notes."""
+def said(work, part, found):
+    """Prints what came out of a part."""
     answers = ", ".join("%d %s" % (count, word) for word, count in sorted(found.answers.items()))
-    line = "%s: answers %s, unequal %d%s; TeX's pages: %s; `list` beside dvitype: %s" % (part, answers, len(found.unequal), more, found.ours.shown(), found.listed.shown())
+    line = "%s: answers %s, unequal %d; TeX's pages: %s; `list` beside dvitype: %s" % (part, answers, len(found.unequal), found.ours.shown(), found.listed.shown())
     work.show(line, found.causes, found.unequal + found.ours.notes + found.listed.notes + found.ties)
 
 
@@ -137,6 +137,9 @@ def judged(answer, trace, used, found, where):
     missing = sum(min((used["linepenalty"] + badness) ** 2, 10 ** 8) for badness in forced)
     if total != trace.total and forced and (total - trace.total - missing) in [used["adjdemerits"] * count for count in range(len(forced) + 1)]:
         found.causes["totals without the demerits of a line to a forced place, which TeX leaves out in its last pass where one list reaches it"] += 1
+    elif total > trace.total and used["loose"]:
+        found.causes["paragraphs with a line without items at the end, which TeX measures with the stretch of parfillskip"] += 1
+        return False
     elif total != trace.total or lines != len(trace.chain) or lines != trace.lines:
         found.unequal.append("%s: %s; TeX: lines %d, demerits %d" % (where, answer, trace.lines, trace.total))
     return True
