@@ -232,8 +232,8 @@ class Pair:
 
     # Lists that are split.
 
-    def split(self, register, height):
-        self.asked("vsplit %d to %s into 2" % (register, height), "\\setbox2=\\vsplit%d to %s\\relax\\saysplit%d2" % (register, height, register))
+    def split(self, register, height, paragraph=None):
+        self.asked("vsplit %d to %s into 2" % (register, height), "\\setbox2=\\vsplit%d to %s\\relax\\saysplit%d2" % (register, height, register), paragraph)
 
     def vertical_items(self, count):
         for _ in range(count):
@@ -338,9 +338,9 @@ def pages(seed, count):
         for place in range(30):
             pair.first_lines()
             pair.paragraph(100 * number + place, 8, ("text",) * 3 + ("special",))
-        pair.asked("end", "}\\saybox1")
+        pair.asked("end", "}\\saybox1", number)
         for page in range(4):
-            pair.split(1, "550pt")
+            pair.split(1, "550pt", number)
             pair.ship(2, 10 * number + page)
         pair.ship(1, 10 * number + 9)
     return pair
