@@ -24,13 +24,6 @@ grown-none : (bytes_written : Option (List ℕ)) → bytes_written ≡ written_t
 grown-none None = refl
 grown-none (Some bytes) = ap Some (sym (append-nil bytes))
 
--- What a device reports that got nothing more, or a beginning of some bytes.
-pub grows_none : (bytes_written : Option (List ℕ)) → (more : List ℕ) × (bytes_written ≡ written_then bytes_written more)
-grows_none bytes_written = ([], grown-none bytes_written)
-
-pub grows_part : (old new : Option (List ℕ)) (bytes : List ℕ) → GrowsByFront old new bytes → (more : List ℕ) × (new ≡ written_then old more)
-grows_part old new bytes grows = (take grows.0 bytes, grows.2)
-
 -- A new writer has written no page.
 pub written_none : (fonts : Slots) (w : Writing) → w.so_far ≡ nothing_so_far → w.over ≡ false → HasWritten fonts w.bytes_written w []
 unfolding front

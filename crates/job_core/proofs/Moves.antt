@@ -198,6 +198,11 @@ pub sound_after : (s : State) (command : Command) (reply : Reply) → reply ≡ 
     → IsSound (state_after s command)
 sound_after s command reply says numbers sound = sound_by s command (first_refusal (checks s command)) refl (with_numbers s command reply says numbers) sound
 
+-- A device that was not called got nothing more.
+pub grows_none : (bytes_written : Option (List ℕ)) → (more : List ℕ) × (bytes_written ≡ written_then bytes_written more)
+grows_none None = ([], refl)
+grows_none (Some bytes) = ([], ap Some (sym (append-nil bytes)))
+
 -- The view of a job with this writer and this state of the rest.
 abbrev view_at : Writing → State → JobView
 view_at w s =

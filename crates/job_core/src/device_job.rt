@@ -1,6 +1,6 @@
 //! The job: commands are run, and each page goes to a device when it is shipped.
 
-ghost use Rattle.std.specs.Prelude.{◌≡◌, ◌≢◌, ◌<◌, ◌+◌, ◌^◌, ◌++◌, [], true, false, None, Err, List, length, IfOk, IfErr, OnOk, OnErr, IfSome};
+ghost use Rattle.std.specs.Prelude.{◌≡◌, ◌≢◌, ◌<◌, ◌+◌, ◌^◌, ◌++◌, [], true, false, None, Err, ℕ, List, length, IfOk, IfErr, OnOk, OnErr, IfSome};
 ghost use Rattle.job_commands.specs.declared.command.Command.TheVariants as commands;
 ghost use Rattle.job_commands.specs.declared.replies.Refusal.{Refusal};
 ghost use Rattle.job_commands.specs.Reply.{Reply as AReply};
@@ -60,6 +60,7 @@ fn ship_page<D: Device>(
     ensures unsent { IfErr result (λ refusal. refusal ≢ Refusal.Device → writer.new.bytes_written ≡ writer.old.bytes_written) }
     ensures part { result ≡ Err Refusal.Device → (m : Machine) → Represents (view_of kept.old writer.old) m
         → GrowsByFront (before_writing writer.old.bytes_written) writer.new.bytes_written (front m.state.fonts (m.pages ++ new_pages m.state (commands.Ship register))) }
+    ensures grows { (more : List ℕ) × (writer.new.bytes_written ≡ written_then writer.old.bytes_written more) }
     ensures began { writer.new.began ≡ writer.old.began }
 {
     let Some(box_node) = kept.held(register) else {
@@ -136,7 +137,7 @@ impl<D: Device> Model for Job<D> {
 }
 
 impl<D: Device> Job<D> {
-    ghost use Rattle.std.specs.Prelude.{◌≡◌, ◌≢◌, ◌<◌, ◌+◌, ◌^◌, ◌++◌, [], true, List, IfOk, IfErr, OnOk, OnErr, IfSome, Err, length};
+    ghost use Rattle.std.specs.Prelude.{◌≡◌, ◌≢◌, ◌<◌, ◌+◌, ◌^◌, ◌++◌, [], true, ℕ, List, IfOk, IfErr, OnOk, OnErr, IfSome, Err, length};
     ghost use Rattle.job_machine.specs.Effects.{new_pages};
     ghost use Rattle.job_machine.specs.Machine.{Machine, first_machine};
     ghost use Rattle.dvi_layout.specs.Layout.{front, whole};
@@ -181,6 +182,7 @@ impl<D: Device> Job<D> {
         ensures unsent { IfErr result (λ refusal. refusal ≢ Refusal.Device → self.new.bytes_written ≡ self.old.bytes_written) }
         ensures part { result ≡ Err Refusal.Device → (m : Machine) → Represents self.old m
             → GrowsByFront (before_writing self.old.bytes_written) self.new.bytes_written (front m.state.fonts (m.pages ++ new_pages m.state command.now)) }
+        ensures grows { (more : List ℕ) × (self.new.bytes_written ≡ written_then self.old.bytes_written more) }
         ensures began { self.new.began ≡ self.old.began }
     {
         if self.writer.is_over() {
@@ -234,6 +236,7 @@ impl<D: Device> Job<D> {
         ensures sent { OnOk result ((m : Machine) → Represents self.old m → self.new.bytes_written ≡ written_then (before_writing self.old.bytes_written) (whole m.state.fonts m.pages)) }
         ensures part { result ≡ Err Refusal.Device → (m : Machine) → Represents self.old m → GrowsByFront (before_writing self.old.bytes_written) self.new.bytes_written (whole m.state.fonts m.pages) }
         ensures unsent { IfErr result (λ refusal. refusal ≢ Refusal.Device → self.new.bytes_written ≡ self.old.bytes_written) }
+        ensures grows { (more : List ℕ) × (self.new.bytes_written ≡ written_then self.old.bytes_written more) }
         ensures began { self.new.began ≡ self.old.began }
     {
         if self.writer.is_over() {

@@ -3,7 +3,7 @@ use Rattle.dvi_write.specs.Writing.{Writing}
 use Rattle.dvi_layout.proofs.Files.{file_shows}
 use Rattle.dvi_layout.proofs.ClosedFiles.{file_closes}
 use Rattle.dvi_layout.proofs.Rooms.{small}
-use Rattle.dvi_write.proofs.Writings.{ended_all, ended_none, ended_part, ended_size, none_ended, written_small, grows_none, grows_part}
+use Rattle.dvi_write.proofs.Writings.{ended_all, ended_none, ended_part, ended_size, none_ended, written_small}
 use Rattle.dvi_write.proofs.dvi_writer.DviWriter.finish.Goals as goal
 
 pub returns-then-pages-eq0-clause-whole : goal.returns-then-pages-eq0-clause-whole

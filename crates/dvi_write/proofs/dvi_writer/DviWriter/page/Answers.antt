@@ -1,7 +1,7 @@
 use Rattle.std.proofs.Common.{ap, ◌∙◌}
 use Rattle.dvi_layout.specs.Shippable.{page_with}
 use Rattle.dvi_write.specs.Writing.{Writing}
-use Rattle.dvi_write.proofs.Writings.{written_more, part_more, grows_none, grows_part}
+use Rattle.dvi_write.proofs.Writings.{written_more, part_more}
 use Rattle.dvi_write.proofs.dvi_writer.DviWriter.page.Goals as goal
 
 pub returns-in_err-send-clause-part : goal.returns-in_err-send-clause-part
@@ -9,15 +9,6 @@ returns-in_err-send-clause-part g c is =
     let page = page_with c.args.counts.now c.args.offsets c.args.box_node.now in
     let front = rw (c.deref.ensures.value, c.in_ok-next.ensures.bytes) at c.in_err-send.ensures.front in
     λ before pages written. part_more c.args.fonts.now before c.send.new.self.bytes_written c.args.self.now pages page written front
-
-pub returns-in_err-next-clause-grows : goal.returns-in_err-next-clause-grows
-returns-in_err-next-clause-grows g c = grows_none c.args.self.now.bytes_written
-
-pub returns-in_err-send-clause-grows : goal.returns-in_err-send-clause-grows
-returns-in_err-send-clause-grows g c = grows_part c.args.self.now.bytes_written c.send.new.self.bytes_written _ c.in_err-send.ensures.front
-
-pub returns-clause-grows : goal.returns-clause-grows
-returns-clause-grows g c = (_, ap (λ (w : Writing). w.bytes_written) c.self.view_is ∙ c.in_ok-send.ensures.bytes_written)
 
 pub returns-clause-written : goal.returns-clause-written
 returns-clause-written g c before pages written =
