@@ -185,6 +185,7 @@ impl<D: Device> DviWriter<D> {
         ensures failed { result ≡ Err WriteFault.Device → self.new.failed ≡ self.old.failed + 1 }
         ensures over { result ≡ Err WriteFault.Device → self.new.over ≡ true }
         ensures so_far { result ≡ Err WriteFault.Device → self.new.so_far ≡ self.old.so_far }
+        ensures grows { (more : List ℕ) × (self.new.bytes_written ≡ written_then self.old.bytes_written more) }
         ensures began { self.new.began ≡ self.old.began }
     {
         let next = self.prepare(alloc, box_node, offsets, counts, fonts)?;
@@ -217,6 +218,7 @@ impl<D: Device> DviWriter<D> {
         ensures failed { result ≡ Err WriteFault.Device → self.new.failed ≡ self.old.failed + 1 }
         ensures over { OnOk result (self.new.over ≡ true) }
         ensures lost { result ≡ Err WriteFault.Device → self.new.over ≡ true }
+        ensures grows { (more : List ℕ) × (self.new.bytes_written ≡ written_then self.old.bytes_written more) }
         ensures began { self.new.began ≡ self.old.began }
     {
         if self.over {
