@@ -44,7 +44,7 @@ fn common_front(one: &[u8], other: &[u8]) -> usize
 impl<D: Device> Rest<D> {
     ghost use Rattle.std.specs.Prelude.{◌≡◌, ◌<◌, ◌+◌, ◌^◌, [], List, ℕ, Some, length, drop, IfSome};
     ghost use Rattle.dvi_device.specs.Written.{written_then, IsFrontOf};
-    ghost use Rattle.dvi_device.specs.Resumed.{written_by, GoesOnAs};
+    ghost use Rattle.dvi_device.specs.Resumed.{written_by, GoesOnAs, PassesOn};
 
     /// A device around `device`, for a file whose first bytes `sent` were sent before. It takes no memory.
     pub fn new(device: D, sent: Vec<u8>) -> Rest<D>
@@ -61,11 +61,12 @@ impl<D: Device> Rest<D> {
         }
     }
 
-    /// Returns the inner device. Where a whole file went through this device, and `sent` is a beginning of it, the inner device got the rest of the
+    /// Returns the inner device. What it had reported stands, and only bytes after `sent` follow it. Where a whole file went through this device, and `sent` is a beginning of it, the inner device got the rest of the
     /// file. Where the inner device had reported exactly `sent` at the start, it now reports the whole file.
     pub fn into_device(self) -> D
         ensures device { result ≡ self.device }
         ensures parts { IfSome (written_by D.bytes_written self) (GoesOnAs self.sent (D.bytes_written self.start) (D.bytes_written result)) }
+        ensures passes_on { PassesOn self.sent (D.bytes_written self.start) (D.bytes_written result) (written_by D.bytes_written self) }
         ensures rest_sent { (whole : List ℕ) → IfSome (written_by D.bytes_written self) (λ bytes. bytes ≡ whole) → IsFrontOf self.sent whole
             → D.bytes_written result ≡ written_then (D.bytes_written self.start) (drop (length self.sent) whole) }
         ensures whole { (whole : List ℕ) → IfSome (written_by D.bytes_written self) (λ bytes. bytes ≡ whole) → IsFrontOf self.sent whole → D.bytes_written self.start ≡ Some self.sent

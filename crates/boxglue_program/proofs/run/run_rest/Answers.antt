@@ -1,5 +1,5 @@
--- The answers, and the file that the inner device then has.
-use Rattle.boxglue_program.proofs.RunLaws.{resumed}
+-- The answers, and what the inner device then has.
+use Rattle.boxglue_program.proofs.RunLaws.{resumed, answered_over_rest, lacking_over_rest}
 use Rattle.boxglue_program.proofs.run.run_rest.Goals as goal
 
 pub returns-in-Ok : goal.returns-in-Ok
@@ -10,7 +10,13 @@ returns-in-Ok g c =
       whole = λ had. (
         answers.0,
         resumed g.D.Device.bytes_written g.D.Device.failed c.args.text.now c.args.files.now c.args.device c.args.sent.items c.new.result rest c.into_device.result answers.0 c.in-Ok.accepted
-            c.new.ensures.made answers.1 c.in-Ok.ensures.began had c.into_device.ensures.device c.into_device.ensures.whole,
+            c.new.ensures.made answers.1 c.in-Ok.ensures.began had c.into_device.ensures.device c.into_device.ensures.whole c.into_device.ensures.passes_on,
+        answers.2,
+      );
+      answers = (
+        answers.0,
+        answered_over_rest g.D.Device.bytes_written g.D.Device.failed c.args.text.now c.args.files.now c.args.device c.args.sent.items c.new.result rest c.into_device.result answers.0 c.in-Ok.accepted
+            c.new.ensures.made answers.1 c.in-Ok.ensures.began c.into_device.ensures.device c.into_device.ensures.passes_on,
         answers.2,
       );
     }
