@@ -27,8 +27,8 @@ returns-in-Err-Memory-clause-left g c =
     let rest = c.in-Err-Memory.rest in
     let left = rw c.in-Err-Memory.field-0-is at c.in-Err-Memory.ensures.left in
     let began = rw c.in-Err-Memory.field-0-is at c.in-Err-Memory.ensures.kept in
-    lacking_over_rest g.D.Device.bytes_written g.D.Device.failed c.args.text.now c.args.files.now c.args.device c.args.sent.items c.new.result rest c.into_device-in-Err-Memory.result _ _
-    c.new.ensures.made left began c.into_device-in-Err-Memory.ensures.device c.into_device-in-Err-Memory.ensures.passes_on
+    lacking_over_rest g.D.Device.bytes_written g.D.Device.failed c.args.text.now c.args.files.now c.args.device c.args.sent.items c.new.result rest c.into_device-in-Err-Memory.result
+    (g.W.Write.contents c.args.writer.now) (g.W.Write.contents c.run_script.new.writer) c.new.ensures.made left began c.into_device-in-Err-Memory.ensures.device c.into_device-in-Err-Memory.ensures.passes_on
 
 pub returns-in-Err-Answers-clause-left : goal.returns-in-Err-Answers-clause-left
 returns-in-Err-Answers-clause-left g c =
