@@ -12,7 +12,7 @@ use Rattle.boxglue_script.specs.declared.cause.Cause.TheVariants.{Word, Missing,
 use Rattle.boxglue_script.specs.ScriptLines.{is_passed_over, is_printable, fields_of, HasText}
 use Rattle.boxglue_script.specs.Grammar.{IsName, SaysCommand}
 use Rattle.boxglue_script.specs.Causes.{SaysSome, Begins, IsWord, GivesNumber, GivesDimension, GivesSizeOfFont, GivesSize, HasBad, LacksField, HasBadElsewhere, HasExtra, TakesNames, IsFieldCause, IsCause}
-use Rattle.boxglue_script.specs.Script.{IsPassedOver, Gives, SaysLine, IsRightLine, IsFirstBad}
+use Rattle.boxglue_script.specs.Script.{Gives, SaysLine, IsRightLine, IsFirstBad}
 use Rattle.boxglue_script.proofs.FieldLaws.{reads_dimension, dimension_read}
 use Rattle.boxglue_script.proofs.CauseForms.{takes_no_names, letter}
 use Rattle.boxglue_script.proofs.CauseLaws.{no_name, letter_is_no_name}
