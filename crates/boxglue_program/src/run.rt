@@ -1,6 +1,6 @@
 //! Running a script.
 
-ghost use Rattle.std.specs.Prelude.{◌≡◌, ◌<◌, ◌+◌, ◌^◌, ◌⊎◌, ℕ, List, [], length, Some, Result, is_ok, IfOk, IfErr, IfSome};
+ghost use Rattle.std.specs.Prelude.{◌≡◌, ◌<◌, ◌+◌, ◌^◌, ◌⊎◌, ℕ, true, List, [], length, Some, Result, is_ok, IfOk, IfErr, IfSome};
 ghost use Rattle.std.specs.List.{list_all};
 ghost use Rattle.std.specs.Io.KnownBytes.{Appends};
 ghost use Rattle.job_commands.specs.declared.replies.Refusal.{Refusal};
@@ -182,7 +182,7 @@ fn run_whole<D: Device>(
 /// Runs lines of a script in order on a job of the caller. Returns the text of their answers, one line each, and whether no command was refused.
 ///
 /// Each line is answered at once, so that no command and no reply is kept for its text. There is no text where memory for it was refused; the lines were
-/// run all the same.
+/// run all the same. A job that is over stays as it was: each line is answered JobOver.
 pub fn run_lines<D: Device>(
     alloc: Global,
     job: &mut Job<D>,
@@ -190,6 +190,7 @@ pub fn run_lines<D: Device>(
 ) -> (Option<Vec<u8>>, bool)
     ensures ran { (replies : List Reply) × RunsTo job.old (commands_of lines.now) replies job.new × (length replies ≡ length lines.now)
         × IfSome result.0 (λ text. text.items ≡ answer_lines (line_numbers lines.now) replies) × (result.1 ≡ list_all is_ok replies) }
+    ensures idle { job.old.state.over ≡ true → job.new ≡ job.old }
     ensures began { job.new.began ≡ job.old.began }
 {
     let mut text = Some(Vec::new(alloc));
