@@ -1,6 +1,7 @@
 //! The device that writes a DVI file at a path.
 
 ghost use Rattle.std.specs.Prelude.{◌≡◌, ◌≢◌, ◌≤◌, ◌<◌, ◌+◌, [], false, true, ℕ, List, length, take, IfOk, OnOk, OnErr};
+ghost use Rattle.std.specs.Coded.{Coded-set, →_prop};
 ghost use Rattle.std.specs.Option.{ForSome};
 ghost use Rattle.dvi_device.specs.Written.{written_then};
 ghost use Rattle.boxglue_host.specs.Hosts.{created_after, written_to_file};
@@ -23,6 +24,7 @@ pub struct FileDevice<'a, H: Host> {
     ghost counted: { H.failures host ≡ H.failures start.seen + failures },
     ghost placed: { H.created host ≡ created_after is_open path.now (H.created start.seen) },
     ghost closed: { is_open ≡ false → H.written host ≡ H.written start.seen },
+    ghost same: { is_open ≡ false → failures ≡ 0 → host ≡ start.seen } by { →_prop (→_prop (Coded-set H.code host start.seen)) },
 }
 
 impl<'a, H: Host> FileDevice<'a, H> {
@@ -51,13 +53,15 @@ impl<'a, H: Host> FileDevice<'a, H> {
     }
 
     /// Returns the host, which has failed as often as the device, and has created no file since the device was made but that of the device, once. If this
-    /// was created and no write failed, it has taken a byte. If it was not, the host reports the bytes that it reported before.
+    /// was created and no write failed, it has taken a byte. If it was not, the host reports the bytes that it reported before, and without a failure it is as
+    /// it was.
     pub fn into_host(self) -> H
         ensures host { result ≡ self.entry.host }
         ensures used { self.entry.is_open ≡ true → self.entry.failures ≡ 0 → ForSome (H.written result) (λ bytes. bytes ≢ []) }
         ensures counted { H.failures result ≡ H.failures self.entry.start.seen + self.entry.failures }
         ensures placed { H.created result ≡ created_after self.entry.is_open self.entry.path.now (H.created self.entry.start.seen) }
         ensures closed { self.entry.is_open ≡ false → H.written result ≡ H.written self.entry.start.seen }
+        ensures same { self.entry.is_open ≡ false → self.entry.failures ≡ 0 → result ≡ self.entry.start.seen }
     {
         self.host
     }
@@ -98,6 +102,7 @@ fn put<H: Host>(
     ensures count_bounded { IfOk result (λ n. (1 ≤ n) × (n ≤ length piece.now)) }
     ensures taken { IfOk result (λ n. written_to_file is_open.new (H.written host.new) ≡ written_then (written_to_file is_open.old (H.written host.old)) (take n piece.now)) }
     ensures none_taken { OnErr result (written_to_file is_open.new (H.written host.new) ≡ written_to_file is_open.old (H.written host.old)) }
+    ensures opened { OnOk result (is_open.new ≡ true) }
     ensures used { OnOk result (ForSome (H.written host.new) (λ bytes. bytes ≢ [])) }
     ensures closed { is_open.new ≡ false → H.written host.new ≡ H.written host.old }
     ensures kept_open { is_open.new ≡ false → is_open.old ≡ false }
