@@ -3,7 +3,7 @@ use Rattle.std.specs.Prelude.{◌≡◌, ◌==◌, ◌++◌, ⊤, ℕ, length, n
 use Rattle.dvi_device.specs.Beginnings.{Beginning}
 use Rattle.tfm_core.specs.NamedBytes.{NamedBytes}
 use Rattle.boxglue_words.specs.declared.fonts.NamedPath.{NamedPath}
-use Rattle.boxglue_host.specs.Readings.{IsFileReading, IsUnreadableFile}
+use Rattle.boxglue_host.specs.Readings.{IsFileReading, IsReadableFile, IsUnreadableFile}
 use Rattle.boxglue_host.specs.declared.font_files.Unread.{Unread}
 use Rattle.boxglue_host.specs.declared.font_files.Unread.TheVariants.{OutOfMemory as WantsMemory, File}
 
@@ -47,9 +47,9 @@ AreFilesOf contents [] (file ∷ files) = ⊥
 AreFilesOf contents (font ∷ fonts) [] = ⊥
 AreFilesOf contents (font ∷ fonts) (file ∷ files) = IsFileOf contents font file × AreFilesOf contents fonts files
 
--- The file of a font was not read: out of memory, or the file cannot be read and its path is named.
+-- The file of a font was not read: out of memory, where the file can be read; or it cannot be read, and its path is named.
 abbrev pub IsUnreadOf : (List ℕ → Option (Option (List ℕ))) → NamedPath → Unread → Type 0
-IsUnreadOf contents font WantsMemory = ⊤
+IsUnreadOf contents font WantsMemory = IsReadableFile (contents font.path.now)
 IsUnreadOf contents font (File path) = (path.now ≡ font.path.now) × IsUnreadableFile (contents font.path.now)
 
 -- The file of a font was not read; those of the fonts before it were.
