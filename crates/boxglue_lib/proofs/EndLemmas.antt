@@ -7,15 +7,15 @@ use Rattle.std.specs.Io.KnownBytes.{Appends, Keeps}
 use Rattle.std.specs.Prelude.{◌==◌, not, [], IfSome, IsSome}
 use Rattle.std.proofs.lemmas.Bool.{eq-eqb, eqb-true}
 use Rattle.dvi_device.specs.Beginnings.{Beginning}
-use Rattle.boxglue_host.specs.Hosts.{AreFilesOf, begun_for, created_after, has_failed, written_to_file}
+use Rattle.boxglue_host.specs.Hosts.{AreFilesOf, IsUnread, begun_for, created_after, has_failed, written_to_file}
 use Rattle.boxglue_host.proofs.HostLemmas.{AreBegunAlike, begun_alike}
 use Rattle.tfm_core.specs.NamedBytes.{NamedBytes}
 use Rattle.boxglue_host.specs.declared.font_files.Unread.{Unread}
 use Rattle.boxglue_host.specs.declared.font_files.Unread.TheVariants.{OutOfMemory as WantsMemory, File}
 use Rattle.boxglue_words.specs.declared.fonts.NamedPath.{NamedPath}
-use Rattle.boxglue_lib.specs.Inputs.{IsUnreadScript}
+use Rattle.boxglue_lib.specs.Inputs.{IsUnreadDvi, IsUnreadScript}
 use Rattle.boxglue_lib.specs.Parts.{TellsOutput, end_of}
-use Rattle.boxglue_host.specs.Readings.{IsReading}
+use Rattle.boxglue_host.specs.Readings.{IsFileReading, IsReading}
 use Rattle.boxglue_lib.specs.Typesets.{HasTypeset, IsLeftAlone, IsLeftToFile, IsToFile, IsTypeset, IsUsed, TellsUnwritten}
 use Rattle.boxglue_program.specs.Runs.{IsUntouched, RanScript, RefusedScript, WasRunWhole, WritesFront, memory_line}
 use Rattle.boxglue_program.proofs.WritingLemmas.{appends_both, appends_keeps, keeps_appends, keeps_front}
@@ -214,6 +214,24 @@ back_alike created written failures path made out start first host began same al
 pub placed_since : (path out : List ℕ) (paths before now : List (List ℕ)) (created : Bool) → path ≡ out → paths ≡ before → now ≡ created_after created path paths → now ≡ created_after created out before
 placed_since path out paths before now created same alike is = is ∙ (ap (λ (p : List ℕ). created_after created p paths) same ∙ ap (λ (ps : List (List ℕ)). created_after created out ps) alike)
 
+-- Fonts that were not read, before standard input.
+pub unread_script : (reported : List ℕ → Option (Option (List ℕ))) (input : Option (List ℕ)) (fonts : List NamedPath) (fault : Unread)
+    → IsUnread reported fonts fault → IsUnreadScript reported input fonts fault
+unread_script reported input fonts WantsMemory unread = inl unread
+unread_script reported input fonts (File path) unread = inl unread
+
+-- Fonts that were not read, after the DVI file.
+pub unread_dvi : (reported : List ℕ → Option (Option (List ℕ))) (dvi bytes : List ℕ) (fonts : List NamedPath) (fault : Unread)
+    → IsFileReading (reported dvi) bytes → IsUnread reported fonts fault → IsUnreadDvi reported dvi fonts fault
+unread_dvi reported dvi bytes fonts WantsMemory read unread = inr ((bytes, read), unread)
+unread_dvi reported dvi bytes fonts (File path) read unread = inr ((bytes, read), unread)
+
+-- What is known of the input of `typeset` if memory was refused for it.
+wanting_script : (reported : List ℕ → Option (Option (List ℕ))) (input : Option (List ℕ)) (fonts : List NamedPath) (fault : Unread)
+    → end_of fault ≡ OutOfMemory → IsUnreadScript reported input fonts fault → IsUnreadScript reported input fonts WantsMemory
+wanting_script reported input fonts WantsMemory wants unread = unread
+wanting_script reported input fonts (File path) wants unread = absurd (cc)
+
 -- The input of `typeset` was not read, and that was reported.
 pub not_typeset : (reported : List ℕ → Option (Option (List ℕ))) (input : Option (List ℕ)) (fonts : List NamedPath) (out : List ℕ) (paths : List (List ℕ)) (written : Option (List ℕ)) (has_failed : Bool) (Same : Type 0)
     (fault : Unread) (old new errors errors' : Option (List ℕ)) (status : ℕ)
@@ -228,7 +246,7 @@ not_typeset reported input fonts out paths written has_failed Same fault old new
       placed = refl;
       untouched = λ _. refl;
       printed = unread_output (IsTypeset reported input fonts written Same false true) reported input fonts fault (IsLeftAlone Same false true) old new alone unread said;
-      wanting = λ _. inl alone;
+      wanting = λ wants. inl (alone, wanting_script reported input fonts fault wants unread);
       middle = errors;
       unwritten = keeps_same errors;
       blamed = blamed;

@@ -4,7 +4,7 @@ use Rattle.std.specs.Option.{ForSome}
 use Rattle.std.specs.Io.KnownBytes.{Keeps}
 use Rattle.boxglue_host.specs.Hosts.{AreFilesOf, created_after, written_to_file}
 use Rattle.boxglue_host.specs.Readings.{IsReading}
-use Rattle.boxglue_host.specs.declared.font_files.Unread.TheVariants.{File}
+use Rattle.boxglue_host.specs.declared.font_files.Unread.TheVariants.{OutOfMemory as WantsMemory, File}
 use Rattle.boxglue_program.specs.Runs.{IsUntouched, RanScript, RefusedScript, WasRunWhole}
 use Rattle.tfm_core.specs.NamedBytes.{NamedBytes}
 use Rattle.boxglue_words.specs.declared.fonts.NamedPath.{NamedPath}
@@ -41,10 +41,10 @@ abbrev pub IsTypeset : (List ℕ → Option (Option (List ℕ))) → (input : Op
 IsTypeset contents input fonts written Same created done answer fine =
     (text : List ℕ) × (files : List NamedBytes) × IsReading input text × AreFilesOf contents fonts files × IsToFile text files written Same created done answer fine
 
--- Memory was refused: for what is read, and nothing was run; or after that.
+-- Memory was refused: for a file that can be read, and nothing was run; or after all was read.
 abbrev pub LacksMemoryForTask : (List ℕ → Option (Option (List ℕ))) → (input : Option (List ℕ)) → List NamedPath → (written : Option (List ℕ)) → (Same : Type 0) → (created done : Bool) → Type 0
 LacksMemoryForTask contents input fonts written Same created done =
-    IsLeftAlone Same created done
+    (IsLeftAlone Same created done × IsUnreadScript contents input fonts WantsMemory)
     ⊎ ((text : List ℕ) × (files : List NamedBytes) × IsReading input text × AreFilesOf contents fonts files × IsLeftToFile text files written created done)
 
 -- The message about a file that did not take all bytes.
