@@ -6,7 +6,6 @@ use Rattle.std.specs.Borrow.{Bor}
 use Rattle.std.specs.Io.KnownBytes.{Appends, Keeps}
 use Rattle.std.specs.Prelude.{◌==◌, not, [], IfSome, IsSome}
 use Rattle.std.proofs.lemmas.Bool.{eq-eqb, eqb-true}
-use Rattle.dvi_device.specs.Beginnings.{Beginning}
 use Rattle.boxglue_host.specs.Hosts.{AreFilesOf, IsUnread, begun_for, created_after, has_failed, written_to_file}
 use Rattle.boxglue_host.proofs.HostLemmas.{AreBegunAlike, begun_alike}
 use Rattle.tfm_core.specs.NamedBytes.{NamedBytes}
