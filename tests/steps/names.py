@@ -5,7 +5,7 @@ import os
 import re
 from functools import partial
 
-TITLE = "the names of code in docs/PROVED.md, ARCHITECTURE.md, EVIDENCE.md and DECISIONS.md are in the sources, and no comment writes the test attribute"
+TITLE = "the names of code in four documents are in the sources, as the clauses of PROVED.md; no comment writes the test attribute, no code has floating-point numbers"
 TRIES = False
 DOCUMENTS = ("PROVED", "ARCHITECTURE", "EVIDENCE", "DECISIONS")
 SOURCES = ("crates/*/src/**/*.rt", "crates/*/specs/*.antt", "crates/*/proofs/**/*.antt", "crates/rows_scripts/stdin", "tests/steps/*.py", "crates.txt")
@@ -52,8 +52,43 @@ def test_attributes(root):
     return f"a comment writes the test attribute in {', '.join(sorted(wrong))}" if wrong else None
 
 
+def float_types(root):
+    """Sources that name a type of floating-point numbers: all arithmetic is over integers."""
+    wrong = [os.path.relpath(path, root) for path in glob.glob(f"{root}/crates/*/src/**/*.rt", recursive=True) if re.search(r"\bf(32|64)\b", read(path))]
+    return f"floating-point numbers in {', '.join(sorted(wrong))}" if wrong else None
+
+
+def contracts(root):
+    """The names of clauses of each function, of all crates together."""
+    found = {}
+    for path in glob.glob(f"{root}/crates/*/src/**/*.rt", recursive=True):
+        for name, contract in re.findall(r"\bfn (\w+)\b(.*?)(?=\bfn \w|\Z)", read(path), re.S):
+            found.setdefault(name, set()).update(re.findall(r"\b(?:requires|ensures) (\w+) \{", contract))
+    return found
+
+
+def clauses(root):
+    """Clauses that PROVED.md gives to functions that have none of the name. A line of contracts has groups with `;` between them, each of functions, then a space and clauses with `/` between them."""
+    known, wrong = contracts(root), []
+    for line in re.findall(r"(?m)^  (`.*)$", read(f"{root}/docs/PROVED.md")):
+        if "` of `" in line:
+            continue  # there the clauses come first
+        functions, after = [], ""
+        for token, after_token in re.findall(r"`([^`]+)`([^`]*)", line):
+            name = token.split("::")[-1]
+            if after in (" ", "/") and re.fullmatch(r"\w+", token):
+                if functions and not any(token in known[it] for it in functions):
+                    wrong.append(f"{functions[-1]} {token}")
+            else:
+                functions = (functions if after.strip() in (",", "") and after != "" else []) + ([name] if name in known else [])
+            after = after_token
+    return f"docs/PROVED.md gives clauses to functions that lack them: {', '.join(wrong)}" if wrong else None
+
+
 def cases(_programs, root):
-    """A case for each document, and one for the comments of the sources."""
+    """A case for each document, and some for the sources."""
     for document in DOCUMENTS:
         yield document, partial(outcome, root, document)
+    yield "clauses", partial(clauses, root)
     yield "test_attributes", partial(test_attributes, root)
+    yield "float_types", partial(float_types, root)

@@ -22,18 +22,29 @@ Usage: boxglue [COMMAND]
 For more information, try '--help'.
 ";
 
-/// A file that is opened three times before anything else, and never read. The number of a closed standard stream goes to the next file that is opened, and
-/// what is meant for the stream would then go into that file. So the numbers of all three are taken first, and a write to a closed stream fails.
-const PLACEHOLDER: &str = "/";
+/// Files of which one is opened three times before anything else, and never read. The number of a closed standard stream goes to the next file that is
+/// opened, and what is meant for the stream would then go into that file. So the numbers of all three are taken first, and a write to a closed stream
+/// fails. The user may lack the right to read the first ones.
+const PLACEHOLDERS: [&str; 3] = ["/", "/dev/null", "."];
+
+/// A file that is open while the program runs, if one of the placeholders can be opened.
+fn placeholder(rt: &HostRuntime) -> Option<File> {
+    for path in PLACEHOLDERS {
+        if let Ok(file) = File::open(rt, path) {
+            return Some(file);
+        }
+    }
+    None
+}
 
 /// The program takes no words, or `typeset`, `list` or `paint` with their own: a script from standard input, answers to standard output.
 ///
 /// Its status is 0 if nothing was refused; 2 if the words are refused, or the file does not have the page that is asked for; and otherwise 1.
 fn main(rt: HostRuntime) -> ExitCode {
     let alloc = rt.alloc();
-    let _input = File::open(&rt, PLACEHOLDER);
-    let _output = File::open(&rt, PLACEHOLDER);
-    let _errors = File::open(&rt, PLACEHOLDER);
+    let _input = placeholder(&rt);
+    let _output = placeholder(&rt);
+    let _errors = placeholder(&rt);
     let mut output = Waiting::new(&rt, rt.stdout());
     let mut errors = Waiting::new(&rt, rt.stderr());
     let words: Vec<String> = match std::env::args(&LaterWords::of(&rt)) {

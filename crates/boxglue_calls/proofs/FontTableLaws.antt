@@ -8,7 +8,7 @@ use Rattle.dvi_scan.specs.declared.fault.FrameFault.{FrameFault}
 use Rattle.dvi_scan.specs.declared.fault.FrameFault.TheVariants as frames
 use Rattle.dvi_ops.proofs.Appends.{fonts_back}
 use Rattle.dvi_ops.specs.Fonts.{known_after}
-use Rattle.dvi_ops.specs.Instruction.{Definition}
+use Rattle.dvi_ops.specs.Instruction.{Definition, Postamble}
 use Rattle.dvi_ops.specs.Tokens.{says}
 use Rattle.dvi_ops.specs.View.{definition, postamble}
 use Rattle.dvi_ops.specs.declared.op.FontDefinition.{FontDefinition}
@@ -17,6 +17,7 @@ use Rattle.dvi_scan.proofs.PassedLemmas.{file_passed}
 use Rattle.boxglue_print.specs.Faults.{fault_line}
 use Rattle.dvi_read.proofs.FaultLemmas.{after_within, no_fault}
 use Rattle.dvi_read.specs.Opened.{IsNoFile}
+use Rattle.dvi_read.specs.Opening.{StartsAt}
 use Rattle.dvi_read.specs.OpeningParts.{HasFront}
 use Rattle.dvi_read.specs.declared.before_pages.BeforePages.{BeforePages}
 use Rattle.dvi_read.specs.Faults.{of_frame}
@@ -72,24 +73,29 @@ pub defines : (bytes : List ℕ) (front : BeforePages) (old known fonts : List D
     → DefinesFonts bytes fonts
 defines bytes front old known fonts none starts closes same =
     let all = subst (λ (ds : List Definition). ClosesTo bytes front.ending.after (front.ending.last - 5) ds known) none closes in
-    record { front = front; starts = starts; closes = subst (λ (ds : List Definition). ClosesTo bytes front.ending.after (front.ending.last - 5) [] ds) (sym same) all }
+    record {
+      post = front.ending.post;
+      after = front.ending.after;
+      last = front.ending.last;
+      stop = postamble front.ending.stop;
+      chain = front.chain.items;
+      from = front.from;
+      starts = starts;
+      closes = subst (λ (ds : List Definition). ClosesTo bytes front.ending.after (front.ending.last - 5) [] ds) (sym same) all;
+    }
 
 pub breaks : (bytes : List ℕ) (front : BeforePages) (old new : List Definition) (frame : FrameFault) → old ≡ [] → HasFront bytes front
     → IsClosingFault bytes front.ending.after (front.ending.last - 5) old new frame → BreaksFonts bytes (of_frame frame)
 breaks bytes front old new frame none starts broken =
-    inr (front, new, frame, starts, subst (λ (ds : List Definition). IsClosingFault bytes front.ending.after (front.ending.last - 5) ds new frame) none broken, refl)
+    inr (front.ending.post, front.ending.after, front.ending.last, postamble front.ending.stop, front.chain.items, front.from, new, frame, starts, subst (λ (ds : List Definition). IsClosingFault bytes front.ending.after (front.ending.last - 5) ds new frame) none broken, refl)
 
 -- What is wrong after post.
-tail_fault : (files : List NamedBytes) (bytes : List ℕ) (front : BeforePages) (new : List Definition) (frame : FrameFault) (fault : DviFault) → fault ≢ OutOfMemory → HasFront bytes front
-    → IsClosingFault bytes front.ending.after (front.ending.last - 5) [] new frame → fault ≡ of_frame frame → IsNoFile files bytes
-tail_fault files bytes front new frames.OutOfMemory fault other starts broken is pages f = other is
-tail_fault files bytes front new (frames.Bad bad) fault other starts broken is pages f =
-    let post = front.ending.post in
-    let after = front.ending.after in
-    let last = front.ending.last in
-    let stop = postamble front.ending.stop in
+tail_fault : (files : List NamedBytes) (bytes : List ℕ) (post after last : ℕ) (stop : Postamble) (chain : List ℕ) (from : ℕ) (new : List Definition) (frame : FrameFault) (fault : DviFault)
+    → fault ≢ OutOfMemory → StartsAt bytes post after last stop chain from → IsClosingFault bytes after (last - 5) [] new frame → fault ≡ of_frame frame → IsNoFile files bytes
+tail_fault files bytes post after last stop chain from new frames.OutOfMemory fault other starts broken is pages f = other is
+tail_fault files bytes post after last stop chain from new (frames.Bad bad) fault other starts broken is pages f =
     let framed = starts.chained.framed in
-    let passed = file_passed bytes post after last stop front.chain.items framed (file_widths files) pages f in
+    let passed = file_passed bytes post after last stop chain framed (file_widths files) pages f in
     let fonts = fonts_back [] (says passed.front) (says passed.tail) passed.fonts in
     let closes : Closes bytes after (last - 5) [] passed.tail =
     record {
@@ -98,12 +104,13 @@ tail_fault files bytes front new (frames.Bad bad) fault other starts broken is p
       idle = passed.tail_is;
       fonts = fonts_fewer (known_after [] (says passed.front)) [] (says passed.tail) passed.tail_is (λ d among. absurd among) fonts;
     } in
-    broken_closing bytes after (last - 5) [] new [] bad passed.tail (after_within files bytes post after last stop front.chain.items framed) (same_self []) broken closes
+    broken_closing bytes after (last - 5) [] new [] bad passed.tail (after_within files bytes post after last stop chain framed) (same_self []) broken closes
 
 -- A fault that is none of memory.
 pub no_file : (files : List NamedBytes) (bytes : List ℕ) (fault : DviFault) → fault ≢ OutOfMemory → BreaksFonts bytes fault → IsNoFile files bytes
 no_file files bytes fault other (inl broken) pages f = no_fault files bytes fault pages other (broken files) f
-no_file files bytes fault other (inr (front, new, frame, starts, broken, is)) pages f = tail_fault files bytes front new frame fault other starts broken is pages f
+no_file files bytes fault other (inr (post, after, last, stop, chain, from, new, frame, starts, broken, is)) pages f =
+    tail_fault files bytes post after last stop chain from new frame fault other starts broken is pages f
 
 -- The table of a file that is refused.
 pub refuses : (bytes : List ℕ) (rows : List DviFont) (text : List ℕ) (accepted : Bool) (fault : DviFault) → fault ≢ OutOfMemory → text ≡ fault_line fault → accepted ≡ false → rows ≡ []

@@ -3,12 +3,10 @@ use Rattle.std.specs.Prelude.{◌≡◌, ◌≢◌, ◌⊎◌, ◌+◌, ◌-◌,
 use Rattle.std.specs.List.{flat_map}
 use Rattle.dvi_fonts.specs.Closing.{ClosesTo, IsClosingFault}
 use Rattle.dvi_scan.specs.declared.fault.FrameFault.{FrameFault}
-use Rattle.dvi_ops.specs.Instruction.{Definition}
+use Rattle.dvi_ops.specs.Instruction.{Definition, Postamble}
 use Rattle.boxglue_print.specs.Faults.{fault_line}
 use Rattle.dvi_read.specs.Opened.{IsNoFile}
-use Rattle.dvi_read.specs.Opening.{IsDviFault}
-use Rattle.dvi_read.specs.OpeningParts.{HasFront}
-use Rattle.dvi_read.specs.declared.before_pages.BeforePages.{BeforePages}
+use Rattle.dvi_read.specs.Opening.{IsDviFault, StartsAt}
 use Rattle.dvi_read.specs.Faults.{of_frame}
 use Rattle.dvi_read.specs.declared.fault.DviFault.{DviFault}
 use Rattle.dvi_read.specs.declared.fault.DviFault.TheVariants.{OutOfMemory}
@@ -20,16 +18,21 @@ use Rattle.boxglue_calls.specs.declared.font_table.FontSizes.{FontSizes}
 
 -- The end of the file, the chain of its pages and its preamble are right, and between post and post_post there are nops and exactly these definitions (DVItype, 18 and 19).
 pub record DefinesFonts (bytes : List ℕ) (fonts : List Definition) : Type 0 where
-  pub front : BeforePages
-  pub starts : HasFront bytes front
-  pub closes : ClosesTo bytes front.ending.after (front.ending.last - 5) [] fonts
+  pub post : ℕ
+  pub after : ℕ
+  pub last : ℕ
+  pub stop : Postamble
+  pub chain : List ℕ
+  pub from : ℕ
+  pub starts : StartsAt bytes post after last stop chain from
+  pub closes : ClosesTo bytes after (last - 5) [] fonts
 
 -- A rule is broken at the place that the fault names, before the pages or after post; or memory is refused there.
 abbrev pub BreaksFonts : List ℕ → DviFault → Type 0
 BreaksFonts bytes fault =
     ((files : List NamedBytes) → IsDviFault files bytes fault)
-    ⊎ ((front : BeforePages) × (new : List Definition) × (frame : FrameFault) × HasFront bytes front
-    × IsClosingFault bytes front.ending.after (front.ending.last - 5) [] new frame × (fault ≡ of_frame frame))
+    ⊎ ((post : ℕ) × (after : ℕ) × (last : ℕ) × (stop : Postamble) × (chain : List ℕ) × (from : ℕ) × (new : List Definition) × (frame : FrameFault)
+    × StartsAt bytes post after last stop chain from × IsClosingFault bytes after (last - 5) [] new frame × (fault ≡ of_frame frame))
 
 -- The row of a font whose name begins at this place of the names.
 abbrev pub row_at : ℕ → Definition → DviFont

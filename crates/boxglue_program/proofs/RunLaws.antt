@@ -8,7 +8,7 @@ use Rattle.job_commands.specs.Reply.{Reply}
 use Rattle.tfm_core.specs.NamedBytes.{NamedBytes}
 use Rattle.dvi_device.specs.Written.{IsFrontOf}
 use Rattle.dvi_device.specs.Beginnings.{Beginning}
-use Rattle.dvi_device.specs.Resumed.{Resumed, written_by, began_by}
+use Rattle.dvi_device.specs.Resumed.{Resumed, written_by, began_by, GoesOnAs, PassesOn}
 use Rattle.dvi_layout.specs.Layout.{front, whole}
 use Rattle.job_core.specs.Shown.{GivesFiles, FilesPages}
 use Rattle.job_core.specs.Closing.{ClosesFile}
@@ -19,15 +19,17 @@ use Rattle.dvi_device.specs.Held.{MemoryState}
 use Rattle.job_machine.proofs.RunLaws.{files_kept}
 use Rattle.job_core.proofs.Endings.{said}
 use Rattle.job_core.proofs.NewJobs.{front_none}
-use Rattle.job_core.proofs.RestsOfFiles.{beginning, completed}
+use Rattle.job_core.proofs.RestsOfFiles.{beginning, completed, passed_on}
 use Rattle.std.specs.Io.KnownBytes.{Keeps}
 use Rattle.std.proofs.lemmas.List.{append-nil, length-append}
 use Rattle.std.proofs.Math.Bool.{and-true}
+use Rattle.std.proofs.Math.Seq.{take-append_seam}
 use Rattle.std.proofs.lemmas.List.Folds.{list_all-append}
 use Rattle.std.specs.List.{list_all}
 use Rattle.boxglue_script.specs.declared.script.Line.{Line}
 use Rattle.boxglue_program.specs.Texts.{hexadecimal_text, answer_line, answer_lines}
-use Rattle.boxglue_program.specs.Runs.{commands_of, line_numbers, IsSentPart, WasRun, IsUntouched, IsAnswered, RanScript, RefusedScript, IsAnsweredInMemory, LacksMemory, CompletesFile, IsAnswerOfRest}
+use Rattle.boxglue_program.specs.Runs.{commands_of, line_numbers, IsSentPart, WasRun, IsUntouched, IsAnswered, RanScript, RefusedScript, IsAnsweredInMemory, LacksMemory, CompletesFile, IsAnswerOfRest, IsAnsweredOverRest, IsLeftOverRest}
+use Rattle.boxglue_program.specs.declared.run.RunFault.TheVariants.{Memory}
 
 pub on_err : {A E : Type 0} {P : Type 0} (r : Result A E) → is_err r ≡ true → OnErr r P → P
 on_err (Ok x) e h = absurd (cc)
@@ -136,16 +138,27 @@ lacking_in_memory text files start memory answer fine old fresh answered =
     keeps_same None = tt
     keeps_same (Some bytes) = refl
 
+-- If what was sent before is no beginning of the file, an end that succeeds has sent nothing.
+not_completed : (end : Result Summary Refusal) (reported inner : Option (List ℕ)) (sent all : List ℕ) → OnOk end (IfSome reported (λ bytes. bytes ≡ all))
+    → PassesOn sent (Some sent) inner reported → (IsFrontOf sent all → ⊥) → OnOk end (inner ≡ Some sent)
+not_completed (Err refusal) reported inner sent all file passes other = tt
+not_completed (Ok summary) None inner sent all file passes other = absurd passes
+not_completed (Ok summary) (Some bytes) inner sent all file passes other = by_parts passes where
+  by_parts : GoesOnAs sent (Some sent) inner bytes → inner ≡ Some sent
+  by_parts (inl p) = p.1
+  by_parts (inr p) = absurd (other (length sent, sym (ap (take (length sent)) (sym file ∙ p.1) ∙ take-append_seam sent p.0)))
+
 -- A script that was run over the rest of a file completes it.
 pub script_completes : (text : List ℕ) (files : List NamedBytes) (n k start_failed at_first : ℕ) (sent before : List ℕ) (start bytes_written inner : Option (List ℕ)) (answer : List ℕ) (fine : Bool) (began : Beginning)
     → RanScript text files n k bytes_written answer fine → beginning sent start start_failed ≡ began → began ≡ beginning before (Some before) at_first
     → ((whole : List ℕ) → IfSome bytes_written (λ bytes. bytes ≡ whole) → IsFrontOf sent whole → start ≡ Some sent → inner ≡ Some whole)
-    → CompletesFile text files before inner answer fine
-script_completes text files n k start_failed at_first sent before start bytes_written inner answer fine began ran is had got =
+    → PassesOn sent start inner bytes_written → CompletesFile text files before inner answer fine
+script_completes text files n k start_failed at_first sent before start bytes_written inner answer fine began ran is had got passes =
     let m = ran.run.middle in
     let all = whole m.state.fonts m.pages in
     let sent_is : began.sent ≡ before = ap (λ (b : Beginning). b.sent) had in
     let written_is : began.bytes_written ≡ Some began.sent = ap (λ (b : Beginning). b.bytes_written) had ∙ ap Some (sym sent_is) in
+    let passed = passed_on bytes_written bytes_written start inner sent start_failed (beginning before (Some before) at_first) refl (is ∙ had) passes in
     record {
       lines = ran.lines;
       replies = ran.replies;
@@ -161,6 +174,7 @@ script_completes text files n k start_failed at_first sent before start bytes_wr
       answer_is = ran.answer_is;
       fine_is = ran.fine_is;
       file = λ front. completed ran.end bytes_written bytes_written start inner sent all start_failed began ran.run.file refl is written_is (subst (λ (s : List ℕ). IsFrontOf s all) (sym sent_is) front) (got all);
+      other = not_completed ran.end bytes_written inner before all ran.run.file passed;
     }
 
 -- The answer to a script that was run over a new device for the rest of a file.
@@ -169,14 +183,60 @@ pub resumed : {D : Type 0} (bytes_written : D → Option (List ℕ)) (failed : D
     → IsAnswered (written_by bytes_written) (λ r. failed r.device + r.failures) text files start rest answer fine → began_by bytes_written failed rest ≡ began_by bytes_written failed start → bytes_written device ≡ Some sent
     → inner ≡ rest.device
     → ((whole : List ℕ) → IfSome (written_by bytes_written rest) (λ bytes. bytes ≡ whole) → IsFrontOf rest.sent whole → bytes_written rest.start ≡ Some rest.sent → bytes_written inner ≡ Some whole)
-    → IsAnswerOfRest text files sent (bytes_written inner) answer fine
-resumed bytes_written failed text files device sent start rest inner answer fine new (inl ran) began had same got =
+    → PassesOn rest.sent (bytes_written rest.start) (bytes_written inner) (written_by bytes_written rest) → IsAnswerOfRest text files sent (bytes_written inner) answer fine
+resumed bytes_written failed text files device sent start rest inner answer fine new (inl ran) began had same got passes =
     let began_so : began_by bytes_written failed start ≡ beginning sent (Some sent) (failed device) =
     ap (began_by bytes_written failed) new ∙ ap (λ (t : Option (List ℕ)). beginning sent t (failed device)) had in
     inl (script_completes text files _ _ (failed rest.start) (failed device) rest.sent sent (bytes_written rest.start) (written_by bytes_written rest) (bytes_written inner) answer fine (began_by bytes_written failed start) ran
-    began began_so got)
-resumed {D = D} bytes_written failed text files device sent start rest inner answer fine new (inr (bad, back)) began had same got =
+    began began_so got passes)
+resumed {D = D} bytes_written failed text files device sent start rest inner answer fine new (inr (bad, back)) began had same got passes =
     inr (bad, ap bytes_written (same ∙ ap (λ (r : Resumed D). r.device) (back ∙ new)) ∙ had)
+
+-- What a run over the rest of a file passed on, by what was sent before.
+over_rest : {D : Type 0} (bytes_written : D → Option (List ℕ)) (failed : D → ℕ) (device : D) (sent : List ℕ) (start rest : Resumed D) (inner : D)
+    → start ≡ record { device = device; start = device; sent = sent; met = 0; failures = 0 } → began_by bytes_written failed rest ≡ began_by bytes_written failed start
+    → PassesOn rest.sent (bytes_written rest.start) (bytes_written inner) (written_by bytes_written rest) → PassesOn sent (bytes_written device) (bytes_written inner) (written_by bytes_written rest)
+over_rest bytes_written failed device sent start rest inner new began passes =
+    subst (λ (b : Beginning). PassesOn b.sent b.bytes_written (bytes_written inner) (written_by bytes_written rest)) (began ∙ ap (began_by bytes_written failed) new) passes
+
+-- A new device around another one has failed as often as that one, and later as often as that one and by itself.
+counts_over_rest : {D : Type 0} (failed : D → ℕ) (P : ℕ → ℕ → Type 0) (device : D) (sent : List ℕ) (start rest : Resumed D) (inner : D)
+    → start ≡ record { device = device; start = device; sent = sent; met = 0; failures = 0 } → inner ≡ rest.device
+    → P (failed start.device + start.failures) (failed rest.device + rest.failures) → P (failed device) (failed inner + rest.failures)
+counts_over_rest {D = D} failed P device sent start rest inner new same holds =
+    let none : failed start.device + start.failures ≡ failed device + 0 = ap (λ (r : Resumed D). failed r.device + r.failures) new in
+    let first : failed start.device + start.failures ≡ failed device = omega (arith, none) in
+    let last : failed rest.device + rest.failures ≡ failed inner + rest.failures = ap (λ (d : D). failed d + rest.failures) (sym same) in
+    subst (λ (n : ℕ). P n (failed inner + rest.failures)) first (subst (P (failed start.device + start.failures)) last holds)
+
+-- The answer to a script that was run over a new device for the rest of a file, whatever the inner device reports.
+pub answered_over_rest : {D : Type 0} (bytes_written : D → Option (List ℕ)) (failed : D → ℕ) (text : List ℕ) (files : List NamedBytes) (device : D) (sent : List ℕ) (start rest : Resumed D) (inner : D)
+    (answer : List ℕ) (fine : Bool) → start ≡ record { device = device; start = device; sent = sent; met = 0; failures = 0 }
+    → IsAnswered (written_by bytes_written) (λ r. failed r.device + r.failures) text files start rest answer fine → began_by bytes_written failed rest ≡ began_by bytes_written failed start
+    → inner ≡ rest.device → PassesOn rest.sent (bytes_written rest.start) (bytes_written inner) (written_by bytes_written rest)
+    → IsAnsweredOverRest bytes_written failed text files device sent inner answer fine
+answered_over_rest bytes_written failed text files device sent start rest inner answer fine new (inl ran) began same passes = inl (
+  written_by bytes_written rest,
+  rest.failures,
+  over_rest bytes_written failed device sent start rest inner new began passes,
+  counts_over_rest failed (λ n k. RanScript text files n k (written_by bytes_written rest) answer fine) device sent start rest inner new same ran,
+)
+answered_over_rest {D = D} bytes_written failed text files device sent start rest inner answer fine new (inr (bad, back)) began same passes =
+    inr (bad, same ∙ ap (λ (r : Resumed D). r.device) (back ∙ new))
+
+-- A run over a new device for the rest of a file, to which memory was refused.
+pub lacking_over_rest : {D : Type 0} (bytes_written : D → Option (List ℕ)) (failed : D → ℕ) (text : List ℕ) (files : List NamedBytes) (device : D) (sent : List ℕ) (start rest : Resumed D) (inner : D)
+    (before after : Option (List ℕ)) → start ≡ record { device = device; start = device; sent = sent; met = 0; failures = 0 }
+    → LacksMemory text files (failed start.device + start.failures) (failed rest.device + rest.failures) (written_by bytes_written rest) before after
+    → began_by bytes_written failed rest ≡ began_by bytes_written failed start → inner ≡ rest.device
+    → PassesOn rest.sent (bytes_written rest.start) (bytes_written inner) (written_by bytes_written rest)
+    → IsLeftOverRest bytes_written failed text files device sent (Memory inner) before after
+lacking_over_rest bytes_written failed text files device sent start rest inner before after new lacks began same passes = (
+  written_by bytes_written rest,
+  rest.failures,
+  over_rest bytes_written failed device sent start rest inner new began passes,
+  counts_over_rest failed (λ n k. LacksMemory text files n k (written_by bytes_written rest) before after) device sent start rest inner new same lacks,
+)
 
 -- The file of no pages is empty.
 no_whole : (m : Machine) → m.pages ≡ [] → whole m.state.fonts m.pages ≡ []

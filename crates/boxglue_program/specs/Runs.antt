@@ -1,5 +1,5 @@
 -- Runs of a script, and what is written of them (own).
-use Rattle.std.specs.Prelude.{◌≡◌, ◌≢◌, ◌<◌, ◌⊎◌, ◌&&◌, ◌++◌, ℕ, Bool, false, true, List, [], length, map, take, codes, Option, Some, IfSome, Result, Err, IfOk, OnOk, is_ok}
+use Rattle.std.specs.Prelude.{◌≡◌, ◌≢◌, ◌<◌, ◌+◌, ◌⊎◌, ◌&&◌, ◌++◌, ℕ, Bool, false, true, List, [], length, map, take, codes, Option, Some, IfSome, Result, Err, IfOk, OnOk, is_ok}
 use Rattle.std.specs.List.{list_all}
 use Rattle.std.specs.Io.KnownBytes.{Appends, Keeps}
 use Rattle.job_commands.specs.declared.command.Command.{Command}
@@ -9,6 +9,7 @@ use Rattle.job_commands.specs.declared.replies.Summary.{Summary}
 use Rattle.job_commands.specs.Reply.{Reply}
 use Rattle.tfm_core.specs.NamedBytes.{NamedBytes}
 use Rattle.dvi_device.specs.Written.{IsFrontOf}
+use Rattle.dvi_device.specs.Resumed.{PassesOn}
 use Rattle.dvi_ops.specs.Fonts.{WidthsByName}
 use Rattle.dvi_layout.specs.Layout.{front, whole}
 use Rattle.dvi_layout.specs.Shippable.{IsFileOfPages}
@@ -131,8 +132,8 @@ IsLeftInMemory text files (Memory memory) old new = LacksMemory text files 0 mem
 IsLeftInMemory text files (Answers memory) old new =
     (answer : List ℕ) × (fine : Bool) × IsAnsweredInMemory text files memory answer fine × WritesFront old new answer
 
--- A script was run again over the rest of a file of which these bytes were sent before. If they are a beginning of the file of its machine's pages, and
--- its end succeeded, the inner device then reports exactly this file.
+-- A script was run again over the rest of a file of which these bytes were sent before. Suppose that its end succeeded. If they are a beginning of the
+-- file of its machine's pages, the inner device then reports exactly this file; if not, it got nothing.
 pub record CompletesFile (text : List ℕ) (files : List NamedBytes) (sent : List ℕ) (bytes_written : Option (List ℕ)) (answer : List ℕ) (fine : Bool) : Type 0 where
   pub lines : List Line
   pub replies : List Reply
@@ -148,10 +149,28 @@ pub record CompletesFile (text : List ℕ) (files : List NamedBytes) (sent : Lis
   pub answer_is : answer ≡ answers_text (line_numbers lines) replies end
   pub fine_is : fine ≡ is_accepted replies end
   pub file : IsFrontOf sent (whole middle.state.fonts middle.pages) → OnOk end (bytes_written ≡ Some (whole middle.state.fonts middle.pages))
+  pub other : (IsFrontOf sent (whole middle.state.fonts middle.pages) → ⊥) → OnOk end (bytes_written ≡ Some sent)
 
 -- The answer to a script that is run again over the rest of a file of which these bytes were sent before; a bad script has its one line.
 abbrev pub IsAnswerOfRest : List ℕ → List NamedBytes → (sent : List ℕ) → (bytes_written : Option (List ℕ)) → (answer : List ℕ) → (fine : Bool) → Type 0
 IsAnswerOfRest text files sent bytes_written answer fine = CompletesFile text files sent bytes_written answer fine ⊎ (RefusedScript text answer fine × (bytes_written ≡ Some sent))
+
+-- The answer to a script that is run again over the rest of a file, whatever the inner device reports. The run's device reported these bytes, those sent
+-- before among them, which were not sent again; and of its failures some were bytes that differ. A bad script has its one line, and the inner device is
+-- as it was.
+abbrev pub IsAnsweredOverRest : {D : Type 0} → (bytes_written : D → Option (List ℕ)) → (failed : D → ℕ) → List ℕ → List NamedBytes → (device : D) → (sent : List ℕ) → (back : D) → (answer : List ℕ) → (fine : Bool) → Type 0
+IsAnsweredOverRest bytes_written failed text files device sent back answer fine =
+    ((reported : Option (List ℕ)) × (differing : ℕ) × PassesOn sent (bytes_written device) (bytes_written back) reported
+    × RanScript text files (failed device) (failed back + differing) reported answer fine)
+    ⊎ (RefusedScript text answer fine × (back ≡ device))
+
+-- What is known if a run over the rest of a file failed: memory was refused; or the writer took a beginning of the answer, once, and not all of it.
+abbrev pub IsLeftOverRest : {D : Type 0} → (bytes_written : D → Option (List ℕ)) → (failed : D → ℕ) → List ℕ → List NamedBytes → (device : D) → (sent : List ℕ) → RunFault D → (old new : Option (List ℕ)) → Type 0
+IsLeftOverRest bytes_written failed text files device sent (Memory back) old new =
+    (reported : Option (List ℕ)) × (differing : ℕ) × PassesOn sent (bytes_written device) (bytes_written back) reported
+    × LacksMemory text files (failed device) (failed back + differing) reported old new
+IsLeftOverRest bytes_written failed text files device sent (Answers back) old new =
+    (answer : List ℕ) × (fine : Bool) × IsAnsweredOverRest bytes_written failed text files device sent back answer fine × WritesFront old new answer
 
 -- The device that is returned if a run failed.
 abbrev pub device_of : {D : Type 0} → RunFault D → D

@@ -1,6 +1,6 @@
 //! The texts of refusals: the number and the name of each, for answers to commands and for DVI files.
 
-ghost use Rattle.std.specs.Prelude.{◌≡◌, ◌++◌, decimal, OnOk, OnErr};
+ghost use Rattle.std.specs.Prelude.{◌≡◌, ◌++◌, decimal, length, take, OnOk, OnErr};
 ghost use Rattle.boxglue_program.specs.Texts.{refusal_row, metric_refusal_name, refusal_text, refusal_line};
 
 use itoa::Buffer;
@@ -67,10 +67,11 @@ pub fn push_number(number: u64, out: &mut Vec<u8>) -> Result<(), AllocError>
     out.extend_from_slice(buffer.format(number).as_bytes())
 }
 
-/// Appends a refusal with its number and name.
+/// Appends a refusal with its number and name; if memory is refused, only the beginning of it.
 #[tactic(auto, unfolding(crate::specs::Texts::refusal_text))]
 pub(crate) fn push_refusal(refusal: Refusal, out: &mut Vec<u8>) -> Result<(), AllocError>
-    ensures { OnOk result (out.new.items ≡ out.old.items ++ refusal_text refusal) }
+    ensures ok { OnOk result (out.new.items ≡ out.old.items ++ refusal_text refusal) }
+    ensures front { take (length out.old.items) out.new.items ≡ out.old.items }
 {
     let (number, name) = refusal_row(refusal);
     push_text("refused ", out)?;
@@ -79,10 +80,24 @@ pub(crate) fn push_refusal(refusal: Refusal, out: &mut Vec<u8>) -> Result<(), Al
     push_text(name, out)
 }
 
-/// Appends the line of a refusal.
-#[tactic(auto, unfolding(crate::specs::Texts::refusal_line))]
+/// Appends the line of a refusal. If memory is refused, nothing was appended.
 pub fn push_refusal_line(refusal: Refusal, out: &mut Vec<u8>) -> Result<(), AllocError>
-    ensures { OnOk result (out.new.items ≡ out.old.items ++ refusal_line refusal) }
+    ensures ok { OnOk result (out.new.items ≡ out.old.items ++ refusal_line refusal) }
+    ensures err { OnErr result (out.new.items ≡ out.old.items) }
+{
+    let held = out.len();
+    let pushed = push_line(refusal, out);
+    if pushed.is_err() {
+        out.truncate(held);
+    }
+    pushed
+}
+
+/// Appends the line of a refusal; if memory is refused, only the beginning of it.
+#[tactic(auto, unfolding(crate::specs::Texts::refusal_line))]
+fn push_line(refusal: Refusal, out: &mut Vec<u8>) -> Result<(), AllocError>
+    ensures ok { OnOk result (out.new.items ≡ out.old.items ++ refusal_line refusal) }
+    ensures front { take (length out.old.items) out.new.items ≡ out.old.items }
 {
     push_refusal(refusal, out)?;
     push_text("\n", out)

@@ -1,6 +1,6 @@
 //! Running a script.
 
-ghost use Rattle.std.specs.Prelude.{◌≡◌, ◌<◌, ◌+◌, ◌^◌, ◌⊎◌, ℕ, List, [], length, Some, Result, is_ok, IfOk, IfErr, IfSome};
+ghost use Rattle.std.specs.Prelude.{◌≡◌, ◌<◌, ◌+◌, ◌^◌, ◌⊎◌, ℕ, true, List, [], length, Some, Result, is_ok, IfOk, IfErr, IfSome};
 ghost use Rattle.std.specs.List.{list_all};
 ghost use Rattle.std.specs.Io.KnownBytes.{Appends};
 ghost use Rattle.job_commands.specs.declared.replies.Refusal.{Refusal};
@@ -8,7 +8,7 @@ ghost use Rattle.job_commands.specs.declared.replies.Summary.{Summary};
 ghost use Rattle.job_commands.specs.Reply.{Reply};
 ghost use Rattle.job_core.specs.Jobs.{RunsTo};
 ghost use Rattle.boxglue_program.specs.Texts.{answer_lines, answers_text};
-ghost use Rattle.boxglue_program.specs.Runs.{commands_of, line_numbers, is_accepted, device_of, WasRun, IsAnswered, IsUntouched, WasRunWhole, IsLeft, IsAnswerOfRest};
+ghost use Rattle.boxglue_program.specs.Runs.{commands_of, line_numbers, is_accepted, device_of, WasRun, IsAnswered, IsUntouched, WasRunWhole, IsLeft, IsAnswerOfRest, IsAnsweredOverRest, IsLeftOverRest};
 
 use crate::texts::{script_refusal_text, with_answer, with_end};
 use crate::writing::{Unwritten, write_text};
@@ -119,8 +119,9 @@ pub fn run_script<D: Device, W: Write>(
 
 /// Runs a script's text again over `Rest` of a device, to which these bytes were sent before, and returns that device.
 ///
-/// Suppose that the device had reported exactly these bytes, and that they are a beginning of the file of the script's pages. Then, if the end
-/// succeeds, the device reports exactly that file. The errors are those of `run_script`.
+/// Suppose that the device had reported exactly these bytes, and that the end succeeds. If they are a beginning of the file of the script's pages, the
+/// device then reports exactly that file; if not, nothing was sent. The errors are those of `run_script`. In each case what the device had reported
+/// stands, and only bytes after those sent before follow it.
 pub fn run_rest<D: Device, W: Write>(
     alloc: Global,
     text: &[u8],
@@ -132,6 +133,9 @@ pub fn run_rest<D: Device, W: Write>(
     requires { D.failed device + 1 < 2 ^ 64 }
     ensures whole { D.bytes_written device ≡ Some sent.items → IfOk result (λ done. (answer : List ℕ) × IsAnswerOfRest text.now files.now sent.items (D.bytes_written done.1) answer done.0
         × Appends (W.contents writer.old) (W.contents writer.new) answer) }
+    ensures answers { IfOk result (λ done. (answer : List ℕ) × IsAnsweredOverRest D.bytes_written D.failed text.now files.now device sent.items done.1 answer done.0
+        × Appends (W.contents writer.old) (W.contents writer.new) answer) }
+    ensures left { IfErr result (λ fault. IsLeftOverRest D.bytes_written D.failed text.now files.now device sent.items fault (W.contents writer.old) (W.contents writer.new)) }
 {
     match run_script(alloc, text, files, Rest::new(device, sent), writer) {
         Ok((accepted, rest)) => Ok((accepted, rest.into_device())),
@@ -178,7 +182,7 @@ fn run_whole<D: Device>(
 /// Runs lines of a script in order on a job of the caller. Returns the text of their answers, one line each, and whether no command was refused.
 ///
 /// Each line is answered at once, so that no command and no reply is kept for its text. There is no text where memory for it was refused; the lines were
-/// run all the same.
+/// run all the same. A job that is over stays as it was: each line is answered JobOver.
 pub fn run_lines<D: Device>(
     alloc: Global,
     job: &mut Job<D>,
@@ -186,6 +190,7 @@ pub fn run_lines<D: Device>(
 ) -> (Option<Vec<u8>>, bool)
     ensures ran { (replies : List Reply) × RunsTo job.old (commands_of lines.now) replies job.new × (length replies ≡ length lines.now)
         × IfSome result.0 (λ text. text.items ≡ answer_lines (line_numbers lines.now) replies) × (result.1 ≡ list_all is_ok replies) }
+    ensures idle { job.old.state.over ≡ true → job.new ≡ job.old }
     ensures began { job.new.began ≡ job.old.began }
 {
     let mut text = Some(Vec::new(alloc));

@@ -183,11 +183,11 @@ named_cause names.Set rest cause h = set_cause rest cause (set_reads rest ∙ h)
 named_cause names.Count rest cause h = count_cause rest cause (named names.Count rest ∙ h)
 named_cause names.Ship rest cause h = alone_cause register_count (omega arith) names.Ship Ship rest cause (λ fields. refl) h
 
-no_name : (word : List ℕ) (rest : List (List ℕ)) → name_of word ≡ None → command_of (word ∷ rest) ≡ Err Word
+pub no_name : (word : List ℕ) (rest : List (List ℕ)) → name_of word ≡ None → command_of (word ∷ rest) ≡ Err Word
 unfolding command_of
 no_name word rest e = rw e refl
 
-letter_is_no_name : name_of letter ≡ None
+pub letter_is_no_name : name_of letter ≡ None
 unfolding name_of box_name register_name item_name
 letter_is_no_name = refl
 

@@ -19,7 +19,9 @@ pub mod GlueCauses
 pub mod SharedCauses
 pub mod ParameterCauses
 pub mod CauseLaws
+pub mod FieldKinds
+pub mod FieldPlaces
+pub mod OneCause
 pub mod TextLines
 pub mod ScriptLaws
 pub mod RowLaws
-pub mod NameAlone

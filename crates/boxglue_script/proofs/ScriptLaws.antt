@@ -15,12 +15,13 @@ use Rattle.boxglue_script.specs.ScriptLines.{is_passed_over, is_printable, field
 use Rattle.boxglue_script.specs.Names.{box_name, register_name, item_name, name_of}
 use Rattle.boxglue_script.specs.Grammar.{SaysCommand}
 use Rattle.boxglue_script.specs.Causes.{IsPrintable, IsFieldCause, IsCause}
-use Rattle.boxglue_script.specs.Script.{IsPassedOver, Gives, SaysLine, SayFrom, IsScript, IsRightLine, IsFirstBad, Explains}
+use Rattle.boxglue_script.specs.Script.{IsPassedOver, Gives, SaysLine, SayFrom, IsScript, IsRightLine, IsFirstBad, Explains, IsOneFault}
 use Rattle.boxglue_script.specs.Reading.{front_field, after_field, command_of, kept_text, given, line_of, Found, lines_then, reads_by, reads}
 use Rattle.boxglue_script.proofs.GivenCommands.{complete}
 use Rattle.boxglue_script.proofs.CommandLaws.{sound}
 use Rattle.boxglue_script.proofs.FieldLaws.{same_bytes, bytes_same}
 use Rattle.boxglue_script.proofs.CauseLaws.{cause_holds}
+use Rattle.boxglue_script.proofs.OneCause.{one_first_bad}
 use Rattle.boxglue_script.proofs.TextLines.{word_said, text_read, special_read, first_is}
 
 -- The fields of a line give its command, except a text or a special.
@@ -227,6 +228,13 @@ script_refused text (BadScript number cause) h =
     let bad = first_bad_from 1 (lines text) (BadScript number cause) h in
     (explained text number cause bad, λ found said. let o = read_from 1 (lines text) found said in cc)
 
+-- No other line is the first bad one, and no other cause holds of it.
+pub script_one_fault : (text : List ℕ) (fault : ScriptFault) → reads 1 (lines text) ≡ Err fault → IsOneFault text fault
+script_one_fault text OutOfMemory h = tt
+script_one_fault text (BadScript number cause) h = λ other reason bad.
+    let named = script_refused text (BadScript number cause) h in
+    one_first_bad text number other cause reason named.0 bad
+
 -- A script has no other lines than those that are read.
 pub script_one : (text : List ℕ) (found : List Line) → reads 1 (lines text) ≡ Ok found → (others : List Line) → IsScript text others → others ≡ found
 script_one text found h others said = let o = read_from 1 (lines text) others said in cc
@@ -237,4 +245,4 @@ read_whole number text [] found empty h = sym h ∙ ap (λ (xs : List Line). rea
 read_whole number text (byte ∷ rest) found empty h = absurd (omega arith)
 
 -- The laws of `read_script`.
-pub ruleset reading = (script_read, script_one, script_refused)
+pub ruleset reading = (script_read, script_one, script_refused, script_one_fault)

@@ -17,13 +17,17 @@ SaysSome fields = (command : Command) × SaysCommand fields command
 abbrev pub Begins : List (List ℕ) → Type 0
 Begins fields = (more : List (List ℕ)) × SaysSome (fields ++ more)
 
--- A word that comes after others: a keyword or the name of a parameter.
-abbrev pub IsInnerWord : List ℕ → Type 0
-IsInnerWord field =
-    Contains (codes "at" ∷ codes "to" ∷ codes "spread" ∷ codes "into" ∷ codes "plus" ∷ codes "minus" ∷ codes "shift"
+-- The words that come after others: keywords and the names of parameters.
+abbrev pub inner_words : List (List ℕ)
+inner_words =
+    codes "at" ∷ codes "to" ∷ codes "spread" ∷ codes "into" ∷ codes "plus" ∷ codes "minus" ∷ codes "shift"
     ∷ codes "boxmaxdepth" ∷ codes "baselineskip" ∷ codes "lineskip" ∷ codes "lineskiplimit" ∷ codes "splitmaxdepth" ∷ codes "splittopskip"
     ∷ codes "hsize" ∷ codes "firstlines" ∷ codes "firstsize" ∷ codes "parfillskip" ∷ codes "pretolerance" ∷ codes "tolerance" ∷ codes "linepenalty" ∷ codes "adjdemerits" ∷ codes "clubpenalty"
-    ∷ codes "widowpenalty" ∷ codes "interlinepenalty" ∷ codes "hoffset" ∷ codes "voffset" ∷ []) field
+    ∷ codes "widowpenalty" ∷ codes "interlinepenalty" ∷ codes "hoffset" ∷ codes "voffset" ∷ []
+
+-- A word that comes after others.
+abbrev pub IsInnerWord : List ℕ → Type 0
+IsInnerWord field = Contains inner_words field
 
 -- One of the words of the grammar of fields, which has no `text` and `special`: it begins a command, or comes after others.
 abbrev pub IsWord : List ℕ → Type 0

@@ -59,3 +59,8 @@ pub record IsFirstBad (text : List ℕ) (number : ℕ) (cause : Cause) : Type 0 
 abbrev pub Explains : List ℕ → ScriptFault → Type 0
 Explains text OutOfMemory = Unit {0}
 Explains text (BadScript number cause) = IsFirstBad text number cause × ((found : List Line) → IsScript text found → ⊥)
+
+-- The line and the cause that are named are the only ones: no other line is the first bad one of the text, and no other cause holds of it.
+abbrev pub IsOneFault : List ℕ → ScriptFault → Type 0
+IsOneFault text OutOfMemory = Unit {0}
+IsOneFault text (BadScript number cause) = (other : ℕ) (reason : Cause) → IsFirstBad text other reason → (other ≡ number) × (reason ≡ cause)

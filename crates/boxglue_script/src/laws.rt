@@ -3,7 +3,7 @@
 ghost use Rattle.std.specs.Prelude.{◌≡◌, ℕ, List};
 ghost use Rattle.boxglue_script.specs.declared.cause.Cause.{Cause};
 ghost use Rattle.boxglue_script.specs.declared.cause.Cause.TheVariants as causes;
-ghost use Rattle.boxglue_script.specs.Causes.{IsFieldCause};
+ghost use Rattle.boxglue_script.specs.Causes.{IsFieldCause, IsCause};
 ghost use Rattle.boxglue_script.specs.Rows.{OneRuleScript, UnitlessRow, TextScript, SpecialScript, NoSuchRegisterRow, NoSizeRow, StrokeInNameRow, TallBoxScript, NoRegisterRow, LateStretchRow};
 
 /// The script of the one-rule page gives its four commands.
@@ -51,4 +51,9 @@ pub fn boxes_and_glue_that_are_refused()
 /// If the cause Name holds of some fields, no other cause does.
 pub fn name_is_the_one_cause()
     ensures { (fields : List (List ℕ)) → (cause : Cause) → IsFieldCause causes.Name fields → IsFieldCause cause fields → cause ≡ causes.Name }
+{}
+
+/// Of a line one cause holds at most: the byte that is not printable, or that of the first bad field from the left.
+pub fn a_line_has_one_cause()
+    ensures { (line : List ℕ) (cause other : Cause) → IsCause cause line → IsCause other line → cause ≡ other }
 {}

@@ -1,7 +1,7 @@
 //! Reading a script.
 
 ghost use Rattle.std.specs.Prelude.{◌≡◌, ◌⊎◌, List, IfOk, OnOk, IfErr};
-ghost use Rattle.boxglue_script.specs.Script.{IsScript, Explains};
+ghost use Rattle.boxglue_script.specs.Script.{IsScript, Explains, IsOneFault};
 ghost use Rattle.boxglue_script.specs.Reading.{line_of, ReadsOn, StopsAtLine};
 ghost use Rattle.boxglue_script.specs.declared.script.ScriptFault.TheVariants.{OutOfMemory};
 
@@ -54,6 +54,7 @@ pub fn read_script(alloc: Global, text: &[u8]) -> Result<Vec<Line>, ScriptFault>
     ensures lines { IfOk result (λ found. IsScript text.now found.items) }
     ensures only { IfOk result (λ found. (others : List Line) → IsScript text.now others → others ≡ found.items) }
     ensures refused { IfErr result (λ fault. Explains text.now fault) }
+    ensures one { IfErr result (λ fault. IsOneFault text.now fault) }
 {
     let mut found = Vec::new(alloc);
     let mut rest = text;

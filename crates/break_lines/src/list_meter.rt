@@ -92,7 +92,7 @@ impl<'a> ListMeter<'a> {
 
     /// The number of all lines that were tried.
     pub fn all_trials(&self) -> u128
-        ensures { result ≡ sum_through (⟦<ListMeter<'a> as Meter>⟧.trials self.now) (length (⟦<ListMeter<'a> as Meter>⟧.facts self.now).places) }
+        ensures { result ≡ sum_through (⟦<ListMeter<'a> as Meter>⟧.trials self.now) (⟦<ListMeter<'a> as Meter>⟧.facts self.now).places }
     {
         let mut all = u128::from(self.trials(0));
         for place in 0..self.marks.len() - 1 {

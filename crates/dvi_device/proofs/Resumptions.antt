@@ -6,7 +6,7 @@ use Rattle.std.proofs.lemmas.Bool.{eqb-true, eq-eqb}
 use Rattle.std.proofs.Math.Seq.{take-add, take-length, drop-append_seam, drop-length}
 use Rattle.std.proofs.lemmas.List.{drop-append-le, append-nil, length-take, length-take-le, take_min, take-append-drop}
 use Rattle.dvi_device.specs.Written.{written_then, IsFrontOf}
-use Rattle.dvi_device.specs.Resumed.{written_since, IsResumed, GoesOnAs}
+use Rattle.dvi_device.specs.Resumed.{written_since, IsResumed, GoesOnAs, PassesOn}
 use Rattle.dvi_device.proofs.Tellings.{grown-grown}
 
 grown_none : (bytes_written : Option (List ℕ)) → written_then bytes_written [] ≡ bytes_written
@@ -113,6 +113,15 @@ goes_on_as before now sent met h = by_written (written_since (take met sent) bef
   by_written : (bytes_written : Option (List ℕ)) → written_since (take met sent) before now ≡ bytes_written → IfSome bytes_written (GoesOnAs sent before now)
   by_written None is = tt
   by_written (Some bytes) is = parts bytes (written_parts before now sent met bytes h is)
+
+-- Where the inner device reports nothing, nothing is reported around it; where it reports bytes, bytes are.
+pub passes_on : (before now : Option (List ℕ)) (sent : List ℕ) (met : ℕ) → IsResumed before now sent met → PassesOn sent before now (written_since (take met sent) before now)
+passes_on None now sent met h = h.got
+passes_on (Some before) now sent met h =
+    let bytes = take met sent ++ drop (length before) (before ++ h.since) in
+    let is : written_since (take met sent) (Some before) now ≡ Some bytes = ap (written_since (take met sent) (Some before)) h.got in
+    let goes : GoesOnAs sent (Some before) now bytes = subst (λ (t : Option (List ℕ)). IfSome t (GoesOnAs sent (Some before) now)) is (goes_on_as (Some before) now sent met h) in
+    subst (PassesOn sent (Some before) now) (sym is) goes
 
 -- Where the whole file was reported and `sent` is a beginning of it, the inner device got the rest.
 rest_written : (before now : Option (List ℕ)) (sent : List ℕ) (met : ℕ) (whole : List ℕ) → IsResumed before now sent met → written_since (take met sent) before now ≡ Some whole

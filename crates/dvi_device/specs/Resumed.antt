@@ -37,3 +37,11 @@ pub record IsResumed (before now : Option (List ℕ)) (sent : List ℕ) (met : �
 abbrev pub GoesOnAs : List ℕ → Option (List ℕ) → Option (List ℕ) → List ℕ → Type 0
 GoesOnAs sent before now bytes =
     (IsFrontOf bytes sent × (now ≡ before)) ⊎ ((since : List ℕ) × (bytes ≡ sent ++ since) × (now ≡ written_then before since))
+
+-- What is reported around a device that reported `before` and now reports `now`: nothing, and that device still reports nothing; or bytes, with which it
+-- goes on.
+abbrev pub PassesOn : List ℕ → (before now reported : Option (List ℕ)) → Type 0
+PassesOn sent None now None = now ≡ None
+PassesOn sent None now (Some bytes) = ⊥
+PassesOn sent (Some before) now None = ⊥
+PassesOn sent (Some before) now (Some bytes) = GoesOnAs sent (Some before) now bytes

@@ -44,7 +44,7 @@ fn common_front(one: &[u8], other: &[u8]) -> usize
 impl<D: Device> Rest<D> {
     ghost use Rattle.std.specs.Prelude.{◌≡◌, ◌<◌, ◌+◌, ◌^◌, [], List, ℕ, Some, length, drop, IfSome};
     ghost use Rattle.dvi_device.specs.Written.{written_then, IsFrontOf};
-    ghost use Rattle.dvi_device.specs.Resumed.{written_by, GoesOnAs};
+    ghost use Rattle.dvi_device.specs.Resumed.{written_by, GoesOnAs, PassesOn};
 
     /// A device around `device`, for a file whose first bytes `sent` were sent before. It takes no memory.
     pub fn new(device: D, sent: Vec<u8>) -> Rest<D>
@@ -61,11 +61,12 @@ impl<D: Device> Rest<D> {
         }
     }
 
-    /// Returns the inner device. Where a whole file went through this device, and `sent` is a beginning of it, the inner device got the rest of the
+    /// Returns the inner device. What it had reported stands, and only bytes after `sent` follow it. Where a whole file went through this device, and `sent` is a beginning of it, the inner device got the rest of the
     /// file. Where the inner device had reported exactly `sent` at the start, it now reports the whole file.
     pub fn into_device(self) -> D
         ensures device { result ≡ self.device }
         ensures parts { IfSome (written_by D.bytes_written self) (GoesOnAs self.sent (D.bytes_written self.start) (D.bytes_written result)) }
+        ensures passes_on { PassesOn self.sent (D.bytes_written self.start) (D.bytes_written result) (written_by D.bytes_written self) }
         ensures rest_sent { (whole : List ℕ) → IfSome (written_by D.bytes_written self) (λ bytes. bytes ≡ whole) → IsFrontOf self.sent whole
             → D.bytes_written result ≡ written_then (D.bytes_written self.start) (drop (length self.sent) whole) }
         ensures whole { (whole : List ℕ) → IfSome (written_by D.bytes_written self) (λ bytes. bytes ≡ whole) → IsFrontOf self.sent whole → D.bytes_written self.start ≡ Some self.sent
@@ -83,7 +84,7 @@ impl<D: Device> Rest<D> {
 }
 
 impl<D: Device> Device for Rest<D> {
-    ghost use Rattle.std.specs.Prelude.{◌≡◌, ◌≢◌, ◌≤◌, ◌<◌, ◌+◌, ◌^◌, ◌++◌, length, take, drop, slice_index, IfOk, IsOk, OnOk, OnErr};
+    ghost use Rattle.std.specs.Prelude.{◌≡◌, ◌≢◌, ◌≤◌, ◌<◌, ◌+◌, ◌^◌, ◌++◌, length, take, drop, slice_index, IfOk, IsOk, IsErr, OnOk, OnErr};
     ghost use Rattle.dvi_device.specs.Written.{written_then};
     ghost use Rattle.dvi_device.specs.Resumed.{written_by, began_by};
 
@@ -102,12 +103,16 @@ impl<D: Device> Device for Rest<D> {
         ensures none_taken { OnErr result (written_by D.bytes_written self.new ≡ written_by D.bytes_written self.old) }
         ensures counted { OnErr result (D.failed self.new.device + self.new.failures ≡ D.failed self.old.device + self.old.failures + 1) }
 
-        // Until all of `sent` was met, the inner device is unchanged, and only a byte that differs is a failure. After that, only failures of the
-        // inner device are.
+        // Until all of `sent` was met, the inner device is unchanged, each byte that is taken is the next one of `sent`, and only a byte that differs is a
+        // failure. After that, only failures of the inner device are. This holds too where the inner device does not report what it took.
         ensures sent { (self.new.sent ≡ self.old.sent) × (self.new.start ≡ self.old.start) }
         ensures began { began_by D.bytes_written D.failed self.new ≡ began_by D.bytes_written D.failed self.old }
         ensures apart { self.old.met < length self.old.sent → self.new.device ≡ self.old.device }
         ensures own { self.old.met ≡ length self.old.sent → self.new.failures ≡ self.old.failures }
+        ensures met { IfOk result (λ n. self.old.met < length self.old.sent → (self.new.met ≡ self.old.met + n) × (take n piece.now ≡ take n (drop self.old.met self.old.sent))) }
+        ensures refused { self.old.met < length self.old.sent → slice_index self.old.sent self.old.met ≢ slice_index piece.now 0 → IsErr result }
+        ensures passed { self.old.met ≡ length self.old.sent → self.new.met ≡ self.old.met }
+        ensures unmet { OnErr result (self.new.met ≡ self.old.met) }
         ensures differs { self.old.met < length self.old.sent → slice_index self.old.sent self.old.met ≡ slice_index piece.now 0 → IsOk result }
     {
         let left = &self.sent[self.met..];

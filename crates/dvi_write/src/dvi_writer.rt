@@ -44,7 +44,7 @@ impl<D: Device> DviWriter<D> {
     ghost use Rattle.ship_core.specs.Marks.{ShippedPage};
     ghost use Rattle.dvi_layout.specs.declared.fault.WriteFault.{WriteFault};
     ghost use Rattle.dvi_layout.specs.Fonts.{Slots};
-    ghost use Rattle.dvi_layout.specs.SoFar.{next_bytes, with_next};
+    ghost use Rattle.dvi_layout.specs.SoFar.{next_bytes, last_bytes, with_next};
     ghost use Rattle.dvi_layout.specs.Layout.{front, whole};
     ghost use Rattle.dvi_layout.specs.Limits.{HasRoom};
     ghost use Rattle.dvi_layout.specs.Closing.{IsClosedFor};
@@ -176,6 +176,8 @@ impl<D: Device> DviWriter<D> {
             → HasWritten fonts.now before self.new (pages ++ page_with counts.now offsets box_node.now ∷ [])) }
         ensures part { result ≡ Err WriteFault.Device → (before : Option (List ℕ)) (pages : List ShippedPage) → HasWritten fonts.now before self.old pages
             → GrowsByFront before self.new.bytes_written (front fonts.now (pages ++ page_with counts.now offsets box_node.now ∷ [])) }
+        ensures sent { OnOk result (self.new.bytes_written ≡ written_then self.old.bytes_written (next_bytes fonts.now self.old.so_far (page_with counts.now offsets box_node.now))) }
+        ensures since { result ≡ Err WriteFault.Device → GrowsByFront self.old.bytes_written self.new.bytes_written (next_bytes fonts.now self.old.so_far (page_with counts.now offsets box_node.now)) }
         ensures kept { OnOk result (self.new.so_far ≡ with_next fonts.now self.old.so_far (page_with counts.now offsets box_node.now)) }
         ensures running { OnOk result (self.new.over ≡ false) }
         ensures may { OnOk result (refusal_of self.old (page_with counts.now offsets box_node.now) ≡ None) }
@@ -185,6 +187,7 @@ impl<D: Device> DviWriter<D> {
         ensures failed { result ≡ Err WriteFault.Device → self.new.failed ≡ self.old.failed + 1 }
         ensures over { result ≡ Err WriteFault.Device → self.new.over ≡ true }
         ensures so_far { result ≡ Err WriteFault.Device → self.new.so_far ≡ self.old.so_far }
+        ensures grows { (more : List ℕ) × (self.new.bytes_written ≡ written_then self.old.bytes_written more) }
         ensures began { self.new.began ≡ self.old.began }
     {
         let next = self.prepare(alloc, box_node, offsets, counts, fonts)?;
@@ -203,6 +206,7 @@ impl<D: Device> DviWriter<D> {
             → self.new.bytes_written ≡ written_then before (whole fonts.now pages)) }
         ensures part { result ≡ Err WriteFault.Device → (before : Option (List ℕ)) (pages : List ShippedPage) → HasWritten fonts.now before self.old pages
             → GrowsByFront before self.new.bytes_written (whole fonts.now pages) }
+        ensures since { result ≡ Err WriteFault.Device → GrowsByFront self.old.bytes_written self.new.bytes_written (last_bytes fonts.now self.old.so_far) }
         ensures file { OnOk result ((before : Option (List ℕ)) (pages : List ShippedPage) (metrics : WidthsByName) → HasWritten fonts.now before self.old pages
             → GivesFonts metrics fonts.now → IsFileOfPages metrics (whole fonts.now pages) pages) }
         ensures closed { OnOk result ((before : Option (List ℕ)) (pages : List ShippedPage) → HasWritten fonts.now before self.old pages → pages ≢ []
@@ -217,6 +221,7 @@ impl<D: Device> DviWriter<D> {
         ensures failed { result ≡ Err WriteFault.Device → self.new.failed ≡ self.old.failed + 1 }
         ensures over { OnOk result (self.new.over ≡ true) }
         ensures lost { result ≡ Err WriteFault.Device → self.new.over ≡ true }
+        ensures grows { (more : List ℕ) × (self.new.bytes_written ≡ written_then self.old.bytes_written more) }
         ensures began { self.new.began ≡ self.old.began }
     {
         if self.over {

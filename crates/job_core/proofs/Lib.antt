@@ -2,6 +2,7 @@ pub mod Moves
 pub mod Endings
 pub mod PageFonts
 pub mod NewJobs
+pub mod BoundedFiles
 pub mod Ships
 pub mod WholeRuns
 pub mod MeasuredPages

@@ -4,6 +4,7 @@ use Rattle.std.specs.Prelude.{◌≢◌, Ok, is_none, if◌then◌else◌, IfOk,
 use Rattle.node_core.specs.declared.tree.BoxNode.{BoxNode}
 use Rattle.job_commands.specs.declared.command.Command.{Command}
 use Rattle.job_commands.specs.declared.command.Command.TheVariants.{Ship}
+use Rattle.job_commands.specs.declared.replies.Answer.{Answer}
 use Rattle.job_commands.specs.declared.replies.Refusal.{Refusal}
 use Rattle.job_commands.specs.declared.replies.Refusal.TheVariants.{OutOfMemory, Device, JobOver}
 use Rattle.job_commands.specs.Reply.{Reply}
@@ -21,7 +22,7 @@ use Rattle.job_machine.specs.Effects.{after, new_pages}
 use Rattle.job_machine.specs.Machine.{Machine, reply_by, reply_to, state_by, state_after, step, stopped_machine, lost_machine}
 use Rattle.job_machine.specs.Runs.{IsShip, MayRunOutOfMemory, early_checks, StepsTo, Replies, LacksMemory, LosesDevice, Run}
 use Rattle.job_core.specs.Jobs.{AppendsPagesOf, JobView, writing_of, before_writing, pages_after, HasSent, Represents, KeepsTo, RunsTo}
-use Rattle.job_core.specs.Sound.{IsSound, view_of}
+use Rattle.job_core.specs.Sound.{IsSound, IsBoundedFile, view_of}
 use Rattle.job_state.specs.Loaded.{GivesNumbersFor}
 use Rattle.job_state.specs.JobStateView.{JobStateView, state_of, before_shipping}
 use Rattle.job_machine.proofs.Refusals.{counted_fault}
@@ -196,6 +197,44 @@ sound_by s command None is numbers sound = record { fonts = loaded_after s comma
 pub sound_after : (s : State) (command : Command) (reply : Reply) → reply ≡ reply_to s command → IfOk reply (λ answer. GivesNumbersFor s command) → IsSound s
     → IsSound (state_after s command)
 sound_after s command reply says numbers sound = sound_by s command (first_refusal (checks s command)) refl (with_numbers s command reply says numbers) sound
+
+-- A device that was not called got nothing more.
+pub grows_none : (bytes_written : Option (List ℕ)) → (more : List ℕ) × (bytes_written ≡ written_then bytes_written more)
+grows_none None = ([], refl)
+grows_none (Some bytes) = ([], ap Some (sym (append-nil bytes)))
+
+-- The view of a job with this writer and this state of the rest.
+abbrev view_at : Writing → State → JobView
+view_at w s =
+    record {
+      state = record s { shipped = w.so_far.load; pages = w.so_far.pages; over = w.over };
+      so_far = w.so_far;
+      bytes_written = w.bytes_written;
+      failed = w.failed;
+      began = w.began;
+    }
+
+unmoved : (refusal : Refusal) (answer : Answer) (s t : State) (refused : Option Refusal) → reply_by refused answer ≡ Err refusal → state_by refused s t ≡ s
+unmoved refusal answer s t None is = cc
+unmoved refusal answer s t (Some other) is = refl
+
+-- A job that refuses a command as the machine does stays as it is.
+pub stays_refused : (kept now : JobStateView) (w : Writing) (command : Command) (reply : Reply) → reply ≡ reply_to (before_shipping kept) command
+    → before_shipping now ≡ state_after (before_shipping kept) command → IfErr reply (λ refusal. refusal ≢ Device → view_of now w ≡ view_of kept w)
+stays_refused kept now w command (Ok answer) says goes = tt
+stays_refused kept now w command (Err refusal) says goes =
+    let s = before_shipping kept in
+    λ other. ap (view_at w) (goes ∙ unmoved refusal (answer_of s command) s (after s command) (first_refusal (checks s command)) (sym says))
+
+-- A command that ships nothing leaves the file within the limits.
+pub bounded_after : (s : State) (w : Writing) (command : Command) → IsBoundedFile s.fonts w → IsBoundedFile (state_after s command).fonts w
+bounded_after s w command bounded =
+    record {
+      room = bounded.room;
+      before = bounded.before;
+      pages = bounded.pages;
+      written = with_fonts s command (first_refusal (checks s command)) refl bounded.before w bounded.pages bounded.written;
+    }
 
 -- The effect of a command that ships nothing is the same under the numbers of any writer whose file is not over.
 module _ (kept : JobStateView) (w : Writing) (command : Command) (other : IsShip command → ⊥) (running : w.over ≡ false) where

@@ -5,6 +5,7 @@ use Rattle.job_commands.specs.declared.replies.Refusal.{Refusal}
 use Rattle.job_commands.specs.declared.replies.Summary.{Summary}
 use Rattle.dvi_device.specs.Written.{IsFrontOf}
 use Rattle.dvi_device.specs.Beginnings.{Beginning}
+use Rattle.dvi_device.specs.Resumed.{PassesOn}
 
 -- What was sent before an end, what the device that took it had reported then, and how often it had failed.
 abbrev pub beginning : List ℕ → Option (List ℕ) → ℕ → Beginning
@@ -20,3 +21,9 @@ completed (Ok summary) seen bytes_written start inner sent whole failed began fi
     got (subst (λ (t : Option (List ℕ)). IfSome t (λ bytes. bytes ≡ whole)) (sym same) file) (subst (λ (s : List ℕ). IsFrontOf s whole) (sym sent_is) front)
     (start_is ∙ (had ∙ ap Some (sym sent_is)))
 completed (Err refusal) seen bytes_written start inner sent whole failed began file same is had front got = tt
+
+-- What was passed on, by what was sent and reported before the job.
+pub passed_on : (seen bytes_written start inner : Option (List ℕ)) (sent : List ℕ) (failed : ℕ) (began : Beginning)
+    → bytes_written ≡ seen → beginning sent start failed ≡ began → PassesOn sent start inner bytes_written → PassesOn began.sent began.bytes_written inner seen
+passed_on seen bytes_written start inner sent failed began same is passes =
+    subst (λ (b : Beginning). PassesOn b.sent b.bytes_written inner seen) is (subst (PassesOn sent start inner) same passes)

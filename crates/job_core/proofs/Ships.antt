@@ -29,7 +29,7 @@ use Rattle.job_machine.specs.Machine.{Machine, reply_by, state_by}
 use Rattle.job_state.specs.JobStateView.{JobStateView, state_of, before_shipping}
 use Rattle.job_state.proofs.SizedGlyphs.{sized_held}
 use Rattle.job_core.specs.Jobs.{AppendsPagesOf, Represents, KeepsTo, before_writing}
-use Rattle.job_core.specs.Sound.{IsSound, refusal_for, view_of}
+use Rattle.job_core.specs.Sound.{IsSound, IsBoundedFile, refusal_for, view_of}
 use Rattle.job_core.proofs.Moves.{replied, refuses, lacking, losing_page, true_or_false}
 use Rattle.job_core.proofs.Endings.{has_written, stopped}
 use Rattle.job_core.proofs.PageFonts.{shippable}
@@ -85,6 +85,16 @@ never_lost : (w : Writing) (page : ShippedPage) → refusal_of w page ≡ Some f
 never_lost w page is =
     never_by w.over (nat_le MAX_PAGES w.so_far.pages) (nat_lt MAX_SHIPPED_NODES (w.so_far.load.nodes + box_count page.box_node))
     (nat_lt MAX_SHIPPED_TEXT (w.so_far.load.text + box_text page.box_node)) (is_huge page) faults.Device (inr refl) is
+
+-- The file of a job that is not over stays within the limits if the page was not sent.
+pub bounded_unshipped : (fonts : Slots) (old new : Writing) (page : ShippedPage) (fault : WriteFault) → EndsWith old page fault → (fault ≢ faults.Device → new ≡ old)
+    → (fault ≡ faults.Device → new.over ≡ true) → IsBoundedFile fonts old → new.over ≡ false → IsBoundedFile fonts new
+bounded_unshipped fonts old new page fault (inl (inl some)) stays over bounded running =
+    subst (IsBoundedFile fonts) (sym (stays (λ lost. never_lost old page (some ∙ ap Some lost)))) bounded
+bounded_unshipped fonts old new page fault (inl (inr (none, wants))) stays over bounded running =
+    let other : fault ≢ faults.Device = λ lost. cc in
+    subst (IsBoundedFile fonts) (sym (stays other)) bounded
+bounded_unshipped fonts old new page fault (inr (none, lost)) stays over bounded running = absurd (true_or_false (over lost) running)
 
 -- A void register is refused.
 pub void_refused : (kept : JobStateView) (w : Writing) (r : ℕ) → w.over ≡ false → held_in kept.registers r ≡ None → KeepsTo (view_of kept w) (Ship r) (Err VoidBox) (view_of kept w)

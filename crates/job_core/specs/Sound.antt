@@ -1,10 +1,14 @@
--- The view of a job by its state and its writer, and what holds of its state (own; the model and the invariant of `Job`, and private calls: no
+-- The view of a job by its state and its writer, and what holds of its state and its file (own; the model and the invariant of `Job`, and private calls: no
 -- public clause speaks of it).
+use Rattle.std.specs.Prelude.{ℕ, List, Option}
+use Rattle.ship_core.specs.Marks.{ShippedPage}
 use Rattle.job_commands.specs.declared.replies.Refusal.{Refusal}
 use Rattle.job_commands.specs.declared.replies.Refusal.TheVariants as refusals
 use Rattle.dvi_layout.specs.declared.fault.WriteFault.{WriteFault}
 use Rattle.dvi_layout.specs.declared.fault.WriteFault.TheVariants.{JobOver, TooManyPages, TooMuchShipped, TooMuchSpecial, HugePage, OutOfMemory, Device}
-use Rattle.dvi_write.specs.Writing.{Writing}
+use Rattle.dvi_layout.specs.Fonts.{Slots}
+use Rattle.dvi_layout.specs.Limits.{HasRoom}
+use Rattle.dvi_write.specs.Writing.{Writing, HasWritten}
 use Rattle.job_machine.specs.State.{State}
 use Rattle.job_state.specs.JobStateView.{JobStateView, state_of}
 use Rattle.job_state.specs.Sized.{HasSizedGlyphs}
@@ -20,6 +24,13 @@ view_of kept w =
 pub record IsSound (s : State) : Type 0 where
   pub fonts : AreLoaded s.files s.fonts
   pub glyphs : HasSizedGlyphs s
+
+-- The file of a job that is not over is within the limits: its writer has written some pages, and the numbers that it keeps of them have room.
+pub record IsBoundedFile (fonts : Slots) (w : Writing) : Type 0 where
+  pub room : HasRoom w.so_far
+  pub before : Option (List ℕ)
+  pub pages : List ShippedPage
+  pub written : HasWritten fonts before w pages
 
 -- The refusal of a job if its writer does not take a page.
 abbrev pub refusal_for : WriteFault → Refusal

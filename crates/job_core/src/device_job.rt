@@ -1,6 +1,6 @@
 //! The job: commands are run, and each page goes to a device when it is shipped.
 
-ghost use Rattle.std.specs.Prelude.{◌≡◌, ◌≢◌, ◌<◌, ◌+◌, ◌^◌, ◌++◌, [], true, false, None, Err, List, length, IfOk, IfErr, OnOk, OnErr, IfSome};
+ghost use Rattle.std.specs.Prelude.{◌≡◌, ◌≢◌, ◌<◌, ◌+◌, ◌^◌, ◌++◌, [], true, false, None, Err, ℕ, List, length, IfOk, IfErr, OnOk, OnErr, IfSome};
 ghost use Rattle.job_commands.specs.declared.command.Command.TheVariants as commands;
 ghost use Rattle.job_commands.specs.declared.replies.Refusal.{Refusal};
 ghost use Rattle.job_commands.specs.Reply.{Reply as AReply};
@@ -13,7 +13,7 @@ ghost use Rattle.job_machine.specs.Effects.{new_pages};
 ghost use Rattle.job_machine.specs.Machine.{Machine, first_machine, reply_to, state_after};
 ghost use Rattle.job_machine.specs.Runs.{IsShip, MayRunOutOfMemory, early_checks};
 ghost use Rattle.job_core.specs.Jobs.{Represents, KeepsTo, RunsTo, FinishesTo, before_writing};
-ghost use Rattle.job_core.specs.Sound.{IsSound, refusal_for, view_of};
+ghost use Rattle.job_core.specs.Sound.{IsSound, IsBoundedFile, refusal_for, view_of};
 ghost use Rattle.job_core.specs.Shown.{FilesPages};
 ghost use Rattle.job_core.specs.Closing.{ClosesFile};
 
@@ -52,11 +52,15 @@ fn ship_page<D: Device>(
 ) -> Reply
     requires running { writer.old.over ≡ false }
     requires sound { IsSound (before_shipping kept.old) }
+    requires bounded { IsBoundedFile kept.old.fonts writer.old }
     ensures keeps { KeepsTo (view_of kept.old writer.old) (commands.Ship register) result (view_of kept.new writer.new) }
+    ensures same { IfErr result (λ refusal. refusal ≢ Refusal.Device → view_of kept.new writer.new ≡ view_of kept.old writer.old) }
     ensures sound { IsSound (before_shipping kept.new) }
+    ensures bounded { writer.new.over ≡ false → IsBoundedFile kept.new.fonts writer.new }
     ensures unsent { IfErr result (λ refusal. refusal ≢ Refusal.Device → writer.new.bytes_written ≡ writer.old.bytes_written) }
     ensures part { result ≡ Err Refusal.Device → (m : Machine) → Represents (view_of kept.old writer.old) m
         → GrowsByFront (before_writing writer.old.bytes_written) writer.new.bytes_written (front m.state.fonts (m.pages ++ new_pages m.state (commands.Ship register))) }
+    ensures grows { (more : List ℕ) × (writer.new.bytes_written ≡ written_then writer.old.bytes_written more) }
     ensures began { writer.new.began ≡ writer.old.began }
 {
     let Some(box_node) = kept.held(register) else {
@@ -117,9 +121,10 @@ pub struct Job<D: Device> {
 }
 
 impl<D: Device> Model for Job<D> {
+    ghost use Rattle.std.specs.Prelude.{◌≡◌, false};
     ghost use Rattle.job_state.specs.JobStateView.{before_shipping};
     ghost use Rattle.job_core.specs.Jobs.{JobView};
-    ghost use Rattle.job_core.specs.Sound.{IsSound, view_of};
+    ghost use Rattle.job_core.specs.Sound.{IsSound, IsBoundedFile, view_of};
     ghost use Rattle.job_core.specs.JobViewCode.{coded_job_view};
 
     ghost Value = { JobView };
@@ -128,11 +133,11 @@ impl<D: Device> Model for Job<D> {
 
     ghost view = { λ job. view_of job.kept job.writer };
 
-    ghost invariant = { λ job. IsSound (before_shipping job.kept) };
+    ghost invariant = { λ job. IsSound (before_shipping job.kept) × (job.writer.over ≡ false → IsBoundedFile job.kept.fonts job.writer) };
 }
 
 impl<D: Device> Job<D> {
-    ghost use Rattle.std.specs.Prelude.{◌≡◌, ◌≢◌, ◌<◌, ◌+◌, ◌^◌, ◌++◌, [], true, List, IfOk, IfErr, OnOk, OnErr, IfSome, Err, length};
+    ghost use Rattle.std.specs.Prelude.{◌≡◌, ◌≢◌, ◌<◌, ◌+◌, ◌^◌, ◌++◌, [], true, ℕ, List, IfOk, IfErr, OnOk, OnErr, IfSome, Err, length};
     ghost use Rattle.job_machine.specs.Effects.{new_pages};
     ghost use Rattle.job_machine.specs.Machine.{Machine, first_machine};
     ghost use Rattle.dvi_layout.specs.Layout.{front, whole};
@@ -172,10 +177,12 @@ impl<D: Device> Job<D> {
     /// up to this page, and the job is over. A job that is over refuses every command with JobOver.
     pub fn step(&mut self, command: &Command) -> Result<Answer, Refusal>
         ensures keeps { KeepsTo self.old command.now result self.new }
+        ensures same { IfErr result (λ refusal. refusal ≢ Refusal.Device → self.new ≡ self.old) }
         ensures idle { self.old.state.over ≡ true → self.new ≡ self.old }
         ensures unsent { IfErr result (λ refusal. refusal ≢ Refusal.Device → self.new.bytes_written ≡ self.old.bytes_written) }
         ensures part { result ≡ Err Refusal.Device → (m : Machine) → Represents self.old m
             → GrowsByFront (before_writing self.old.bytes_written) self.new.bytes_written (front m.state.fonts (m.pages ++ new_pages m.state command.now)) }
+        ensures grows { (more : List ℕ) × (self.new.bytes_written ≡ written_then self.old.bytes_written more) }
         ensures began { self.new.began ≡ self.old.began }
     {
         if self.writer.is_over() {
@@ -215,18 +222,21 @@ impl<D: Device> Job<D> {
     /// of the file.
     pub fn finish(&mut self) -> Result<Summary, Refusal>
         ensures finished { FinishesTo self.old result self.new }
+        ensures same { IfErr result (λ refusal. refusal ≢ Refusal.Device → self.new ≡ self.old) }
         ensures idle { self.old.state.over ≡ true → self.new ≡ self.old }
         ensures file { (m : Machine) → Represents self.old m → OnOk result (IfSome self.new.bytes_written (λ bytes. bytes ≡ whole m.state.fonts m.pages)) }
         ensures dvi { FilesPages self.old result self.new }
         ensures end { ClosesFile self.old result self.new }
         ensures size { IfOk result (λ summary. (m : Machine) → Represents self.old m → IfSome self.new.bytes_written (λ bytes. summary.bytes ≡ length bytes)) }
         ensures count { IfOk result (λ summary. (m : Machine) → Represents self.old m → summary.bytes ≡ length (whole m.state.fonts m.pages)) }
+        ensures small { IfOk result (λ summary. summary.bytes < 2 ^ 31) }
         ensures front { result ≡ Err Refusal.Device → (m : Machine) → Represents self.old m → IfSome self.new.bytes_written (λ bytes. IsFrontOf bytes (whole m.state.fonts m.pages)) }
 
         // What the device has reported after what it reported before the job: the file, a beginning of it, or no more than before the call.
         ensures sent { OnOk result ((m : Machine) → Represents self.old m → self.new.bytes_written ≡ written_then (before_writing self.old.bytes_written) (whole m.state.fonts m.pages)) }
         ensures part { result ≡ Err Refusal.Device → (m : Machine) → Represents self.old m → GrowsByFront (before_writing self.old.bytes_written) self.new.bytes_written (whole m.state.fonts m.pages) }
         ensures unsent { IfErr result (λ refusal. refusal ≢ Refusal.Device → self.new.bytes_written ≡ self.old.bytes_written) }
+        ensures grows { (more : List ℕ) × (self.new.bytes_written ≡ written_then self.old.bytes_written more) }
         ensures began { self.new.began ≡ self.old.began }
     {
         if self.writer.is_over() {

@@ -1,6 +1,7 @@
 -- One more line was run and answered.
 use Rattle.std.proofs.Common.{◌≡◌, ◌+◌, ◌++◌, ◌∷◌, [], take, ap, sym, ◌∙◌}
 use Rattle.std.proofs.lemmas.List.{take_more}
+use Rattle.job_core.specs.Jobs.{JobView}
 use Rattle.boxglue_script.specs.declared.script.Line.{Line}
 use Rattle.boxglue_program.proofs.RunLaws.{ran_one_more, answers_one_more, accepted_one_more, length_more}
 use Rattle.boxglue_program.proofs.run.run_lines.Goals as goal
@@ -22,5 +23,8 @@ loop-line-preserved g c =
         answers_one_more _ (take i lines) (take (i + 1) lines) line before.0 reply _ taken before.2 (c.with_answer-text.ensures _ before.3),
         accepted_one_more _ _ before.0 reply before.4 c.is_ok-accepted.ensures.value,
       );
+      idle = λ over.
+          let same = c.loop-line.invariant.idle over in
+          c.step-reply.ensures.idle (ap (λ (job : JobView). job.state.over) same ∙ over) ∙ same;
       began = c.step-reply.ensures.began ∙ c.loop-line.invariant.began;
     }

@@ -1,5 +1,5 @@
 -- The lines so far were run and answered.
-use Rattle.std.proofs.Common.{◌≡◌, List, length, take, is_ok, IfSome}
+use Rattle.std.proofs.Common.{◌≡◌, true, List, length, take, is_ok, IfSome}
 use Rattle.std.specs.List.{list_all}
 use Rattle.job_commands.specs.Reply.{Reply}
 use Rattle.job_core.specs.Jobs.{RunsTo}
@@ -11,5 +11,6 @@ abbrev pub invariant-loop-line : goal.invariant-loop-line
 invariant-loop-line g l = record {
   ran : (replies : List Reply) × RunsTo l.initial.job (commands_of (take l.line-index l.lines)) replies l.job × (length replies ≡ length (take l.line-index l.lines))
       × IfSome l.text (λ text. text.items ≡ answer_lines (line_numbers (take l.line-index l.lines)) replies) × (l.accepted ≡ list_all is_ok replies);
+  idle : l.initial.job.state.over ≡ true → l.job ≡ l.initial.job;
   began : l.job.began ≡ l.initial.job.began;
 }

@@ -1,4 +1,4 @@
-use Rattle.boxglue_script.proofs.NameAlone.{name_alone}
+use Rattle.boxglue_script.proofs.OneCause.{name_alone}
 use Rattle.boxglue_script.proofs.laws.name_is_the_one_cause.Goals as goal
 
 pub returns : goal.returns

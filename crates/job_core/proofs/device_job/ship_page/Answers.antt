@@ -8,9 +8,10 @@ use Rattle.dvi_layout.specs.Shippable.{page_with}
 use Rattle.dvi_write.specs.Writing.{Writing}
 use Rattle.job_state.specs.JobStateView.{JobStateView, before_shipping}
 use Rattle.job_core.specs.Jobs.{KeepsTo}
-use Rattle.job_core.specs.Sound.{IsSound, view_of}
+use Rattle.job_core.specs.Sound.{IsSound, IsBoundedFile, view_of}
+use Rattle.job_core.proofs.BoundedFiles.{bounded_next, definable}
 use Rattle.job_core.proofs.Moves.{sound_after}
-use Rattle.job_core.proofs.Ships.{page_is, may_ship, void_refused, shipped, unshipped_for, part_of, is_lost, is_other}
+use Rattle.job_core.proofs.Ships.{page_is, may_ship, void_refused, shipped, unshipped_for, part_of, is_lost, is_other, bounded_unshipped}
 use Rattle.job_core.proofs.device_job.ship_page.Goals as goal
 
 pub page-requires : goal.page-requires
@@ -35,6 +36,19 @@ pub returns-in-Ok-clause-sound : goal.returns-in-Ok-clause-sound
 returns-in-Ok-clause-sound g c =
     subst (λ (k : JobStateView). IsSound (before_shipping k)) (sym c.empty.ensures) (sound_after (before_shipping c.args.kept.now) (Void c.args.register) (Ok Done) refl tt c.requires.sound)
 
+pub returns-in-Ok-clause-bounded : goal.returns-in-Ok-clause-bounded
+returns-in-Ok-clause-bounded g c = λ running.
+    let kept = c.args.kept.now in
+    let page = page_with c.counts.result.now c.offsets.result c.in-Some.box_node.now in
+    subst (λ (k : JobStateView). IsBoundedFile k.fonts c.page.new.self) (sym c.empty.ensures)
+    (bounded_next kept.fonts c.args.writer.now c.page.new.self page (definable kept.files kept.fonts c.requires.sound.fonts) c.in-Ok.ensures.may
+    (rw c.fonts.ensures at c.in-Ok.ensures.kept) (rw c.fonts.ensures at c.in-Ok.ensures.written) c.requires.bounded)
+
+pub returns-in-Err-clause-bounded : goal.returns-in-Err-clause-bounded
+returns-in-Err-clause-bounded g c = λ running.
+    bounded_unshipped c.args.kept.now.fonts c.args.writer.now c.page.new.self (page_with c.counts.result.now c.offsets.result c.in-Some.box_node.now) c.in-Err.fault c.in-Err.ensures.refused
+    c.in-Err.ensures.same (λ lost. c.page.ensures.over (c.in-Err.is ∙ ap (λ (f : WriteFault). Err f) lost)) c.requires.bounded running
+
 pub returns-in-Err-clause-keeps : goal.returns-in-Err-clause-keeps
 returns-in-Err-clause-keeps g c =
     let kept = c.args.kept.now in
@@ -48,6 +62,9 @@ returns-in-Err-clause-keeps g c =
     (λ lost. c.page.ensures.failed (c.in-Err.is ∙ ap (λ (f : WriteFault). Err f) lost)) (λ lost. c.page.ensures.over (c.in-Err.is ∙ ap (λ (f : WriteFault). Err f) lost))
     (λ lost. c.page.ensures.so_far (c.in-Err.is ∙ ap (λ (f : WriteFault). Err f) lost)) c.requires.running
     (λ lost. rw c.fonts.ensures at (c.page.ensures.part (c.in-Err.is ∙ ap (λ (f : WriteFault). Err f) lost))))
+
+pub returns-in-Err-clause-same : goal.returns-in-Err-clause-same
+returns-in-Err-clause-same g c = λ other. ap (λ (w : Writing). view_of c.args.kept.now w) (c.in-Err.ensures.same (is_other c.in-Err.fault (λ lost. other (c.refusal_for.ensures ∙ lost))))
 
 pub returns-in-Err-clause-unsent : goal.returns-in-Err-clause-unsent
 returns-in-Err-clause-unsent g c = λ other. ap (λ (w : Writing). w.bytes_written) (c.in-Err.ensures.same (is_other c.in-Err.fault (λ lost. other (c.refusal_for.ensures ∙ lost))))

@@ -19,19 +19,19 @@ returns-clause-ok c =
     let first = c.first_kept-first.ensures in
     let start = c.rest_start-start.ensures in
     planned-left c.args.params.now c.args.nodes.now c.args.place c.first_kept-first.result c.rest_start-start.result c.in_ok-top.top.glue c.in_ok-top.top.shell
-    start.after start.within first.specials first.solid start.value (rw (take_rest c.args.nodes.now c.rest_start-start.result) at c.in_ok-top.ensures.glue)
+    start.after start.place_bounded first.specials first.solid start.value (rw (take_rest c.args.nodes.now c.rest_start-start.result) at c.in_ok-top.ensures.glue)
 
 pub returns-clause-inside : goal.returns-clause-inside
 returns-clause-inside c =
     let first = c.first_kept-first.ensures in
     let start = c.rest_start-start.ensures in
     let left = returns-clause-ok c in
-    let below : c.first_kept-first.result < length c.args.nodes.now = omega (arith, first.within, c.if-first-nodes.false) in
+    let below : c.first_kept-first.result < length c.args.nodes.now = omega (arith, first.place_bounded, c.if-first-nodes.false) in
     let kept = first.kept below in
     record {
       free = omega (arith, first-after c.args.nodes.now c.args.place c.first_kept-first.result c.requires.dropped kept first.after);
       ordered = start.after;
-      within = start.within;
+      within = start.place_bounded;
       some =
           omega (
             arith,

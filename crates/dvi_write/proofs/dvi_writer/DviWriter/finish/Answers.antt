@@ -23,6 +23,11 @@ returns-in_err-send-clause-part g c is =
     let front = rw (c.deref.ensures.value, c.in-Ok.ensures) at c.in_err-send.ensures.front in
     rw (← c.self.view_is) (λ before pages written. ended_part c.args.fonts.now before c.send.new.self.bytes_written _ pages written some (rw (← c.self.view_is) at front))
 
+pub returns-in_err-send-clause-since : goal.returns-in_err-send-clause-since
+returns-in_err-send-clause-since g c is =
+    let front = rw (c.deref.ensures.value, c.in-Ok.ensures) at c.in_err-send.ensures.front in
+    rw (← c.self.view_is) (rw (← c.self.view_is) at front)
+
 pub returns-clause-whole : goal.returns-clause-whole
 returns-clause-whole g c =
     let some : c.self.inside.progress.pages ≢ 0 = λ none. c.if-pages-eq0.false (c.pages-pages.ensures ∙ none) in

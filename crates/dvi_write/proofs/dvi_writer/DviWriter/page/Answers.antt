@@ -10,6 +10,14 @@ returns-in_err-send-clause-part g c is =
     let front = rw (c.deref.ensures.value, c.in_ok-next.ensures.bytes) at c.in_err-send.ensures.front in
     λ before pages written. part_more c.args.fonts.now before c.send.new.self.bytes_written c.args.self.now pages page written front
 
+pub returns-in_err-send-clause-since : goal.returns-in_err-send-clause-since
+returns-in_err-send-clause-since g c is = rw (c.deref.ensures.value, c.in_ok-next.ensures.bytes) at c.in_err-send.ensures.front
+
+pub returns-clause-sent : goal.returns-clause-sent
+returns-clause-sent g c =
+    let bytes_written = rw (c.deref.ensures.value, c.in_ok-next.ensures.bytes) at c.in_ok-send.ensures.bytes_written in
+    ap (λ (w : Writing). w.bytes_written) c.self.view_is ∙ bytes_written
+
 pub returns-clause-written : goal.returns-clause-written
 returns-clause-written g c before pages written =
     let page = page_with c.args.counts.now c.args.offsets c.args.box_node.now in

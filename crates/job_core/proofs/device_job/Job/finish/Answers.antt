@@ -6,6 +6,7 @@ use Rattle.dvi_layout.specs.Layout.{whole}
 use Rattle.dvi_layout.specs.Shippable.{GivesFonts, IsFileOfPages}
 use Rattle.job_core.specs.Sound.{view_of}
 use Rattle.job_core.proofs.Endings.{over_refused, open_refused, may_finish, has_written_by, fonts_are, sent_by, part_by, some_where, finished, losing, stopped, said, filed}
+use Rattle.job_core.proofs.BoundedFiles.{small_file}
 use Rattle.job_core.proofs.device_job.Job.finish.Goals as goal
 
 pub returns-then-is_over-clause-finished : goal.returns-then-is_over-clause-finished
@@ -35,7 +36,7 @@ returns-clause-dvi g c =
     (λ m metrics holds gives.
     let written = has_written_by old m fonts holds running c.fonts.ensures in
     said c.self.inside.writer.bytes_written c.finish.new.self.bytes_written (whole fonts m.pages) (λ bytes. IsFileOfPages metrics bytes m.pages) (c.in-Ok.ensures.whole _ m.pages written)
-    (filed old m metrics (whole fonts m.pages) holds c.self.invariant.fonts gives
+    (filed old m metrics (whole fonts m.pages) holds c.self.invariant.0.fonts gives
     (λ given. c.in-Ok.ensures.file _ m.pages metrics written (subst (GivesFonts metrics) (sym (fonts_are old m fonts holds c.fonts.ensures)) given))))
 
 pub returns-clause-end : goal.returns-clause-end
@@ -48,6 +49,11 @@ returns-clause-end g c =
     let written = has_written_by old m fonts holds running c.fonts.ensures in
     said c.self.inside.writer.bytes_written c.finish.new.self.bytes_written (whole fonts m.pages) (λ bytes. IsClosedFor m.state.fonts bytes m.pages) (c.in-Ok.ensures.whole _ m.pages written)
     (subst (λ (f : Slots). IsClosedFor f (whole fonts m.pages) m.pages) (fonts_are old m fonts holds c.fonts.ensures) (c.in-Ok.ensures.closed _ m.pages written some)))
+
+pub returns-clause-small : goal.returns-clause-small
+returns-clause-small g c =
+    let kept = c.self.inside.kept in
+    small_file kept.files kept.fonts c.fonts.result.now c.self.inside.writer _ c.fonts.ensures c.self.invariant.0.fonts (c.self.invariant.1 (sym c.is_over.ensures ∙ c.if-is_over.false)) c.in-Ok.ensures.size
 
 pub returns-in-Err-Device-clause-finished : goal.returns-in-Err-Device-clause-finished
 returns-in-Err-Device-clause-finished g c =

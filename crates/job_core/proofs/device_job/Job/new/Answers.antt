@@ -1,9 +1,12 @@
 use Rattle.job_machine.specs.State.{first_state}
+use Rattle.job_core.proofs.BoundedFiles.{bounded_first}
 use Rattle.job_core.proofs.NewJobs.{new_written, new_holds, new_sound}
 use Rattle.job_core.proofs.device_job.Job.new.Goals as goal
 
 pub invariant_of-result : goal.invariant_of-result
-invariant_of-result g c = new_sound c.args.files.now c.in-Ok.kept c.in-Ok.ensures
+invariant_of-result g c =
+    let fonts = c.in-Ok.kept.fonts in
+    (new_sound c.args.files.now c.in-Ok.kept c.in-Ok.ensures, λ running. bounded_first fonts (g.D.Device.bytes_written c.args.device) c.new-2.result (c.new-2.ensures.written fonts))
 
 pub returns-clause-ok : goal.returns-clause-ok
 returns-clause-ok g c =

@@ -1,8 +1,9 @@
 use Rattle.std.proofs.Common.{refl, sym, subst, ◌∙◌, rules}
 use Rattle.job_machine.specs.Runs.{IsShip}
 use Rattle.job_state.specs.JobStateView.{before_shipping}
-use Rattle.job_core.specs.Sound.{IsSound, view_of}
-use Rattle.job_core.proofs.Moves.{over_replies, obeyed, seen_reply, sound_after, never_device, written_stays, true_or_false}
+use Rattle.job_machine.specs.State.{State}
+use Rattle.job_core.specs.Sound.{IsSound, IsBoundedFile, view_of}
+use Rattle.job_core.proofs.Moves.{over_replies, obeyed, seen_reply, sound_after, bounded_after, stays_refused, grows_none, never_device, written_stays, true_or_false}
 use Rattle.job_core.proofs.device_job.Job.step.Goals as goal
 
 pub returns-then-is_over-clause-keeps : goal.returns-then-is_over-clause-keeps
@@ -10,8 +11,12 @@ returns-then-is_over-clause-keeps g c = rw (← c.self.view_is) (over_replies _ 
 
 pub invariant_of-self-2 : goal.invariant_of-self-2
 invariant_of-self-2 g c =
-    subst IsSound (sym c.in_ok-obey.ensures.state)
-    (sound_after (before_shipping c.self.inside.kept) c.args.command.now c.in_ok-obey.field-0 c.in_ok-obey.ensures.reply c.in_ok-obey.ensures.numbers c.self.invariant)
+    let s = before_shipping c.self.inside.kept in
+    let w = c.self.inside.writer in (
+      subst IsSound (sym c.in_ok-obey.ensures.state)
+          (sound_after s c.args.command.now c.in_ok-obey.field-0 c.in_ok-obey.ensures.reply c.in_ok-obey.ensures.numbers c.self.invariant.0),
+      λ running. subst (λ (t : State). IsBoundedFile t.fonts w) (sym c.in_ok-obey.ensures.state) (bounded_after s w c.args.command.now (c.self.invariant.1 running)),
+    )
 
 pub returns : goal.returns
 returns g c =
@@ -22,9 +27,11 @@ returns g c =
     rw (← c.self.view_is)
     (record {
       keeps = obeyed kept w c.args.command.now other running c.obey.new.kept c.in_ok-obey.field-0 c.in_ok-obey.ensures.reply c.in_ok-obey.ensures.state;
+      same = stays_refused kept c.obey.new.kept w c.args.command.now c.in_ok-obey.field-0 c.in_ok-obey.ensures.reply c.in_ok-obey.ensures.state;
       idle = λ over. absurd (true_or_false over running);
       unsent = written_stays c.in_ok-obey.field-0 w.bytes_written;
       part = λ is.
           absurd (never_device (view_of kept w).state c.args.command.now c.in_ok-obey.field-0 (seen_reply kept w c.args.command.now other running c.in_ok-obey.field-0 c.in_ok-obey.ensures.reply) is);
+      grows = grows_none w.bytes_written;
       began = refl;
     })

@@ -1,0 +1,269 @@
+"""Hostile inputs, always the same ones: an input depends on its number, on files of the repository, and on the DVI files that the program makes of good scripts. So each can be
+made again by itself.
+
+Most inputs are good ones with a few changes, since random bytes are refused at the first of them. hostile_scripts.py makes the scripts."""
+
+import glob
+import os
+import re
+import struct
+import sys
+
+ROOT = os.path.dirname(os.path.dirname(os.path.abspath(__file__)))
+sys.path.insert(0, ROOT + "/tests")
+from steps.dvi_writer import Font, Page, definition, dvi_file  # noqa: E402
+from steps.large_inputs import TINY  # noqa: E402
+from steps.library_inputs import case_script, font_files  # noqa: E402
+from steps.plain_font import metric_file  # noqa: E402
+from hostile_scripts import Chance, changed, changed_script, large_script, random_script  # noqa: E402
+
+# Twenty inputs have these kinds, and so has each next twenty.
+KINDS = ("script",) * 7 + ("dvi",) * 6 + ("metrics",) * 3 + ("words",) * 4
+LONGEST_GOOD = 20_000
+
+
+class Input:
+    """A run: its kind and the way it was made, its words, what standard input gives, and the files of its folder. `script` is what it runs, `out` where its file goes."""
+
+    def __init__(self, kind, way, words, given=b"", files=None, script=None, out=None):
+        self.kind, self.way, self.words, self.given, self.files, self.script, self.out = kind, way, words, given, files or {}, script, out
+
+
+class Good:
+    """The good inputs. `typeset` makes the file of a script."""
+
+    def __init__(self, typeset):
+        with open(ROOT + "/crates/rows_scripts/stdin", "rb") as file:
+            text = file.read()
+        self.fonts = {name.decode(): data for name, data in font_files(text).items()}
+        self.fonts["plain"] = metric_file()
+        self.metrics = list(self.fonts.values()) + [TINY]
+        scripts = [self.read(path) for path in sorted(glob.glob(ROOT + "/examples/*.box"))]
+        scripts += [case_script(it.split(b"\n")) for it in re.split(rb"^case .*\n", text, flags=re.M)[1:]]
+        self.scripts = [it for it in scripts if len(it) < LONGEST_GOOD]
+        self.files = []
+        for script in self.scripts:
+            fonts = self.fonts_of(script)
+            data = typeset(script, fonts)
+            if data and len(data) < LONGEST_GOOD:
+                self.files.append((data, fonts))
+        for path in sorted(glob.glob(ROOT + "/tests/program/*/files/*.dvi")):
+            self.files.append((self.read(path), {"tiny": TINY}))
+
+    @staticmethod
+    def read(path):
+        with open(path, "rb") as file:
+            return file.read()
+
+    def fonts_of(self, script):
+        """The metric files that a script names."""
+        names = {it.decode() for it in re.findall(rb"^ *font +\d+ +([\w.-]{1,99})", script, flags=re.M)}
+        return {name: self.fonts.get(name, self.fonts["plain"]) for name in sorted(names)}
+
+
+def font_words(fonts):
+    """The words that give fonts. A name may begin as an option does."""
+    return ["--"] * any(it.startswith("-") for it in fonts) + ["%s=%s.tfm" % (name, name) for name in fonts]
+
+
+def font_paths(fonts):
+    return {name + ".tfm": data for name, data in fonts.items()}
+
+
+# Scripts
+
+def script_input(chance, good):
+    way = chance.pick(("bytes",) + ("changed",) * 6 + ("bytes changed",) + ("commands",) * 7)
+    if way == "changed" and chance.one_in(60):
+        way = "large"
+    if way == "bytes":
+        script = chance.bytes(chance.below(600))
+        if chance.one_in(2):
+            script = bytes(b" \nabdehikoprtux019.-%"[it % 21] for it in script)
+    elif way == "bytes changed":
+        script = changed(chance, chance.pick(good.scripts), chance.pick(good.scripts))[1]
+    else:
+        script = {"changed": lambda: changed_script(chance, good), "commands": lambda: random_script(chance), "large": lambda: large_script(chance)}[way]()
+    if chance.one_in(4):
+        return Input("script", way, [], script, script=script)
+    fonts = {"tiny": TINY, "plain": good.fonts["plain"], **good.fonts_of(script)}
+    return Input("script", way, ["typeset", "out.dvi", *font_words(fonts)], script, font_paths(fonts), script, "out.dvi")
+
+
+# DVI files
+
+EDGES = (0, 1, -1, 2 ** 31 - 1, -2 ** 31, 65536, 2 ** 30, -2 ** 30, 2 ** 24, 127, 128, 255, 256)
+
+
+def operand(chance, size):
+    """The bytes of a number, an extreme one in half of the cases."""
+    return ((chance.pick(EDGES) if chance.one_in(2) else chance.next()) % 256 ** size).to_bytes(size, "big")
+
+
+def movement(chance):
+    size = 1 + chance.below(4 if chance.one_in(3) else 2)
+    return bytes([chance.pick((142, 147, 152, 156, 161, 166)) + size]) + operand(chance, size)
+
+
+def calm_instruction(chance):
+    """An instruction that can stand anywhere in a page, though a movement may leave the range."""
+    way = chance.below(10)
+    if way < 3:
+        return bytes([chance.pick(b"abcde")])
+    if way == 3:
+        return bytes([chance.pick((132, 137))]) + operand(chance, 4) + operand(chance, 3).rjust(4, b"\0")
+    if way < 6:
+        return movement(chance)
+    if way == 6:
+        return bytes([chance.pick((147, 152, 161, 166, 138, 171, 172))])
+    if way == 7:
+        return b"\x8d" + calm_instruction(chance) + calm_instruction(chance) + b"\x8e"
+    if way == 8:
+        words = chance.bytes(chance.below(20))
+        return bytes([239, len(words)]) + words
+    size = 1 + chance.below(4)
+    return bytes([chance.pick((127, 132)) + size]) + chance.pick(b"abcde").to_bytes(size, "big")
+
+
+def wild_instruction(chance):
+    """An instruction that is often wrong where it stands."""
+    way = chance.below(6)
+    if way == 0:
+        return chance.pick((b"\x8d", b"\x8e", b"\x8d" * chance.below(40), b"\x8e\x8d"))
+    if way == 1:
+        size = 1 + chance.below(4)
+        return bytes([chance.pick((127, 132, 234, 238)) + size]) + operand(chance, size)
+    if way == 2:
+        return definition(Font(chance.below(3), chance.pick((b"tiny", b"tiny", b"absent")), chance.pick((655360, 655360, 1, 134217727))))
+    if way == 3:
+        return bytes([chance.below(256)])
+    return calm_instruction(chance)
+
+
+def framed(chance):
+    """A file with a right frame, and random instructions in its pages: calm ones alone in half of the files."""
+    fonts = (Font(0, b"tiny"), Font(1, b"tiny", chance.pick((655360, 1, 2 ** 27 - 1, 2 ** 23 + 1))))
+    pages, wild = [], chance.one_in(2)
+    for at in range(1 + chance.below(3)):
+        count = chance.below(12 if chance.one_in(2) else 40)
+        body = b"".join(wild_instruction(chance) if wild and chance.one_in(8) else calm_instruction(chance) for _ in range(count))
+        pages.append(Page([(b"" if chance.one_in(20) else b"\xab") + body], tuple(chance.pick(EDGES[:9]) for _ in range(10)), fonts if at == 0 else ()))
+    made = dvi_file(pages, 0, 0)
+    depth = chance.pick((100, 1024, 65535, 1)).to_bytes(2, "big")
+    return made.data[:made.post + 25] + depth + made.data[made.post + 27:]
+
+
+def sheet(chance):
+    """The numbers of a bitmap, small ones in most."""
+    dpi, page = chance.pick((1, 72, 300, 600, 10000, 1 + chance.below(10000))), 1 + chance.below(2)
+    width, height = 1 + chance.below(200), 1 + chance.below(100)
+    if chance.one_in(100):
+        width, height = chance.pick(((10000, 30), (1, 10000), (70, 70), (10000, 1000)))
+    return [str(it) for it in (page, dpi, width, height)]
+
+
+def reading(chance, kind, way, data, fonts):
+    """`list` of a file, or `paint` of a page of it."""
+    words = ["list"]
+    if chance.one_in(4):
+        words = ["paint", *[it for pair in zip(("--page", "--dpi", "--width", "--height"), sheet(chance)) for it in pair]]
+    return Input(kind, way, [*words, "f.dvi", *font_words(fonts)], files={"f.dvi": data, **font_paths(fonts)})
+
+
+def dvi_input(chance, good):
+    if chance.one_in(4):
+        return reading(chance, "dvi", "framed", framed(chance), {"tiny": TINY})
+    if chance.one_in(20):
+        return reading(chance, "dvi", "bytes", chance.bytes(chance.below(400)) + b"\xdf" * chance.below(9), {"tiny": TINY})
+    data, fonts = chance.pick(good.files)
+    way, data = changed(chance, data, chance.pick(good.files)[0])
+    return reading(chance, "dvi", way, data, fonts)
+
+
+# Metric files
+
+WORDS_OF_16 = (0, 1, 2, 3, 255, 256, 257, 32767, 32768, 65535, 65534, 6, 12, 29)
+USE_ALL = b"font 0 f\nfont 1 f at 134217727sp\nfont 2 f at 1sp\nuse 0\nhbox into 0\ntext abcdeabcde zz aab\n" + b"".join(b"char %d\n" % it for it in (0, 97, 98, 200, 201, 255)) + \
+    b"end\nship 0\nuse 2\nhbox into 0\ntext abcde edcba\nend\nship 0\n"
+
+
+def metrics_input(chance, good):
+    data = chance.pick(good.metrics)
+    if chance.one_in(3):
+        way, data = "lengths", bytearray(data)
+        for _ in range(1 + chance.below(3)):
+            at = 2 * chance.below(12)
+            value = chance.pick(WORDS_OF_16) if chance.one_in(2) else int.from_bytes(data[at:at + 2], "big") + chance.below(5) - 2
+            data[at:at + 2] = (value % 65536).to_bytes(2, "big")
+        if chance.one_in(2):  # the first number is right again, and so are the bytes
+            lf, lh, bc, ec, *tables = struct.unpack(">12H", data[:24])
+            words = 6 + lh + ec - bc + 1 + sum(tables)
+            if 0 < words < 33000:
+                data[:2] = words.to_bytes(2, "big")
+                data = data + (bytes(4 * words) if chance.one_in(2) else chance.bytes(4 * words))
+        data = bytes(data)
+    else:
+        way, data = changed(chance, data, chance.pick(good.metrics))
+    if chance.one_in(3):
+        glyphs = bytes([171]) + bytes(it for it in chance.bytes(chance.below(6)) if it < 128)
+        made = dvi_file([Page([glyphs], new_fonts=(Font(0, b"f", chance.pick((655360, 1, 2 ** 27 - 1, 2 ** 26))),))], 0, 0)
+        return reading(chance, "metrics", way, made.data, {"f": data})
+    return Input("metrics", way, ["typeset", "out.dvi", "f=f.tfm"], USE_ALL, {"f.tfm": data}, USE_ALL, "out.dvi")
+
+
+# Command lines
+
+ODD_PATHS = ("absent", "absent/page.dvi", ".", "folder", "f.dvi", "script", "tiny.tfm", "f.dvi/x", "", "-", "/dev/null", "/dev/stdin", "out.dvi", "loop", "no")
+ODD_NUMBERS = "0 1 2 -1 72 +72 007 10000 10001 4294967295 4294967296 99999999999999999999 1.5 x 1e3 0x10".split() + ["", " 1", "9" * 5000]
+ODD_PAIRS = ("tiny=tiny.tfm", "tiny=tiny.tfm", "a=tiny.tfm", "tiny=absent", "tiny=.", "tiny=", "=tiny.tfm", "=", "tiny", "tiny==", "tiny=f.dvi", "tiny=/dev/null", "tiny=tiny.tfm=x")
+
+
+def odd_word(chance):
+    way = chance.below(9)
+    if way == 0:
+        return bytes(1 + it % 255 for it in chance.bytes(chance.below(12)))
+    if way == 1:
+        return chance.pick((b"a", b"=", b"n=", b"-", b"--page=")) * chance.pick((1, 100, 255, 256, 5000, 18000))
+    if way == 2:
+        return b"n" * chance.pick((254, 255, 256)) + b"=tiny.tfm"
+    if way == 3:
+        return chance.pick(("--help", "-h", "-V", "--version", "--", "help", "list", "paint", "typeset", "--page", "-p", "--dpi=", "-hV", "---", "--no", "lists", "TYPESET")).encode()
+    if way == 4:
+        return chance.pick((b"--page=", b"--dpi=", b"--width=", b"--height=")) + chance.pick(ODD_NUMBERS).encode()
+    return chance.pick(ODD_PAIRS if way < 7 else ODD_PATHS).encode()
+
+
+def words_input(chance, good):
+    """Words that are mostly those of a good command line, with odd ones among them."""
+    data, fonts = chance.pick(good.files)
+    script = chance.pick(good.scripts) if chance.one_in(2) else random_script(chance)
+    files = {"f.dvi": data, "script": script, "tiny.tfm": TINY, **font_paths(fonts)}
+    way = chance.pick(("typeset", "list", "paint", "any"))
+    pairs = [it.encode() for it in (font_words(fonts) if way != "typeset" else font_words(good.fonts_of(script)))]
+    path = (chance.pick(ODD_PATHS) if chance.one_in(3) else "/dev/full" if chance.one_in(100) else "out.dvi" if way == "typeset" else "f.dvi").encode()
+    words = [way.encode(), path, *pairs]
+    if way == "paint":
+        numbers = [chance.pick(ODD_NUMBERS) if chance.one_in(4) else chance.pick(("1", "2", "30")) for _ in range(4)]
+        options = [b"--%s=%s" % it for it in zip((b"page", b"dpi", b"width", b"height"), (it.encode() for it in numbers))]
+        words[1:1] = options
+    if way == "any":
+        words = []
+    for _ in range(chance.pick((0, 0, 0, 1, 1, 2, 3))):
+        words.insert(chance.below(len(words) + 1), odd_word(chance))
+    if chance.one_in(8) and words:
+        del words[chance.below(len(words))]
+    if chance.one_in(200):
+        words += [b"n%d=tiny.tfm" % at for at in range(chance.below(2000))]
+    if way == "typeset":
+        files.update({it + ".tfm": font for it, font in good.fonts_of(script).items()})
+    out = next((it.decode("latin-1") for it in words[1:] if it != b"--"), None) if words[:1] == [b"typeset"] else None
+    return Input("words", way, words, script, files, script, out)
+
+
+MAKERS = {"script": script_input, "dvi": dvi_input, "metrics": metrics_input, "words": words_input}
+
+
+def input_of(number, good):
+    """The input of this number."""
+    kind = KINDS[number % len(KINDS)]
+    return MAKERS[kind](Chance(number, 1), good)

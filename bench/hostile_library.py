@@ -1,0 +1,92 @@
+#!/usr/bin/env python3
+"""Calls the library for C on hostile inputs, and compares it with the program: bench/hostile_library.py --archive LIBBOXGLUE_C [--boxglue PROGRAM] [--count N] [--first N].
+
+The inputs are the scripts, DVI files and metric files of bench/hostile.py. The caller is that of bindings/c, with AddressSanitizer where the compiler has it: it makes each call
+also with no room and with a byte too little, and fails where a byte beside its buffers is written or memory is not freed.
+A script is run at once and in pieces on a job; a file is listed, painted, and asked for its fonts. The answers and bytes have to be those of the program."""
+
+import argparse
+import collections
+import os
+import re
+import sys
+import tempfile
+import time
+
+from hostile import Room
+from hostile_answers import Wrong, require
+from hostile_inputs import ROOT, Good, input_of
+from steps.library_build import build_calls
+
+NO_SUCH_PAGE = 5
+
+
+def called(room, words):
+    """What the caller prints: the status, and both outputs."""
+    ran = room.run(words)
+    line, _, rest = ran.output.partition(b"\n")
+    require(ran.status == 0 and re.fullmatch(rb"\d+ \d+ \d+", line), "%s: status %d, %r", words[0], ran.status, ran.errors[-500:])
+    status, first, second = map(int, line.split())
+    return status, rest[:first], rest[first:first + second]
+
+
+def check_script(program, library, it):
+    """A script: run at once, and in pieces where it is not bad."""
+    words = [word for word in it.words[2:] if word != "--"]
+    library.write("script", it.script)
+    wanted = program.run(["typeset", "out.dvi", *it.words[2:]], it.script, "out.dvi")
+    wanted = wanted.status, wanted.output, wanted.made or b""
+    require(called(library, ["run", "script", *words]) == wanted, "run: not as the program, which ends with %r", wanted[1][-100:])
+    if wanted[1].startswith(b"refused 2 BadScript"):
+        return "bad"
+    for most in (1, 7):
+        require(called(library, ["job", str(most), "script", *words]) == wanted, "job: not as the program, which ends with %r", wanted[1][-100:])
+    return ("accepted", "refused")[wanted[0]]
+
+
+def check_file(program, library, it):
+    """A DVI file: listed, painted, and asked for its fonts."""
+    words = [word for word in it.words[it.words.index("f.dvi") + 1:] if word != "--"]
+    sheet = ["1", "72", "40", "30"]
+    for call, numbers in (("list", []), ("paint", sheet)):
+        options = [word for pair in zip(("--page", "--dpi", "--width", "--height"), numbers) for word in pair]
+        wanted = program.run([call, *options, *it.words[it.words.index("f.dvi"):]])
+        status, text, rest = called(library, [call, *numbers, "f.dvi", *words])
+        require((status, text, rest) == ((NO_SUCH_PAGE, b"", b"") if wanted.status == 2 else (wanted.status, wanted.output, b"")), "%s: status %d, not as the program", call, status)
+    fonts = library.run(["fonts", "f.dvi"])
+    require(fonts.status == 0 and fonts.output[:2] in (b"0 ", b"1 "), "fonts: status %d, %r", fonts.status, fonts.errors[-500:])
+    return ("accepted", "refused")[wanted.status] if wanted.status < 2 else "no such page"
+
+
+def main():
+    parser = argparse.ArgumentParser(description=__doc__, formatter_class=argparse.RawDescriptionHelpFormatter)
+    parser.add_argument("--archive", required=True)
+    parser.add_argument("--boxglue", default=os.environ.get("BOXGLUE", ROOT + "/crates/boxglue/out/boxglue"))
+    parser.add_argument("--count", type=int, default=100_000, help="how many inputs")
+    parser.add_argument("--first", type=int, default=0, help="the number of the first")
+    words = parser.parse_args()
+    caller, program = build_calls(ROOT, os.path.abspath(words.archive)), os.path.abspath(words.boxglue)
+    came, wrong, start = collections.defaultdict(collections.Counter), 0, time.monotonic()
+    with tempfile.TemporaryDirectory(dir="/dev/shm" if os.path.isdir("/dev/shm") else None) as folder:
+        room = Room(program, folder)
+        good, library = Good(room.typeset), room.other(caller)
+        for number in range(words.first, words.first + words.count):
+            it = input_of(number, good)
+            if it.kind == "words":
+                continue
+            room.fill(it.files)
+            try:
+                came[it.kind][check_file(room, library, it) if it.script is None else check_script(room, library, it)] += 1
+            except Wrong as why:
+                wrong += 1
+                print("input %d, %s, %s: %s" % (number, it.kind, it.way, why), flush=True)
+            if (number + 1) % 5000 == 0:
+                print("%d after %.0f s" % (number + 1, time.monotonic() - start), flush=True)
+        os.chdir("/")
+    for kind, found in came.items():
+        print("%s: %s" % (kind, ", ".join("%s %d" % it for it in found.most_common())))
+    print("%d inputs are wrong" % wrong)
+    sys.exit(bool(wrong))
+
+
+main()

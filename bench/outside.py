@@ -1,0 +1,178 @@
+#!/usr/bin/env python3
+"""Compares boxglue with TeX's programs: bench/outside.py [--boxglue PROGRAM] [--folder FOLDER] [--notes N] [--seeds N] [PART ..], all parts if none is named.
+
+Each part prints one line of counts and differences, and below it the causes that are known, and the first N of the others. Everything random has a fixed seed.
+The inputs and outputs stay in FOLDER, if one is named. It needs Debian's packages texlive-base, texlive-latex-base, dvipng, ghostscript and poppler-utils;
+with texlive-fonts-recommended, texlive-latex-recommended, texlive-pictures and texlive-extra-utils it has more metric files and documents. docs/EVIDENCE.md has the results."""
+
+import argparse
+import glob
+import os
+import re
+import shutil
+import sys
+import tempfile
+import time
+from collections import Counter
+from fractions import Fraction
+from math import ceil
+
+import inputs
+from outside_documents import DOCUMENTS
+from outside_fonts import TREES, damaged, metrics
+from outside_pages import Tally, black, by_boxglue, by_dvitype
+from outside_random import boxes, pages, paragraphs, splits
+from outside_work import Work
+
+HERE = os.path.dirname(os.path.abspath(__file__))
+EXAMPLES = os.path.join(HERE, "../examples")
+PROGRAMS = "tex latex tftopl dvitype dvicopy dvips gs dvipdfmx pdftoppm dvipng kpsewhich".split()
+
+
+# Files of TeX.
+
+def documents(work):
+    """DVI files by tex and latex, those of TeX Live, and copies by dvicopy, which has the fonts of virtual ones."""
+    made, missing = [], []
+    for name, (program, text) in DOCUMENTS.items():
+        for _ in range(2 if "\\tableofcontents" in text else 1):
+            work.tex("document_" + name, text, program)
+        if os.path.exists(work.path("document_%s.dvi" % name)):
+            made.append("document_%s.dvi" % name)
+        else:
+            missing.append(name)
+    for path in {os.path.realpath(path) for tree in TREES for path in glob.glob(tree + "/**/*.dvi", recursive=True)}:
+        shutil.copy(path, work.path("live_" + os.path.basename(path)))
+        made.append("live_" + os.path.basename(path))
+    for name in list(made):
+        work.run("dvicopy", name, "copy_" + name)
+        made += ["copy_" + name] if os.path.exists(work.path("copy_" + name)) else []
+    tally, notes, without_metrics = Tally(), [], []
+    for name in made:
+        theirs = by_dvitype(name, work.folder)
+        fonts = work.fonts(sorted({font for font, _ in theirs.fonts.values()}))
+        if len(fonts) < len({font for font, _ in theirs.fonts.values()}):
+            without_metrics.append(name)
+            continue
+        notes += ["%s: dvitype: %s" % (name, it) for it in theirs.complaints]
+        ours = by_boxglue(work.program, name, work.folder, fonts)
+        if ours.pages is None:
+            notes.append("%s: %s" % (name, ours.complaints[0]))
+        else:
+            tally.pages(name, ours.pages, theirs.pages)
+    line = "documents: %d files, not accepted or told of %d; %s" % (len(made) - len(without_metrics), len(notes), tally.shown())
+    causes = Counter({"documents that are not made here: " + ", ".join(missing): len(missing), "files with fonts whose metric files are not here: " + ", ".join(without_metrics): len(without_metrics)})
+    work.show(line, +causes, notes + tally.notes)
+
+
+# Other readers.
+
+def example_scripts():
+    """The scripts of examples/, all in a font that has shapes, and a book of 280 pages."""
+    for path in sorted(glob.glob(EXAMPLES + "/*.box")):
+        with open(path) as file:
+            yield os.path.basename(path)[:-4], re.sub(r"(?m)^(font .*)plain", r"\1cmr10", file.read())
+    yield "book", inputs.book(200)[0]
+
+
+def readers(work):
+    """dvitype, dvips with gs, dvipdfmx with pdftoppm, and dvipng on files of boxglue: each takes all pages and says nothing."""
+    notes, causes, runs, total = [], Counter(), Counter(), 0
+    for name, script in example_scripts():
+        file = "reader_%s" % name
+        answers = work.typeset(file, script, work.fonts(["cmr10"]))
+        count = sum(answer.startswith("shipped") for answer in answers.values())
+        os.replace(work.path(file + ".ours.dvi"), work.path(file + ".dvi"))
+        total += count
+        read = by_dvitype(file + ".dvi", work.folder)
+        runs["dvitype"] += 1
+        notes += ["%s: dvitype: %s" % (name, it) for it in read.complaints + (["%d pages" % len(read.pages)] if len(read.pages) != count else [])]
+        for words in (["dvips", "-o", file + ".ps", file + ".dvi"], ["gs", "-q", "-dBATCH", "-dNOPAUSE", "-sDEVICE=nullpage", file + ".ps"],
+                ["dvipdfmx", "-o", file + ".pdf", file + ".dvi"], ["pdftoppm", "-r", "30", "-gray", file + ".pdf", file],
+                ["dvipng", "-D", "110", "-T", "tight", "-o", file + "-%d.png", file + ".dvi"]):
+            status, text = work.run(*words)
+            runs[words[0]] += 1
+            if words[0] in ("gs", "pdftoppm"):
+                said = [text] if text.strip() else []
+            else:
+                said = re.findall(r"(?i)(?:%s)?[^\n]*(?:warning|error|missing|cannot|can't|unimplemented)[^\n]*" % words[0], text)
+            if words[0] == "dvipng" and said and all("special{html:" in it for it in said):
+                causes["files with links, which dvipng does not know and tells of"] += 1
+            elif status or said:
+                notes.append("%s: %s: status %d, %s" % (name, words[0], status, " / ".join(said)))
+        for made, pattern in (("dvipng", file + "-*.png"), ("pdftoppm", file + "-*.pgm")):
+            found = len(glob.glob(work.path(pattern)))
+            if found != count:
+                notes.append("%s: %s made %d of %d pages" % (name, made, found, count))
+    line = "readers: %s; %d pages; warnings, errors or other numbers of pages: %d" % (", ".join("%s of %d files" % it for it in runs.items()), total, len(notes))
+    work.show(line, causes, notes)
+
+
+def painted(rules, dots, side):
+    """The rows of a page of rules in scaled points, as numbers whose bits are 1 where it is black."""
+    unit = Fraction(25400000 * dots, 254000 * 473628672)
+    rows = [0] * side
+    for rule in rules:
+        # No place is negative here.
+        column, row = (int(amount * unit + Fraction(1, 2)) for amount in (rule.h, rule.v))
+        high, wide = (ceil(amount * unit) for amount in rule.what)
+        last = min(column + wide, side)
+        for y in range(max(row - high + 1, 0), min(row + 1, side)):
+            rows[y] |= (1 << side - min(column, side)) - (1 << side - last)
+    return rows
+
+
+DOTS = (72, 100, 144, 150, 300, 600)
+
+
+def paint(work):
+    """A page of 1,600 rules, by `paint` and by dvipng."""
+    work.typeset("paint", inputs.many_rules(1600), [])
+    parts, notes = [], []
+    for dots in DOTS:
+        side = 7 * dots
+        text = work.run(work.program, "paint", "--page", "1", "--dpi", str(dots), "--width", str(side), "--height", str(side), "paint.ours.dvi")[1]
+        digits = text.split("\n", 2)[2].replace("\n", "")
+        ours = [int(digits[i * side:(i + 1) * side], 2) for i in range(side)]
+        work.run("dvipng", "-q", "-D", str(dots), "-T", "7in,7in", "-o", "paint.png", "paint.ours.dvi")
+        width, theirs = black(work.path("paint.png"))
+        if (width, len(theirs)) != (side, side):
+            notes.append("%d dpi: dvipng's page is %d by %d" % (dots, width, len(theirs)))
+            continue
+        # What FORMATS.md says of the pixels, from the places that dvitype says.
+        by_formula = painted(by_dvitype("paint.ours.dvi", work.folder).pages[0].marks, dots, side)
+        if by_formula != ours:
+            notes.append("%d dpi: not what FORMATS.md says" % dots)
+        differ = sum(bin(one ^ other).count("1") for one, other in zip(ours, theirs))
+        parts.append("%d of %d at %d dpi (black %d and %d)" % (differ, side * side, dots, sum(bin(it).count("1") for it in ours), sum(bin(it).count("1") for it in theirs)))
+    work.show("paint: 1600 rules, pixels that differ from dvipng's: " + ", ".join(parts), {}, notes)
+
+
+PARTS = {"metrics": metrics, "damaged": damaged, "boxes": boxes, "splits": splits, "paragraphs": paragraphs, "pages": pages, "documents": documents, "readers": readers, "paint": paint}
+
+
+def main():
+    parser = argparse.ArgumentParser(description=__doc__, formatter_class=argparse.RawDescriptionHelpFormatter)
+    parser.add_argument("--boxglue", default=os.environ.get("BOXGLUE", os.path.join(HERE, "../crates/boxglue/out/boxglue")))
+    parser.add_argument("--folder", help="a folder for all inputs and outputs, else one that is removed")
+    parser.add_argument("--notes", type=int, default=5, metavar="N", help="how many differences of a part are shown")
+    parser.add_argument("--seeds", type=int, metavar="N", help="of random work the first N seeds of a part alone")
+    parser.add_argument("parts", nargs="*", metavar="PART", help=", ".join(PARTS))
+    words = parser.parse_args()
+    parts = words.parts or list(PARTS)
+    if not set(parts) <= set(PARTS):
+        parser.error("the parts are " + ", ".join(PARTS))
+    lacks = [it for it in PROGRAMS if shutil.which(it) is None] + ([] if os.access(words.boxglue, os.X_OK) else [words.boxglue])
+    if lacks:
+        sys.exit("not there: " + ", ".join(lacks))
+    with tempfile.TemporaryDirectory() as room:
+        folder = os.path.abspath(words.folder or room)
+        os.makedirs(folder, exist_ok=True)
+        work = Work(words.boxglue, folder, words.notes, words.seeds)
+        for part in parts:
+            start = time.monotonic()
+            PARTS[part](work)
+            print("    %.0f s" % (time.monotonic() - start), flush=True)
+
+
+main()

@@ -1,0 +1,189 @@
+"""The pages of DVI files, as dvitype and `boxglue list` show them, and how two readings differ."""
+
+import re
+import struct
+import subprocess
+import zlib
+from collections import Counter, namedtuple
+
+# A mark is a glyph (what: font and code), a rule (what: height and width) or a special (what: its text).
+Mark = namedtuple("Mark", "kind what h v")
+Page = namedtuple("Page", "counts marks")
+
+STEP = re.compile(r"\d+: ([a-z]+)(\d*) ?(.*)")
+RIGHT = re.compile(r"\bh:=-?\d+[+-]\d+=(-?\d+)")
+DOWN = re.compile(r"\bv:=-?\d+[+-]\d+=(-?\d+)")
+SAVED = re.compile(r"level \d+:\(h=(-?\d+),v=(-?\d+),")
+RULE = re.compile(r"height (-?\d+), width (-?\d+)")
+FONT = re.compile(r"Font (\d+): (.+?)(?: scaled \d+)?---loaded at size (\d+) DVI units")
+COMPLAINT = re.compile(r"!|invalid|not loaded|beware|Bad DVI")
+# A mark outside the greatest sizes of post is no fault: a box may be wider than its width. dvitype says the same of TeX's file.
+OUTSIDE = re.compile(r"warning: \|[hv]\|>")
+
+
+class Reading:
+    """The pages of a file, its fonts by their numbers (name and size), and what the reader complained of."""
+
+    def __init__(self, pages, fonts, complaints):
+        self.pages, self.fonts, self.complaints = pages, fonts, complaints
+
+    def named(self):
+        """The same pages with the name and the size of a font in the place of its number, since two writers number fonts differently."""
+        def of(mark):
+            return mark._replace(what=(self.fonts[mark.what[0]], mark.what[1])) if mark.kind == "glyph" else mark
+
+        return [Page(page.counts, [of(mark) for mark in page.marks]) for page in self.pages]
+
+
+def by_dvitype(path, folder):
+    """A reading by dvitype, from its text at level 4. It says each new h and v, so nothing is added up here."""
+    # With ten stars dvitype says all ten counts of a page.
+    done = subprocess.run(["dvitype", "-output-level=4", "-page-start=" + ".".join("*" * 10), path], cwd=folder, stdin=subprocess.DEVNULL, stdout=subprocess.PIPE, stderr=subprocess.STDOUT)
+    pages, fonts, complaints = [], {}, []
+    h = v = 0
+    font, marks = None, []
+    for line in done.stdout.decode("latin-1").split("\n"):
+        # Lines in brackets repeat the letters of a line of text.
+        if line.startswith("["):
+            continue
+        step = STEP.match(line)
+        name, number, rest = step.groups() if step else (None, None, None)
+        if name != "xxx" and COMPLAINT.search(line) and not OUTSIDE.search(line):
+            complaints.append(line)
+        if name == "beginning":
+            counts = [int(it) for it in rest.split()[2].split(".")]
+            h, v, font, marks = 0, 0, None, []
+            pages.append(Page(tuple(counts + [0] * (10 - len(counts))), marks))
+        elif name == "setchar":
+            marks.append(Mark("glyph", (font, int(number)), h, v))
+        elif name in ("set", "put") and number:
+            marks.append(Mark("glyph", (font, int(rest.split()[0])), h, v))
+        elif name in ("setrule", "putrule"):
+            sizes = tuple(map(int, RULE.match(rest).groups()))
+            if min(sizes) > 0:
+                marks.append(Mark("rule", sizes, h, v))
+        elif name == "xxx":
+            marks.append(Mark("special", rest[1:rest.rindex("'")], h, v))
+        elif name == "fntnum":
+            font = int(number)
+        elif name == "fnt":
+            font = int(rest.split()[0])
+        elif not step and line.startswith("Font"):
+            found = FONT.match(line)
+            if found:
+                fonts[int(found[1])] = (found[2].split(":")[-1], int(found[3]))
+        if name == "xxx":
+            continue
+        saved, right, down = SAVED.match(line), RIGHT.search(line), DOWN.search(line)
+        if saved:
+            h, v = map(int, saved.groups())
+        if right:
+            h = int(right[1])
+        if down:
+            v = int(down[1])
+    if done.returncode:
+        complaints.append("status %d" % done.returncode)
+    return Reading(pages, fonts, complaints)
+
+
+def unescaped(text):
+    return re.sub(r"\\([0-9a-f]{2})", lambda found: chr(int(found[1], 16)), text)
+
+
+def by_boxglue(program, path, folder, fonts):
+    """A reading by `boxglue list` with these words for the fonts; its pages are None where the file is refused."""
+    done = subprocess.run([program, "list", path, *fonts], cwd=folder, stdin=subprocess.DEVNULL, stdout=subprocess.PIPE, stderr=subprocess.STDOUT)
+    text = done.stdout.decode("latin-1")
+    if done.returncode:
+        return Reading(None, {}, [text.strip()])
+    pages = []
+    for line in text.split("\n")[:-1]:
+        kind, rest = line.split(" ", 1)
+        if kind == "page":
+            pages.append(Page(tuple(map(int, rest.split()[2:])), []))
+        elif kind == "glyph":
+            font, code, h, v = map(int, rest.split())
+            pages[-1].marks.append(Mark(kind, (font, code), h, v))
+        elif kind == "rule":
+            h, v, height, width = map(int, rest.split())
+            pages[-1].marks.append(Mark(kind, (height, width), h, v))
+        else:
+            h, v, text = rest.split(" ", 2)
+            pages[-1].marks.append(Mark(kind, unescaped(text), int(h), int(v)))
+    return Reading(pages, {}, [])
+
+
+class Tally:
+    """What two readings of pages have in common, and where they differ."""
+
+    def __init__(self):
+        self.seen, self.near, self.far, self.notes = Counter(), Counter(), Counter(), []
+
+    def note(self, text):
+        self.notes.append(text)
+
+    def page(self, name, ours, theirs):
+        """Compares the marks of a page in their order, and says whether they are at the same places up to 1 sp."""
+        self.seen["page"] += 1
+        if ours.counts != theirs.counts:
+            self.far["page"] += 1
+            self.note("%s: counts %s and %s" % (name, ours.counts, theirs.counts))
+        if [(mark.kind, mark.what) for mark in ours.marks] != [(mark.kind, mark.what) for mark in theirs.marks]:
+            self.far["page"] += 1
+            at = next((i for i, two in enumerate(zip(ours.marks, theirs.marks)) if two[0][:2] != two[1][:2]), min(len(ours.marks), len(theirs.marks)))
+            self.note("%s: other marks from mark %d: %s and %s" % (name, at, ours.marks[at:at + 1], theirs.marks[at:at + 1]))
+            return False
+        same = True
+        for one, other in zip(ours.marks, theirs.marks):
+            self.seen[one.kind] += 1
+            away = max(abs(one.h - other.h), abs(one.v - other.v))
+            if away == 1:
+                self.near[one.kind] += 1
+            elif away:
+                if same:
+                    self.note("%s: %s and %s" % (name, one, other))
+                self.far[one.kind], same = self.far[one.kind] + 1, False
+        return same
+
+    def pages(self, name, ours, theirs):
+        """Compares all pages of two files, in order."""
+        if len(ours) != len(theirs):
+            self.far["page"] += 1
+            self.note("%s: %d and %d pages" % (name, len(ours), len(theirs)))
+        return all([self.page("%s, page %d" % (name, i + 1), one, other) for i, (one, other) in enumerate(zip(ours, theirs))])
+
+    def add(self, other):
+        self.seen, self.near, self.far, self.notes = self.seen + other.seen, self.near + other.near, self.far + other.far, self.notes + other.notes
+
+    def shown(self):
+        def counts(counter):
+            return ", ".join("%d %s%s" % (counter[kind], kind, "" if counter[kind] == 1 else "s") for kind in ("page", "glyph", "rule", "special") if counter[kind]) or "nothing"
+
+        return "%s; 1 sp off: %s; otherwise: %s" % (counts(self.seen), counts(self.near), counts(self.far))
+
+
+def black(path):
+    """The width of a picture of dvipng, whose pixels are places in a table of colours, and its rows as numbers whose bits are 1 where it is black."""
+    with open(path, "rb") as file:
+        data = file.read()
+    parts, at = {}, 8
+    while at < len(data):
+        length, kind = struct.unpack(">I4s", data[at:at + 8])
+        parts[kind] = parts.get(kind, b"") + data[at + 8:at + 8 + length]
+        at += length + 12
+    width, height, depth = struct.unpack(">IIB", parts[b"IHDR"][:9])
+    colours = [sum(parts[b"PLTE"][i:i + 3]) < 384 for i in range(0, len(parts[b"PLTE"]), 3)]
+    each = 8 // depth
+    shown = ["".join("01"[colours[value >> shift & (1 << depth) - 1] if value >> shift & (1 << depth) - 1 < len(colours) else 0] for shift in range(8 - depth, -1, -depth)) for value in range(256)]
+    data, size, above, rows = zlib.decompress(parts[b"IDAT"]), -(-width // each), None, []
+    above = bytearray(size)
+    for row in range(height):
+        kind, line = data[row * (size + 1)], bytearray(data[row * (size + 1) + 1:(row + 1) * (size + 1)])
+        for i in range(size if kind else 0):
+            left, up, corner = (line[i - 1] if i else 0), above[i], (above[i - 1] if i else 0)
+            guess = left + up - corner
+            nearest = min((left, up, corner), key=lambda it: abs(guess - it))
+            line[i] = line[i] + (0, left, up, (left + up) // 2, nearest)[kind] & 255
+        rows.append(int("".join(map(shown.__getitem__, line))[:width], 2))
+        above = line
+    return width, rows
