@@ -2,17 +2,18 @@
 
 ghost use Rattle.std.specs.Prelude.{None};
 
-use boxglue_lib::{FailureCount, Host, HostFault, read_all, write_some};
+use boxglue_lib::{CreatedPaths, FailureCount, Host, HostFault, read_all, write_some};
 use std::alloc::Global;
 use std::fs::File;
 use std::io::{Error, ErrorKind, Input, Read};
 use std::rt::Files;
 
-/// The host of a real program. Contracts know nothing of what its files hold, only how many creations and writes have failed.
+/// The host of a real program. Contracts know nothing of what its files hold, only which files it created, and how many creations and writes have failed.
 #[derive(Drop)]
 pub struct SystemHost<'a> {
     rt: &'a HostRuntime,
     file: Option<File>,
+    created: CreatedPaths,
     failures: FailureCount,
 }
 
@@ -22,6 +23,7 @@ impl<'a> SystemHost<'a> {
         SystemHost {
             rt,
             file: None,
+            created: CreatedPaths::none(),
             failures: FailureCount::zero(),
         }
     }
@@ -43,6 +45,8 @@ impl Host for SystemHost<'_> {
 
     ghost input = { λ host. None };
 
+    ghost created = { λ host. host.created.paths };
+
     ghost written = { λ host. None };
 
     ghost failures = { λ host. host.failures.count };
@@ -62,6 +66,7 @@ impl Host for SystemHost<'_> {
         match File::create(self.rt, path) {
             Ok(file) => {
                 self.file = Some(file);
+                self.created.add(path);
                 Ok(())
             }
             Err(fault) => {

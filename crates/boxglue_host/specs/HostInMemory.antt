@@ -7,13 +7,15 @@ pub record HeldBytes : Type 0 where
   pub path : List ℕ
   pub bytes : List ℕ
 
--- The files that can be read; standard input; whether a file was created, its path and what it took; and how many creations and writes have failed.
+-- The files that can be read; standard input; whether a file was created, its path and what it took; the paths of all files that were created, the last
+-- one first; and how many creations and writes have failed.
 pub record InMemory : Type 0 where
   pub files : List HeldBytes
   pub input : List ℕ
   pub is_created : Bool
   pub created : List ℕ
   pub written : List ℕ
+  pub paths : List (List ℕ)
   pub failures : ℕ
 
 -- The bytes of the first file at a path.

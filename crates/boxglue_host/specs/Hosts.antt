@@ -1,8 +1,9 @@
 -- What is known of a host, and the font files of a command line (own).
-use Rattle.std.specs.Prelude.{◌≡◌, ◌==◌, ◌++◌, ⊤, ℕ, not, List, [], ◌∷◌, Option, Some, None, if◌then◌else◌, Bool}
+use Rattle.std.specs.Prelude.{◌≡◌, ◌==◌, ◌++◌, ⊤, ℕ, length, not, List, [], ◌∷◌, Option, Some, None, if◌then◌else◌, Bool}
+use Rattle.dvi_device.specs.Beginnings.{Beginning}
 use Rattle.tfm_core.specs.NamedBytes.{NamedBytes}
 use Rattle.boxglue_words.specs.declared.fonts.NamedPath.{NamedPath}
-use Rattle.boxglue_host.specs.Readings.{IsFileReading, IsUnreadableFile}
+use Rattle.boxglue_host.specs.Readings.{IsFileReading, IsReadableFile, IsUnreadableFile}
 use Rattle.boxglue_host.specs.declared.font_files.Unread.{Unread}
 use Rattle.boxglue_host.specs.declared.font_files.Unread.TheVariants.{OutOfMemory as WantsMemory, File}
 
@@ -14,6 +15,21 @@ just_created (Some bytes) = Some []
 -- What a file device reports: the bytes that the created file took; before its creation, no byte.
 abbrev pub written_to_file : Bool → Option (List ℕ) → Option (List ℕ)
 written_to_file is_open written = if is_open then written else just_created written
+
+-- The paths of the files that a host has created, the last one first, after one more file or none was created.
+abbrev pub created_after : (created : Bool) → (path : List ℕ) → (before : List (List ℕ)) → List (List ℕ)
+created_after created path before = if created then path ∷ before else before
+
+-- Texts one after the other, each after its length, so that different lists of texts have different ones.
+abbrev pub with_lengths : List (List ℕ) → List ℕ
+with_lengths [] = []
+with_lengths (text ∷ texts) = length text ∷ (text ++ with_lengths texts)
+
+-- The beginning of a file device at a path, around a host that had created these files, reported these bytes of the last one, and had failed this often.
+-- Nothing is sent before such a device is made. In place of that stand the paths: a job returns its device with the beginning that it had, so they say
+-- for which file and which host the returned device was made.
+abbrev pub begun_for : (path : List ℕ) → (created : List (List ℕ)) → (written : Option (List ℕ)) → (failures : ℕ) → Beginning
+begun_for path created written failures = record { sent = with_lengths (path ∷ created); bytes_written = written; failed = failures }
 
 -- Whether a host has failed between two counts of its failures.
 abbrev pub has_failed : (before now : ℕ) → Bool
@@ -31,9 +47,9 @@ AreFilesOf contents [] (file ∷ files) = ⊥
 AreFilesOf contents (font ∷ fonts) [] = ⊥
 AreFilesOf contents (font ∷ fonts) (file ∷ files) = IsFileOf contents font file × AreFilesOf contents fonts files
 
--- The file of a font was not read: out of memory, or the file cannot be read and its path is named.
+-- The file of a font was not read: out of memory, where the file can be read; or it cannot be read, and its path is named.
 abbrev pub IsUnreadOf : (List ℕ → Option (Option (List ℕ))) → NamedPath → Unread → Type 0
-IsUnreadOf contents font WantsMemory = ⊤
+IsUnreadOf contents font WantsMemory = IsReadableFile (contents font.path.now)
 IsUnreadOf contents font (File path) = (path.now ≡ font.path.now) × IsUnreadableFile (contents font.path.now)
 
 -- The file of a font was not read; those of the fonts before it were.

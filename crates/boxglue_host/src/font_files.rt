@@ -12,7 +12,7 @@ use tfm_core::FontFile;
 /// Why font files were not read.
 #[derive(Debug, Drop)]
 pub enum Unread<'a> {
-    /// A growth of memory was refused.
+    /// A growth of memory was refused, for a file that can be read.
     OutOfMemory,
     /// The file at this path could not be read.
     File(&'a str),
@@ -69,7 +69,8 @@ fn push_font<'a, H: Host>(
 
 /// Reads the files of fonts, in order.
 ///
-/// Errors: File with the path of the first one that cannot be read, OutOfMemory for a refused growth. The files after it are not read.
+/// Errors: File with the path of the first one that cannot be read, OutOfMemory for a refused growth at one that can be. Those before it were read, and
+/// those after it are not.
 pub fn read_fonts<'a, H: Host>(
     alloc: Global,
     host: &H,

@@ -36,7 +36,7 @@ impl From<AllocError> for HostFault {
 /// A host has files by their paths, standard input, and one file that it creates and writes. Contracts may know what these hold; of the host of a real
 /// program they know nothing. A reading is whole, and fails over `READ_LIMIT` bytes.
 pub trait Host {
-    ghost use Rattle.std.specs.Prelude.{◌≡◌, ◌≤◌, ◌<◌, ◌+◌, ℕ, List, Option, Err, length, take, IfOk, IfSome, OnOk, OnErr};
+    ghost use Rattle.std.specs.Prelude.{◌≡◌, ◌≤◌, ◌<◌, ◌+◌, ◌∷◌, ℕ, List, Option, Err, length, take, IfOk, IfSome, OnOk, OnErr};
     ghost use Rattle.dvi_device.specs.Written.{written_then};
     ghost use Rattle.boxglue_host.specs.Readings.{IsFileReading, IsReadable, IsReadableFile, IsReading, IsUnreadable, IsUnreadableFile};
     ghost use Rattle.boxglue_host.specs.Hosts.{just_created};
@@ -46,6 +46,9 @@ pub trait Host {
 
     /// The bytes of standard input, if they are known.
     ghost input: { Self → Option (List ℕ) };
+
+    /// The paths of the files that it created, the last one first.
+    ghost created: { Self → List (List ℕ) };
 
     /// The bytes that the created file took, if they are known.
     ghost written: { Self → Option (List ℕ) };
@@ -65,9 +68,11 @@ pub trait Host {
         ensures failed { result ≡ Err HostFault.Failed → IsUnreadable (input self.now) }
         ensures memory { result ≡ Err HostFault.OutOfMemory → IsReadable (input self.now) };
 
-    /// Makes the file at a path an empty one, to which `write` appends. After an error the bytes of the created
-    /// file are as before, and the failure is counted.
+    /// Makes the file at a path an empty one, to which `write` appends. After an error no file was created, the bytes of the one before are as they were,
+    /// and the failure is counted.
     fn create(&mut self, path: &str) -> Result<(), HostFault>
+        ensures path { OnOk result (created self.new ≡ path.now ∷ created self.old) }
+        ensures path_kept { OnErr result (created self.new ≡ created self.old) }
         ensures empty { OnOk result (written self.new ≡ just_created (written self.old)) }
         ensures none { OnErr result (written self.new ≡ written self.old) }
         ensures stands { OnOk result (failures self.new ≡ failures self.old) }
@@ -77,6 +82,7 @@ pub trait Host {
     /// the failure is counted.
     fn write(&mut self, piece: &[u8]) -> Result<usize, HostFault>
         requires piece_not_empty { 0 < length piece.now }
+        ensures path_same { created self.new ≡ created self.old }
         ensures count_bounded { IfOk result (λ n. (1 ≤ n) × (n ≤ length piece.now)) }
         ensures taken { IfOk result (λ n. written self.new ≡ written_then (written self.old) (take n piece.now)) }
         ensures none_taken { OnErr result (written self.new ≡ written self.old) }

@@ -3,6 +3,7 @@
 //! crate, has the real host.
 #![tactic(auto)]
 
+mod created_paths;
 mod failure_count;
 mod file_device;
 mod font_files;
@@ -11,6 +12,7 @@ mod memory_host;
 mod reading;
 mod writing;
 
+pub use created_paths::CreatedPaths;
 pub use failure_count::FailureCount;
 pub use file_device::FileDevice;
 pub use font_files::{Unread, read_fonts};

@@ -1,10 +1,11 @@
 //! A host in memory.
 
-ghost use Rattle.std.specs.Prelude.{◌≡◌, ◌≤◌, ◌<◌, ◌+◌, ◌++◌, [], false, true, length, option_map, Err, IfErr, IfOk, OnOk, OnErr};
+ghost use Rattle.std.specs.Prelude.{◌≡◌, ◌≤◌, ◌<◌, ◌+◌, ◌++◌, ◌∷◌, [], false, true, length, option_map, Err, IfErr, IfOk, OnOk, OnErr};
 ghost use Rattle.std.specs.Str.{bytes_eq};
 ghost use Rattle.boxglue_host.specs.HostInMemory.{held_at};
 ghost use Rattle.boxglue_host.specs.declared.host.TheConstants.{READ_LIMIT};
 
+use crate::created_paths::CreatedPaths;
 use crate::failure_count::FailureCount;
 use crate::host::{Host, HostFault, READ_LIMIT};
 use std::alloc::Global;
@@ -57,6 +58,7 @@ pub struct MemoryHost {
     is_created: bool,
     created: Vec<u8>,
     written: Vec<u8>,
+    paths: CreatedPaths,
     failures: FailureCount,
 }
 
@@ -65,13 +67,13 @@ impl Model for MemoryHost {
 
     ghost Value = { InMemory };
 
-    ghost view = { λ host. record { files = host.files.items; input = host.input.items; is_created = host.is_created; created = host.created.items; written = host.written.items; failures = host.failures.count } };
+    ghost view = { λ host. record { files = host.files.items; input = host.input.items; is_created = host.is_created; created = host.created.items; written = host.written.items; paths = host.paths.paths; failures = host.failures.count } };
 }
 
 impl MemoryHost {
     /// A host with these files and this standard input, which has created no file yet. It takes no memory.
     pub fn new(alloc: Global, files: Vec<HeldFile>, input: Vec<u8>) -> MemoryHost
-        ensures { result ≡ record { files = files.items; input = input.items; is_created = false; created = []; written = []; failures = 0 } }
+        ensures { result ≡ record { files = files.items; input = input.items; is_created = false; created = []; written = []; paths = []; failures = 0 } }
     {
         MemoryHost {
             alloc,
@@ -80,6 +82,7 @@ impl MemoryHost {
             is_created: false,
             created: Vec::new(alloc),
             written: Vec::new(alloc),
+            paths: CreatedPaths::none(),
             failures: FailureCount::zero(),
         }
     }
@@ -106,17 +109,18 @@ impl MemoryHost {
     }
 
     /// Stores the path of a file that is created. If memory is refused, all is as before and the failure is counted.
-    fn keep_path(&mut self, path: &[u8]) -> Result<(), HostFault>
-        ensures ok { OnOk result (self.new ≡ record self.old { is_created = true; created = path.now }) }
+    fn keep_path(&mut self, path: &str) -> Result<(), HostFault>
+        ensures ok { OnOk result (self.new ≡ record self.old { is_created = true; created = path.now; paths = path.now ∷ self.old.paths }) }
         ensures err { OnErr result (self.new ≡ record self.old { failures = self.old.failures + 1 }) }
         ensures memory { IfErr result (λ fault. fault ≡ HostFault.OutOfMemory) }
     {
-        let Ok(created) = Vec::from_slice(self.alloc, path) else {
+        let Ok(created) = Vec::from_slice(self.alloc, path.as_bytes()) else {
             self.failures.raise();
             return Err(HostFault::OutOfMemory);
         };
         self.is_created = true;
         self.created = created;
+        self.paths.add(path);
         Ok(())
     }
 }
@@ -148,6 +152,8 @@ impl Host for MemoryHost {
 
     ghost input = { λ host. Some host.input };
 
+    ghost created = { λ host. host.paths };
+
     ghost written = { λ host. Some host.written };
 
     ghost failures = { λ host. host.failures };
@@ -164,11 +170,11 @@ impl Host for MemoryHost {
     }
 
     fn create(&mut self, path: &str) -> Result<(), HostFault>
-        ensures made { OnOk result (self.new ≡ record self.old { is_created = true; created = path.now; written = [] }) }
+        ensures made { OnOk result (self.new ≡ record self.old { is_created = true; created = path.now; written = []; paths = path.now ∷ self.old.paths }) }
         ensures unchanged { OnErr result (self.new ≡ record self.old { failures = self.old.failures + 1 }) }
         ensures memory { IfErr result (λ fault. fault ≡ HostFault.OutOfMemory) }
     {
-        self.keep_path(path.as_bytes())?;
+        self.keep_path(path)?;
         self.written.clear();
         Ok(())
     }

@@ -6,15 +6,15 @@ use Rattle.std.specs.Borrow.{Bor}
 use Rattle.std.specs.Io.KnownBytes.{Appends, Keeps}
 use Rattle.std.specs.Prelude.{◌==◌, not, [], IfSome, IsSome}
 use Rattle.std.proofs.lemmas.Bool.{eq-eqb, eqb-true}
-use Rattle.dvi_device.specs.Beginnings.{Beginning, begun_after}
-use Rattle.boxglue_host.specs.Hosts.{AreFilesOf, has_failed, written_to_file}
+use Rattle.boxglue_host.specs.Hosts.{AreFilesOf, IsUnread, begun_for, created_after, has_failed, written_to_file}
+use Rattle.boxglue_host.proofs.HostLemmas.{AreBegunAlike, begun_alike}
 use Rattle.tfm_core.specs.NamedBytes.{NamedBytes}
 use Rattle.boxglue_host.specs.declared.font_files.Unread.{Unread}
 use Rattle.boxglue_host.specs.declared.font_files.Unread.TheVariants.{OutOfMemory as WantsMemory, File}
 use Rattle.boxglue_words.specs.declared.fonts.NamedPath.{NamedPath}
-use Rattle.boxglue_lib.specs.Inputs.{IsUnreadScript}
+use Rattle.boxglue_lib.specs.Inputs.{IsUnreadDvi, IsUnreadScript}
 use Rattle.boxglue_lib.specs.Parts.{TellsOutput, end_of}
-use Rattle.boxglue_host.specs.Readings.{IsReading}
+use Rattle.boxglue_host.specs.Readings.{IsFileReading, IsReading}
 use Rattle.boxglue_lib.specs.Typesets.{HasTypeset, IsLeftAlone, IsLeftToFile, IsToFile, IsTypeset, IsUsed, TellsUnwritten}
 use Rattle.boxglue_program.specs.Runs.{IsUntouched, RanScript, RefusedScript, WasRunWhole, WritesFront, memory_line}
 use Rattle.boxglue_program.proofs.WritingLemmas.{appends_both, appends_keeps, keeps_appends, keeps_front}
@@ -152,18 +152,21 @@ keeps_same None = tt
 keeps_same (Some bytes) = refl
 
 -- A script was typeset, and its end was reported.
-pub typeset_ended : (reported : List ℕ → Option (Option (List ℕ))) (input : Option (List ℕ)) (fonts : List NamedPath) (out : List ℕ) (written : Option (List ℕ)) (has_failed : Bool) (Same : Type 0) (created done : Bool)
+pub typeset_ended : (reported : List ℕ → Option (Option (List ℕ))) (input : Option (List ℕ)) (fonts : List NamedPath) (out : List ℕ) (paths paths' : List (List ℕ)) (before written : Option (List ℕ)) (has_failed : Bool) (Same : Type 0) (created done : Bool)
     (text : List ℕ) (files : List NamedBytes) (end : TaskEnd) (old mid new errors between errors' : Option (List ℕ)) (status : ℕ)
     → IsReading input text → AreFilesOf reported fonts files → EndsTask (IsToFile text files written Same created done) (λ path. ⊥) ⊥ end old mid
-    → (end ≡ OutOfMemory → IsLeftToFile text files written created done) → TellsUnwritten done out errors between → has_failed ≡ not done → TellsOutput end mid new → TellsErrors end between errors' → status ≡ status_of end
-    → HasTypeset reported input fonts out written has_failed Same old new errors errors' status
-typeset_ended reported input fonts out written has_failed Same created done text files end old mid new errors between errors' status read filed ended left unwritten blamed said end_written is =
+    → (end ≡ OutOfMemory → IsLeftToFile text files written created done) → TellsUnwritten done out errors between → paths' ≡ created_after created out paths → (created ≡ false → written ≡ before)
+    → has_failed ≡ not done → TellsOutput end mid new → TellsErrors end between errors' → status ≡ status_of end
+    → HasTypeset reported input fonts out paths paths' before written has_failed Same old new errors errors' status
+typeset_ended reported input fonts out paths paths' before written has_failed Same created done text files end old mid new errors between errors' status read filed ended left unwritten placed untouched blamed said end_written is =
     let A : List ℕ → Bool → Type 0 = IsTypeset reported input fonts written Same created done in
     let U : Bor (List ℕ) → Type 0 = λ path. IsUnreadScript reported input fonts (File path) × IsLeftAlone Same created done in
     record {
       end = end;
       created = created;
       done = done;
+      placed = placed;
+      untouched = untouched;
       printed = output_then A U ⊥ end old mid new
           (ends_weaker (IsToFile text files written Same created done) A (λ path. ⊥) U ⊥ end old mid
           (λ answer fine to. (text, files, read, filed, to)) (λ path none. absurd none) ended) said;
@@ -193,25 +196,56 @@ pub unfailed : (count : ℕ) → has_failed count count ≡ false
 unfailed count = ap not (eq-eqb count count refl)
 
 -- A file did not take all if its host has failed since its device was made.
-pub failed_since : (before now start k : ℕ) (done : Bool) (began : Beginning) → begun_after start ≡ began → began ≡ begun_after before → now ≡ start + k → done ≡ (k == 0)
-    → has_failed before now ≡ not done
-failed_since before now start k done began one other counted is =
-    let same : start ≡ before = ap (λ (b : Beginning). b.failed) (one ∙ other) in
+pub failed_since : (before now start k : ℕ) (done : Bool) → start ≡ before → now ≡ start + k → done ≡ (k == 0) → has_failed before now ≡ not done
+failed_since before now start k done same counted is =
     ap (λ (n : ℕ). not (n == before)) (counted ∙ ap (λ (n : ℕ). n + k) same) ∙ (ap not (grown_count before k) ∙ ap not (sym is))
 
+-- The device that a run returns is for the path and the host of the one that was passed.
+pub back_alike : {H : Type 0} (created : H → List (List ℕ)) (written : H → Option (List ℕ)) (failures : H → ℕ) (path made out : Bor (List ℕ)) (start first host : H)
+    → begun_for path.now (created start) (written start) (failures start) ≡ begun_for made.now (created first) (written first) (failures first) → made ≡ out → first ≡ host
+    → AreBegunAlike path.now out.now (created start) (created host) (written start) (written host) (failures start) (failures host)
+back_alike created written failures path made out start first host began same alike =
+    begun_alike path.now out.now (created start) (created host) (written start) (written host) (failures start) (failures host)
+    (began ∙ (ap (λ (p : Bor (List ℕ)). begun_for p.now (created first) (written first) (failures first)) same
+    ∙ ap (λ h. begun_for out.now (created h) (written h) (failures h)) alike))
+
+-- What a host has created since its device was made.
+pub placed_since : (path out : List ℕ) (paths before now : List (List ℕ)) (created : Bool) → path ≡ out → paths ≡ before → now ≡ created_after created path paths → now ≡ created_after created out before
+placed_since path out paths before now created same alike is = is ∙ (ap (λ (p : List ℕ). created_after created p paths) same ∙ ap (λ (ps : List (List ℕ)). created_after created out ps) alike)
+
+-- Fonts that were not read, before standard input.
+pub unread_script : (reported : List ℕ → Option (Option (List ℕ))) (input : Option (List ℕ)) (fonts : List NamedPath) (fault : Unread)
+    → IsUnread reported fonts fault → IsUnreadScript reported input fonts fault
+unread_script reported input fonts WantsMemory unread = inl unread
+unread_script reported input fonts (File path) unread = inl unread
+
+-- Fonts that were not read, after the DVI file.
+pub unread_dvi : (reported : List ℕ → Option (Option (List ℕ))) (dvi bytes : List ℕ) (fonts : List NamedPath) (fault : Unread)
+    → IsFileReading (reported dvi) bytes → IsUnread reported fonts fault → IsUnreadDvi reported dvi fonts fault
+unread_dvi reported dvi bytes fonts WantsMemory read unread = inr ((bytes, read), unread)
+unread_dvi reported dvi bytes fonts (File path) read unread = inr ((bytes, read), unread)
+
+-- What is known of the input of `typeset` if memory was refused for it.
+wanting_script : (reported : List ℕ → Option (Option (List ℕ))) (input : Option (List ℕ)) (fonts : List NamedPath) (fault : Unread)
+    → end_of fault ≡ OutOfMemory → IsUnreadScript reported input fonts fault → IsUnreadScript reported input fonts WantsMemory
+wanting_script reported input fonts WantsMemory wants unread = unread
+wanting_script reported input fonts (File path) wants unread = absurd (cc)
+
 -- The input of `typeset` was not read, and that was reported.
-pub not_typeset : (reported : List ℕ → Option (Option (List ℕ))) (input : Option (List ℕ)) (fonts : List NamedPath) (out : List ℕ) (written : Option (List ℕ)) (has_failed : Bool) (Same : Type 0)
+pub not_typeset : (reported : List ℕ → Option (Option (List ℕ))) (input : Option (List ℕ)) (fonts : List NamedPath) (out : List ℕ) (paths : List (List ℕ)) (written : Option (List ℕ)) (has_failed : Bool) (Same : Type 0)
     (fault : Unread) (old new errors errors' : Option (List ℕ)) (status : ℕ)
     → Same → has_failed ≡ false → IsUnreadScript reported input fonts fault → TellsOutput (end_of fault) old new → TellsErrors (end_of fault) errors errors' → status ≡ status_of (end_of fault)
-    → HasTypeset reported input fonts out written has_failed Same old new errors errors' status
-not_typeset reported input fonts out written has_failed Same fault old new errors errors' status same blamed unread said end_written is =
+    → HasTypeset reported input fonts out paths paths written written has_failed Same old new errors errors' status
+not_typeset reported input fonts out paths written has_failed Same fault old new errors errors' status same blamed unread said end_written is =
     let alone : IsLeftAlone Same false true = record { same = same; closed = refl; silent = refl } in
     record {
       end = end_of fault;
       created = false;
       done = true;
+      placed = refl;
+      untouched = λ _. refl;
       printed = unread_output (IsTypeset reported input fonts written Same false true) reported input fonts fault (IsLeftAlone Same false true) old new alone unread said;
-      wanting = λ _. inl alone;
+      wanting = λ wants. inl (alone, wanting_script reported input fonts fault wants unread);
       middle = errors;
       unwritten = keeps_same errors;
       blamed = blamed;

@@ -32,22 +32,22 @@ RefusesWords (faults.NotPair word) output output' errors errors' status =
 RefusesWords (faults.NameTwice name) output output' errors errors' status =
     Keeps output output' × TakesText errors errors' (line_of (codes "boxglue: name given twice: ") name.now) × (status ≡ 2)
 
--- A task was done with the files and the standard input of a host. The created file of the host then has taken these bytes, and the host has failed
--- meanwhile or not; except for `typeset` it was returned as it was.
-abbrev pub HasDone : (contents : List ℕ → Option (Option (List ℕ))) → (input written : Option (List ℕ)) → (has_failed : Bool) → (Same : Type 0) → Task → (output output' errors errors' : Option (List ℕ)) → (status : ℕ) → Type 0
-HasDone contents input written has_failed Same tasks.Version output output' errors errors' status = Same × PrintsVersion output output' status × Keeps errors errors'
-HasDone contents input written has_failed Same tasks.Memory output output' errors errors' status =
+-- A task was done with the files and the standard input of a host. The paths are those of the files that the host had created and then has, and the bytes
+-- those of the created file before and then; the host has failed meanwhile or not. Except for `typeset` it was returned as it was.
+abbrev pub HasDone : (contents : List ℕ → Option (Option (List ℕ))) → (input : Option (List ℕ)) → (paths paths' : List (List ℕ)) → (before written : Option (List ℕ)) → (has_failed : Bool) → (Same : Type 0) → Task → (output output' errors errors' : Option (List ℕ)) → (status : ℕ) → Type 0
+HasDone contents input paths paths' before written has_failed Same tasks.Version output output' errors errors' status = Same × PrintsVersion output output' status × Keeps errors errors'
+HasDone contents input paths paths' before written has_failed Same tasks.Memory output output' errors errors' status =
     Same × TaskHasEnded (IsAnsweredInput input) (IsUnreadInput input) ⊥ output output' errors errors' status
-HasDone contents input written has_failed Same (tasks.Typeset out fonts) output output' errors errors' status =
-    HasTypeset contents input fonts.items out.now written has_failed Same output output' errors errors' status
-HasDone contents input written has_failed Same (tasks.Listing dvi fonts) output output' errors errors' status =
+HasDone contents input paths paths' before written has_failed Same (tasks.Typeset out fonts) output output' errors errors' status =
+    HasTypeset contents input fonts.items out.now paths paths' before written has_failed Same output output' errors errors' status
+HasDone contents input paths paths' before written has_failed Same (tasks.Listing dvi fonts) output output' errors errors' status =
     Same × TaskHasEnded (IsListing contents dvi.now fonts.items) (λ path. IsUnreadDvi contents dvi.now fonts.items (File path)) ⊥ output output' errors errors' status
-HasDone contents input written has_failed Same (tasks.Painting sheet dvi fonts) output output' errors errors' status =
+HasDone contents input paths paths' before written has_failed Same (tasks.Painting sheet dvi fonts) output output' errors errors' status =
     Same × TaskHasEnded (IsPainting contents sheet dvi.now fonts.items) (λ path. IsUnreadDvi contents dvi.now fonts.items (File path))
     (HasNoPage contents sheet dvi.now fonts.items) output output' errors errors' status
 
 -- The program was run: its words are refused, and the host was returned as it was; or the task that they ask for was done.
-abbrev pub HasRun : (words : List (List ℕ)) → (contents : List ℕ → Option (Option (List ℕ))) → (input written : Option (List ℕ)) → (has_failed : Bool) → (Same : Type 0) → (output output' errors errors' : Option (List ℕ)) → (status : ℕ) → Type 0
-HasRun words contents input written has_failed Same output output' errors errors' status =
+abbrev pub HasRun : (words : List (List ℕ)) → (contents : List ℕ → Option (Option (List ℕ))) → (input : Option (List ℕ)) → (paths paths' : List (List ℕ)) → (before written : Option (List ℕ)) → (has_failed : Bool) → (Same : Type 0) → (output output' errors errors' : Option (List ℕ)) → (status : ℕ) → Type 0
+HasRun words contents input paths paths' before written has_failed Same output output' errors errors' status =
     ((fault : WordFault) × IsRefused words fault × Same × RefusesWords fault output output' errors errors' status)
-    ⊎ ((task : Task) × IsTask words task × HasDone contents input written has_failed Same task output output' errors errors' status)
+    ⊎ ((task : Task) × IsTask words task × HasDone contents input paths paths' before written has_failed Same task output output' errors errors' status)

@@ -2,9 +2,9 @@
 use Rattle.std.specs.Prelude.{◌≡◌, ◌≢◌, ◌==◌, ◌⊎◌, [], ℕ, Bool, true, false, not, List, Option, codes}
 use Rattle.std.specs.Option.{ForSome}
 use Rattle.std.specs.Io.KnownBytes.{Keeps}
-use Rattle.boxglue_host.specs.Hosts.{AreFilesOf, written_to_file}
+use Rattle.boxglue_host.specs.Hosts.{AreFilesOf, created_after, written_to_file}
 use Rattle.boxglue_host.specs.Readings.{IsReading}
-use Rattle.boxglue_host.specs.declared.font_files.Unread.TheVariants.{File}
+use Rattle.boxglue_host.specs.declared.font_files.Unread.TheVariants.{OutOfMemory as WantsMemory, File}
 use Rattle.boxglue_program.specs.Runs.{IsUntouched, RanScript, RefusedScript, WasRunWhole}
 use Rattle.tfm_core.specs.NamedBytes.{NamedBytes}
 use Rattle.boxglue_words.specs.declared.fonts.NamedPath.{NamedPath}
@@ -41,10 +41,10 @@ abbrev pub IsTypeset : (List ℕ → Option (Option (List ℕ))) → (input : Op
 IsTypeset contents input fonts written Same created done answer fine =
     (text : List ℕ) × (files : List NamedBytes) × IsReading input text × AreFilesOf contents fonts files × IsToFile text files written Same created done answer fine
 
--- Memory was refused: for what is read, and nothing was run; or after that.
+-- Memory was refused: for a file that can be read, and nothing was run; or after all was read.
 abbrev pub LacksMemoryForTask : (List ℕ → Option (Option (List ℕ))) → (input : Option (List ℕ)) → List NamedPath → (written : Option (List ℕ)) → (Same : Type 0) → (created done : Bool) → Type 0
 LacksMemoryForTask contents input fonts written Same created done =
-    IsLeftAlone Same created done
+    (IsLeftAlone Same created done × IsUnreadScript contents input fonts WantsMemory)
     ⊎ ((text : List ℕ) × (files : List NamedBytes) × IsReading input text × AreFilesOf contents fonts files × IsLeftToFile text files written created done)
 
 -- The message about a file that did not take all bytes.
@@ -52,12 +52,15 @@ abbrev pub TellsUnwritten : (done : Bool) → (out : List ℕ) → (old new : Op
 TellsUnwritten true out old new = Keeps old new
 TellsUnwritten false out old new = TakesText old new (line_of (codes "boxglue: cannot write ") out)
 
--- `typeset` has ended: whether its file was created and took all, what the output took, what the errors took, and the status. The file did not take
--- all if and only if the host has failed meanwhile.
-pub record HasTypeset (contents : List ℕ → Option (Option (List ℕ))) (input : Option (List ℕ)) (fonts : List NamedPath) (out : List ℕ) (written : Option (List ℕ)) (has_failed : Bool) (Same : Type 0) (output output' errors errors' : Option (List ℕ)) (status : ℕ) : Type 0 where
+-- `typeset` has ended: whether its file was created and took all, what the output took, what the errors took, and the status. The host had created files
+-- at these paths, the last one first, and reported these bytes of the last one. It has created the file at OUT once more if it was created, and nothing
+-- else; if it was not, the host reports the bytes that it reported before. The file did not take all if and only if the host has failed meanwhile.
+pub record HasTypeset (contents : List ℕ → Option (Option (List ℕ))) (input : Option (List ℕ)) (fonts : List NamedPath) (out : List ℕ) (paths paths' : List (List ℕ)) (before written : Option (List ℕ)) (has_failed : Bool) (Same : Type 0) (output output' errors errors' : Option (List ℕ)) (status : ℕ) : Type 0 where
   pub end : TaskEnd
   pub created : Bool
   pub done : Bool
+  pub placed : paths' ≡ created_after created out paths
+  pub untouched : created ≡ false → written ≡ before
   pub printed : EndsOutput (IsTypeset contents input fonts written Same created done) (λ path. IsUnreadScript contents input fonts (File path) × IsLeftAlone Same created done) ⊥ end output output'
   pub wanting : end ≡ OutOfMemory → LacksMemoryForTask contents input fonts written Same created done
   pub middle : Option (List ℕ)

@@ -19,7 +19,9 @@ pub struct Inputs {
 
 /// Reads the files of fonts, in the order of their words, and then the script of standard input.
 ///
-/// Errors: File with the path that could not be read, `-` for standard input; OutOfMemory for a refused growth. Nothing was run or created then.
+/// Errors: File with the path that could not be read, `-` for standard input; OutOfMemory for a refused growth at one that can be. Nothing was run or created
+/// then.
+#[tactic(auto, using(crate::proofs::EndLemmas::unread_script))]
 pub fn read_script_inputs<'a, H: Host>(
     alloc: Global,
     host: &H,
@@ -39,7 +41,8 @@ pub fn read_script_inputs<'a, H: Host>(
 
 /// Reads a DVI file, and then the files of fonts, in the order of their words.
 ///
-/// Errors: File with the path that could not be read; OutOfMemory for a refused growth.
+/// Errors: File with the path that could not be read; OutOfMemory for a refused growth at one that can be.
+#[tactic(auto, using(crate::proofs::EndLemmas::unread_dvi))]
 pub fn read_dvi_inputs<'a, H: Host>(
     alloc: Global,
     host: &H,

@@ -13,8 +13,8 @@ mod telling;
 mod typesetting;
 
 pub use boxglue_host::{
-    FailureCount, FileDevice, HeldFile, Host, HostFault, MemoryHost, READ_LIMIT, Unread, read_all,
-    read_fonts, write_some,
+    CreatedPaths, FailureCount, FileDevice, HeldFile, Host, HostFault, MemoryHost, READ_LIMIT,
+    Unread, read_all, read_fonts, write_some,
 };
 pub use boxglue_program::{
     Cause, Device, DeviceFault, FontFile, FontName, Line, Memory, RunFault, ScriptFault, Unwritten,

@@ -42,7 +42,7 @@ fn do_task<H: Host, W: Write, E: Write>(
     errors: &mut E,
 ) -> (u8, H)
     requires { HasRanges task }
-    ensures { HasDone (H.file host) (H.input host) (H.written result.1) (has_failed (H.failures host) (H.failures result.1)) (result.1 ≡ host) task.entry (W.contents output.old) (W.contents output.new)
+    ensures { HasDone (H.file host) (H.input host) (H.created host) (H.created result.1) (H.written host) (H.written result.1) (has_failed (H.failures host) (H.failures result.1)) (result.1 ≡ host) task.entry (W.contents output.old) (W.contents output.new)
         (E.contents errors.old) (E.contents errors.new) result.0 }
 {
     match task {
@@ -74,7 +74,7 @@ pub fn program<H: Host, W: Write, E: Write>(
     output: &mut W,
     errors: &mut E,
 ) -> (u8, H)
-    ensures { HasRun (map string_bytes words.now) (H.file host) (H.input host) (H.written result.1) (has_failed (H.failures host) (H.failures result.1)) (result.1 ≡ host) (W.contents output.old)
+    ensures { HasRun (map string_bytes words.now) (H.file host) (H.input host) (H.created host) (H.created result.1) (H.written host) (H.written result.1) (has_failed (H.failures host) (H.failures result.1)) (result.1 ≡ host) (W.contents output.old)
         (W.contents output.new) (E.contents errors.old) (E.contents errors.new) result.0 }
 {
     match read_words(alloc, words) {

@@ -116,7 +116,7 @@ pub fn typeset<H: Host, W: Write, E: Write>(
     output: &mut W,
     errors: &mut E,
 ) -> (u8, H)
-    ensures { HasTypeset (H.file host) (H.input host) fonts.now out.now (H.written result.1) (has_failed (H.failures host) (H.failures result.1)) (result.1 ≡ host) (W.contents output.old)
+    ensures { HasTypeset (H.file host) (H.input host) fonts.now out.now (H.created host) (H.created result.1) (H.written host) (H.written result.1) (has_failed (H.failures host) (H.failures result.1)) (result.1 ≡ host) (W.contents output.old)
         (W.contents output.new) (E.contents errors.old) (E.contents errors.new) result.0 }
 {
     let inputs = match read_script_inputs(alloc, &host, fonts) {

@@ -1,6 +1,8 @@
 //! Hosts, and runs of the program over them.
 
-use boxglue_lib::{FailureCount, HeldFile, Host, HostFault, MemoryHost, program, write_some};
+use boxglue_lib::{
+    CreatedPaths, FailureCount, HeldFile, Host, HostFault, MemoryHost, program, write_some,
+};
 use std::alloc::Global;
 use std::io;
 use std::io::Write;
@@ -91,6 +93,7 @@ impl Write for Closed {
 pub struct Unwritable {
     pub inner: MemoryHost,
     pub creates: bool,
+    pub created: CreatedPaths,
     pub failures: FailureCount,
 }
 
@@ -100,6 +103,8 @@ impl Host for Unwritable {
     ghost file = { λ host path. None };
 
     ghost input = { λ host. None };
+
+    ghost created = { λ host. host.created.paths };
 
     ghost written = { λ host. None };
 
@@ -113,8 +118,9 @@ impl Host for Unwritable {
         self.inner.read_input(alloc)
     }
 
-    fn create(&mut self, _path: &str) -> Result<(), HostFault> {
+    fn create(&mut self, path: &str) -> Result<(), HostFault> {
         if self.creates {
+            self.created.add(path);
             Ok(())
         } else {
             self.failures.raise();

@@ -4,7 +4,7 @@ use crate::hosts::{Unwritable, bytes_of, host_of, run};
 use crate::samples::{
     ONE_RULE, ONE_RULE_ANSWERS, ONE_RULE_BYTES, REFUSED_JOB, REFUSED_JOB_ANSWERS, UNWRITTEN_ANSWERS,
 };
-use boxglue_lib::{FailureCount, VERSION_LINE};
+use boxglue_lib::{CreatedPaths, FailureCount, VERSION_LINE};
 
 /// A command line with a script, over the file of the one-rule page: its status, its output and its errors, and the file that it makes, in hexadecimal digits
 /// (an empty text if no file is created).
@@ -107,6 +107,7 @@ fn a_file_that_is_not_written(rt: HostRuntime) {
         let host = Unwritable {
             inner,
             creates,
+            created: CreatedPaths::none(),
             failures: FailureCount::zero(),
         };
         let ran = run(alloc, &["typeset", "away/out.dvi"], host).expect(&rt, "memory");

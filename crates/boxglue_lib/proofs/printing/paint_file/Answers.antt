@@ -1,7 +1,8 @@
 -- The line of the refusal, or the pieces of the bitmap: all of it, or a beginning.
-use Rattle.std.proofs.Common.{true, inl, inr, refl}
+use Rattle.std.proofs.Common.{ap, Err, true, inl, inr, refl}
 use Rattle.raster_core.specs.PlainText.{pbm}
 use Rattle.boxglue_print.proofs.PrintLemmas.{has_page, paints, refuses}
+use Rattle.boxglue_lib.proofs.EndLemmas.{keeps_same}
 use Rattle.boxglue_lib.proofs.printing.paint_file.Goals as goal
 
 pub returns-in_err-write_text-in-Err-clause-unwritten : goal.returns-in_err-write_text-in-Err-clause-unwritten
@@ -63,3 +64,13 @@ returns-in_err-write_bitmap-clause-found g c =
     λ lacks. absurd (has_page c.args.files.now c.args.dvi.now c.args.sheet.page c.args.sheet.dpi c.args.sheet.width c.args.sheet.height (pbm c.in-Ok-page_bitmap.bitmap) true
     (inl (paints c.args.files.now c.args.dvi.now c.args.sheet.page c.args.sheet.dpi c.args.sheet.width c.args.sheet.height c.in-Ok.opened c.in-Ok-page_bitmap.bitmap _
     c.in-Ok.ensures.ok c.in-Ok.ensures.units c.in-Ok-page_bitmap.ensures.ok refl)) lacks)
+
+pub returns-in-Err-OutOfMemory-clause-silent : goal.returns-in-Err-OutOfMemory-clause-silent
+returns-in-Err-OutOfMemory-clause-silent g c = λ _. keeps_same (g.W.Write.contents c.args.writer.now)
+
+pub returns-in-Err-NoSuchPage-clause-unpainted : goal.returns-in-Err-NoSuchPage-clause-unpainted
+returns-in-Err-NoSuchPage-clause-unpainted g c = λ _. keeps_same (g.W.Write.contents c.args.writer.now)
+
+pub returns-in-Err-NoSuchPage-clause-missing : goal.returns-in-Err-NoSuchPage-clause-missing
+returns-in-Err-NoSuchPage-clause-missing g c =
+    λ _. record { pages = c.in-Ok.opened.pages; file = c.in-Ok.ensures.ok; few = c.in-Err-NoSuchPage.ensures.missing.0 (ap Err c.in-Err-NoSuchPage.field-0-is) }
