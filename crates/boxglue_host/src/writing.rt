@@ -1,6 +1,6 @@
 //! Writing a piece.
 
-ghost use Rattle.std.specs.Prelude.{◌≤◌, ◌<◌, length, take, IfOk, OnErr};
+ghost use Rattle.std.specs.Prelude.{◌≡◌, ◌≤◌, ◌<◌, length, take, IfOk, IfErr, OnErr};
 ghost use Rattle.std.specs.Io.KnownBytes.{Appends, Keeps};
 
 use crate::host::HostFault;
@@ -15,6 +15,7 @@ pub fn write_some<W: Write>(writer: &mut W, piece: &[u8]) -> Result<usize, HostF
     ensures count_bounded { IfOk result (λ n. (1 ≤ n) × (n ≤ length piece.now)) }
     ensures taken { IfOk result (λ n. Appends (W.contents writer.old) (W.contents writer.new) (take n piece.now)) }
     ensures none_taken { OnErr result (Keeps (W.contents writer.old) (W.contents writer.new)) }
+    ensures failed { IfErr result (λ fault. fault ≡ HostFault.Failed) }
 {
     for _ in 0..u64::MAX {
         match writer.write(piece) {

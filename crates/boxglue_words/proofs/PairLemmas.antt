@@ -84,7 +84,7 @@ map_split f (x ∷ xs) (suc i) d lt = ap (λ l. f x ∷ l) (map_split f xs i d (
 -- The fault of a word after pairs is the first.
 pub first_fault : (words before : List Text) (word : Text) (after : List Text) (fault : WordFault) → words ≡ before ++ (word ∷ after)
     → ArePairs before → IsFaultAfter before word fault → IsFaulty words fault
-first_fault words before word after Memory split pairs faulty = tt
+first_fault words before word after Memory split pairs faulty = record { before = before; word = word; after = after; split = split; pairs = pairs; cut = faulty }
 first_fault words before word after (Line text) split pairs faulty = absurd faulty
 first_fault words before word after (NotPair named) split pairs faulty =
     record { before = before; word = word; after = after; split = split; pairs = pairs; faulty = faulty }

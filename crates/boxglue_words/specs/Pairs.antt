@@ -1,5 +1,5 @@
 -- The words NAME=TFM of a command line (own).
-use Rattle.std.specs.Prelude.{◌≡◌, ◌==◌, ◌++◌, ⊤, ◌∷◌, List, ℕ, Bool, true, map}
+use Rattle.std.specs.Prelude.{◌≡◌, ◌==◌, ◌++◌, ◌∷◌, List, ℕ, Bool, true, map}
 use Rattle.std.specs.List.{All, IsDistinct, after_first, before_first, list_any}
 use Rattle.std.specs.Str.{bytes_eq}
 use Rattle.clap.specs.Walk.{Text}
@@ -52,7 +52,16 @@ pub record IsFirstFault (words : List Text) (fault : WordFault) : Type 0 where
   pub pairs : ArePairs before
   pub faulty : IsFaultOf before word fault
 
--- Why words NAME=TFM are refused: for the first faulty one, or out of memory.
+-- Memory was refused for a word that has a `=`: those before it are pairs with different names.
+pub record LacksMemoryFor (words : List Text) : Type 0 where
+  pub before : List Text
+  pub word : Text
+  pub after : List Text
+  pub split : words ≡ before ++ (word ∷ after)
+  pub pairs : ArePairs before
+  pub cut : list_any is_equals word ≡ true
+
+-- Why words NAME=TFM are refused: for the first faulty one, or because memory was refused before it was met.
 abbrev pub IsFaulty : List Text → WordFault → Type 0
-IsFaulty words WantsMemory = ⊤
+IsFaulty words WantsMemory = LacksMemoryFor words
 IsFaulty words fault = IsFirstFault words fault

@@ -64,8 +64,8 @@ fn push_pair<'a>(
 
 /// The fonts of words NAME=TFM, each cut at its first `=`. The names have 1 to 255 bytes and differ.
 ///
-/// Errors: NotPair and NameTwice name the first faulty word from the left; Memory is a refused growth. Each name is compared with all before it,
-/// so the time grows with the square of the number of words.
+/// Errors: NotPair and NameTwice name the first faulty word from the left; Memory is a refused growth, which a word without `=` never meets. Each name is
+/// compared with all before it, so the time grows with the square of the number of words.
 pub fn read_pairs<'a>(alloc: Global, words: &[&'a str]) -> Result<Vec<NamedPath<'a>>, WordFault<'a>>
     ensures ok { IfOk result (λ fonts. AreFonts (map (λ word. word.now) words.now) fonts.items) }
     ensures err { IfErr result (IsFaulty (map (λ word. word.now) words.now)) }
