@@ -106,7 +106,7 @@ def movement(chance):
 
 
 def calm_instruction(chance):
-    """An instruction that can stand anywhere in a page, though a movement may leave the range."""
+    """An instruction that may come anywhere in a page, though a movement may leave the range."""
     way = chance.below(10)
     if way < 3:
         return bytes([chance.pick(b"abcde")])
@@ -126,7 +126,7 @@ def calm_instruction(chance):
 
 
 def wild_instruction(chance):
-    """An instruction that is often wrong where it stands."""
+    """An instruction that is often wrong at its place."""
     way = chance.below(6)
     if way == 0:
         return chance.pick((b"\x8d", b"\x8e", b"\x8d" * chance.below(40), b"\x8e\x8d"))

@@ -2,7 +2,7 @@
 """Calls the library for C on hostile inputs, and compares it with the program: bench/hostile_library.py --archive LIBBOXGLUE_C [--boxglue PROGRAM] [--count N] [--first N].
 
 The inputs are the scripts, DVI files and metric files of bench/hostile.py. The caller is that of bindings/c, with AddressSanitizer where the compiler has it: it makes each call
-also with no room and with a byte too little, and fails where a byte beside its buffers is written or memory is not freed.
+also with no room and with a byte too little, and fails where a byte outside its buffers is written or memory is not freed.
 A script is run at once and in pieces on a job; a file is listed, painted, and asked for its fonts. The answers and bytes have to be those of the program."""
 
 import argparse

@@ -55,7 +55,7 @@ def spliced(chance, data, other):
 
 
 def lengthened(chance, data):
-    """With more bytes inside or behind: random ones, bytes 223, or a piece of it again."""
+    """With more bytes inside or after it: random ones, bytes 223, or a piece of it again."""
     place, way = chance.below(len(data) + 1), chance.below(4)
     if way == 0:
         return data[:place] + chance.bytes(1 + chance.below(40)) + data[place:]

@@ -60,7 +60,7 @@ def documents(work):
             notes.append("%s: %s" % (name, ours.complaints[0]))
         else:
             tally.pages(name, ours.pages, theirs.pages)
-    line = "documents: %d files, not accepted or told of %d; %s" % (len(made) - len(without_metrics), len(notes), tally.shown())
+    line = "documents: %d files, not accepted or warned of %d; %s" % (len(made) - len(without_metrics), len(notes), tally.shown())
     causes = Counter({"documents that are not made here: " + ", ".join(missing): len(missing), "files with fonts whose metric files are not here: " + ", ".join(without_metrics): len(without_metrics)})
     work.show(line, +causes, notes + tally.notes)
 
@@ -97,7 +97,7 @@ def readers(work):
             else:
                 said = re.findall(r"(?i)(?:%s)?[^\n]*(?:warning|error|missing|cannot|can't|unimplemented)[^\n]*" % words[0], text)
             if words[0] == "dvipng" and said and all("special{html:" in it for it in said):
-                causes["files with links, which dvipng does not know and tells of"] += 1
+                causes["files with links, of which dvipng warns"] += 1
             elif status or said:
                 notes.append("%s: %s: status %d, %s" % (name, words[0], status, " / ".join(said)))
         for made, pattern in (("dvipng", file + "-*.png"), ("pdftoppm", file + "-*.pgm")):

@@ -132,7 +132,7 @@ def metrics(work):
             verdicts["tex"] += tex
             verdicts["tftopl"] += quiet
             if ours and tex and listing.read and listing.complaints and not other:
-                causes["files with bytes after their last word, of which tftopl tells; boxglue and tex read them"] += 1
+                causes["files with bytes after their last word, of which tftopl warns; boxglue and tex read them"] += 1
             elif not ours == tex == quiet:
                 notes.append("%s: boxglue: %s; tex: %s; tftopl: %s" % (listing.path, accepted[i][0], "read" if tex else "refused", "; ".join(listing.complaints[:3]) or "no complaint"))
             if accepted[BATCH + i][0] != accepted[i][0]:

@@ -34,7 +34,7 @@ def sources(root, crate):
 
 
 def contracts(root, crate, name):
-    """What stands between the name and the body of each function with this name; a type before it, as in Type::name, chooses the files that have it."""
+    """What is between the name and the body of each function with this name; a type before it, as in Type::name, chooses the files that have it."""
     *kinds, last = name.split("::")
     for text in sources(root, crate):
         if all(re.search(rf"\b{kind}\b", text) for kind in kinds):

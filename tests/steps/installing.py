@@ -21,7 +21,7 @@ grep -qsx "${PWD##*/}" "$ROOM/bad" && echo the prover says why && exit 1
 if [ "$1" = run ]; then mkdir -p out && cp "$ROOM/boxglue" out/boxglue; fi
 exit 0
 """
-# A repository of four crates beside two that the program does not use.
+# A repository of four crates, and two that the program does not use.
 CRATES = "# NAME: what it uses\nboxglue: upper clap\nupper: left right\nother: left\nright: left itoa\nleft:\nrows staticlib: upper\n"
 ORDER = ["check left", "check right", "check upper", "run boxglue"]
 
