@@ -85,8 +85,10 @@ pub fn answer_script<D: Device>(
 /// Runs a script's text with these font files on a device, and then writes the texts of its answers. A bad script is refused whole: it writes its
 /// one line and runs nothing. The truth value is true if nothing was refused.
 ///
-/// Answers are written after the job was finished or its end refused, so a writer that fails changes nothing in the file. It has then taken a beginning of
-/// the text, once.
+/// Answers are written after the job was finished or its end refused, so a writer that fails changes nothing in the file.
+///
+/// Errors, each with the device: Memory for a refused growth, where nothing was written, and nothing or the whole script was run; Answers if the
+/// writer failed, where it has taken a beginning of the text, once.
 pub fn run_script<D: Device, W: Write>(
     alloc: Global,
     text: &[u8],
@@ -120,8 +122,8 @@ pub fn run_script<D: Device, W: Write>(
 /// Runs a script's text again over `Rest` of a device, to which these bytes were sent before, and returns that device.
 ///
 /// Suppose that the device had reported exactly these bytes, and that the end succeeds. If they are a beginning of the file of the script's pages, the
-/// device then reports exactly that file; if not, nothing was sent. The errors are those of `run_script`. In each case what the device had reported
-/// stands, and only bytes after those sent before follow it.
+/// device then reports exactly that file; if not, nothing was sent. The errors are those of `run_script`. In each case the device keeps what it had
+/// reported, and only bytes after those sent before follow it.
 pub fn run_rest<D: Device, W: Write>(
     alloc: Global,
     text: &[u8],

@@ -101,7 +101,7 @@ impl<'a> Dvi<'a> {
         self.pages.len()
     }
 
-    /// The page with this index, from 0.
+    /// The page with this index, from 0 and below the number of pages.
     pub fn page(&self, index: usize) -> &Page<'a>
         requires { index < length self.now.pages }
         ensures { slice_get self.now.pages index ≡ Some (marked_page result.now) }

@@ -60,7 +60,7 @@ impl Bitmap {
         Ok(white(alloc, width as usize, height as usize)?)
     }
 
-    /// Makes the pixels black that the rules of a page cover, for positive units and at most 10,000 pixels an inch. The pixel of column 0 and row 0
+    /// Makes the pixels black that the rules of a page cover, for positive units and at most 10,000 pixels an inch. The first pixel of the first row
     /// is that of the page's origin, columns go to the right and rows down, and what is outside of the bitmap is cut off. The bottom left corner of a
     /// rule is rounded to the nearest pixel, halves away from zero, and its sizes are rounded up (DVItype, pixel_round and rule_pixels). Glyphs and
     /// specials are not painted. It takes no memory. Its time is that of the rows that the rules touch, and of the words that they make black.
