@@ -61,8 +61,9 @@ impl<D: Device> Rest<D> {
         }
     }
 
-    /// Returns the inner device. What it had reported stands, and only bytes after `sent` follow it. Where a whole file went through this device, and `sent` is a beginning of it, the inner device got the rest of the
-    /// file. Where the inner device had reported exactly `sent` at the start, it now reports the whole file.
+    /// Returns the inner device. It reports what it had reported before, and only bytes after `sent` follow. Where a whole file went through this
+    /// device, and `sent` is a beginning of it, the inner device got the rest of the file. Where the inner device had reported exactly `sent` at the
+    /// start, it now reports the whole file.
     pub fn into_device(self) -> D
         ensures device { result ≡ self.device }
         ensures parts { IfSome (written_by D.bytes_written self) (GoesOnAs self.sent (D.bytes_written self.start) (D.bytes_written result)) }

@@ -111,7 +111,7 @@ impl From<AllocError> for Refusal {
 /// The reply of a job to a command.
 pub type Reply = Result<Answer, Refusal>;
 
-/// What the end of a job reports: the number of pages that it shipped, and the number of bytes that the device took.
+/// What the end of a job reports: the number of pages that it shipped, and the number of bytes of their whole file, 0 without pages.
 #[derive(Clone, Copy, Debug, PartialEq, Eq)]
 pub struct Summary {
     pub pages: u32,

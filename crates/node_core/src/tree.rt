@@ -18,7 +18,7 @@ use std::marker::Model;
 pub enum Node {
     /// A character of a font.
     Glyph(Glyph),
-    /// A kern between two characters of a font.
+    /// A kern between two characters of a font, in scaled points.
     FontKern(Dimen),
     /// An explicit kern: this much space, in scaled points; a negative kern moves back.
     Kern(Dimen),
@@ -53,7 +53,7 @@ pub enum Order {
     Filll,
 }
 
-/// Glue: its natural width, and how much it can stretch and shrink, each in an order (TeX: The Program, part 10).
+/// Glue: its natural width, and how much it can stretch and shrink, in scaled points, each in an order (TeX: The Program, part 10).
 #[derive(Clone, Copy, Debug, PartialEq, Eq)]
 pub struct Glue {
     pub width: Dimen,
@@ -252,7 +252,7 @@ impl NodeList {
         self.nodes.append(&mut other.nodes)
     }
 
-    /// Keeps the first `count` nodes and drops the others.
+    /// Keeps the first `count` nodes, or all if there are fewer, and drops the others.
     #[tactic(auto, using(crate::proofs::NodeLemmas::nodes))]
     pub fn truncate(&mut self, count: usize)
         ensures { self.new ≡ items_of (take count (nodes_of self.old)) }

@@ -51,8 +51,9 @@ pub struct TooLarge {
     pub list: NodeList,
 }
 
-/// Packs a horizontal list into an hbox: its width is given by the target, and its height and depth are those of its highest and its deepest item.
-/// `TooLarge` is returned exactly when one of its numbers does not fit, with the list unchanged. Does not allocate.
+/// Packs a horizontal list into an hbox: its width is given by the target, and its height and depth are those of its highest and its deepest item
+/// (TeX: The Program, part 33, §649, hpack). `TooLarge` is returned exactly when one of its numbers does not fit (own), with the list unchanged. Does
+/// not allocate.
 #[tactic(auto, using(crate::proofs::Packing::packing))]
 pub fn hpack(list: NodeList, target: Target) -> Result<Packed, TooLarge>
     ensures value { result ≡ hpacked target list }
@@ -67,7 +68,8 @@ pub fn hpack(list: NodeList, target: Target) -> Result<Packed, TooLarge>
 }
 
 /// Packs a vertical list into a vbox: its height is given by the target, and its baseline is that of the last rule or box, but its depth is at most
-/// the limit. `TooLarge` is returned exactly when one of its numbers does not fit, with the list unchanged. Does not allocate.
+/// the limit (TeX: The Program, part 33, §668, vpackage). `TooLarge` is returned exactly when one of its numbers does not fit (own), with the list
+/// unchanged. Does not allocate.
 #[tactic(auto, using(crate::proofs::Packing::packing))]
 pub fn vpack(list: NodeList, target: Target, depth_limit: Dimen) -> Result<Packed, TooLarge>
     ensures value { result ≡ vpacked target depth_limit list }

@@ -15,8 +15,8 @@ use node_core::{ItemClass, Kind, Node};
 use scaled_core::Dimen;
 use std::marker::Model;
 
-/// The exact totals of the items of a list that were passed: the sum of their advances, the stretch and shrink of their glue in each order, and the
-/// pending depth after them. The sums do not overflow, and need not fit as dimensions.
+/// The exact totals of the items of a list that were passed, in scaled points: the sum of their advances, the stretch and shrink of their glue in each
+/// order, and the pending depth after them. The sums do not overflow, and need not fit as dimensions.
 #[derive(Clone, Copy, Debug)]
 pub struct Totals {
     kind: Kind,

@@ -35,7 +35,7 @@ pub struct Space {
 /// What a font puts between two characters (TFtoPL, 13).
 #[derive(Clone, Copy, Debug, PartialEq, Eq)]
 pub enum Step {
-    /// A kern of this width.
+    /// A kern of this width, in scaled points.
     Kern(Dimen),
     /// This character, in place of both.
     Ligature(u8),
