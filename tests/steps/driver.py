@@ -24,7 +24,7 @@ crates/boxglue makes out/boxglue; `rt ci` makes out/boxglue and out/boxglue.by-r
 With --library the parts library_.. call the library for C, whose archive `rt lib` in crates/boxglue_c makes as out/libboxglue_c.a. They compare it with the
 first --program, and need a C compiler. Without --library they are skipped.
 
-The parts `definitions`, `library`, `known_files` and `known_devices` run no program. `definitions` checks that docs/DEFINITIONS.md is fresh:
+The parts `claims`, `definitions`, `header`, `known_devices`, `known_files`, `known_growths`, `library` and `names` run no program. `definitions` checks that docs/DEFINITIONS.md is fresh:
 where it is not, run tests/definitions.
 
 A line is printed for each part: ok, FAILED or skipped, its seconds, how many of its cases passed; and a line at least every ten seconds.
