@@ -69,8 +69,8 @@ fn broken_in_tables(file: &Entries) -> Option<TfmCause>
 impl Tfm {
     /// The metric file in the bytes; bytes after its last word are ignored (TFtoPL, 8 to 15). Allocates its tables.
     ///
-    /// `Bad` is returned exactly when a rule is broken, and names the first one. `OutOfMemory` is returned if an allocation is refused. The rules
-    /// `TooShort`, `Counts` and `DesignSize` are tested before anything is allocated.
+    /// A file that breaks a rule is never accepted: `Bad` names the first broken rule. `OutOfMemory` is returned if an allocation is refused, and then
+    /// the rules `TooShort`, `Counts` and `DesignSize` are kept, which are tested before anything is allocated.
     #[tactic(auto, using(crate::proofs::ReadingLemmas::relations))]
     pub fn read(alloc: Global, bytes: &[u8]) -> Result<Tfm, TfmFault>
         ensures ok { IfOk result (λ tfm. IsMetricFile bytes.now tfm) }
