@@ -111,6 +111,7 @@ impl<D: Device> Device for Rest<D> {
         ensures apart { self.old.met < length self.old.sent → self.new.device ≡ self.old.device }
         ensures own { self.old.met ≡ length self.old.sent → self.new.failures ≡ self.old.failures }
         ensures met { IfOk result (λ n. self.old.met < length self.old.sent → (self.new.met ≡ self.old.met + n) × (take n piece.now ≡ take n (drop self.old.met self.old.sent))) }
+        ensures longest { IfOk result (λ n. self.old.met < length self.old.sent → n < length piece.now → self.old.met + n < length self.old.sent → slice_index self.old.sent (self.old.met + n) ≢ slice_index piece.now n) }
         ensures refused { self.old.met < length self.old.sent → slice_index self.old.sent self.old.met ≢ slice_index piece.now 0 → IsErr result }
         ensures passed { self.old.met ≡ length self.old.sent → self.new.met ≡ self.old.met }
         ensures unmet { OnErr result (self.new.met ≡ self.old.met) }

@@ -32,7 +32,8 @@ fn keep_shaped(items: &mut Vec<Node>, before: usize, missing: Missing) -> Reply
 
 /// Shapes a text, and appends its items to those of an open list.
 ///
-/// Room for one glyph a character is made first: most texts then need no further growth. An empty text takes no memory.
+/// Room for one glyph a character is made first, but for no more than the list may hold: most texts then need no further growth, and a text that is
+/// far too long does not ask for room for all its characters at once. An empty text takes no memory.
 /// Where the list would be too long, or memory is refused, the items are unchanged.
 pub fn append_text(
     loaded: &LoadedFont,
@@ -53,7 +54,7 @@ pub fn append_text(
         }));
     }
     let before = items.len();
-    items.reserve(text.len())?;
+    items.reserve(text.len().min(MAX_ITEMS - before))?;
     let missing = shape_text(&loaded.font, slot, text, items)?;
     Ok(keep_shaped(items, before, missing))
 }

@@ -1,9 +1,10 @@
 -- The relation `Shaping` and the functions that compute it.
-use Rattle.std.proofs.Common.{◌≡◌, ◌↔◌, ℕ, ℤ, ◌+◌, ◌++◌, ◌<◌, ◌≤◌, List, [], ◌∷◌, Option, Some, None, Result, Ok, Err, length, drop, get_or, refl, ap, sym, ◌∙◌, subst, arith, append-nil, append_assoc}
+use Rattle.std.proofs.Common.{◌≡◌, ◌≢◌, ◌↔◌, ℕ, ℤ, ◌+◌, ◌++◌, ◌<◌, ◌≤◌, List, [], ◌∷◌, Option, Some, None, Result, Ok, Err, length, take, drop, get_or, refl, ap, sym, ◌∙◌, subst, arith, append-nil, append_assoc, length-append}
 use Rattle.std.specs.List.{slice_get}
-use Rattle.std.specs.Result.{IfOk, OnOk}
+use Rattle.std.specs.Result.{IfOk, OnOk, OnErr}
 use Rattle.shape_core.specs.declared.word.Missing.{Missing}
-use Rattle.std.proofs.lemmas.List.{drop_more}
+use Rattle.std.proofs.Math.Nat.{min-le_right}
+use Rattle.std.proofs.lemmas.List.{drop_more, length-take}
 use Rattle.std.proofs.Math.ListN.{drop_of_length-le}
 use Rattle.node_core.specs.declared.tree.Node.{Node}
 use Rattle.node_core.specs.declared.tree.Node.TheVariants.{FontKern}
@@ -44,6 +45,29 @@ end-items slot sizes steps c word i all held new o past e eo en =
 pub end-missing : (sizes : ℕ → Option GlyphSize) (steps : ℕ → ℕ → Option Step) (c : ℕ) (word : List ℕ) (i all held m : ℕ) (o : Outcome) → length word ≤ i → all ≡ held + missing_from sizes steps c (drop i word) → o ≡ outcome_at sizes steps c None → m ≡ outcome_missing o → held + m ≡ all
 end-missing sizes steps c word i all held m o past e eo em =
     ap (λ n. held + n) (em ∙ ap outcome_missing eo) ∙ (sym (ap (λ xs. held + missing_from sizes steps c xs) (drop_of_length-le word past)) ∙ sym e)
+
+-- What holds of each error.
+pub on_refused : {T E P : Type 0} (r : Result T E) → P → OnErr r P
+on_refused (Ok x) p = tt
+on_refused (Err e) p = p
+
+-- Items were appended, so there are some.
+pub some_added : {A : Type 0} (old now items rest all : List A) → take (length old) now ≡ old → old ++ all ≡ now ++ (items ++ rest) → items ≢ [] → all ≢ []
+some_added old now [] rest all front e some = absurd (some refl)
+some_added old now (x ∷ items) rest all front e some = λ none.
+    let sizes : length old + length all ≡ length now + (length (x ∷ items) + length rest) =
+    sym (length-append old all) ∙ ap length e ∙ length-append now ((x ∷ items) ++ rest) ∙ ap (λ n. length now + n) (length-append (x ∷ items) rest) in
+    omega (arith, sizes, ap length none, ap length front, length-take (length old) now, min-le_right (length old) (length now))
+
+-- Memory is refused where a character becomes items.
+pub turn-some : (slot : ℕ) (sizes : ℕ → Option GlyphSize) (steps : ℕ → ℕ → Option Step) (c : ℕ) (word : List ℕ) (i : ℕ) (old now all : List Node) (o : Outcome) → i < length word → take (length old) now ≡ old → old ++ all ≡ now ++ items_from slot sizes steps c (drop i word) → o ≡ outcome_at sizes steps c (Some (get_or word i 0)) → outcome_items slot c o ≢ [] → all ≢ []
+turn-some slot sizes steps c word i old now all o h front e eo some =
+    some_added old now (outcome_items slot c o) (items_from slot sizes steps (outcome_next (get_or word i 0) o) (drop (i + 1) word)) all front (rw eo (e ∙ ap (λ xs. now ++ xs) (items_from-turn slot sizes steps c word i h))) some
+
+pub end-some : (slot : ℕ) (sizes : ℕ → Option GlyphSize) (steps : ℕ → ℕ → Option Step) (c : ℕ) (word : List ℕ) (i : ℕ) (old now all : List Node) (o : Outcome) → length word ≤ i → take (length old) now ≡ old → old ++ all ≡ now ++ items_from slot sizes steps c (drop i word) → o ≡ outcome_at sizes steps c None → outcome_items slot c o ≢ [] → all ≢ []
+end-some slot sizes steps c word i old now all o past front e eo some =
+    some_added old now (outcome_items slot c o) [] all front
+    (e ∙ ap (λ xs. now ++ items_from slot sizes steps c xs) (drop_of_length-le word past) ∙ ap (λ o. now ++ outcome_items slot c o) (sym eo) ∙ ap (λ xs. now ++ xs) (sym (append-nil (outcome_items slot c o)))) some
 
 -- What a character becomes, by the cases of its shaping.
 Shaping-case : (slot : ℕ) (sizes : ℕ → Option GlyphSize) (steps : ℕ → ℕ → Option Step) (c d : ℕ) (word : List ℕ) (size : Option GlyphSize) (step : Option Step) → sizes c ≡ size → step_to sizes steps c (Some d) ≡ step → ((e : ℕ) → Shaping slot sizes steps (e ∷ word) (items_from slot sizes steps e word) (missing_from sizes steps e word)) → Shaping slot sizes steps (c ∷ d ∷ word) (outcome_items slot c (outcome_of size step) ++ items_from slot sizes steps (outcome_next d (outcome_of size step)) word) (outcome_missing (outcome_of size step) + missing_from sizes steps (outcome_next d (outcome_of size step)) word)

@@ -1,6 +1,6 @@
 //! Texts: words with spaces between them.
 
-ghost use Rattle.std.specs.Prelude.{◌≡◌, ◌≤◌, ◌<◌, ◌++◌, ◌∷◌, [], length, take, OnOk, OnErr, IfOk};
+ghost use Rattle.std.specs.Prelude.{◌≡◌, ◌≢◌, ◌≤◌, ◌<◌, ◌++◌, ◌∷◌, [], length, take, OnOk, OnErr, IfOk};
 ghost use Rattle.std.specs.List.{prefix_len};
 ghost use Rattle.shape_core.specs.Shaping.{shaped_items, shaped_missing};
 ghost use Rattle.shape_core.specs.Texts.{is_other, is_space, part_items, part_length, part_missing, part_of, text_items, text_missing};
@@ -55,6 +55,7 @@ fn shape_part<M: Metrics>(
     ensures number { IfOk result (λ missing. missing.characters ≡ part_missing (M.sizes metrics.now) (M.steps metrics.now) (part_of part.now)) }
     ensures missing_bounded { IfOk result (λ missing. missing.characters ≤ length part.now) }
     ensures err { OnErr result (nodes.new.items ≡ nodes.old.items) }
+    ensures growth { OnErr result (part_items slot (M.sizes metrics.now) (M.steps metrics.now) (M.blank metrics.now) (part_of part.now) ≢ []) }
 {
     if part[0] == b' ' {
         push(Node::Glue(metrics.space()), nodes)?;
@@ -75,6 +76,7 @@ fn shape_parts<M: Metrics>(
     ensures number { IfOk result (λ missing. missing.characters ≡ text_missing (M.sizes metrics.now) (M.steps metrics.now) text.now) }
     ensures missing_bounded { IfOk result (λ missing. missing.characters ≤ length text.now) }
     ensures front { take (length nodes.old.items) nodes.new.items ≡ nodes.old.items }
+    ensures growth { OnErr result (text_items slot (M.sizes metrics.now) (M.steps metrics.now) (M.blank metrics.now) text.now ≢ []) }
 {
     let mut characters = 0;
     while !text.is_empty() {
@@ -86,7 +88,8 @@ fn shape_parts<M: Metrics>(
 }
 
 /// Appends the items of a text in the font of this slot, and returns how many of its characters the font does not have. Each run of spaces becomes
-/// one glue of the font, and the words between them are shaped. If memory is refused, `nodes` is as it was before the call.
+/// one glue of the font, and the words between them are shaped. If memory is refused, `nodes` is as it was before the call. A text without items takes
+/// no memory.
 pub fn shape_text<M: Metrics>(
     metrics: &M,
     slot: u8,
@@ -97,6 +100,7 @@ pub fn shape_text<M: Metrics>(
     ensures number { IfOk result (λ missing. missing.characters ≡ text_missing (M.sizes metrics.now) (M.steps metrics.now) text.now) }
     ensures missing_bounded { IfOk result (λ missing. missing.characters ≤ length text.now) }
     ensures err { OnErr result (nodes.new.items ≡ nodes.old.items) }
+    ensures growth { OnErr result (text_items slot (M.sizes metrics.now) (M.steps metrics.now) (M.blank metrics.now) text.now ≢ []) }
 {
     let held = nodes.len();
     let shaped = shape_parts(metrics, slot, text, nodes);
@@ -107,7 +111,7 @@ pub fn shape_text<M: Metrics>(
 }
 
 /// Appends the glyph of one character in the font of this slot; it counts as missing if the font does not have it. A space is treated like any other
-/// character. If memory is refused, `nodes` is as it was before the call.
+/// character. If memory is refused, `nodes` is as it was before the call. A missing character takes no memory.
 pub fn shape_character<M: Metrics>(
     metrics: &M,
     slot: u8,
@@ -118,6 +122,7 @@ pub fn shape_character<M: Metrics>(
     ensures number { IfOk result (λ missing. missing.characters ≡ shaped_missing (M.sizes metrics.now) (M.steps metrics.now) (code ∷ [])) }
     ensures missing_bounded { IfOk result (λ missing. missing.characters ≤ 1) }
     ensures err { OnErr result (nodes.new.items ≡ nodes.old.items) }
+    ensures growth { OnErr result (shaped_items slot (M.sizes metrics.now) (M.steps metrics.now) (code ∷ []) ≢ []) }
 {
     shape(metrics, slot, &[code], nodes)
 }

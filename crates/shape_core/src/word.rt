@@ -1,6 +1,6 @@
 //! Shaping of words.
 
-ghost use Rattle.std.specs.Prelude.{◌≡◌, ◌≤◌, ◌+◌, ◌++◌, ◌∷◌, [], ℕ, List, None, Some, is_some, length, take, OnOk, OnErr, IfOk};
+ghost use Rattle.std.specs.Prelude.{◌≡◌, ◌≢◌, ◌≤◌, ◌+◌, ◌++◌, ◌∷◌, [], ℕ, List, None, Some, is_some, length, take, OnOk, OnErr, IfOk};
 ghost use Rattle.node_core.specs.declared.tree.Node.{Node};
 ghost use Rattle.shape_core.specs.Shaping.{Shaping, glyph_node, items_from, missing_from, outcome_at, outcome_items, outcome_missing, outcome_next, outcome_of, shaped_items, shaped_missing};
 
@@ -139,6 +139,7 @@ impl Outcome {
     fn append(&self, slot: u8, code: u8, nodes: &mut Vec<Node>) -> Result<(), AllocError>
         ensures ok { OnOk result (nodes.new.items ≡ nodes.old.items ++ outcome_items slot code self.now) }
         ensures front { take (length nodes.old.items) nodes.new.items ≡ nodes.old.items }
+        ensures growth { OnErr result (outcome_items slot code self.now ≢ []) }
     {
         match self {
             Outcome::Dropped => Ok(()),
@@ -164,6 +165,7 @@ fn shape_from<M: Metrics>(
     ensures number { IfOk result (λ missing. missing.characters ≡ missing_from (M.sizes metrics.now) (M.steps metrics.now) code word.now) }
     ensures missing_bounded { IfOk result (λ missing. missing.characters ≤ length word.now + 1) }
     ensures front { take (length nodes.old.items) nodes.new.items ≡ nodes.old.items }
+    ensures growth { OnErr result (items_from slot (M.sizes metrics.now) (M.steps metrics.now) code word.now ≢ []) }
 {
     let mut characters = 0;
     let mut size = metrics.glyph(code);
@@ -183,7 +185,7 @@ fn shape_from<M: Metrics>(
 }
 
 /// Appends the items of a word in the font of this slot, and returns how many of its characters the font does not have (TeX: The Program, part 46,
-/// §1029 to §1045; TFtoPL, 13). If memory is refused, `nodes` is as it was before the call.
+/// §1029 to §1045; TFtoPL, 13). If memory is refused, `nodes` is as it was before the call. A word without items takes no memory.
 #[tactic(auto, using(crate::proofs::ShapingLemmas::shapings))]
 pub fn shape<M: Metrics>(
     metrics: &M,
@@ -196,6 +198,7 @@ pub fn shape<M: Metrics>(
     ensures shaping { IfOk result (λ missing. (items : List Node) × (nodes.new.items ≡ nodes.old.items ++ items) × Shaping slot (M.sizes metrics.now) (M.steps metrics.now) word.now items missing.characters) }
     ensures missing_bounded { IfOk result (λ missing. missing.characters ≤ length word.now) }
     ensures err { OnErr result (nodes.new.items ≡ nodes.old.items) }
+    ensures growth { OnErr result (shaped_items slot (M.sizes metrics.now) (M.steps metrics.now) word.now ≢ []) }
 {
     let Some((first, rest)) = word.split_first() else {
         return Ok(Missing { characters: 0 });

@@ -1,11 +1,13 @@
-//! The number of lines that `active_breaks` tries.
+//! The number of lines that `active_breaks` tries, and `set_paragraph` by it.
 
 use crate::items::points;
 use crate::paragraphs::{finished, glue, narrow, rule};
 use break_core::{ListMeter, Meter, Pass, active_breaks};
-use node_core::{IntParameter, Node, Params};
+use node_core::{IntParameter, Node, NodeList, Params};
+use scaled_core::Dimen;
 use std::alloc::Global;
 use std::process::Abort;
+use vert_core::set_paragraph;
 
 /// Lines of 40pt with any badness, in the second pass.
 fn very_narrow(rt: &impl Abort) -> Params {
@@ -60,6 +62,22 @@ fn expect_counts(
     }
     assert_eq!(rt; meter.all_trials(), trials);
     assert!(rt; trials <= 335_872);
+    expect_trials_of_paragraph(rt, alloc, words(rt, alloc, kerned), &params, trials);
+}
+
+/// Asserts how many lines were tried to set a paragraph of these items.
+fn expect_trials_of_paragraph(
+    rt: &impl Abort,
+    alloc: Global,
+    items: Vec<Node>,
+    params: &Params,
+    trials: u128,
+) {
+    assert!(rt; items.len() <= 131_070);
+    let mut list = NodeList::from_vec(items);
+    let set = set_paragraph(alloc, &mut list, params, Dimen::ZERO);
+    let set = set.expect(rt, "it is set");
+    assert_eq!(rt; set.trials, trials);
 }
 
 #[test]
