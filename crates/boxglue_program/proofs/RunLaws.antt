@@ -29,7 +29,7 @@ use Rattle.std.proofs.lemmas.List.Folds.{list_all-append}
 use Rattle.std.specs.List.{list_all}
 use Rattle.boxglue_script.specs.declared.script.Line.{Line}
 use Rattle.boxglue_program.specs.Texts.{hexadecimal_text, answer_line, answer_lines}
-use Rattle.boxglue_program.specs.Runs.{commands_of, line_numbers, IsPartOf, WasRun, IsUntouched, IsAnswered, RanScript, RefusedScript, IsAnsweredInMemory, LacksMemory, CompletesFile, IsAnswerOfRest, IsAnsweredOverRest, IsLeftOverRest}
+use Rattle.boxglue_program.specs.Runs.{commands_of, line_numbers, IsProperFrontOf, WasRun, IsUntouched, IsAnswered, RanScript, RefusedScript, IsAnsweredInMemory, LacksMemory, CompletesFile, IsAnswerOfRest, IsAnsweredOverRest, IsLeftOverRest}
 use Rattle.boxglue_program.specs.declared.run.RunFault.TheVariants.{Memory}
 use Rattle.boxglue_program.proofs.SentParts.{sent_part, pages_held}
 
@@ -65,7 +65,7 @@ pub was_run : (files : List NamedBytes) (commands : List Command) (replies : Lis
     → IfOk end (λ summary. (m : Machine) → Represents run m → IfSome done.bytes_written (λ bytes. summary.bytes ≡ length bytes))
     → IfOk end (λ summary. (m : Machine) → Represents run m → summary.bytes ≡ length (whole m.state.fonts m.pages))
     → ClosesFile run end done
-    → (end ≡ Err refusals.Device → (m : Machine) → Represents run m → IfSome done.bytes_written (λ bytes. IsPartOf bytes (whole m.state.fonts m.pages)))
+    → (end ≡ Err refusals.Device → (m : Machine) → Represents run m → IfSome done.bytes_written (λ bytes. IsProperFrontOf bytes (whole m.state.fonts m.pages)))
     → WasRun files job.failed commands replies end done.failed done.bytes_written
 was_run files commands replies end job run done holds runs finishes dvi file size count closed part =
     let middle = runs (first_machine files) holds in

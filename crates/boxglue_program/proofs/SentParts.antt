@@ -6,7 +6,7 @@ use Rattle.dvi_layout.specs.Layout.{front, whole}
 use Rattle.job_machine.specs.Machine.{Machine}
 use Rattle.job_core.specs.Jobs.{before_writing, HasPages, HasSent}
 use Rattle.job_core.proofs.Endings.{said}
-use Rattle.boxglue_program.specs.Runs.{IsPartOf, IsSentPart}
+use Rattle.boxglue_program.specs.Runs.{IsProperFrontOf, IsSentPart}
 
 -- What a job that is over has sent.
 pub sent_part : (m : Machine) (bytes_written : Option (List ℕ)) → HasSent m bytes_written → IfSome bytes_written (IsSentPart m)
@@ -21,5 +21,5 @@ pages_held m bytes_written (more, is) =
     said bytes_written bytes_written (pages ++ more) (λ bytes. IsFrontOf pages bytes) is (length pages, sym (take-append_seam pages more))
 
 -- A part of the bytes that were to be sent.
-pub said_part : (old new : Option (List ℕ)) (all : List ℕ) → GrowsByFront (before_writing old) new all → IfSome new (λ bytes. IsPartOf bytes all)
-said_part old new all (n, less, is) = said old new (take n all) (λ bytes. IsPartOf bytes all) is (n, less, refl)
+pub said_part : (old new : Option (List ℕ)) (all : List ℕ) → GrowsByFront (before_writing old) new all → IfSome new (λ bytes. IsProperFrontOf bytes all)
+said_part old new all (n, less, is) = said old new (take n all) (λ bytes. IsProperFrontOf bytes all) is (n, less, refl)
