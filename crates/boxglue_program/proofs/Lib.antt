@@ -1,3 +1,4 @@
+pub mod SentParts
 pub mod RunLaws
 pub mod RowLaws
 pub mod WritingLemmas

@@ -6,14 +6,15 @@ use Rattle.job_commands.specs.declared.replies.Refusal.TheVariants as refusals
 use Rattle.job_commands.specs.declared.replies.Summary.{Summary}
 use Rattle.job_commands.specs.Reply.{Reply}
 use Rattle.tfm_core.specs.NamedBytes.{NamedBytes}
-use Rattle.dvi_device.specs.Written.{IsFrontOf}
+use Rattle.dvi_device.specs.Written.{written_then, IsFrontOf}
+use Rattle.dvi_device.proofs.Tellings.{grown-grown}
 use Rattle.dvi_device.specs.Beginnings.{Beginning}
 use Rattle.dvi_device.specs.Resumed.{Resumed, written_by, began_by, GoesOnAs, PassesOn}
 use Rattle.dvi_layout.specs.Layout.{front, whole}
 use Rattle.job_core.specs.Shown.{GivesFiles, FilesPages}
 use Rattle.job_core.specs.Closing.{ClosesFile}
 use Rattle.job_machine.specs.Machine.{Machine, first_machine}
-use Rattle.job_core.specs.Jobs.{JobView, HasSent, Represents, KeepsTo, RunsTo, FinishesTo}
+use Rattle.job_core.specs.Jobs.{JobView, Represents, KeepsTo, RunsTo, FinishesTo}
 use Rattle.job_core.proofs.Moves.{runs_more}
 use Rattle.dvi_device.specs.Held.{MemoryState}
 use Rattle.job_machine.proofs.RunLaws.{files_kept}
@@ -28,8 +29,9 @@ use Rattle.std.proofs.lemmas.List.Folds.{list_all-append}
 use Rattle.std.specs.List.{list_all}
 use Rattle.boxglue_script.specs.declared.script.Line.{Line}
 use Rattle.boxglue_program.specs.Texts.{hexadecimal_text, answer_line, answer_lines}
-use Rattle.boxglue_program.specs.Runs.{commands_of, line_numbers, IsSentPart, WasRun, IsUntouched, IsAnswered, RanScript, RefusedScript, IsAnsweredInMemory, LacksMemory, CompletesFile, IsAnswerOfRest, IsAnsweredOverRest, IsLeftOverRest}
+use Rattle.boxglue_program.specs.Runs.{commands_of, line_numbers, IsProperFrontOf, WasRun, IsUntouched, IsAnswered, RanScript, RefusedScript, IsAnsweredInMemory, LacksMemory, CompletesFile, IsAnswerOfRest, IsAnsweredOverRest, IsLeftOverRest}
 use Rattle.boxglue_program.specs.declared.run.RunFault.TheVariants.{Memory}
+use Rattle.boxglue_program.proofs.SentParts.{sent_part, pages_held}
 
 pub on_err : {A E : Type 0} {P : Type 0} (r : Result A E) → is_err r ≡ true → OnErr r P → P
 on_err (Ok x) e h = absurd (cc)
@@ -51,12 +53,6 @@ size_at : (end : Result Summary Refusal) (bytes_written : Option (List ℕ)) (ru
 size_at (Ok summary) bytes_written run m holds h = h m holds
 size_at (Err refusal) bytes_written run m holds h = h
 
--- What a job that is over has sent, if its device reports it.
-sent_part : (m : Machine) (bytes_written : Option (List ℕ)) → HasSent m bytes_written → IfSome bytes_written (IsSentPart m)
-sent_part m bytes_written (inl (none, (inl is))) = said bytes_written bytes_written (whole m.state.fonts m.pages) (IsSentPart m) is (inl (none, inl refl))
-sent_part m bytes_written (inl (none, (inr (n, less, is)))) = said bytes_written bytes_written (take n (whole m.state.fonts m.pages)) (IsSentPart m) is (inl (none, inr (n, refl)))
-sent_part m bytes_written (inr (some, (n, less, is))) = said bytes_written bytes_written (take n (front m.state.fonts (m.pages ++ m.flight))) (IsSentPart m) is (inr (some, (n, refl)))
-
 count_at : (end : Result Summary Refusal) (run : JobView) (m : Machine) → Represents run m
     → IfOk end (λ summary. (m : Machine) → Represents run m → summary.bytes ≡ length (whole m.state.fonts m.pages)) → IfOk end (λ summary. summary.bytes ≡ length (whole m.state.fonts m.pages))
 count_at (Ok summary) run m holds h = h m holds
@@ -69,7 +65,7 @@ pub was_run : (files : List NamedBytes) (commands : List Command) (replies : Lis
     → IfOk end (λ summary. (m : Machine) → Represents run m → IfSome done.bytes_written (λ bytes. summary.bytes ≡ length bytes))
     → IfOk end (λ summary. (m : Machine) → Represents run m → summary.bytes ≡ length (whole m.state.fonts m.pages))
     → ClosesFile run end done
-    → (end ≡ Err refusals.Device → (m : Machine) → Represents run m → IfSome done.bytes_written (λ bytes. IsFrontOf bytes (whole m.state.fonts m.pages)))
+    → (end ≡ Err refusals.Device → (m : Machine) → Represents run m → IfSome done.bytes_written (λ bytes. IsProperFrontOf bytes (whole m.state.fonts m.pages)))
     → WasRun files job.failed commands replies end done.failed done.bytes_written
 was_run files commands replies end job run done holds runs finishes dvi file size count closed part =
     let middle = runs (first_machine files) holds in
@@ -88,6 +84,7 @@ was_run files commands replies end job run done holds runs finishes dvi file siz
       closed = closed middle.0 middle.2;
       front = λ e. part e middle.0 middle.2;
       part = λ over. sent_part last.0 done.bytes_written (last.2.sent over);
+      held = pages_held last.0 done.bytes_written last.2.held;
       sent = λ running. said done.bytes_written done.bytes_written (front last.0.state.fonts last.0.pages) (λ bytes. bytes ≡ front last.0.state.fonts last.0.pages) (last.2.written running).bytes_written refl;
     }
 
@@ -283,6 +280,16 @@ pub ran_one_more : (old now new : JobView) (front more : List Line) (line : Line
 ran_one_more old now new front more line replies reply is ran keeps =
     subst (λ (xs : List Command). RunsTo old xs (replies ++ reply ∷ []) new) (sym (ap commands_of is ∙ commands_more front line))
     (runs_more old now new (commands_of front) replies line.command reply ran keeps)
+
+-- A device that took nothing.
+pub grown_not : (old : Option (List ℕ)) → (more : List ℕ) × (old ≡ written_then old more)
+grown_not None = ([], refl)
+grown_not (Some bytes) = ([], ap Some (sym (append-nil bytes)))
+
+-- A device that has taken more twice has taken more.
+pub grown_further : (old now new : Option (List ℕ)) → (more : List ℕ) × (now ≡ written_then old more) → (more : List ℕ) × (new ≡ written_then now more) → (more : List ℕ) × (new ≡ written_then old more)
+grown_further old now new (first, now_is) (second, new_is) =
+    (first ++ second, new_is ∙ ap (λ (o : Option (List ℕ)). written_then o second) now_is ∙ grown-grown old first second)
 
 pub length_more : (front more : List Line) (line : Line) (replies : List Reply) (reply : Reply) → more ≡ front ++ line ∷ [] → length replies ≡ length front
     → length (replies ++ reply ∷ []) ≡ length more

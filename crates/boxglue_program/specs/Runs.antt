@@ -37,18 +37,23 @@ line_numbers lines = map (λ line. line.number) lines
 abbrev pub is_accepted : List Reply → Result Summary Refusal → Bool
 is_accepted replies end = list_all is_ok replies && is_ok end
 
--- What a job that is over has sent. If no page was being sent: the file of its machine's pages or a beginning of it. If the device failed in a `ship`: a
--- beginning of the file up to the eop of the page of that command.
+-- The bytes are a proper beginning of others: not all of them.
+abbrev pub IsProperFrontOf : List ℕ → List ℕ → Type 0
+IsProperFrontOf front whole = (n : ℕ) × (n < length whole) × (front ≡ take n whole)
+
+-- What a job that is over has sent. If no page was being sent: the file of its machine's pages or a proper beginning of it. If the device failed in a
+-- `ship`: a proper beginning of the file up to the eop of the page of that command.
 abbrev pub IsSentPart : Machine → List ℕ → Type 0
 IsSentPart m bytes =
-    ((m.flight ≡ []) × ((bytes ≡ whole m.state.fonts m.pages) ⊎ IsFrontOf bytes (whole m.state.fonts m.pages)))
-    ⊎ ((m.flight ≢ []) × IsFrontOf bytes (front m.state.fonts (m.pages ++ m.flight)))
+    ((m.flight ≡ []) × ((bytes ≡ whole m.state.fonts m.pages) ⊎ IsProperFrontOf bytes (whole m.state.fonts m.pages)))
+    ⊎ ((m.flight ≢ []) × IsProperFrontOf bytes (front m.state.fonts (m.pages ++ m.flight)))
 
 -- A new job with these font files ran these commands with these replies, and was then finished with this end. The count of failures of its device
 -- went from n to k, and the device then reported these bytes. If the end succeeded, they are a DVI file of exactly the machine's pages, by the
 -- definition of DVI files alone and by the widths that the font files give; they are the file that this writer lays out, and it ends as a file of
--- these pages does. If the device failed in the end, they are a beginning of that file. If the job is not over because its end was refused, they are
--- the bytes of all pages that were shipped. If the job is over, whatever failed, they are a beginning of the one file.
+-- these pages does. If the device failed in the end, they are a proper beginning of that file. If the job is not over because its end was
+-- refused, they are the bytes of all pages that were shipped. If the job is over, whatever failed, they are a beginning of the one file. In each case they
+-- begin with all bytes of the pages that were shipped, so they tell which command or end met a failure of the device.
 pub record WasRun (files : List NamedBytes) (n : ℕ) (commands : List Command) (replies : List Reply) (end : Result Summary Refusal) (k : ℕ) (bytes_written : Option (List ℕ)) : Type 0 where
   pub middle : Machine
   pub failed : ℕ
@@ -61,8 +66,9 @@ pub record WasRun (files : List NamedBytes) (n : ℕ) (commands : List Command) 
   pub count : IfOk end (λ summary. summary.bytes ≡ length (whole middle.state.fonts middle.pages))
   pub closed : middle.pages ≢ [] → OnOk end (IfSome bytes_written (λ bytes. IsClosedFor middle.state.fonts bytes middle.pages))
   pub sent : last.state.over ≡ false → IfSome bytes_written (λ bytes. bytes ≡ front last.state.fonts last.pages)
-  pub front : end ≡ Err refusals.Device → IfSome bytes_written (λ bytes. IsFrontOf bytes (whole middle.state.fonts middle.pages))
+  pub front : end ≡ Err refusals.Device → IfSome bytes_written (λ bytes. IsProperFrontOf bytes (whole middle.state.fonts middle.pages))
   pub part : last.state.over ≡ true → IfSome bytes_written (IsSentPart last)
+  pub held : IfSome bytes_written (λ bytes. IsFrontOf (front last.state.fonts last.pages) bytes)
 
 -- A script was run, and this is the text of its answers.
 pub record RanScript (text : List ℕ) (files : List NamedBytes) (n k : ℕ) (bytes_written : Option (List ℕ)) (answer : List ℕ) (fine : Bool) : Type 0 where

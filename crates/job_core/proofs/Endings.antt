@@ -92,12 +92,13 @@ pub finished :
     → new.state ≡ record (old.state) { over = true }
     → ((m : Machine) → Represents old m → summary.pages ≡ length m.pages)
     → new.failed ≡ old.failed
+    → ((more : List ℕ) × (new.bytes_written ≡ written_then old.bytes_written more))
     → ((m : Machine) → Represents old m → new.bytes_written ≡ written_then (before_writing old.bytes_written) (whole m.state.fonts m.pages))
     → FinishesTo old (Ok summary) new
-finished old new summary may goes counts fails sent m holds = (
+finished old new summary may goes counts fails grows sent m holds = (
   stopped_machine m,
   Finished summary refl (accepted old m holds may) (counts m holds) refl fails,
-  stops old new m m.flight holds goes (inl (none_flies old m holds may, inl (written_on old.bytes_written new.bytes_written (whole m.state.fonts m.pages) (sent m holds)))),
+  stops old new m m.flight holds goes grows (inl (none_flies old m holds may, inl (written_on old.bytes_written new.bytes_written (whole m.state.fonts m.pages) (sent m holds)))),
 )
 
 pub wanting : (old : JobView) → first_refusal (finish_checks old.state) ≡ None → old.state.over ≡ false → old.so_far.pages ≢ 0 → FinishesTo old (Err OutOfMemory) old
@@ -110,12 +111,13 @@ pub losing :
     → old.so_far.pages ≢ 0
     → new.state ≡ record (old.state) { over = true }
     → new.failed ≡ old.failed + 1
+    → ((more : List ℕ) × (new.bytes_written ≡ written_then old.bytes_written more))
     → ((m : Machine) → Represents old m → GrowsByFront (before_writing old.bytes_written) new.bytes_written (whole m.state.fonts m.pages))
     → FinishesTo old (Err Device) new
-losing old new may running some goes fails part m holds = (
+losing old new may running some goes fails grows part m holds = (
   stopped_machine m,
   LostDevice refl (accepted old m holds may) (some_pages old m holds running some) refl fails,
-  stops old new m m.flight holds goes (inl (none_flies old m holds may, inr (grows_on old.bytes_written new.bytes_written (whole m.state.fonts m.pages) (part m holds)))),
+  stops old new m m.flight holds goes grows (inl (none_flies old m holds may, inr (grows_on old.bytes_written new.bytes_written (whole m.state.fonts m.pages) (part m holds)))),
 )
 
 -- A job whose writer has ended is stopped.

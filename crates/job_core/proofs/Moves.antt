@@ -1,5 +1,5 @@
 -- How a job and the machine that it represents move together.
-use Rattle.std.proofs.Common.{◌≡◌, ℕ, ◌+◌, Bool, true, false, List, [], ◌∷◌, ◌++◌, take, Option, Some, None, Err, refl, ap, sym, ◌∙◌, subst, inr, arith, append-nil}
+use Rattle.std.proofs.Common.{◌≡◌, ℕ, ◌+◌, Bool, true, false, List, [], ◌∷◌, ◌++◌, take, Option, Some, None, Err, refl, ap, sym, ◌∙◌, subst, inr, arith, append-nil, append_assoc}
 use Rattle.std.specs.Prelude.{◌≢◌, Ok, is_none, if◌then◌else◌, IfOk, IfErr}
 use Rattle.node_core.specs.declared.tree.BoxNode.{BoxNode}
 use Rattle.job_commands.specs.declared.command.Command.{Command}
@@ -11,6 +11,7 @@ use Rattle.job_commands.specs.Reply.{Reply}
 use Rattle.ship_core.specs.Marks.{ShippedPage}
 use Rattle.dvi_layout.specs.Fonts.{Slots}
 use Rattle.dvi_device.specs.Written.{written_then, GrowsByFront}
+use Rattle.dvi_device.proofs.Tellings.{grown-grown}
 use Rattle.dvi_layout.specs.Layout.{front}
 use Rattle.dvi_write.specs.Writing.{Writing, HasWritten}
 use Rattle.dvi_write.proofs.Writings.{written_with_more}
@@ -21,7 +22,7 @@ use Rattle.job_machine.specs.Answers.{answer_of}
 use Rattle.job_machine.specs.Effects.{after, new_pages}
 use Rattle.job_machine.specs.Machine.{Machine, reply_by, reply_to, state_by, state_after, step, stopped_machine, lost_machine}
 use Rattle.job_machine.specs.Runs.{IsShip, MayRunOutOfMemory, early_checks, StepsTo, Replies, LacksMemory, LosesDevice, Run}
-use Rattle.job_core.specs.Jobs.{AppendsPagesOf, JobView, writing_of, before_writing, pages_after, HasSent, Represents, KeepsTo, RunsTo}
+use Rattle.job_core.specs.Jobs.{AppendsPagesOf, JobView, writing_of, before_writing, pages_after, HasPages, HasSent, Represents, KeepsTo, RunsTo}
 use Rattle.job_core.specs.Sound.{IsSound, IsBoundedFile, view_of}
 use Rattle.job_state.specs.Loaded.{GivesNumbersFor}
 use Rattle.job_state.specs.JobStateView.{JobStateView, state_of, before_shipping}
@@ -59,14 +60,43 @@ written_on bytes_written new bytes is =
 pub grows_on : (bytes_written new : Option (List ℕ)) (bytes : List ℕ) → GrowsByFront (before_writing bytes_written) new bytes → GrowsByFront (before_writing new) new bytes
 grows_on bytes_written new bytes (n, less, is) = (n, less, written_on bytes_written new (take n bytes) is)
 
+-- Bytes that follow each other are more bytes.
+pub grows_more : (old middle new : Option (List ℕ)) → ((more : List ℕ) × (middle ≡ written_then old more)) → ((more : List ℕ) × (new ≡ written_then middle more))
+    → (more : List ℕ) × (new ≡ written_then old more)
+grows_more old middle new (first, is) (last, goes) = (first ++ last, goes ∙ (ap (λ (bytes_written : Option (List ℕ)). written_then bytes_written last) is ∙ grown-grown old first last))
+
+-- A device that takes more bytes keeps the pages that it has.
+has_pages_on : (m : Machine) (old new : Option (List ℕ)) → HasPages m old → ((more : List ℕ) × (new ≡ written_then old more)) → HasPages m new
+has_pages_on m old new (first, is) (last, goes) =
+    let pages = front m.state.fonts m.pages in
+    let taken : new ≡ written_then (before_writing old) ((pages ++ first) ++ last) =
+    goes ∙ (ap (λ (bytes_written : Option (List ℕ)). written_then bytes_written last) is ∙ grown-grown (before_writing old) (pages ++ first) last) in
+    (first ++ last, written_on old new (pages ++ (first ++ last)) (taken ∙ ap (written_then (before_writing old)) (append_assoc pages first last)))
+
+-- A device that has reported exactly the pages has the pages.
+pub has_pages : (m : Machine) (bytes_written : Option (List ℕ)) → bytes_written ≡ written_then (before_writing bytes_written) (front m.state.fonts m.pages) → HasPages m bytes_written
+has_pages m bytes_written is = ([], is ∙ ap (written_then (before_writing bytes_written)) (sym (append-nil (front m.state.fonts m.pages))))
+
+-- The machine after a command, by its refusal.
+abbrev step_by : Machine → Command → Option Refusal → Machine
+step_by m command r = record { state = state_by r m.state (after m.state command); pages = state_by r m.pages (m.pages ++ new_pages m.state command); flight = m.flight }
+
+-- A machine that is over refuses each command.
+over_refuses : (s : State) (command : Command) → s.over ≡ true → first_refusal (checks s command) ≡ Some JobOver
+over_refuses s command over = ap (λ over. if over then Some JobOver else first_refusal (own_checks s command)) over
+
 -- A machine that is over stays, and so does what was sent.
 sent_stays : (m : Machine) (command : Command) (old new : Option (List ℕ)) → m.state.over ≡ true → new ≡ old → HasSent m old → HasSent (step m command) new
 sent_stays m command old new over same sent =
-    let s = m.state in
-    let refused : first_refusal (checks s command) ≡ Some JobOver = ap (λ over. if over then Some JobOver else first_refusal (own_checks s command)) over in
-    let on : Option Refusal → Machine =
-    λ r. record { state = state_by r s (after s command); pages = state_by r m.pages (m.pages ++ new_pages s command); flight = m.flight } in
-    subst (λ (r : Option Refusal). HasSent (on r) new) (sym refused) (subst (HasSent m) (sym same) sent)
+    subst (λ (r : Option Refusal). HasSent (step_by m command r) new) (sym (over_refuses m.state command over)) (subst (HasSent m) (sym same) sent)
+
+-- The device has the pages of the next machine: until the job is over it has reported exactly them, and then nothing changes.
+next_has_pages : (m : Machine) (command : Command) (old new : Option (List ℕ)) (over : Bool) → m.state.over ≡ over
+    → (m.state.over ≡ false → new ≡ written_then (before_writing new) (front (step m command).state.fonts (step m command).pages))
+    → (m.state.over ≡ true → new ≡ old) → HasPages m old → HasPages (step m command) new
+next_has_pages m command old new false runs exact stays held = has_pages (step m command) new (exact runs)
+next_has_pages m command old new true over exact stays held =
+    subst (λ (r : Option Refusal). HasPages (step_by m command r) new) (sym (over_refuses m.state command over)) (subst (HasPages m) (sym (stays over)) held)
 
 -- A job that replies as the machine's table follows the machine.
 pub replied :
@@ -78,21 +108,23 @@ pub replied :
     → new.failed ≡ old.failed
     → KeepsTo old command reply new
 replied old new command reply says goes writes stays fails m holds =
-    let on = subst (λ (s : State). s.over ≡ false → AppendsPagesOf s command (writing_of old) (writing_of new)) holds.state writes in (
+    let on = subst (λ (s : State). s.over ≡ false → AppendsPagesOf s command (writing_of old) (writing_of new)) holds.state writes in
+    let written : m.state.over ≡ false → HasWritten (state_after m.state command).fonts (before_writing new.bytes_written) (writing_of new) (pages_after m.state m.pages command) =
+    λ ran. written_before (state_after m.state command).fonts old.bytes_written (writing_of new) (pages_after m.state m.pages command)
+    (with_fonts m.state command (first_refusal (checks m.state command)) refl (before_writing old.bytes_written) (writing_of new) (pages_after m.state m.pages command)
+    (on ran (before_writing old.bytes_written) m.pages (holds.written ran))) in
+    let same : m.state.over ≡ true → new.bytes_written ≡ old.bytes_written = λ over. stays (ap (λ (s : State). s.over) holds.state ∙ over) in (
       step m command,
       Replies (says ∙ ap (λ s. reply_to s command) holds.state) refl fails,
       record {
         state = goes ∙ ap (λ s. state_after s command) holds.state;
         count = counted m.state command m.pages (first_refusal (checks m.state command)) refl holds.count;
-        written = λ running.
-            let ran : m.state.over ≡ false = sym (job_kept m.state command).over ∙ running in
-            written_before (state_after m.state command).fonts old.bytes_written (writing_of new) (pages_after m.state m.pages command)
-            (with_fonts m.state command (first_refusal (checks m.state command)) refl (before_writing old.bytes_written) (writing_of new) (pages_after m.state m.pages command)
-            (on ran (before_writing old.bytes_written) m.pages (holds.written ran)));
+        written = λ running. written (sym (job_kept m.state command).over ∙ running);
         none = λ running. holds.none (sym (job_kept m.state command).over ∙ running);
+        held = next_has_pages m command old.bytes_written new.bytes_written m.state.over refl (λ ran. (written ran).bytes_written) same holds.held;
         sent = λ ended.
             let over : m.state.over ≡ true = sym (job_kept m.state command).over ∙ ended in
-            sent_stays m command old.bytes_written new.bytes_written over (stays (ap (λ (s : State). s.over) holds.state ∙ over)) (holds.sent over);
+            sent_stays m command old.bytes_written new.bytes_written over (same over) (holds.sent over);
       },
     )
 
@@ -132,13 +164,15 @@ over_replies old command over = refuses old command JobOver (ap (λ over. if ove
 
 -- A job that is stopped represents the stopped machine.
 pub stops : (old new : JobView) (m : Machine) (flight : List ShippedPage) → Represents old m → new.state ≡ record (old.state) { over = true }
+    → ((more : List ℕ) × (new.bytes_written ≡ written_then old.bytes_written more))
     → HasSent (record (stopped_machine m) { flight = flight }) new.bytes_written → Represents new (record (stopped_machine m) { flight = flight })
-stops old new m flight holds goes sent =
+stops old new m flight holds goes grows sent =
     record {
       state = goes ∙ ap (λ (s : State). record s { over = true }) holds.state;
       count = holds.count;
       written = λ running. absurd (true_or_false refl running);
       none = λ running. absurd (true_or_false refl running);
+      held = has_pages_on m old.bytes_written new.bytes_written holds.held grows;
       sent = λ over. sent;
     }
 
@@ -156,13 +190,14 @@ pub losing_page :
     → first_refusal (checks old.state (Ship r)) ≡ None
     → new.state ≡ record (old.state) { over = true }
     → new.failed ≡ old.failed + 1
+    → ((more : List ℕ) × (new.bytes_written ≡ written_then old.bytes_written more))
     → ((m : Machine) → Represents old m → GrowsByFront (before_writing old.bytes_written) new.bytes_written (front m.state.fonts (m.pages ++ new_pages m.state (Ship r))))
     → KeepsTo old (Ship r) (Err Device) new
-losing_page old new r accepted goes fails part m holds =
+losing_page old new r accepted goes fails grows part m holds =
     let s = m.state in
     let taken : first_refusal (checks s (Ship r)) ≡ None = sym (ap (λ s. first_refusal (checks s (Ship r))) holds.state) ∙ accepted in
-    let grows = grows_on old.bytes_written new.bytes_written (front s.fonts (m.pages ++ new_pages s (Ship r))) (part m holds) in
-    (lost_machine m (Ship r), LosesDevice refl tt taken refl fails, stops old new m (new_pages s (Ship r)) holds goes (inr (some_page s r taken, grows)))
+    let sent = grows_on old.bytes_written new.bytes_written (front s.fonts (m.pages ++ new_pages s (Ship r))) (part m holds) in
+    (lost_machine m (Ship r), LosesDevice refl tt taken refl fails, stops old new m (new_pages s (Ship r)) holds goes grows (inr (some_page s r taken, sent)))
 
 -- What was written stays after a command that ships nothing.
 pub goes_on_without : (old new : JobView) (command : Command) → (IsShip command → ⊥) → new.state ≡ state_after old.state command → new.so_far ≡ old.so_far → new.bytes_written ≡ old.bytes_written

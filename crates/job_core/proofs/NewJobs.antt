@@ -14,7 +14,7 @@ use Rattle.job_state.proofs.SizedGlyphs.{sized_first}
 use Rattle.job_state.proofs.LoadedFonts.{loaded_first}
 use Rattle.job_core.specs.Jobs.{before_writing, Represents}
 use Rattle.job_core.specs.Sound.{IsSound, view_of}
-use Rattle.job_core.proofs.Moves.{true_or_false}
+use Rattle.job_core.proofs.Moves.{true_or_false, has_pages}
 
 grown_by_none : (bytes_written : Option (List ℕ)) → written_then bytes_written [] ≡ bytes_written
 grown_by_none None = refl
@@ -38,11 +38,13 @@ pub new_holds : (files : List NamedBytes) (device : Option (List ℕ)) (kept : J
 new_holds files device kept w fresh is written =
     let fonts = (first_state files).fonts in
     let before : device ≡ before_writing w.bytes_written = fresh_before_writing device fresh ∙ ap before_writing (sym (new_written fonts device w written)) in
+    let all : HasWritten fonts (before_writing w.bytes_written) w [] = subst (λ before. HasWritten fonts before w []) before written in
     record {
       state = ap (λ (x : ProgressView). state_of kept x.load x.pages w.over) written.so_far ∙ (ap (λ over. record (before_shipping kept) { over = over }) written.running ∙ is);
       count = refl;
-      written = λ running. subst (λ before. HasWritten fonts before w []) before written;
+      written = λ running. all;
       none = λ running. refl;
+      held = has_pages (first_machine files) w.bytes_written all.bytes_written;
       sent = λ over. absurd (true_or_false over refl);
     }
 

@@ -11,7 +11,7 @@ use Rattle.job_commands.specs.declared.replies.Refusal.{Refusal}
 use Rattle.job_commands.specs.declared.replies.Refusal.TheVariants.{JobOver, VoidBox, TooManyPages, TooMuchShipped, TooMuchSpecial, HugePage, Device}
 use Rattle.node_core.specs.declared.limits.TheConstants.{MAX_PAGES, MAX_SHIPPED_NODES, MAX_SHIPPED_TEXT}
 use Rattle.job_commands.specs.Reply.{Reply}
-use Rattle.dvi_device.specs.Written.{GrowsByFront}
+use Rattle.dvi_device.specs.Written.{written_then, GrowsByFront}
 use Rattle.ship_core.specs.Marks.{ShippedPage, is_huge}
 use Rattle.dvi_layout.specs.declared.page.Offsets.{Offsets}
 use Rattle.dvi_layout.specs.declared.fault.WriteFault.{WriteFault}
@@ -166,19 +166,20 @@ module _ (kept : JobStateView) (w : Writing) (r : ℕ) (b : BoxNode) (page : Shi
   -- The reply if the page was not sent.
   pub unshipped_for : (new : Writing) (fault : WriteFault) → EndsWith w page fault → (fault ≢ faults.Device → new ≡ w) → (fault ≡ faults.Device → new.failed ≡ w.failed + 1)
       → (fault ≡ faults.Device → new.over ≡ true) → (fault ≡ faults.Device → new.so_far ≡ w.so_far) → w.over ≡ false
+      → ((more : List ℕ) × (new.bytes_written ≡ written_then w.bytes_written more))
       → (fault ≡ faults.Device → (before : Option (List ℕ)) (pages : List ShippedPage) → HasWritten kept.fonts before w pages → GrowsByFront before new.bytes_written (front kept.fonts (pages ++ page ∷ [])))
       → KeepsTo (view_of kept w) (Ship r) (Err (refusal_for fault)) (view_of kept new)
-  unshipped_for new fault (inl (inl some)) stays fails over keeps running part =
+  unshipped_for new fault (inl (inl some)) stays fails over keeps running grows part =
       let other : fault ≢ faults.Device = λ lost. never_lost w page (some ∙ ap Some lost) in
       subst (λ (x : Writing). KeepsTo (view_of kept w) (Ship r) (Err (refusal_for fault)) (view_of kept x)) (sym (stays other))
       (refuses (view_of kept w) (Ship r) (refusal_for fault) (checked ∙ ap (option_map refusal_for) some))
-  unshipped_for new fault (inl (inr (none, wants))) stays fails over keeps running part =
+  unshipped_for new fault (inl (inr (none, wants))) stays fails over keeps running grows part =
       let other : fault ≢ faults.Device = λ lost. cc in
       subst (λ (x : Writing). KeepsTo (view_of kept w) (Ship r) (Err (refusal_for fault)) (view_of kept x)) (sym (stays other))
       (lacking (view_of kept w) (Ship r) (Err (refusal_for fault)) (ap (λ fault. Err (refusal_for fault)) wants) tt (accepted none))
-  unshipped_for new fault (inr (none, lost)) stays fails over keeps running part =
+  unshipped_for new fault (inr (none, lost)) stays fails over keeps running grows part =
       subst (λ (x : Refusal). KeepsTo (view_of kept w) (Ship r) (Err x) (view_of kept new)) (ap refusal_for (sym lost))
-      (losing_page (view_of kept w) (view_of kept new) r (accepted none) (stopped kept w new (keeps lost) (over lost)) (fails lost) (part_of new running (part lost)))
+      (losing_page (view_of kept w) (view_of kept new) r (accepted none) (stopped kept w new (keeps lost) (over lost)) (fails lost) grows (part_of new running (part lost)))
 
 -- Device is the reply only if the device failed.
 pub is_lost : (fault : WriteFault) (reply : Reply) → reply ≡ Err (refusal_for fault) → reply ≡ Err Device → fault ≡ faults.Device

@@ -94,4 +94,5 @@ done files commands replies result new run ended begins runs finishes files_page
       count = counted_bytes result run goes.0 goes.2 count;
       closed = λ some. closes goes.0 goes.2 some;
       sent = ends.2.sent;
+      held = ends.2.held;
     }

@@ -8,7 +8,7 @@ use Rattle.job_commands.specs.Reply.{Reply}
 use Rattle.tfm_core.specs.NamedBytes.{NamedBytes}
 use Rattle.job_machine.specs.Machine.{Machine, first_machine}
 use Rattle.job_machine.specs.Runs.{Run, Finishes}
-use Rattle.job_core.specs.Jobs.{JobView, HasSent}
+use Rattle.job_core.specs.Jobs.{JobView, HasPages, HasSent}
 use Rattle.dvi_layout.specs.Closing.{IsClosedFor}
 use Rattle.dvi_layout.specs.Layout.{whole}
 use Rattle.dvi_layout.specs.Shippable.{IsFileOfPages}
@@ -34,3 +34,5 @@ pub record IsDone (files : List NamedBytes) (commands : List Command) (replies :
   -- If the job is over, whatever failed, the device has taken that file or a beginning of it. If it failed in a `ship`, it has taken a beginning of the file
   -- with the page of that command.
   pub sent : last.state.over ≡ true → HasSent last ended.bytes_written
+  -- Whatever failed, the device has taken all bytes of the pages that were shipped.
+  pub held : HasPages last ended.bytes_written

@@ -50,14 +50,19 @@ HasSent m bytes_written =
     ((m.flight ≡ []) × ((bytes_written ≡ written_then (before_writing bytes_written) (whole m.state.fonts m.pages)) ⊎ GrowsByFront (before_writing bytes_written) bytes_written (whole m.state.fonts m.pages)))
     ⊎ ((m.flight ≢ []) × GrowsByFront (before_writing bytes_written) bytes_written (front m.state.fonts (m.pages ++ m.flight)))
 
+-- After what it had reported before, the device has reported all bytes of the machine's pages up to the last eop, and then perhaps more.
+abbrev pub HasPages : Machine → Option (List ℕ) → Type 0
+HasPages m bytes_written = (more : List ℕ) × (bytes_written ≡ written_then (before_writing bytes_written) (front m.state.fonts m.pages ++ more))
+
 -- A job represents a machine: it has the machine's state, and until it is over it has written the machine's pages: its device reports all bytes of
 -- them up to the last eop, and no others. Once the job is over, no other bytes were sent than these, or than a beginning of the page that was being
--- sent.
+-- sent. Whatever failed, the device has all bytes of the machine's pages.
 pub record Represents (job : JobView) (m : Machine) : Type 0 where
   pub state : job.state ≡ m.state
   pub count : m.state.pages ≡ length m.pages
   pub written : m.state.over ≡ false → HasWritten m.state.fonts (before_writing job.bytes_written) (writing_of job) m.pages
   pub none : m.state.over ≡ false → m.flight ≡ []
+  pub held : HasPages m job.bytes_written
   pub sent : m.state.over ≡ true → HasSent m job.bytes_written
 
 -- Each machine that the job represented has stepped to one that it represents.

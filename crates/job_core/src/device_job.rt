@@ -202,6 +202,7 @@ impl<D: Device> Job<D> {
         ensures none { OnErr result (self.new ≡ self.old) }
         ensures cut { OnErr result (replies.new.items ≡ replies.old.items) }
         ensures idle { self.old.state.over ≡ true → self.new ≡ self.old }
+        ensures grows { (more : List ℕ) × (self.new.bytes_written ≡ written_then self.old.bytes_written more) }
         ensures began { self.new.began ≡ self.old.began }
     {
         replies.reserve(commands.len())?;

@@ -60,7 +60,7 @@ returns-in-Err-clause-keeps g c =
     subst (λ (x : Refusal). KeepsTo (view_of kept w) (Ship c.args.register) (Err x) (view_of kept c.page.new.self)) (sym c.refusal_for.ensures)
     (unshipped_for kept w c.args.register b page is same c.page.new.self c.in-Err.fault c.in-Err.ensures.refused c.in-Err.ensures.same
     (λ lost. c.page.ensures.failed (c.in-Err.is ∙ ap (λ (f : WriteFault). Err f) lost)) (λ lost. c.page.ensures.over (c.in-Err.is ∙ ap (λ (f : WriteFault). Err f) lost))
-    (λ lost. c.page.ensures.so_far (c.in-Err.is ∙ ap (λ (f : WriteFault). Err f) lost)) c.requires.running
+    (λ lost. c.page.ensures.so_far (c.in-Err.is ∙ ap (λ (f : WriteFault). Err f) lost)) c.requires.running c.page.ensures.grows
     (λ lost. rw c.fonts.ensures at (c.page.ensures.part (c.in-Err.is ∙ ap (λ (f : WriteFault). Err f) lost))))
 
 pub returns-in-Err-clause-same : goal.returns-in-Err-clause-same

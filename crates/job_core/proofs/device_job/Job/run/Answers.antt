@@ -3,7 +3,7 @@ use Rattle.std.proofs.lemmas.List.{take_more}
 use Rattle.job_commands.specs.declared.command.Command.{Command}
 use Rattle.job_commands.specs.Reply.{Reply}
 use Rattle.job_core.specs.Jobs.{JobView, RunsTo}
-use Rattle.job_core.proofs.Moves.{runs_more}
+use Rattle.job_core.proofs.Moves.{grows_more, runs_more}
 use Rattle.job_core.proofs.device_job.Job.run.Goals as goal
 
 pub loop-command-preserved : goal.loop-command-preserved
@@ -26,6 +26,7 @@ loop-command-preserved g c =
       idle = λ over.
           let same = c.loop-command.invariant.idle over in
           c.step-reply.ensures.idle (ap (λ (job : JobView). job.state.over) same ∙ over) ∙ same;
+      grows = grows_more _ _ _ c.loop-command.invariant.grows c.step-reply.ensures.grows;
       began = c.step-reply.ensures.began ∙ c.loop-command.invariant.began;
       room = omega (arith, c.in-Ok.ensures.len, c.in-Ok.ensures.capacity);
     }
