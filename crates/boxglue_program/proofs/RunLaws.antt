@@ -6,7 +6,8 @@ use Rattle.job_commands.specs.declared.replies.Refusal.TheVariants as refusals
 use Rattle.job_commands.specs.declared.replies.Summary.{Summary}
 use Rattle.job_commands.specs.Reply.{Reply}
 use Rattle.tfm_core.specs.NamedBytes.{NamedBytes}
-use Rattle.dvi_device.specs.Written.{IsFrontOf}
+use Rattle.dvi_device.specs.Written.{written_then, IsFrontOf}
+use Rattle.dvi_device.proofs.Tellings.{grown-grown}
 use Rattle.dvi_device.specs.Beginnings.{Beginning}
 use Rattle.dvi_device.specs.Resumed.{Resumed, written_by, began_by, GoesOnAs, PassesOn}
 use Rattle.dvi_layout.specs.Layout.{front, whole}
@@ -283,6 +284,16 @@ pub ran_one_more : (old now new : JobView) (front more : List Line) (line : Line
 ran_one_more old now new front more line replies reply is ran keeps =
     subst (λ (xs : List Command). RunsTo old xs (replies ++ reply ∷ []) new) (sym (ap commands_of is ∙ commands_more front line))
     (runs_more old now new (commands_of front) replies line.command reply ran keeps)
+
+-- A device that took nothing.
+pub grown_not : (old : Option (List ℕ)) → (more : List ℕ) × (old ≡ written_then old more)
+grown_not None = ([], refl)
+grown_not (Some bytes) = ([], ap Some (sym (append-nil bytes)))
+
+-- A device that has taken more twice has taken more.
+pub grown_further : (old now new : Option (List ℕ)) → (more : List ℕ) × (now ≡ written_then old more) → (more : List ℕ) × (new ≡ written_then now more) → (more : List ℕ) × (new ≡ written_then old more)
+grown_further old now new (first, now_is) (second, new_is) =
+    (first ++ second, new_is ∙ ap (λ (o : Option (List ℕ)). written_then o second) now_is ∙ grown-grown old first second)
 
 pub length_more : (front more : List Line) (line : Line) (replies : List Reply) (reply : Reply) → more ≡ front ++ line ∷ [] → length replies ≡ length front
     → length (replies ++ reply ∷ []) ≡ length more

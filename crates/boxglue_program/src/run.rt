@@ -6,6 +6,7 @@ ghost use Rattle.std.specs.Io.KnownBytes.{Appends};
 ghost use Rattle.job_commands.specs.declared.replies.Refusal.{Refusal};
 ghost use Rattle.job_commands.specs.declared.replies.Summary.{Summary};
 ghost use Rattle.job_commands.specs.Reply.{Reply};
+ghost use Rattle.dvi_device.specs.Written.{written_then};
 ghost use Rattle.job_core.specs.Jobs.{RunsTo};
 ghost use Rattle.boxglue_program.specs.Texts.{answer_lines, answers_text};
 ghost use Rattle.boxglue_program.specs.Runs.{commands_of, line_numbers, is_accepted, device_of, WasRun, IsAnswered, IsUntouched, WasRunWhole, IsLeft, IsAnswerOfRest, IsAnsweredOverRest, IsLeftOverRest};
@@ -182,7 +183,7 @@ fn run_whole<D: Device>(
 /// Runs lines of a script in order on a job of the caller. Returns the text of their answers, one line each, and whether no command was refused.
 ///
 /// Each line is answered at once, so that no command and no reply is kept for its text. There is no text where memory for it was refused; the lines were
-/// run all the same. A job that is over stays as it was: each line is answered JobOver.
+/// run all the same. A job that is over stays as it was: each line is answered JobOver. What the device has reported stands, and only more bytes follow it.
 pub fn run_lines<D: Device>(
     alloc: Global,
     job: &mut Job<D>,
@@ -191,6 +192,7 @@ pub fn run_lines<D: Device>(
     ensures ran { (replies : List Reply) × RunsTo job.old (commands_of lines.now) replies job.new × (length replies ≡ length lines.now)
         × IfSome result.0 (λ text. text.items ≡ answer_lines (line_numbers lines.now) replies) × (result.1 ≡ list_all is_ok replies) }
     ensures idle { job.old.state.over ≡ true → job.new ≡ job.old }
+    ensures grows { (more : List ℕ) × (job.new.bytes_written ≡ written_then job.old.bytes_written more) }
     ensures began { job.new.began ≡ job.old.began }
 {
     let mut text = Some(Vec::new(alloc));

@@ -3,7 +3,7 @@ use Rattle.std.proofs.Common.{◌≡◌, ◌+◌, ◌++◌, ◌∷◌, [], take,
 use Rattle.std.proofs.lemmas.List.{take_more}
 use Rattle.job_core.specs.Jobs.{JobView}
 use Rattle.boxglue_script.specs.declared.script.Line.{Line}
-use Rattle.boxglue_program.proofs.RunLaws.{ran_one_more, answers_one_more, accepted_one_more, length_more}
+use Rattle.boxglue_program.proofs.RunLaws.{ran_one_more, answers_one_more, accepted_one_more, length_more, grown_further}
 use Rattle.boxglue_program.proofs.run.run_lines.Goals as goal
 
 pub loop-line-preserved : goal.loop-line-preserved
@@ -26,5 +26,6 @@ loop-line-preserved g c =
       idle = λ over.
           let same = c.loop-line.invariant.idle over in
           c.step-reply.ensures.idle (ap (λ (job : JobView). job.state.over) same ∙ over) ∙ same;
+      grows = grown_further c.args.job.now.bytes_written c.loop-line.job.bytes_written c.step-reply.new.self.bytes_written c.loop-line.invariant.grows c.step-reply.ensures.grows;
       began = c.step-reply.ensures.began ∙ c.loop-line.invariant.began;
     }
