@@ -65,8 +65,8 @@ pub record HandsBytes (dvi_old dvi_new : List ℕ) (size : ℕ) (old new : KeptS
   pub given : status ≡ 0 → new ≡ record old { taken = length (sent_by old.job) }
   pub same : status ≡ 4 → new ≡ old
 
--- The job was finished, or its end was refused, as `Job::finish` says; and this was answered. Of its clauses `unsent` follows from `same`, `front` from
--- `part`, and `sent` from `file` and `grows`. What was sent before the device was made (`began`) is nothing for a device in memory, and is left out too.
+-- The job was finished, or its end was refused, as `Job::finish` says; and this was answered. Left out are its clauses `unsent`, which follows from `same`,
+-- `front`, from `part`, and `sent`, from `file` and `grows`.
 pub record FinishesKept (old new : KeptState) (status : ℕ) : Type 0 where
   pub end : Result Summary Refusal
   pub finished : FinishesTo old.job end new.job
