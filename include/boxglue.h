@@ -33,9 +33,10 @@ extern "C" {
 enum boxglue_status {
     /* All was accepted. The outputs are written. */
     BOXGLUE_ACCEPTED = 0,
-    /* The script, one of its commands or the DVI file was refused. The text says why. The outputs are written. */
+    /* The script, one of its commands, the end of the job or the DVI file was refused. The text says why. The outputs are written. */
     BOXGLUE_REFUSED = 1,
-    /* Memory was refused, and there is no result. The buffers are as they were. */
+    /* Memory was refused, and there is no result. Statuses 3, 6, 8 and 9 are tested before memory is taken, so none of their causes holds. The buffers are as they
+     * were. */
     BOXGLUE_OUT_OF_MEMORY = 2,
     /* The name of a font has not 1 to 255 bytes. This is tested first. The buffers are as they were. */
     BOXGLUE_BAD_FONT_NAME = 3,
@@ -52,7 +53,8 @@ enum boxglue_status {
     BOXGLUE_NO_JOB = 8,
     /* The handle has a job already. It is as it was. */
     BOXGLUE_JOB_EXISTS = 9,
-    /* The commands were run, or the job was finished, and memory was refused for the text of the answers. They are lost, and what the commands did stays. */
+    /* The commands were run, or the job was finished, and memory was refused for the text of the answers. They are lost; what the commands did stays, and so do the
+     * answers of earlier calls that were not handed over yet. */
     BOXGLUE_ANSWERS_LOST = 10
 };
 
@@ -91,7 +93,8 @@ struct boxglue_font_sizes {
 /* Runs a script with these fonts.
  *
  * answers takes the answers to the commands, one line each (docs/FORMATS.md), or the one line of a script that is refused as a whole.
- * dvi takes the bytes of the DVI file. There are none where no page was shipped.
+ * dvi takes the bytes of the DVI file, or none where no page was shipped. Where the line of the end is a refusal they are no whole file: the pages that were
+ * shipped, without the end; or, after Device, a beginning of the file, since memory was refused for more of its bytes.
  * *lengths takes the sizes of both. The rest of each buffer is as it was.
  *
  * Returns 0, 1, 2, 3, 4 or 7. At 4 *lengths says what both buffers need, and no byte of them is written: the script was run, and a second call runs
@@ -158,9 +161,11 @@ uint32_t boxglue_job_new(struct boxglue_job *job,
  * and their lines are numbered as its lines.
  *
  * A piece is read whole before its first command is run. One with a bad line is refused: nothing of it is run, its lines do not count, and the answer is
- * one line, as "refused 2 BadScript 7 Word". The answers are kept for boxglue_job_answers. After the end of the job each command is answered JobOver.
+ * one line, as "refused 2 BadScript 7 Word". The answers are kept for boxglue_job_answers. After the end of the job each command is answered JobOver, and the job
+ * stays as it is.
  *
- * Returns 0, 1, 2, 7, 8 or 10. At 2 nothing was run, there is no answer, and the job is as it was. At 10 the commands were run, and their answers are lost. */
+ * Returns 0, 1, 2, 7, 8 or 10. At 2 nothing was run, there is no answer, and the job is as it was. At 10 the commands were run, their lines count, and their
+ * answers are lost. */
 uint32_t boxglue_job_commands(struct boxglue_job *job,
                               const uint8_t *script, size_t script_size);
 
@@ -173,7 +178,8 @@ uint32_t boxglue_job_answers(struct boxglue_job *job,
                              uint8_t *text, size_t text_room,
                              size_t *size);
 
-/* Hands over the bytes of the DVI file that went out since the last call that returned 0. What these calls hand over is the file, piece after piece.
+/* Hands over the bytes of the DVI file that went out since the last call that returned 0. What these calls hand over is the file, piece after piece: no byte is left
+ * out, and none comes twice.
  * A page goes out when it is shipped, and the end of the file when the job is finished. The job keeps all bytes of the file until it is freed.
  *
  * dvi takes the bytes, and *size their number, which may be 0. The rest of the buffer is as it was.
@@ -185,7 +191,8 @@ uint32_t boxglue_job_take(struct boxglue_job *job,
 
 /* Ends the job: the end of the DVI file goes out, and the answer is the line that begins with "end: ". Answers and bytes can be handed over after it as before.
  *
- * Returns 0, 1, 7, 8 or 10. At 1 and 7 that line has the refusal. After ListsOpen and OutOfMemory the job is as it was, and may go on and be finished later.
+ * Returns 0, 1, 7, 8 or 10. At 1 and 7 that line has the refusal. After ListsOpen, OutOfMemory and JobOver no byte went out, and the job is as it was; after the
+ * first two it may go on and be finished later. After Device the job is over, and a beginning of the file went out.
  * At 10 the line is lost, and whether the job has ended is known by the next call of it: JobOver. */
 uint32_t boxglue_job_finish(struct boxglue_job *job);
 

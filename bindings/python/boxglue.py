@@ -121,7 +121,10 @@ _Given = TypeVar("_Given", bound=_Answered)
 
 @dataclass(frozen=True)
 class Run(_Answered):
-    """A run: the answers to the commands, a line each, the bytes of the DVI file (none where no page was shipped), and whether nothing was refused."""
+    """A run: the answers to the commands, a line each, the bytes of the DVI file, and whether nothing was refused.
+
+    There are no bytes where no page was shipped. Where the end was refused they are no whole file.
+    """
     answers: str
     dvi: bytes
     accepted: bool
@@ -366,7 +369,10 @@ class Job:
             return _one_output(lambda *room: _library().boxglue_job_take(self._handle, *room), _DVI_ROOM)[1]
 
     def finish(self) -> Answers:
-        """Ends the job, and returns the line of its end. Take the last bytes then. A refusal is in the line, as ListsOpen, after which the job goes on."""
+        """Ends the job, and returns the line of its end. Take the last bytes then. A refusal is in the line, as ListsOpen, after which the job goes on.
+
+        Raises AnswersLost, and then the next call shows whether the job has ended: its answer is JobOver.
+        """
         with self._lock:
             return self._answers(_library().boxglue_job_finish(self._handle))
 

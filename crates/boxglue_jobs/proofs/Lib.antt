@@ -1,3 +1,4 @@
+pub mod HandedBytes
 pub mod Handles
 pub mod KeptLaws
 pub mod KeptMoves

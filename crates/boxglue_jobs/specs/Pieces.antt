@@ -1,12 +1,14 @@
 -- What the calls on a kept job do (own).
-use Rattle.std.specs.Prelude.{◌≡◌, ◌⊎◌, ◌++◌, ℕ, Bool, true, List, [], length, drop, Result, OnOk, IfOk, IfSome, is_ok}
+use Rattle.std.specs.Prelude.{◌≡◌, ◌≢◌, ◌<◌, ◌⊎◌, ◌^◌, ◌++◌, ℕ, Bool, true, List, [], length, drop, Result, Err, OnOk, IfOk, IfErr, IfSome, is_ok}
 use Rattle.std.specs.List.{list_all}
 use Rattle.job_commands.specs.declared.replies.Refusal.{Refusal}
+use Rattle.job_commands.specs.declared.replies.Refusal.TheVariants as refusals
 use Rattle.job_commands.specs.declared.replies.Summary.{Summary}
 use Rattle.job_commands.specs.Reply.{Reply}
+use Rattle.dvi_device.specs.Written.{written_then, GrowsByFront}
 use Rattle.dvi_layout.specs.Layout.{whole}
 use Rattle.job_machine.specs.Machine.{Machine}
-use Rattle.job_core.specs.Jobs.{Represents, RunsTo, FinishesTo}
+use Rattle.job_core.specs.Jobs.{Represents, RunsTo, FinishesTo, before_writing}
 use Rattle.job_core.specs.Shown.{FilesPages}
 use Rattle.job_core.specs.Closing.{ClosesFile}
 use Rattle.boxglue_script.specs.declared.cause.Cause.{Cause}
@@ -23,13 +25,15 @@ use Rattle.boxglue_jobs.specs.Numbers.{number_after, numbered, line_count}
 abbrev pub Answers : (old new text : List ℕ) → (accepted : Bool) → (status : ℕ) → Type 0
 Answers old new text accepted status = ((new ≡ old ++ text) × IsRunStatus text accepted status) ⊎ ((new ≡ old) × (status ≡ 10))
 
--- A piece of a script was run and answered. Its lines are numbered after those of the pieces before it. A job that is over stays as it was.
+-- A piece of a script was run and answered, as `run_lines` says. Its lines are numbered after those of the pieces before it. A job that is over stays as
+-- it was, and the bytes that were sent stand.
 pub record RunsPiece (old : KeptState) (script : List ℕ) (new : KeptState) (status : ℕ) : Type 0 where
   pub lines : List Line
   pub replies : List Reply
   pub piece : IsScript script lines
   pub ran : RunsTo old.job (commands_of lines) replies new.job
   pub idle : old.job.state.over ≡ true → new.job ≡ old.job
+  pub grows : (more : List ℕ) × (new.job.bytes_written ≡ written_then old.job.bytes_written more)
   pub each : length replies ≡ length lines
   pub answered : Answers old.answers new.answers (answer_lines (line_numbers (numbered old.lines lines)) replies) (list_all is_ok replies) status
   pub counted : new.lines ≡ number_after old.lines (line_count script)
@@ -61,16 +65,21 @@ pub record HandsBytes (dvi_old dvi_new : List ℕ) (size : ℕ) (old new : KeptS
   pub given : status ≡ 0 → new ≡ record old { taken = length (sent_by old.job) }
   pub same : status ≡ 4 → new ≡ old
 
--- The job was finished, or its end was refused, as `Job::finish` says; and this was answered. A job that is over stays as it was.
+-- The job was finished, or its end was refused, as `Job::finish` says; and this was answered. Left out are its clauses `unsent`, which follows from `same`,
+-- `front`, from `part`, and `sent`, from `file` and `grows`.
 pub record FinishesKept (old new : KeptState) (status : ℕ) : Type 0 where
   pub end : Result Summary Refusal
   pub finished : FinishesTo old.job end new.job
+  pub same : IfErr end (λ refusal. refusal ≢ refusals.Device → new.job ≡ old.job)
   pub idle : old.job.state.over ≡ true → new.job ≡ old.job
   pub dvi : FilesPages old.job end new.job
   pub closed : ClosesFile old.job end new.job
   pub file : (m : Machine) → Represents old.job m → OnOk end (IfSome new.job.bytes_written (λ bytes. bytes ≡ whole m.state.fonts m.pages))
   pub size : IfOk end (λ summary. (m : Machine) → Represents old.job m → IfSome new.job.bytes_written (λ bytes. summary.bytes ≡ length bytes))
   pub count : IfOk end (λ summary. (m : Machine) → Represents old.job m → summary.bytes ≡ length (whole m.state.fonts m.pages))
+  pub small : IfOk end (λ summary. summary.bytes < 2 ^ 31)
+  pub part : end ≡ Err refusals.Device → (m : Machine) → Represents old.job m → GrowsByFront (before_writing old.job.bytes_written) new.job.bytes_written (whole m.state.fonts m.pages)
+  pub grows : (more : List ℕ) × (new.job.bytes_written ≡ written_then old.job.bytes_written more)
   pub answered : Answers old.answers new.answers (end_line end) (is_ok end) status
   pub lines : new.lines ≡ old.lines
   pub taken : new.taken ≡ old.taken

@@ -1,12 +1,13 @@
 //! Laws of pieces of scripts.
 
-ghost use Rattle.std.specs.Prelude.{◌≡◌, ◌++◌, ℕ, List};
+ghost use Rattle.std.specs.Prelude.{◌≡◌, ◌++◌, ℕ, List, [], take};
+ghost use Rattle.tfm_core.specs.NamedBytes.{NamedBytes};
 ghost use Rattle.job_core.specs.Jobs.{RunsTo};
 ghost use Rattle.boxglue_program.specs.Runs.{commands_of, line_numbers};
 ghost use Rattle.boxglue_program.specs.Texts.{answer_lines};
-ghost use Rattle.boxglue_jobs.specs.Jobs.{KeptState};
+ghost use Rattle.boxglue_jobs.specs.Jobs.{HasHanded, IsNewJob, KeptState, sent_by};
 ghost use Rattle.boxglue_jobs.specs.Numbers.{numbered};
-ghost use Rattle.boxglue_jobs.specs.Pieces.{RunsPiece};
+ghost use Rattle.boxglue_jobs.specs.Pieces.{DoesCommands, FinishesKept, HandsAnswers, HandsBytes, RunsPiece};
 
 /// Two pieces of a script are one run of the commands of both, and their answers, one after the other, are the answers of all lines.
 pub fn pieces_are_one_run()
@@ -15,4 +16,18 @@ pub fn pieces_are_one_run()
     ensures answers { (old middle new : KeptState) (script more : List ℕ) (status other : ℕ) (first : RunsPiece old script middle status) (second : RunsPiece middle more new other)
         → answer_lines (line_numbers (numbered old.lines first.lines)) first.replies ++ answer_lines (line_numbers (numbered middle.lines second.lines)) second.replies
         ≡ answer_lines (line_numbers (numbered old.lines first.lines ++ numbered middle.lines second.lines)) (first.replies ++ second.replies) }
+{}
+
+/// What `take` hands over, one call after the other, are the bytes that the job has sent: none is left out, none comes twice, and none is another later.
+pub fn bytes_are_handed_over_once()
+    ensures begins { (files : List NamedBytes) (new : KeptState) → IsNewJob files new → HasHanded new [] }
+    ensures goes_on { (dvi_old dvi_new handed : List ℕ) (size : ℕ) (old new : KeptState) → HasHanded old handed → HandsBytes dvi_old dvi_new size old new 0
+        → HasHanded new (handed ++ take size dvi_new) }
+    ensures all { (dvi_old dvi_new handed : List ℕ) (size : ℕ) (old new : KeptState) → HasHanded old handed → HandsBytes dvi_old dvi_new size old new 0
+        → handed ++ take size dvi_new ≡ sent_by new.job }
+    ensures waits { (dvi_old dvi_new handed : List ℕ) (size : ℕ) (old new : KeptState) → HasHanded old handed → HandsBytes dvi_old dvi_new size old new 4 → HasHanded new handed }
+    ensures commands { (script handed : List ℕ) (old new : KeptState) (status : ℕ) → HasHanded old handed → DoesCommands script old new status → HasHanded new handed }
+    ensures answers { (text_old text_new handed : List ℕ) (size : ℕ) (old new : KeptState) (status : ℕ) → HasHanded old handed → HandsAnswers text_old text_new size old new status
+        → HasHanded new handed }
+    ensures finish { (handed : List ℕ) (old new : KeptState) (status : ℕ) → HasHanded old handed → FinishesKept old new status → HasHanded new handed }
 {}

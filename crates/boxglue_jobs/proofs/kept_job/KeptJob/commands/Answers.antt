@@ -20,6 +20,6 @@ returns c =
     subst (λ (n : ℕ). take n (new ++ drop (length new) c.in-Ok.lines.items) ≡ new) size (take-append_seam new (drop (length new) c.in-Ok.lines.items)) in
     subst (λ (o : KeptState). DoesCommands c.args.script.now o c.keep.new.self c.keep.result) c.self.view_is
     (inl (ran_piece old c.keep.new.self c.run_lines-text.new.job c.args.script.now c.in-Ok.lines.items c.deref.result.now ran.0 _ c.keep.result
-    (c.deref.ensures.value ∙ (all ∙ (c.number_on.ensures ∙ ap (λ (lines : List Line). numbered old.lines lines) c.deref_mut.ensures.value))) c.in-Ok.ensures.lines ran.1 c.run_lines-text.ensures.idle ran.2
+    (c.deref.ensures.value ∙ (all ∙ (c.number_on.ensures ∙ ap (λ (lines : List Line). numbered old.lines lines) c.deref_mut.ensures.value))) c.in-Ok.ensures.lines ran.1 c.run_lines-text.ensures.idle c.run_lines-text.ensures.grows ran.2
     c.keep.ensures.same.0 (c.keep.ensures.same.1 ∙ (c.number_after-self-inside.ensures ∙ ap (λ (n : ℕ). number_after old.lines n) c.line_count.ensures)) c.keep.ensures.same.2
     (c.keep.ensures.answered _ ran.3) ran.4))

@@ -12,6 +12,7 @@ returns c =
     let inside = c.self.inside in
     let old : KeptState = record { job = inside.job; lines = inside.lines; answers = inside.answers.items; taken = inside.taken } in
     subst (λ (o : KeptState). FinishesKept o c.keep.new.self c.keep.result) c.self.view_is
-    (finished_kept old c.keep.new.self end.new.self end.result c.is_ok.result c.keep.result end.ensures.finished end.ensures.idle end.ensures.dvi end.ensures.end end.ensures.file end.ensures.size end.ensures.count
+    (finished_kept old c.keep.new.self end.new.self end.result c.is_ok.result c.keep.result end.ensures.finished end.ensures.same end.ensures.idle end.ensures.dvi end.ensures.end end.ensures.file end.ensures.size end.ensures.count
+    end.ensures.small end.ensures.part end.ensures.grows
     c.keep.ensures.same.0 c.keep.ensures.same.1 c.keep.ensures.same.2
     (c.keep.ensures.answered (end_line end.result) (c.with_end-text.ensures [] c.new.ensures.items)) c.is_ok.ensures.value)

@@ -1,0 +1,16 @@
+-- The bytes that were handed over, call by call.
+use Rattle.std.proofs.Common.{[], ap}
+use Rattle.boxglue_jobs.specs.Jobs.{reported}
+use Rattle.boxglue_jobs.proofs.HandedBytes.{all_handed, answers_handed, commands_handed, finish_handed, given_handed, waits_handed}
+use Rattle.boxglue_jobs.proofs.laws.bytes_are_handed_over_once.Goals as goal
+
+pub returns : goal.returns
+returns c = record {
+  begins = λ files new first. record { rest = []; sent = ap reported first.silent; count = first.taken };
+  goes_on = given_handed;
+  all = all_handed;
+  waits = waits_handed;
+  commands = commands_handed;
+  answers = answers_handed;
+  finish = finish_handed;
+}
