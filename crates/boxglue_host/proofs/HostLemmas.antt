@@ -1,13 +1,12 @@
 -- Files of fonts, and what a file device reports.
 use Rattle.std.proofs.Common.{◌≡◌, ◌≢◌, ◌++◌, ◌+◌, Result, Ok, Err, ◌<◌, ◌≤◌, length-append, [], ◌∷◌, List, ℕ, Option, Some, None, length, refl, sym, ◌∙◌, ap, append_assoc, arith, zero, suc, take, drop, get_or, false}
-use Rattle.std.specs.Prelude.{◌==◌, IfSome}
+use Rattle.std.specs.Prelude.{IfSome}
 use Rattle.std.specs.Result.{IsErrAnd}
 use Rattle.std.specs.Option.{ForSome}
 use Rattle.std.proofs.lemmas.List.{append-nil, length-take-le}
-use Rattle.std.proofs.lemmas.Bool.Decides.{nat_tests}
 use base.Stored.{Gv, gnil, gnum, gcons, Coded}
-use Rattle.std.specs.Io.KnownBytes.{Consumes, Keeps}
-use Rattle.std.proofs.KnownBytes.{Consumes-kept, Consumes-trans}
+use Rattle.std.specs.Io.KnownBytes.{Consumes}
+use Rattle.std.proofs.KnownBytes.{Consumes-trans}
 use Rattle.dvi_device.specs.Beginnings.{Beginning}
 use Rattle.dvi_device.specs.Written.{written_then}
 use Rattle.tfm_core.specs.NamedBytes.{NamedBytes}
@@ -122,15 +121,7 @@ loses_piece least most old mid new bytes piece before then_lost at_least at_most
   omega (arith, length-append bytes piece, at_most),
 )
 
--- A reader that lost the bytes read so far, and no more.
-pub loses_so_far : (most : ℕ) (old mid new : Option (List ℕ)) (bytes : List ℕ) → Consumes old mid bytes → Keeps mid new → length bytes ≤ most → LosesFront 0 most old new
-loses_so_far most old mid new bytes before kept at_most = (bytes, Consumes-kept old mid new bytes before kept, omega arith, at_most)
-
 -- An error that was handed on is the one that was returned.
 pub handed_is : {A E : Type 0} (r : Result A E) (e other : E) → IsErrAnd r (λ y. y ≡ e) → r ≡ Err other → e ≡ other
 handed_is (Ok x) e other given is = absurd given
 handed_is (Err y) e other given is = sym given ∙ cc
-
--- A count is at least one if it is not zero.
-pub count_some : (n : ℕ) → (n == 0) ≡ false → 1 ≤ n
-count_some n is = grind (arith, nat_tests)

@@ -265,10 +265,10 @@ not_created true done None used fine reported empty = cc
 not_created true done (Some bytes) used fine reported empty = absurd (used refl fine bytes refl empty)
 
 -- Inputs that were not read, for a task whose memory was refused.
-pub wanting_dvi : (reported : List ℕ → Option (Option (List ℕ))) (dvi : List ℕ) (fonts : List NamedPath) (fault : Unread)
-    → IsUnreadDvi reported dvi fonts fault → end_of fault ≡ OutOfMemory → LacksMemoryForDvi reported dvi fonts
-wanting_dvi reported dvi fonts WantsMemory unread wants = inl unread
-wanting_dvi reported dvi fonts (File path) unread wants = absurd (cc)
+pub wanting_dvi : (reported : List ℕ → Option (Option (List ℕ))) (dvi : List ℕ) (fonts : List NamedPath) (fault : Unread) (end : TaskEnd)
+    → IsUnreadDvi reported dvi fonts fault → end ≡ end_of fault → end ≡ OutOfMemory → LacksMemoryForDvi reported dvi fonts
+wanting_dvi reported dvi fonts WantsMemory end unread is wants = inl unread
+wanting_dvi reported dvi fonts (File path) end unread is wants = absurd (cc)
 
 -- Inputs that were read, before memory was refused.
 pub wanting_after : (reported : List ℕ → Option (Option (List ℕ))) (dvi bytes : List ℕ) (fonts : List NamedPath) (files : List NamedBytes)
@@ -279,3 +279,10 @@ wanting_after reported dvi bytes fonts files read filed = inr (bytes, files, rec
 pub was_readable : (input : Option (List ℕ)) (text : List ℕ) → IsReading input text → IsReadable input
 was_readable None text read = tt
 was_readable (Some known) text read = rw (← read.all) read.within
+
+-- What is known of the inputs of a task whose memory was refused.
+pub ruleset wanting = (wanting_dvi, wanting_after, was_readable)
+
+-- A device that took all has not failed.
+pub none_failed : (k : ℕ) (done : Bool) → done ≡ (k == 0) → done ≡ true → k ≡ 0
+none_failed k done is fine = eqb-true k 0 (sym is ∙ fine)

@@ -33,6 +33,7 @@ fn end_of(fault: Unread<'_>) -> TaskEnd<'_>
 }
 
 /// Runs the script of standard input on a device in memory, and writes its answers and the bytes of the device. It has no fonts.
+#[tactic(auto, using(crate::proofs::EndLemmas::wanting))]
 pub fn run_input<'a, H: Host, W: Write>(alloc: Global, host: &H, output: &mut W) -> TaskEnd<'a>
     ensures ended { EndsTask (IsAnsweredInput (H.input host.now)) (IsUnreadInput (H.input host.now)) ⊥ result (W.contents output.old) (W.contents output.new) }
     ensures wanting { result ≡ TaskEnd.OutOfMemory → IsReadable (H.input host.now) }
@@ -50,6 +51,7 @@ pub fn run_input<'a, H: Host, W: Write>(alloc: Global, host: &H, output: &mut W)
 }
 
 /// Lists the DVI file at a path.
+#[tactic(auto, using(crate::proofs::EndLemmas::wanting))]
 pub fn list<'a, H: Host, W: Write>(
     alloc: Global,
     host: &H,
@@ -74,6 +76,7 @@ pub fn list<'a, H: Host, W: Write>(
 }
 
 /// Paints a page of the DVI file at a path.
+#[tactic(auto, using(crate::proofs::EndLemmas::wanting))]
 pub fn paint<'a, H: Host, W: Write>(
     alloc: Global,
     host: &H,

@@ -278,6 +278,12 @@ right_up_to number text rest line after old new before first on = record {
   right = all_more before.front line before.right (read_on_right number line old new on);
 }
 
+-- What is read after one more line.
+pub read_more : (number : ℕ) (text rest line after : List ℕ) (old new : List Line) → lines_then old (reads (number + 1) (lines rest)) ≡ reads 1 (lines text) → lines rest ≡ line ∷ lines after
+    → ReadsOn (number + 1) line old new → lines_then new (reads (number + 1 + 1) (lines after)) ≡ reads 1 (lines text)
+read_more number text rest line after old new before first on =
+    sym (on (lines after)) ∙ (ap (λ (ls : List (List ℕ)). lines_then old (reads (number + 1) ls)) (sym first) ∙ before)
+
 read_command : (r : Result Command Cause) → IsOk r → (command : Command) × (r ≡ Ok command)
 read_command (Ok command) is = (command, refl)
 read_command (Err cause) is = absurd (cc)
@@ -302,4 +308,4 @@ handed_is (Ok x) e other given is = absurd given
 handed_is (Err y) e other given is = sym given ∙ cc
 
 -- The laws of `read_script`.
-pub ruleset reading = (script_read, script_one, script_refused, script_one_fault, right_at_start, right_up_to)
+pub ruleset reading = (script_read, script_one, script_refused, script_one_fault, right_at_start)

@@ -1,37 +1,18 @@
--- What a reader has lost where a piece was not stored.
-use Rattle.std.proofs.Common.{ap, Err, take, ◌∙◌, sym, ◌+◌, arith}
-use Rattle.std.proofs.lemmas.Bool.Decides.{nat_tests}
+-- What a reader has lost if a piece was not stored.
+use Rattle.std.proofs.Common.{ap, Err, take, ◌+◌, arith}
 use Rattle.boxglue_host.specs.declared.host.TheConstants.{READ_LIMIT}
 use Rattle.boxglue_host.proofs.HostLemmas.{handed_is, loses_piece}
 use Rattle.boxglue_host.proofs.reading.read_all.Goals as goal
 
 pub returns-in_err-push_piece-in-Ok-clause-memory : goal.returns-in_err-push_piece-in-Ok-clause-memory
 returns-in_err-push_piece-in-Ok-clause-memory g c = λ wants.
-    let a = c.from_residual.ensures in
-    let b = c.in_err-push_piece-in-Ok.ensures.memory in
-    let d = c.in-Ok.ensures.bytes.0 in
-    let e = c.in-Ok.count-is in
-    let f = c.in-Ok.count-test in
-    let h = c.in-Ok.ensures.bound in
-    let k = c.in-Ok.is in
-    let r = c.type_inv in
     let is = handed_is c.from_residual.result c.in_err-push_piece-in-Ok.field-0.0 _ c.from_residual.ensures.1 wants in
     let fits = c.in_err-push_piece-in-Ok.ensures.memory (ap Err is) in
-    loses_piece 1 READ_LIMIT _ _ _ c.loop.bytes.items (take c.in-Ok.count c.read.new.buf) c.loop.invariant.all d ? fits
+    loses_piece 1 READ_LIMIT _ _ _ c.loop.bytes.items (take c.in-Ok.count c.read.new.buf) c.loop.invariant.all c.in-Ok.ensures.bytes.0
+    (omega (arith, c.in-Ok.ensures.bound.1, c.in-Ok.count-is)) fits
 
 pub returns-in_err-push_piece-in-Ok-clause-failed : goal.returns-in_err-push_piece-in-Ok-clause-failed
 returns-in_err-push_piece-in-Ok-clause-failed g c = λ failed.
     let bound = c.in-Ok.ensures.bound in
-    loses_piece 0 (READ_LIMIT + 65536) _ _ _ c.loop.bytes.items (take c.in-Ok.count c.read.new.buf) c.loop.invariant.all c.in-Ok.ensures.bytes.0 (omega arith) (omega (arith, c.loop.invariant.within, bound.0, bound.1, c.read.auto.buf))
-
-alt1 : goal.returns-in_err-push_piece-in-Ok-clause-memory
-alt1 g c = λ wants.
-    let is = handed_is c.from_residual.result c.in_err-push_piece-in-Ok.field-0.0 _ c.from_residual.ensures.1 wants in
-    let fits = c.in_err-push_piece-in-Ok.ensures.memory (ap Err is) in
-    loses_piece 1 READ_LIMIT _ _ _ c.loop.bytes.items (take c.in-Ok.count c.read.new.buf) c.loop.invariant.all c.in-Ok.ensures.bytes.0 (omega (arith, c.in-Ok.ensures.bound.1, c.in-Ok.count-is)) fits
-
-alt2 : goal.returns-in_err-push_piece-in-Ok-clause-memory
-alt2 g c = λ wants.
-    let is = handed_is c.from_residual.result c.in_err-push_piece-in-Ok.field-0.0 _ c.from_residual.ensures.1 wants in
-    let fits = c.in_err-push_piece-in-Ok.ensures.memory (ap Err is) in
-    loses_piece 1 READ_LIMIT _ _ _ c.loop.bytes.items (take c.in-Ok.count c.read.new.buf) c.loop.invariant.all c.in-Ok.ensures.bytes.0 (grind (arith, nat_tests, c.in-Ok.ensures.bound.1, c.in-Ok.count-is)) fits
+    loses_piece 0 (READ_LIMIT + 65536) _ _ _ c.loop.bytes.items (take c.in-Ok.count c.read.new.buf) c.loop.invariant.all c.in-Ok.ensures.bytes.0 (omega arith)
+    (omega (arith, c.loop.invariant.within, bound.0, bound.1, c.read.auto.buf))
