@@ -1,14 +1,19 @@
 -- Files of fonts, and what a file device reports.
-use Rattle.std.proofs.Common.{◌≡◌, ◌≢◌, ◌++◌, ◌<◌, ◌≤◌, length-append, [], ◌∷◌, List, ℕ, Option, Some, None, length, refl, sym, ◌∙◌, ap, arith, zero, suc, take, drop, get_or, false}
+use Rattle.std.proofs.Common.{◌≡◌, ◌≢◌, ◌++◌, ◌+◌, Result, Ok, Err, ◌<◌, ◌≤◌, length-append, [], ◌∷◌, List, ℕ, Option, Some, None, length, refl, sym, ◌∙◌, ap, append_assoc, arith, zero, suc, take, drop, get_or, false}
 use Rattle.std.specs.Prelude.{IfSome}
+use Rattle.std.specs.Result.{IsErrAnd}
 use Rattle.std.specs.Option.{ForSome}
-use Rattle.std.proofs.lemmas.List.{length-take-le}
+use Rattle.std.proofs.lemmas.List.{append-nil, length-take-le}
+use base.Stored.{Gv, gnil, gnum, gcons, Coded}
+use Rattle.std.specs.Io.KnownBytes.{Consumes}
+use Rattle.std.proofs.KnownBytes.{Consumes-trans}
 use Rattle.dvi_device.specs.Beginnings.{Beginning}
 use Rattle.dvi_device.specs.Written.{written_then}
 use Rattle.tfm_core.specs.NamedBytes.{NamedBytes}
 use Rattle.boxglue_words.specs.declared.fonts.NamedPath.{NamedPath}
+use Rattle.boxglue_host.specs.Readings.{LosesFront}
 use Rattle.boxglue_host.specs.declared.font_files.Unread.{Unread}
-use Rattle.boxglue_host.specs.Hosts.{AreFilesOf, IsFileOf, IsUnread, IsUnreadOf, begun_for, just_created, with_lengths, written_to_file}
+use Rattle.boxglue_host.specs.Hosts.{AreFilesOf, IsFileOf, IsUnread, IsUnreadOf, begun_for, just_created, numbers_of, written_to_file}
 
 -- One more font and its file.
 pub files_push : (contents : List ℕ → Option (Option (List ℕ))) (fonts : List NamedPath) (files : List NamedBytes) (font : NamedPath) (file : NamedBytes)
@@ -61,7 +66,24 @@ grown_used (Some contents) after n piece is some within bytes now = λ empty.
     same_bytes : written_then (Some contents) (take n piece) ≡ Some bytes → contents ++ take n piece ≡ bytes
     same_bytes e = cc
 
--- A text and the texts after it are known from what follows the length.
+-- A code is known from its numbers, whatever follows them.
+code_known : (one other : Gv) (more others : List ℕ) → numbers_of one ++ more ≡ numbers_of other ++ others → (one ≡ other) × (more ≡ others)
+code_known gnil gnil more others is = (refl, cc)
+code_known gnil (gnum n) more others is = absurd (cc)
+code_known gnil (gcons c d) more others is = absurd (cc)
+code_known (gnum m) gnil more others is = absurd (cc)
+code_known (gnum m) (gnum n) more others is = (ap gnum (cc), cc)
+code_known (gnum m) (gcons c d) more others is = absurd (cc)
+code_known (gcons a b) gnil more others is = absurd (cc)
+code_known (gcons a b) (gnum n) more others is = absurd (cc)
+code_known (gcons a b) (gcons c d) more others is =
+    let tails : (numbers_of a ++ numbers_of b) ++ more ≡ (numbers_of c ++ numbers_of d) ++ others = cc in
+    let parts = sym (append_assoc (numbers_of a) (numbers_of b) more) ∙ (tails ∙ append_assoc (numbers_of c) (numbers_of d) others) in
+    let (left, rest) = code_known a c (numbers_of b ++ more) (numbers_of d ++ others) parts in
+    let (right, after) = code_known b d more others rest in
+    (ap (λ (x : Gv). gcons x b) left ∙ ap (λ (x : Gv). gcons c x) right, after)
+
+-- A text is known from what follows its length, and so is what comes after it.
 front_known : (xs ys more others : List ℕ) → length xs ≡ length ys → xs ++ more ≡ ys ++ others → (xs ≡ ys) × (more ≡ others)
 front_known [] [] more others same is = (refl, is)
 front_known [] (y ∷ ys) more others same is = absurd (omega (arith, same))
@@ -74,37 +96,32 @@ front_known (x ∷ xs) (y ∷ ys) more others same is =
     cons_known : (a b : ℕ) (ends others : List ℕ) → a ∷ ends ≡ b ∷ others → (a ≡ b) × (ends ≡ others)
     cons_known a b ends others e = (cc, cc)
 
--- Texts are known from what they make with their lengths.
-texts_known : (xs ys : List (List ℕ)) → with_lengths xs ≡ with_lengths ys → xs ≡ ys
-texts_known [] [] is = refl
-texts_known [] (y ∷ ys) is = absurd (cc)
-texts_known (x ∷ xs) [] is = absurd (cc)
-texts_known (x ∷ xs) (y ∷ ys) is =
-    let sized : length x ≡ length y = cc in
-    let rest : x ++ with_lengths xs ≡ y ++ with_lengths ys = cc in
-    let (first, more) = front_known x y (with_lengths xs) (with_lengths ys) sized rest in
-    ap (λ (z : List ℕ). z ∷ xs) first ∙ ap (λ (zs : List (List ℕ)). y ∷ zs) (texts_known xs ys more)
-
--- File devices with one beginning have one path, and their hosts had created, reported and failed the same.
-pub record AreBegunAlike (path other : List ℕ) (created others : List (List ℕ)) (written reported : Option (List ℕ)) (failures count : ℕ) : Type 0 where
-  pub paths : path ≡ other
-  pub created_are : created ≡ others
-  pub written_are : written ≡ reported
-  pub failures_are : failures ≡ count
-
-pub begun_alike : (path other : List ℕ) (created others : List (List ℕ)) (written reported : Option (List ℕ)) (failures count : ℕ)
-    → begun_for path created written failures ≡ begun_for other others reported count → AreBegunAlike path other created others written reported failures count
-begun_alike path other created others written reported failures count is =
-    let texts : path ∷ created ≡ other ∷ others = texts_known (path ∷ created) (other ∷ others) (ap (λ (b : Beginning). b.sent) is) in
-    record {
-      paths = first_of texts;
-      created_are = rest_of texts;
-      written_are = ap (λ (b : Beginning). b.bytes_written) is;
-      failures_are = ap (λ (b : Beginning). b.failed) is;
-    }
+-- File devices with one beginning have one path and one host.
+pub begun_alike : {H : Type 0} (coded : Coded H) (path other : List ℕ) (host begun : H) (written reported : Option (List ℕ)) (failures count : ℕ)
+    → begun_for path (coded.code host) written failures ≡ begun_for other (coded.code begun) reported count → (path ≡ other) × (host ≡ begun)
+begun_alike coded path other host begun written reported failures count is =
+    let sent : length path ∷ (path ++ numbers_of (coded.code host)) ≡ length other ∷ (other ++ numbers_of (coded.code begun)) = ap (λ (b : Beginning). b.sent) is in
+    let (paths, codes) = front_known path other (numbers_of (coded.code host)) (numbers_of (coded.code begun)) (sized sent) (followed sent) in
+    let ended = append-nil (numbers_of (coded.code host)) ∙ (codes ∙ sym (append-nil (numbers_of (coded.code begun)))) in
+    (paths, coded.inj host begun (code_known (coded.code host) (coded.code begun) [] [] ended).0)
   where
-    first_of : path ∷ created ≡ other ∷ others → path ≡ other
-    first_of e = cc
+    sized : {a b : ℕ} {xs ys : List ℕ} → a ∷ xs ≡ b ∷ ys → a ≡ b
+    sized e = cc
 
-    rest_of : path ∷ created ≡ other ∷ others → created ≡ others
-    rest_of e = cc
+    followed : {a b : ℕ} {xs ys : List ℕ} → a ∷ xs ≡ b ∷ ys → xs ≡ ys
+    followed e = cc
+
+-- A reader that lost the bytes read so far has lost them and a piece, and at least so many and at most so many.
+pub loses_piece : (least most : ℕ) (old mid new : Option (List ℕ)) (bytes piece : List ℕ) → Consumes old mid bytes → Consumes mid new piece
+    → least ≤ length bytes + length piece → length bytes + length piece ≤ most → LosesFront least most old new
+loses_piece least most old mid new bytes piece before then_lost at_least at_most = (
+  bytes ++ piece,
+  Consumes-trans old mid new bytes piece before then_lost,
+  omega (arith, length-append bytes piece, at_least),
+  omega (arith, length-append bytes piece, at_most),
+)
+
+-- An error that was handed on is the one that was returned.
+pub handed_is : {A E : Type 0} (r : Result A E) (e other : E) → IsErrAnd r (λ y. y ≡ e) → r ≡ Err other → e ≡ other
+handed_is (Ok x) e other given is = absurd given
+handed_is (Err y) e other given is = sym given ∙ cc

@@ -1,5 +1,6 @@
 -- What is known of a host, and the font files of a command line (own).
 use Rattle.std.specs.Prelude.{◌≡◌, ◌==◌, ◌++◌, ⊤, ℕ, length, not, List, [], ◌∷◌, Option, Some, None, if◌then◌else◌, Bool}
+use base.Stored.{Gv, gnil, gnum, gcons}
 use Rattle.dvi_device.specs.Beginnings.{Beginning}
 use Rattle.tfm_core.specs.NamedBytes.{NamedBytes}
 use Rattle.boxglue_words.specs.declared.fonts.NamedPath.{NamedPath}
@@ -20,16 +21,17 @@ written_to_file is_open written = if is_open then written else just_created writ
 abbrev pub created_after : (created : Bool) → (path : List ℕ) → (before : List (List ℕ)) → List (List ℕ)
 created_after created path before = if created then path ∷ before else before
 
--- Texts one after the other, each after its length, so that different lists of texts have different ones.
-abbrev pub with_lengths : List (List ℕ) → List ℕ
-with_lengths [] = []
-with_lengths (text ∷ texts) = length text ∷ (text ++ with_lengths texts)
+-- The code of a value as numbers. Each part begins with its kind, so that different codes have different numbers.
+abbrev pub numbers_of : Gv → List ℕ
+numbers_of gnil = 0 ∷ []
+numbers_of (gnum n) = 1 ∷ n ∷ []
+numbers_of (gcons left right) = 2 ∷ (numbers_of left ++ numbers_of right)
 
--- The beginning of a file device at a path, around a host that had created these files, reported these bytes of the last one, and had failed this often.
--- Nothing is sent before such a device is made. In place of that stand the paths: a job returns its device with the beginning that it had, so they say
--- for which file and which host the returned device was made.
-abbrev pub begun_for : (path : List ℕ) → (created : List (List ℕ)) → (written : Option (List ℕ)) → (failures : ℕ) → Beginning
-begun_for path created written failures = record { sent = with_lengths (path ∷ created); bytes_written = written; failed = failures }
+-- The beginning of a file device at a path, around a host with this code that had reported these bytes of the file that it created, and had failed this
+-- often. Nothing is sent before such a device is made. In place of that stand the path, after its length, and the code: a job returns its device with the
+-- beginning that it had, so they say for which file and which host the returned device was made.
+abbrev pub begun_for : (path : List ℕ) → (host : Gv) → (written : Option (List ℕ)) → (failures : ℕ) → Beginning
+begun_for path host written failures = record { sent = length path ∷ (path ++ numbers_of host); bytes_written = written; failed = failures }
 
 -- Whether a host has failed between two counts of its failures.
 abbrev pub has_failed : (before now : ℕ) → Bool

@@ -1,5 +1,6 @@
 -- Readings of a host: each is whole, and ends at a limit (own).
 use Rattle.std.specs.Prelude.{◌≡◌, ◌≤◌, ◌<◌, ℕ, List, length, Option, Some, IfSome}
+use Rattle.std.specs.Io.KnownBytes.{Consumes}
 use Rattle.boxglue_host.specs.declared.host.TheConstants.{READ_LIMIT}
 
 -- All bytes were read, if they are known, and they are not too many.
@@ -27,3 +28,7 @@ IsUnreadableFile contents = IfSome contents IsUnreadable
 -- A file can be read: if it is known, it exists and does not have too many bytes.
 abbrev pub IsReadableFile : Option (Option (List ℕ)) → Type 0
 IsReadableFile contents = IfSome contents (λ file. (bytes : List ℕ) × (file ≡ Some bytes) × (length bytes ≤ READ_LIMIT))
+
+-- A reader lost at least so many bytes and at most so many, all from the front of those that it had, where these are known.
+abbrev pub LosesFront : (least most : ℕ) → (old new : Option (List ℕ)) → Type 0
+LosesFront least most old new = (lost : List ℕ) × Consumes old new lost × (least ≤ length lost) × (length lost ≤ most)

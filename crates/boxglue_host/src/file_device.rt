@@ -123,7 +123,7 @@ impl<H: Host> Device for FileDevice<'_, H> {
 
     ghost failed = { λ device. device.failures };
 
-    ghost began = { λ device. begun_for device.path.now (H.created device.start.seen) (H.written device.start.seen) (H.failures device.start.seen) };
+    ghost began = { λ device. begun_for device.path.now (H.row.coded.code device.start.seen) (H.written device.start.seen) (H.failures device.start.seen) };
 
     /// Fails exactly when its host does in this call: when it creates the file, or in the write. Until the file is created, the host reports of it what it
     /// reported before.

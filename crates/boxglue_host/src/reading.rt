@@ -1,8 +1,9 @@
 //! Reading to the end.
 
-ghost use Rattle.std.specs.Prelude.{◌≡◌, ◌≢◌, ◌≤◌, ◌<◌, ◌+◌, ◌++◌, length, IfOk, IfErr, OnOk};
+ghost use Rattle.std.specs.Prelude.{◌≡◌, ◌≢◌, ◌≤◌, ◌<◌, ◌+◌, ◌++◌, length, Err, IfOk, IfErr, OnOk};
 ghost use Rattle.std.specs.Io.KnownBytes.{Consumes, IsAtEnd};
 ghost use Rattle.std.specs.IoError.{error_kind};
+ghost use Rattle.boxglue_host.specs.Readings.{LosesFront};
 ghost use Rattle.boxglue_host.specs.declared.host.TheConstants.{READ_LIMIT};
 
 use crate::host::{HostFault, READ_LIMIT};
@@ -15,11 +16,14 @@ const BUFFER: usize = 65_536;
 /// Reads all bytes that a reader has left. A call that was interrupted is made again.
 ///
 /// Errors: Failed if a call fails, or if the end is not reached within `READ_LIMIT` bytes and as many calls, which bounds the loop; OutOfMemory for a
-/// refused growth.
+/// refused growth, so only where there was a byte to store, and never for too many of them. Where the reader's bytes are known, it has lost a beginning of
+/// them: after OutOfMemory at most `READ_LIMIT`, after Failed at most one call's more. That a call failed, no contract of a reader says.
 pub fn read_all<R: Read>(alloc: Global, reader: &mut R) -> Result<Vec<u8>, HostFault>
     ensures all { IfOk result (λ bytes. Consumes (R.remaining reader.old) (R.remaining reader.new) bytes.items) }
     ensures end { IfOk result (λ bytes. IsAtEnd (R.remaining reader.new)) }
     ensures length_bounded { IfOk result (λ bytes. length bytes.items ≤ READ_LIMIT) }
+    ensures memory { result ≡ Err HostFault.OutOfMemory → LosesFront 1 READ_LIMIT (R.remaining reader.old) (R.remaining reader.new) }
+    ensures failed { result ≡ Err HostFault.Failed → LosesFront 0 (READ_LIMIT + 65536) (R.remaining reader.old) (R.remaining reader.new) }
 {
     let mut bytes = Vec::new(alloc);
     let mut buffer = [0u8; BUFFER];

@@ -7,14 +7,16 @@ use Rattle.std.specs.Io.KnownBytes.{Appends, Keeps}
 use Rattle.std.specs.Prelude.{◌==◌, not, [], IfSome, IsSome}
 use Rattle.std.proofs.lemmas.Bool.{eq-eqb, eqb-true}
 use Rattle.boxglue_host.specs.Hosts.{AreFilesOf, IsUnread, begun_for, created_after, has_failed, written_to_file}
-use Rattle.boxglue_host.proofs.HostLemmas.{AreBegunAlike, begun_alike}
+use Rattle.std.specs.Coded.{Coded}
+use Rattle.boxglue_host.proofs.HostLemmas.{begun_alike}
 use Rattle.tfm_core.specs.NamedBytes.{NamedBytes}
 use Rattle.boxglue_host.specs.declared.font_files.Unread.{Unread}
 use Rattle.boxglue_host.specs.declared.font_files.Unread.TheVariants.{OutOfMemory as WantsMemory, File}
 use Rattle.boxglue_words.specs.declared.fonts.NamedPath.{NamedPath}
 use Rattle.boxglue_lib.specs.Inputs.{IsUnreadDvi, IsUnreadScript}
 use Rattle.boxglue_lib.specs.Parts.{TellsOutput, end_of}
-use Rattle.boxglue_host.specs.Readings.{IsFileReading, IsReading}
+use Rattle.boxglue_host.specs.Readings.{IsFileReading, IsReadable, IsReading}
+use Rattle.boxglue_lib.specs.Printed.{LacksMemoryForDvi}
 use Rattle.boxglue_lib.specs.Typesets.{HasTypeset, IsLeftAlone, IsLeftToFile, IsToFile, IsTypeset, IsUsed, TellsUnwritten}
 use Rattle.boxglue_program.specs.Runs.{IsUntouched, RanScript, RefusedScript, WasRunWhole, WritesFront, memory_line}
 use Rattle.boxglue_program.proofs.WritingLemmas.{appends_both, appends_keeps, keeps_appends, keeps_front}
@@ -120,12 +122,13 @@ left_to_file text files start begun failures back created done written fresh ope
     )
 
 -- A task has ended, and its end was reported.
-pub has_ended : (IsAnswer : List ℕ → Bool → Type 0) (IsUnread : Bor (List ℕ) → Type 0) (LacksPage : Type 0) (end : TaskEnd) (old mid new errors errors' : Option (List ℕ)) (status : ℕ)
-    → EndsTask IsAnswer IsUnread LacksPage end old mid → TellsOutput end mid new → TellsErrors end errors errors' → status ≡ status_of end
-    → TaskHasEnded IsAnswer IsUnread LacksPage old new errors errors' status
-has_ended A U L end old mid new errors errors' status ended said reported is = record {
+pub has_ended : (IsAnswer : List ℕ → Bool → Type 0) (IsUnread : Bor (List ℕ) → Type 0) (LacksPage LacksMemory : Type 0) (end : TaskEnd) (old mid new errors errors' : Option (List ℕ)) (status : ℕ)
+    → EndsTask IsAnswer IsUnread LacksPage end old mid → (end ≡ OutOfMemory → LacksMemory) → TellsOutput end mid new → TellsErrors end errors errors' → status ≡ status_of end
+    → TaskHasEnded IsAnswer IsUnread LacksPage LacksMemory old new errors errors' status
+has_ended A U L M end old mid new errors errors' status ended wanting said reported is = record {
   end = end;
   printed = output_then A U L end old mid new ended said;
+  wanting = wanting;
   reported = reported;
   status_is = is;
 }
@@ -156,9 +159,9 @@ pub typeset_ended : (reported : List ℕ → Option (Option (List ℕ))) (input 
     (text : List ℕ) (files : List NamedBytes) (end : TaskEnd) (old mid new errors between errors' : Option (List ℕ)) (status : ℕ)
     → IsReading input text → AreFilesOf reported fonts files → EndsTask (IsToFile text files written Same created done) (λ path. ⊥) ⊥ end old mid
     → (end ≡ OutOfMemory → IsLeftToFile text files written created done) → TellsUnwritten done out errors between → paths' ≡ created_after created out paths → (created ≡ false → written ≡ before)
-    → has_failed ≡ not done → TellsOutput end mid new → TellsErrors end between errors' → status ≡ status_of end
+    → (created ≡ false → done ≡ true → Same) → has_failed ≡ not done → TellsOutput end mid new → TellsErrors end between errors' → status ≡ status_of end
     → HasTypeset reported input fonts out paths paths' before written has_failed Same old new errors errors' status
-typeset_ended reported input fonts out paths paths' before written has_failed Same created done text files end old mid new errors between errors' status read filed ended left unwritten placed untouched blamed said end_written is =
+typeset_ended reported input fonts out paths paths' before written has_failed Same created done text files end old mid new errors between errors' status read filed ended left unwritten placed untouched unchanged blamed said end_written is =
     let A : List ℕ → Bool → Type 0 = IsTypeset reported input fonts written Same created done in
     let U : Bor (List ℕ) → Type 0 = λ path. IsUnreadScript reported input fonts (File path) × IsLeftAlone Same created done in
     record {
@@ -167,6 +170,7 @@ typeset_ended reported input fonts out paths paths' before written has_failed Sa
       done = done;
       placed = placed;
       untouched = untouched;
+      unchanged = unchanged;
       printed = output_then A U ⊥ end old mid new
           (ends_weaker (IsToFile text files written Same created done) A (λ path. ⊥) U ⊥ end old mid
           (λ answer fine to. (text, files, read, filed, to)) (λ path none. absurd none) ended) said;
@@ -201,13 +205,12 @@ failed_since before now start k done same counted is =
     ap (λ (n : ℕ). not (n == before)) (counted ∙ ap (λ (n : ℕ). n + k) same) ∙ (ap not (grown_count before k) ∙ ap not (sym is))
 
 -- The device that a run returns is for the path and the host of the one that was passed.
-pub back_alike : {H : Type 0} (created : H → List (List ℕ)) (written : H → Option (List ℕ)) (failures : H → ℕ) (path made out : Bor (List ℕ)) (start first host : H)
-    → begun_for path.now (created start) (written start) (failures start) ≡ begun_for made.now (created first) (written first) (failures first) → made ≡ out → first ≡ host
-    → AreBegunAlike path.now out.now (created start) (created host) (written start) (written host) (failures start) (failures host)
-back_alike created written failures path made out start first host began same alike =
-    begun_alike path.now out.now (created start) (created host) (written start) (written host) (failures start) (failures host)
-    (began ∙ (ap (λ (p : Bor (List ℕ)). begun_for p.now (created first) (written first) (failures first)) same
-    ∙ ap (λ h. begun_for out.now (created h) (written h) (failures h)) alike))
+pub back_alike : {H : Type 0} (coded : Coded H) (written : H → Option (List ℕ)) (failures : H → ℕ) (path made out : Bor (List ℕ)) (start first host : H)
+    → begun_for path.now (coded.code start) (written start) (failures start) ≡ begun_for made.now (coded.code first) (written first) (failures first) → made ≡ out → first ≡ host
+    → (path.now ≡ out.now) × (start ≡ host)
+back_alike coded written failures path made out start first host began same alike =
+    let (paths, hosts) = begun_alike coded path.now made.now start first (written start) (written first) (failures start) (failures first) began in
+    (paths ∙ ap (λ (p : Bor (List ℕ)). p.now) same, hosts ∙ alike)
 
 -- What a host has created since its device was made.
 pub placed_since : (path out : List ℕ) (paths before now : List (List ℕ)) (created : Bool) → path ≡ out → paths ≡ before → now ≡ created_after created path paths → now ≡ created_after created out before
@@ -244,6 +247,7 @@ not_typeset reported input fonts out paths written has_failed Same fault old new
       done = true;
       placed = refl;
       untouched = λ _. refl;
+      unchanged = λ _ _. same;
       printed = unread_output (IsTypeset reported input fonts written Same false true) reported input fonts fault (IsLeftAlone Same false true) old new alone unread said;
       wanting = λ wants. inl (alone, wanting_script reported input fonts fault wants unread);
       middle = errors;
@@ -259,3 +263,26 @@ pub not_created : (created done : Bool) (written : Option (List ℕ)) → IsUsed
 not_created false done written used fine reported empty = refl
 not_created true done None used fine reported empty = cc
 not_created true done (Some bytes) used fine reported empty = absurd (used refl fine bytes refl empty)
+
+-- Inputs that were not read, for a task whose memory was refused.
+pub wanting_dvi : (reported : List ℕ → Option (Option (List ℕ))) (dvi : List ℕ) (fonts : List NamedPath) (fault : Unread) (end : TaskEnd)
+    → IsUnreadDvi reported dvi fonts fault → end ≡ end_of fault → end ≡ OutOfMemory → LacksMemoryForDvi reported dvi fonts
+wanting_dvi reported dvi fonts WantsMemory end unread is wants = inl unread
+wanting_dvi reported dvi fonts (File path) end unread is wants = absurd (cc)
+
+-- Inputs that were read, before memory was refused.
+pub wanting_after : (reported : List ℕ → Option (Option (List ℕ))) (dvi bytes : List ℕ) (fonts : List NamedPath) (files : List NamedBytes)
+    → IsFileReading (reported dvi) bytes → AreFilesOf reported fonts files → LacksMemoryForDvi reported dvi fonts
+wanting_after reported dvi bytes fonts files read filed = inr (bytes, files, record { bytes_are = read; files_are = filed })
+
+-- An input that was read can be read.
+pub was_readable : (input : Option (List ℕ)) (text : List ℕ) → IsReading input text → IsReadable input
+was_readable None text read = tt
+was_readable (Some known) text read = rw (← read.all) read.within
+
+-- What is known of the inputs of a task whose memory was refused.
+pub ruleset wanting = (wanting_dvi, wanting_after, was_readable)
+
+-- A device that took all has not failed.
+pub none_failed : (k : ℕ) (done : Bool) → done ≡ (k == 0) → done ≡ true → k ≡ 0
+none_failed k done is fine = eqb-true k 0 (sym is ∙ fine)

@@ -47,9 +47,10 @@ abbrev pub EndsOutput : (IsAnswer : List ℕ → Bool → Type 0) → (IsUnread 
 EndsOutput IsAnswer IsUnread LacksPage OutOfMemory old new = TakesText old new memory_line
 EndsOutput IsAnswer IsUnread LacksPage end old new = EndsTask IsAnswer IsUnread LacksPage end old new
 
--- A task has ended: what the output took, what the errors took, and the status.
-pub record TaskHasEnded (IsAnswer : List ℕ → Bool → Type 0) (IsUnread : Bor (List ℕ) → Type 0) (LacksPage : Type 0) (output output' errors errors' : Option (List ℕ)) (status : ℕ) : Type 0 where
+-- A task has ended: what the output took, what the errors took, and the status; and what is known if memory was refused.
+pub record TaskHasEnded (IsAnswer : List ℕ → Bool → Type 0) (IsUnread : Bor (List ℕ) → Type 0) (LacksPage LacksMemory : Type 0) (output output' errors errors' : Option (List ℕ)) (status : ℕ) : Type 0 where
   pub end : TaskEnd
   pub printed : EndsOutput IsAnswer IsUnread LacksPage end output output'
+  pub wanting : end ≡ OutOfMemory → LacksMemory
   pub reported : TellsErrors end errors errors'
   pub status_is : status ≡ status_of end

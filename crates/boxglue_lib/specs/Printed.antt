@@ -1,16 +1,24 @@
 -- What `list` and `paint` print of files that are read (own).
-use Rattle.std.specs.Prelude.{ℕ, Bool, List, Option}
+use Rattle.std.specs.Prelude.{◌⊎◌, ℕ, Bool, List, Option}
 use Rattle.boxglue_print.specs.Outputs.{IsListed, IsPainted, LacksPage}
 use Rattle.boxglue_host.specs.Hosts.{AreFilesOf}
 use Rattle.boxglue_host.specs.Readings.{IsFileReading}
+use Rattle.boxglue_host.specs.declared.font_files.Unread.TheVariants.{OutOfMemory as WantsMemory}
 use Rattle.tfm_core.specs.NamedBytes.{NamedBytes}
 use Rattle.boxglue_words.specs.declared.fonts.NamedPath.{NamedPath}
 use Rattle.boxglue_words.specs.declared.task.PaintOptions.{PaintOptions}
+use Rattle.boxglue_lib.specs.Inputs.{IsUnreadDvi}
 
 -- The DVI file and the files of the fonts were read, with these bytes and files.
 pub record InputsAreRead (contents : List ℕ → Option (Option (List ℕ))) (dvi : List ℕ) (fonts : List NamedPath) (bytes : List ℕ) (files : List NamedBytes) : Type 0 where
   pub bytes_are : IsFileReading (contents dvi) bytes
   pub files_are : AreFilesOf contents fonts files
+
+-- Memory was refused: for an input that can be read, after those before it were read; or after all were read. So it hides no input that cannot be read,
+-- unless one before it was not read, and it hides the lack of a page only after all were read.
+abbrev pub LacksMemoryForDvi : (List ℕ → Option (Option (List ℕ))) → (dvi : List ℕ) → List NamedPath → Type 0
+LacksMemoryForDvi contents dvi fonts =
+    IsUnreadDvi contents dvi fonts WantsMemory ⊎ ((bytes : List ℕ) × (files : List NamedBytes) × InputsAreRead contents dvi fonts bytes files)
 
 -- The text is the listing of the file at a path, or the line of its refusal.
 abbrev pub IsListing : (List ℕ → Option (Option (List ℕ))) → (dvi : List ℕ) → List NamedPath → (text : List ℕ) → (fine : Bool) → Type 0

@@ -54,13 +54,15 @@ TellsUnwritten false out old new = TakesText old new (line_of (codes "boxglue: c
 
 -- `typeset` has ended: whether its file was created and took all, what the output took, what the errors took, and the status. The host had created files
 -- at these paths, the last one first, and reported these bytes of the last one. It has created the file at OUT once more if it was created, and nothing
--- else; if it was not, the host reports the bytes that it reported before. The file did not take all if and only if the host has failed meanwhile.
+-- else; if it was not, the host reports the bytes that it reported before, and if nothing failed either, it was returned as it was. The file did not take
+-- all if and only if the host has failed meanwhile.
 pub record HasTypeset (contents : List ℕ → Option (Option (List ℕ))) (input : Option (List ℕ)) (fonts : List NamedPath) (out : List ℕ) (paths paths' : List (List ℕ)) (before written : Option (List ℕ)) (has_failed : Bool) (Same : Type 0) (output output' errors errors' : Option (List ℕ)) (status : ℕ) : Type 0 where
   pub end : TaskEnd
   pub created : Bool
   pub done : Bool
   pub placed : paths' ≡ created_after created out paths
   pub untouched : created ≡ false → written ≡ before
+  pub unchanged : created ≡ false → done ≡ true → Same
   pub printed : EndsOutput (IsTypeset contents input fonts written Same created done) (λ path. IsUnreadScript contents input fonts (File path) × IsLeftAlone Same created done) ⊥ end output output'
   pub wanting : end ≡ OutOfMemory → LacksMemoryForTask contents input fonts written Same created done
   pub middle : Option (List ℕ)

@@ -2,11 +2,12 @@
 
 ghost use Rattle.std.specs.Prelude.{◌≡◌, ◌≤◌};
 ghost use Rattle.boxglue_host.specs.Hosts.{has_failed};
+ghost use Rattle.boxglue_host.specs.Readings.{IsReadable};
 ghost use Rattle.boxglue_host.specs.declared.font_files.Unread.TheVariants.{File};
 ghost use Rattle.boxglue_lib.specs.Ends.{EndsTask};
 ghost use Rattle.boxglue_lib.specs.Inputs.{IsUnreadDvi};
 ghost use Rattle.boxglue_lib.specs.Parts.{end_of};
-ghost use Rattle.boxglue_lib.specs.Printed.{HasNoPage, IsListing, IsPainting};
+ghost use Rattle.boxglue_lib.specs.Printed.{HasNoPage, IsListing, IsPainting, LacksMemoryForDvi};
 ghost use Rattle.boxglue_lib.specs.Programs.{IsAnsweredInput, IsUnreadInput};
 ghost use Rattle.boxglue_lib.specs.Typesets.{HasTypeset, TellsUnwritten};
 
@@ -32,8 +33,10 @@ fn end_of(fault: Unread<'_>) -> TaskEnd<'_>
 }
 
 /// Runs the script of standard input on a device in memory, and writes its answers and the bytes of the device. It has no fonts.
+#[tactic(auto, using(crate::proofs::EndLemmas::wanting))]
 pub fn run_input<'a, H: Host, W: Write>(alloc: Global, host: &H, output: &mut W) -> TaskEnd<'a>
-    ensures { EndsTask (IsAnsweredInput (H.input host.now)) (IsUnreadInput (H.input host.now)) ⊥ result (W.contents output.old) (W.contents output.new) }
+    ensures ended { EndsTask (IsAnsweredInput (H.input host.now)) (IsUnreadInput (H.input host.now)) ⊥ result (W.contents output.old) (W.contents output.new) }
+    ensures wanting { result ≡ TaskEnd.OutOfMemory → IsReadable (H.input host.now) }
 {
     let text = match host.read_input(alloc) {
         Ok(text) => text,
@@ -48,6 +51,7 @@ pub fn run_input<'a, H: Host, W: Write>(alloc: Global, host: &H, output: &mut W)
 }
 
 /// Lists the DVI file at a path.
+#[tactic(auto, using(crate::proofs::EndLemmas::wanting))]
 pub fn list<'a, H: Host, W: Write>(
     alloc: Global,
     host: &H,
@@ -55,8 +59,9 @@ pub fn list<'a, H: Host, W: Write>(
     fonts: &[NamedPath<'a>],
     output: &mut W,
 ) -> TaskEnd<'a>
-    ensures { EndsTask (IsListing (H.file host.now) dvi.entry.now fonts.now) (λ path. IsUnreadDvi (H.file host.now) dvi.entry.now fonts.now (File path)) ⊥
+    ensures ended { EndsTask (IsListing (H.file host.now) dvi.entry.now fonts.now) (λ path. IsUnreadDvi (H.file host.now) dvi.entry.now fonts.now (File path)) ⊥
         result (W.contents output.old) (W.contents output.new) }
+    ensures wanting { result ≡ TaskEnd.OutOfMemory → LacksMemoryForDvi (H.file host.now) dvi.entry.now fonts.now }
 {
     let inputs = match read_dvi_inputs(alloc, host, dvi, fonts) {
         Ok(inputs) => inputs,
@@ -71,6 +76,7 @@ pub fn list<'a, H: Host, W: Write>(
 }
 
 /// Paints a page of the DVI file at a path.
+#[tactic(auto, using(crate::proofs::EndLemmas::wanting))]
 pub fn paint<'a, H: Host, W: Write>(
     alloc: Global,
     host: &H,
@@ -83,8 +89,9 @@ pub fn paint<'a, H: Host, W: Write>(
     requires dpi { sheet.dpi ≤ 10000 }
     requires width { (1 ≤ sheet.width) × (sheet.width ≤ 10000) }
     requires height { (1 ≤ sheet.height) × (sheet.height ≤ 10000) }
-    ensures { EndsTask (IsPainting (H.file host.now) sheet dvi.entry.now fonts.now) (λ path. IsUnreadDvi (H.file host.now) dvi.entry.now fonts.now (File path))
+    ensures ended { EndsTask (IsPainting (H.file host.now) sheet dvi.entry.now fonts.now) (λ path. IsUnreadDvi (H.file host.now) dvi.entry.now fonts.now (File path))
         (HasNoPage (H.file host.now) sheet dvi.entry.now fonts.now) result (W.contents output.old) (W.contents output.new) }
+    ensures wanting { result ≡ TaskEnd.OutOfMemory → LacksMemoryForDvi (H.file host.now) dvi.entry.now fonts.now }
 {
     let inputs = match read_dvi_inputs(alloc, host, dvi, fonts) {
         Ok(inputs) => inputs,

@@ -1,6 +1,6 @@
 //! `typeset`: a script is run, and its pages go to a file.
 
-ghost use Rattle.std.specs.Prelude.{◌≡◌, ◌+◌, ◌==◌, false, not};
+ghost use Rattle.std.specs.Prelude.{◌≡◌, ◌+◌, ◌==◌, false, true, not};
 ghost use Rattle.boxglue_host.specs.Hosts.{created_after, has_failed};
 ghost use Rattle.boxglue_lib.specs.Ends.{EndsTask};
 ghost use Rattle.boxglue_lib.specs.Typesets.{IsLeftToFile, IsToFile, IsUsed};
@@ -22,8 +22,8 @@ pub struct TypesetEnd<'a, H> {
 }
 
 /// Runs a script with these font files on a device that writes the file `out`, and then writes the texts of the answers, or the one line of a bad
-/// script. The file is created at its first write, once, and no other; if it is not created, the host reports of its file what it reported before.
-/// `written` is false if and only if the host failed in this call.
+/// script. The file is created at its first write, once, and no other; if it is not created, the host reports of its file what it reported before, and is
+/// returned as it was unless it failed. `written` is false if and only if the host failed in this call.
 pub fn typeset_file<'a, H: Host, W: Write>(
     alloc: Global,
     host: H,
@@ -37,6 +37,7 @@ pub fn typeset_file<'a, H: Host, W: Write>(
         → IsLeftToFile inputs.now.bytes.items inputs.now.files.items (H.written result.host) result.created result.written }
     ensures placed { H.created result.host ≡ created_after result.created out.now (H.created host) }
     ensures untouched { result.created ≡ false → H.written result.host ≡ H.written host }
+    ensures unchanged { result.created ≡ false → result.written ≡ true → result.host ≡ host }
     ensures blamed { has_failed (H.failures host) (H.failures result.host) ≡ not result.written }
 {
     let device = FileDevice::new(host, out);
@@ -57,6 +58,7 @@ fn end_with<'a, H: Host>(end: TaskEnd<'a>, device: FileDevice<'_, H>) -> Typeset
     ensures counted { H.failures result.host ≡ H.failures device.entry.start.seen + device.entry.failures }
     ensures placed { H.created result.host ≡ created_after result.created device.entry.path.now (H.created device.entry.start.seen) }
     ensures untouched { result.created ≡ false → H.written result.host ≡ H.written device.entry.start.seen }
+    ensures unchanged { result.created ≡ false → result.written ≡ true → result.host ≡ device.entry.start.seen }
 {
     let created = device.is_open();
     let written = device.failures() == 0;

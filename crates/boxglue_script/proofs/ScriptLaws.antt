@@ -1,5 +1,5 @@
 -- The function that reads lines gives the lines of the script.
-use Rattle.std.proofs.Common.{◌≡◌, inl, inr, ⊎_elim, ℕ, ◌+◌, Bool, true, false, List, [], ◌∷◌, ◌++◌, codes, length, Result, Ok, Err, refl, ap, sym, ◌∙◌, subst, arith}
+use Rattle.std.proofs.Common.{◌≡◌, inl, inr, ⊎_elim, ℕ, ◌+◌, Bool, true, false, List, [], ◌∷◌, ◌++◌, codes, length, Result, Ok, Err, IsErrAnd, IsOk, append_assoc, refl, ap, sym, ◌∙◌, subst, arith}
 use Rattle.std.specs.List.{list_all, AllByRecursion}
 use Rattle.std.specs.Str.{bytes_eq}
 use Rattle.std.specs.Str.Lines.{lines}
@@ -15,8 +15,8 @@ use Rattle.boxglue_script.specs.ScriptLines.{is_passed_over, is_printable, field
 use Rattle.boxglue_script.specs.Names.{box_name, register_name, item_name, name_of}
 use Rattle.boxglue_script.specs.Grammar.{SaysCommand}
 use Rattle.boxglue_script.specs.Causes.{IsPrintable, IsFieldCause, IsCause}
-use Rattle.boxglue_script.specs.Script.{IsPassedOver, Gives, SaysLine, SayFrom, IsScript, IsRightLine, IsFirstBad, Explains, IsOneFault}
-use Rattle.boxglue_script.specs.Reading.{front_field, after_field, command_of, kept_text, given, line_of, Found, lines_then, reads_by, reads}
+use Rattle.boxglue_script.specs.Script.{IsPassedOver, Gives, SaysLine, SayFrom, IsScript, IsRightLine, IsFirstBad, Explains, IsOneFault, IsRightSoFar}
+use Rattle.boxglue_script.specs.Reading.{front_field, after_field, command_of, kept_text, given, line_of, Found, lines_then, reads_by, reads, GivesCommand, ReadsOn}
 use Rattle.boxglue_script.proofs.GivenCommands.{complete}
 use Rattle.boxglue_script.proofs.CommandLaws.{sound}
 use Rattle.boxglue_script.proofs.FieldLaws.{same_bytes, bytes_same}
@@ -244,5 +244,68 @@ pub read_whole : (number : ℕ) (text rest : List ℕ) (found : List Line) → l
 read_whole number text [] found empty h = sym h ∙ ap (λ (xs : List Line). read_lines xs) (append-nil found)
 read_whole number text (byte ∷ rest) found empty h = absurd (omega arith)
 
+-- Reading goes on only after a line that is right.
+found_more : (old : List Line) (more : Found) (found : List Line) → lines_then old more ≡ Ok found → (rest : List Line) × (more ≡ Ok rest)
+found_more old (Err fault) found h = absurd (cc)
+found_more old (Ok rest) found h = (rest, refl)
+
+right_line : (number : ℕ) (line : List ℕ) (found : List Line) → SayFrom number (line ∷ []) found → IsRightLine line
+right_line number line found (inl passed) = inl passed.0
+right_line number line found (inr said) = inr (said.0, said.3)
+
+read_on_right : (number : ℕ) (line : List ℕ) (old new : List Line) → ReadsOn number line old new → IsRightLine line
+read_on_right number line old new on =
+    let (found, read) = found_more old (reads number (line ∷ [])) (new ++ []) (on []) in
+    right_line number line found (said_from number (line ∷ []) found read)
+
+all_more : (front : List (List ℕ)) (line : List ℕ) → AllByRecursion IsRightLine front → IsRightLine line → AllByRecursion IsRightLine (front ++ line ∷ [])
+all_more [] line all right = (right, tt)
+all_more (first ∷ front) line all right = (all.0, all_more front line all.1 right)
+
+-- The lines of a text before the rest of it are right.
+pub record IsRightUpTo (text rest : List ℕ) : Type 0 where
+  pub front : List (List ℕ)
+  pub split : lines text ≡ front ++ lines rest
+  pub right : AllByRecursion IsRightLine front
+
+pub right_at_start : (text : List ℕ) → IsRightUpTo text text
+right_at_start text = record { front = []; split = refl; right = tt }
+
+pub right_up_to : (number : ℕ) (text rest line after : List ℕ) (old new : List Line) → IsRightUpTo text rest → lines rest ≡ line ∷ lines after → ReadsOn number line old new → IsRightUpTo text after
+right_up_to number text rest line after old new before first on = record {
+  front = before.front ++ line ∷ [];
+  split = before.split ∙ (ap (λ (ls : List (List ℕ)). before.front ++ ls) first ∙ sym (append_assoc before.front (line ∷ []) (lines after)));
+  right = all_more before.front line before.right (read_on_right number line old new on);
+}
+
+-- What is read after one more line.
+pub read_more : (number : ℕ) (text rest line after : List ℕ) (old new : List Line) → lines_then old (reads (number + 1) (lines rest)) ≡ reads 1 (lines text) → lines rest ≡ line ∷ lines after
+    → ReadsOn (number + 1) line old new → lines_then new (reads (number + 1 + 1) (lines after)) ≡ reads 1 (lines text)
+read_more number text rest line after old new before first on =
+    sym (on (lines after)) ∙ (ap (λ (ls : List (List ℕ)). lines_then old (reads (number + 1) ls)) (sym first) ∙ before)
+
+read_command : (r : Result Command Cause) → IsOk r → (command : Command) × (r ≡ Ok command)
+read_command (Ok command) is = (command, refl)
+read_command (Err cause) is = absurd (cc)
+
+-- Memory was refused at the first line of the rest.
+pub right_so_far : (text rest line after : List ℕ) → IsRightUpTo text rest → lines rest ≡ line ∷ lines after → GivesCommand line → IsRightSoFar text
+right_so_far text rest line after before first gives =
+    let (command, read) = read_command (line_of line) gives.1 in
+    record {
+      front = before.front;
+      line = line;
+      rest = lines after;
+      split = before.split ∙ ap (λ (ls : List (List ℕ)). before.front ++ ls) first;
+      right = before.right;
+      command = command;
+      says = line_said line command gives.0 read;
+    }
+
+-- An error that was handed on is the one that was returned.
+pub handed_is : {A E : Type 0} (r : Result A E) (e other : E) → IsErrAnd r (λ y. y ≡ e) → r ≡ Err other → e ≡ other
+handed_is (Ok x) e other given is = absurd given
+handed_is (Err y) e other given is = sym given ∙ cc
+
 -- The laws of `read_script`.
-pub ruleset reading = (script_read, script_one, script_refused, script_one_fault)
+pub ruleset reading = (script_read, script_one, script_refused, script_one_fault, right_at_start)

@@ -1,5 +1,5 @@
 -- What the functions that read a script compute (own; private calls alone, no public clause speaks of it).
-use Rattle.std.specs.Prelude.{◌≡◌, ◌==◌, ℕ, ℤ, pos, negsuc, Bool, true, false, not, ◌&&◌, if◌then◌else◌, List, [], ◌∷◌, ◌++◌, ◌+◌, ◌-◌, Option, None, Some, Result, Ok, Err, codes, drop, take, length, nat_lt, nat_le, unsigned_abs}
+use Rattle.std.specs.Prelude.{◌≡◌, ◌==◌, ℕ, ℤ, pos, negsuc, Bool, true, false, not, ◌&&◌, if◌then◌else◌, List, [], ◌∷◌, ◌++◌, ◌+◌, ◌-◌, Option, None, Some, Result, Ok, Err, IsOk, codes, drop, take, length, nat_lt, nat_le, unsigned_abs}
 use Rattle.std.specs.List.{prefix_len, list_all}
 use Rattle.std.specs.Char.{digit_value}
 use Rattle.std.specs.Str.{bytes_eq}
@@ -488,3 +488,7 @@ ReadsOn number line old new = (rest : List (List ℕ)) → lines_then old (reads
 -- Reading ends at a line with that fault, whatever comes after the line.
 abbrev pub StopsAtLine : ℕ → List ℕ → List Line → ScriptFault → Type 0
 StopsAtLine number line old fault = (rest : List (List ℕ)) → lines_then old (reads number (line ∷ rest)) ≡ Err fault
+
+-- A line is counted, and a command is read from it.
+abbrev pub GivesCommand : List ℕ → Type 0
+GivesCommand line = (is_passed_over line ≡ false) × IsOk (line_of line)

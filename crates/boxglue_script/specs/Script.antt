@@ -60,6 +60,16 @@ abbrev pub Explains : List ℕ → ScriptFault → Type 0
 Explains text OutOfMemory = Unit {0}
 Explains text (BadScript number cause) = IsFirstBad text number cause × ((found : List Line) → IsScript text found → ⊥)
 
+-- The lines of a text up to one of them are right, and that one gives a command.
+pub record IsRightSoFar (text : List ℕ) : Type 0 where
+  pub front : List (List ℕ)
+  pub line : List ℕ
+  pub rest : List (List ℕ)
+  pub split : lines text ≡ front ++ line ∷ rest
+  pub right : AllByRecursion IsRightLine front
+  pub command : Command
+  pub says : SaysLine line command
+
 -- The line and the cause that are named are the only ones: no other line is the first bad one of the text, and no other cause holds of it.
 abbrev pub IsOneFault : List ℕ → ScriptFault → Type 0
 IsOneFault text OutOfMemory = Unit {0}

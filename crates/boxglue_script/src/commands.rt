@@ -1,6 +1,6 @@
 //! The commands that the fields of a line give.
 
-ghost use Rattle.std.specs.Prelude.{◌≡◌, Ok, Err, IfOk, IfErr};
+ghost use Rattle.std.specs.Prelude.{◌≡◌, Ok, Err, IfOk, IfErr, IsOk, OnErr};
 ghost use Rattle.tfm_core.specs.NamedBytes.{IsFontName};
 ghost use Rattle.job_commands.specs.declared.command.Command.TheVariants as commands;
 ghost use Rattle.boxglue_script.specs.Grammar.{register_count};
@@ -52,9 +52,10 @@ impl<'a> Fields<'a> {
         Ok(FontWords { slot, name, size })
     }
 
-    /// The command of what follows `font`. The error is a refused growth, for the name.
+    /// The command of what follows `font`. The error is a refused growth, for the name, so only where there is such a command.
     fn font(&mut self, alloc: Global) -> Result<Result<Command, Cause>, AllocError>
-        ensures { IfOk result (λ read. read ≡ font_of (fields_of self.old.rest.now)) }
+        ensures read { IfOk result (λ read. read ≡ font_of (fields_of self.old.rest.now)) }
+        ensures memory { OnErr result (IsOk (font_of (fields_of self.old.rest.now))) }
     {
         match self.font_words() {
             Ok(words) => Ok(Ok(Command::LoadFont(words.load(alloc)?))),
@@ -285,14 +286,15 @@ impl<'a> Fields<'a> {
         }))
     }
 
-    /// The command of that name with the fields after it.
+    /// The command of that name with the fields after it. The error is a refused growth, only where there is such a command.
     #[tactic(auto, unfolding(crate::specs::Reading::command_named))]
     fn command_named(
         &mut self,
         alloc: Global,
         name: Name,
     ) -> Result<Result<Command, Cause>, AllocError>
-        ensures { IfOk result (λ read. read ≡ command_named name (fields_of self.old.rest.now)) }
+        ensures read { IfOk result (λ read. read ≡ command_named name (fields_of self.old.rest.now)) }
+        ensures memory { OnErr result (IsOk (command_named name (fields_of self.old.rest.now))) }
     {
         match name {
             Name::Font => self.font(alloc),
@@ -317,10 +319,11 @@ impl<'a> Fields<'a> {
         }
     }
 
-    /// The command that the fields give, or the cause at the first bad field from the left. The error is a refused growth.
+    /// The command that the fields give, or the cause at the first bad field from the left. The error is a refused growth, only where they give a command.
     #[tactic(auto, unfolding(crate::specs::Reading::command_of))]
     pub fn command(&mut self, alloc: Global) -> Result<Result<Command, Cause>, AllocError>
-        ensures { IfOk result (λ read. read ≡ command_of (fields_of self.old.rest.now)) }
+        ensures read { IfOk result (λ read. read ≡ command_of (fields_of self.old.rest.now)) }
+        ensures memory { OnErr result (IsOk (command_of (fields_of self.old.rest.now))) }
     {
         let word = match self.field() {
             Ok(word) => word,

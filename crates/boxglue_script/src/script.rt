@@ -1,8 +1,8 @@
 //! Reading a script.
 
-ghost use Rattle.std.specs.Prelude.{◌≡◌, ◌⊎◌, List, IfOk, OnOk, IfErr};
-ghost use Rattle.boxglue_script.specs.Script.{IsScript, Explains, IsOneFault};
-ghost use Rattle.boxglue_script.specs.Reading.{line_of, ReadsOn, StopsAtLine};
+ghost use Rattle.std.specs.Prelude.{◌≡◌, ◌⊎◌, List, Err, IfOk, OnOk, IfErr, IsOk, OnErr};
+ghost use Rattle.boxglue_script.specs.Script.{IsScript, Explains, IsOneFault, IsRightSoFar};
+ghost use Rattle.boxglue_script.specs.Reading.{line_of, GivesCommand, ReadsOn, StopsAtLine};
 ghost use Rattle.boxglue_script.specs.declared.script.ScriptFault.TheVariants.{OutOfMemory};
 
 use crate::cause::Cause;
@@ -48,13 +48,15 @@ impl<T: Drop> From<AllocFailed<T>> for ScriptFault {
 /// Reads the text of a script into its commands, each with the number of its line. A line feed ends a line, and one carriage return directly before it belongs
 /// to this end. A line that is empty or begins with `%` gives no command, but is counted.
 ///
-/// Errors: BadScript with the first line that should give a command and does not, and the cause; OutOfMemory for a refused growth.
+/// Errors: BadScript with the first line that should give a command and does not, and the cause; OutOfMemory for a refused growth at a line that gives a
+/// command, so that it hides no bad line up to there.
 #[tactic(auto, using(crate::proofs::ScriptLaws::reading))]
 pub fn read_script(alloc: Global, text: &[u8]) -> Result<Vec<Line>, ScriptFault>
     ensures lines { IfOk result (λ found. IsScript text.now found.items) }
     ensures only { IfOk result (λ found. (others : List Line) → IsScript text.now others → others ≡ found.items) }
     ensures refused { IfErr result (λ fault. Explains text.now fault) }
     ensures one { IfErr result (λ fault. IsOneFault text.now fault) }
+    ensures memory { result ≡ Err ScriptFault.OutOfMemory → IsRightSoFar text.now }
 {
     let mut found = Vec::new(alloc);
     let mut rest = text;
@@ -68,7 +70,7 @@ pub fn read_script(alloc: Global, text: &[u8]) -> Result<Vec<Line>, ScriptFault>
     Ok(found)
 }
 
-/// Reads a line, and appends its command, if it has one, to those of the lines before it.
+/// Reads a line, and appends its command, if it has one, to those of the lines before it. OutOfMemory only if it has one.
 fn read_line(
     alloc: Global,
     number: usize,
@@ -77,6 +79,7 @@ fn read_line(
 ) -> Result<(), ScriptFault>
     ensures ok { OnOk result (ReadsOn number line.now found.old.items found.new.items) }
     ensures bad { IfErr result (λ fault. (fault ≡ ScriptFault.OutOfMemory) ⊎ StopsAtLine number line.now found.old.items fault) }
+    ensures memory { result ≡ Err ScriptFault.OutOfMemory → GivesCommand line.now }
 {
     if is_passed_over(line) {
         return Ok(());
@@ -91,10 +94,12 @@ fn read_line(
 }
 
 /// The command of a line, or the cause why it has none. Byte comes first, since a line with a byte that is not printable is not cut into fields. A text
-/// may have any length here: how long a special may be is a limit of the job, so the other commands run.
+/// may have any length here: how long a special may be is a limit of the job, so the other commands run. The error is a refused growth, only where the line
+/// gives a command.
 #[tactic(auto, unfolding(crate::specs::Reading::line_of, crate::specs::Reading::given))]
 fn command_of(alloc: Global, line: &[u8]) -> Result<Result<Command, Cause>, AllocError>
-    ensures { IfOk result (λ read. read ≡ line_of line.now) }
+    ensures read { IfOk result (λ read. read ≡ line_of line.now) }
+    ensures memory { OnErr result (IsOk (line_of line.now)) }
 {
     if !is_printable(line) {
         return Ok(Err(Cause::Byte));

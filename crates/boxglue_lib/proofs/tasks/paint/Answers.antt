@@ -2,8 +2,8 @@
 use Rattle.std.proofs.Common.{ap, Err}
 use Rattle.boxglue_lib.proofs.tasks.paint.Goals as goal
 
-pub returns : goal.returns
-returns g c =
+pub returns-clause-ended : goal.returns-clause-ended
+returns-clause-ended g c =
     let missing = c.in-Err-NoSuchPage.ensures.missing (ap Err c.in-Err-NoSuchPage.field-0-is) in
     let silent = c.in-Err-NoSuchPage.ensures.unpainted (ap Err c.in-Err-NoSuchPage.field-0-is) in (
       (

@@ -8,7 +8,7 @@ returns g c =
     let run = c.typeset_file-written.result in
     typeset_ended (g.H.Host.file c.args.host) (g.H.Host.input c.args.host) c.args.fonts.now c.args.out.now _ _ _ _ _ _ run.created run.written c.in-Ok.inputs.bytes.items
     c.in-Ok.inputs.files.items run.end _ _ _ _ _ _ _ c.in-Ok.ensures.script c.in-Ok.ensures.files c.typeset_file-written.ensures.task_ended c.typeset_file-written.ensures.left c.tell_unwritten.ensures
-    c.typeset_file-written.ensures.placed c.typeset_file-written.ensures.untouched c.typeset_file-written.ensures.blamed c.finish-2.ensures.output c.finish-2.ensures.errors c.finish-2.ensures.status
+    c.typeset_file-written.ensures.placed c.typeset_file-written.ensures.untouched c.typeset_file-written.ensures.unchanged c.typeset_file-written.ensures.blamed c.finish-2.ensures.output c.finish-2.ensures.errors c.finish-2.ensures.status
 
 pub returns-in-Err : goal.returns-in-Err
 returns-in-Err g c =

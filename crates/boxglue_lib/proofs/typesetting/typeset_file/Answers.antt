@@ -1,5 +1,5 @@
 -- What is known of the device that was returned.
-use Rattle.std.proofs.Common.{◌≡◌, ◌∙◌}
+use Rattle.std.proofs.Common.{◌≡◌, ap, ◌∙◌}
 use Rattle.boxglue_lib.proofs.EndLemmas.{answered_to_file, back_alike, failed_since, left_to_file, placed_since}
 use Rattle.boxglue_lib.proofs.typesetting.typeset_file.Goals as goal
 
@@ -40,68 +40,89 @@ returns-in-Err-Memory-clause-left g c =
 pub returns-in-Ok-clause-blamed : goal.returns-in-Ok-clause-blamed
 returns-in-Ok-clause-blamed g c =
     let began = c.in-Ok.ensures.began in
-    let alike = back_alike g.H.Host.created g.H.Host.written g.H.Host.failures c.in-Ok.device.path c.new-device.result.path c.args.out c.in-Ok.device.start.seen c.new-device.result.start.seen c.args.host
+    let alike = back_alike g.row.H.coded g.H.Host.written g.H.Host.failures c.in-Ok.device.path c.new-device.result.path c.args.out c.in-Ok.device.start.seen c.new-device.result.start.seen c.args.host
     began c.new-device.ensures.path c.new-device.ensures.start in
     failed_since (g.H.Host.failures c.args.host) (g.H.Host.failures c.end_with.result.host) (g.H.Host.failures c.in-Ok.device.start.seen) c.in-Ok.device.failures
-    c.end_with.result.written alike.failures_are c.end_with.ensures.counted c.end_with.ensures.written
+    c.end_with.result.written (ap g.H.Host.failures alike.1) c.end_with.ensures.counted c.end_with.ensures.written
 
 pub returns-in-Ok-clause-placed : goal.returns-in-Ok-clause-placed
 returns-in-Ok-clause-placed g c =
     let began = c.in-Ok.ensures.began in
-    let alike = back_alike g.H.Host.created g.H.Host.written g.H.Host.failures c.in-Ok.device.path c.new-device.result.path c.args.out c.in-Ok.device.start.seen c.new-device.result.start.seen c.args.host
+    let alike = back_alike g.row.H.coded g.H.Host.written g.H.Host.failures c.in-Ok.device.path c.new-device.result.path c.args.out c.in-Ok.device.start.seen c.new-device.result.start.seen c.args.host
     began c.new-device.ensures.path c.new-device.ensures.start in
     placed_since c.in-Ok.device.path.now c.args.out.now (g.H.Host.created c.in-Ok.device.start.seen) (g.H.Host.created c.args.host) (g.H.Host.created c.end_with.result.host)
-    c.end_with.result.created alike.paths alike.created_are c.end_with.ensures.placed
+    c.end_with.result.created alike.0 (ap g.H.Host.created alike.1) c.end_with.ensures.placed
 
 pub returns-in-Ok-clause-untouched : goal.returns-in-Ok-clause-untouched
 returns-in-Ok-clause-untouched g c =
     let began = c.in-Ok.ensures.began in
-    let alike = back_alike g.H.Host.created g.H.Host.written g.H.Host.failures c.in-Ok.device.path c.new-device.result.path c.args.out c.in-Ok.device.start.seen c.new-device.result.start.seen c.args.host
+    let alike = back_alike g.row.H.coded g.H.Host.written g.H.Host.failures c.in-Ok.device.path c.new-device.result.path c.args.out c.in-Ok.device.start.seen c.new-device.result.start.seen c.args.host
     began c.new-device.ensures.path c.new-device.ensures.start in
-    λ closed. c.end_with.ensures.untouched closed ∙ alike.written_are
+    λ closed. c.end_with.ensures.untouched closed ∙ ap g.H.Host.written alike.1
+
+pub returns-in-Ok-clause-unchanged : goal.returns-in-Ok-clause-unchanged
+returns-in-Ok-clause-unchanged g c =
+    let began = c.in-Ok.ensures.began in
+    let alike = back_alike g.row.H.coded g.H.Host.written g.H.Host.failures c.in-Ok.device.path c.new-device.result.path c.args.out c.in-Ok.device.start.seen c.new-device.result.start.seen c.args.host
+    began c.new-device.ensures.path c.new-device.ensures.start in
+    λ closed fine. c.end_with.ensures.unchanged closed fine ∙ alike.1
 
 pub returns-in-Err-Answers-clause-blamed : goal.returns-in-Err-Answers-clause-blamed
 returns-in-Err-Answers-clause-blamed g c =
     let began = rw c.in-Err-Answers.field-0-is at c.in-Err-Answers.ensures.kept in
-    let alike = back_alike g.H.Host.created g.H.Host.written g.H.Host.failures c.in-Err-Answers.device.path c.new-device.result.path c.args.out c.in-Err-Answers.device.start.seen c.new-device.result.start.seen c.args.host
+    let alike = back_alike g.row.H.coded g.H.Host.written g.H.Host.failures c.in-Err-Answers.device.path c.new-device.result.path c.args.out c.in-Err-Answers.device.start.seen c.new-device.result.start.seen c.args.host
     began c.new-device.ensures.path c.new-device.ensures.start in
     failed_since (g.H.Host.failures c.args.host) (g.H.Host.failures c.end_with-in-Err-Answers.result.host) (g.H.Host.failures c.in-Err-Answers.device.start.seen) c.in-Err-Answers.device.failures
-    c.end_with-in-Err-Answers.result.written alike.failures_are c.end_with-in-Err-Answers.ensures.counted c.end_with-in-Err-Answers.ensures.written
+    c.end_with-in-Err-Answers.result.written (ap g.H.Host.failures alike.1) c.end_with-in-Err-Answers.ensures.counted c.end_with-in-Err-Answers.ensures.written
 
 pub returns-in-Err-Answers-clause-placed : goal.returns-in-Err-Answers-clause-placed
 returns-in-Err-Answers-clause-placed g c =
     let began = rw c.in-Err-Answers.field-0-is at c.in-Err-Answers.ensures.kept in
-    let alike = back_alike g.H.Host.created g.H.Host.written g.H.Host.failures c.in-Err-Answers.device.path c.new-device.result.path c.args.out c.in-Err-Answers.device.start.seen c.new-device.result.start.seen c.args.host
+    let alike = back_alike g.row.H.coded g.H.Host.written g.H.Host.failures c.in-Err-Answers.device.path c.new-device.result.path c.args.out c.in-Err-Answers.device.start.seen c.new-device.result.start.seen c.args.host
     began c.new-device.ensures.path c.new-device.ensures.start in
     placed_since c.in-Err-Answers.device.path.now c.args.out.now (g.H.Host.created c.in-Err-Answers.device.start.seen) (g.H.Host.created c.args.host) (g.H.Host.created c.end_with-in-Err-Answers.result.host)
-    c.end_with-in-Err-Answers.result.created alike.paths alike.created_are c.end_with-in-Err-Answers.ensures.placed
+    c.end_with-in-Err-Answers.result.created alike.0 (ap g.H.Host.created alike.1) c.end_with-in-Err-Answers.ensures.placed
 
 pub returns-in-Err-Answers-clause-untouched : goal.returns-in-Err-Answers-clause-untouched
 returns-in-Err-Answers-clause-untouched g c =
     let began = rw c.in-Err-Answers.field-0-is at c.in-Err-Answers.ensures.kept in
-    let alike = back_alike g.H.Host.created g.H.Host.written g.H.Host.failures c.in-Err-Answers.device.path c.new-device.result.path c.args.out c.in-Err-Answers.device.start.seen c.new-device.result.start.seen c.args.host
+    let alike = back_alike g.row.H.coded g.H.Host.written g.H.Host.failures c.in-Err-Answers.device.path c.new-device.result.path c.args.out c.in-Err-Answers.device.start.seen c.new-device.result.start.seen c.args.host
     began c.new-device.ensures.path c.new-device.ensures.start in
-    λ closed. c.end_with-in-Err-Answers.ensures.untouched closed ∙ alike.written_are
+    λ closed. c.end_with-in-Err-Answers.ensures.untouched closed ∙ ap g.H.Host.written alike.1
+
+pub returns-in-Err-Answers-clause-unchanged : goal.returns-in-Err-Answers-clause-unchanged
+returns-in-Err-Answers-clause-unchanged g c =
+    let began = rw c.in-Err-Answers.field-0-is at c.in-Err-Answers.ensures.kept in
+    let alike = back_alike g.row.H.coded g.H.Host.written g.H.Host.failures c.in-Err-Answers.device.path c.new-device.result.path c.args.out c.in-Err-Answers.device.start.seen c.new-device.result.start.seen c.args.host
+    began c.new-device.ensures.path c.new-device.ensures.start in
+    λ closed fine. c.end_with-in-Err-Answers.ensures.unchanged closed fine ∙ alike.1
 
 pub returns-in-Err-Memory-clause-blamed : goal.returns-in-Err-Memory-clause-blamed
 returns-in-Err-Memory-clause-blamed g c =
     let began = rw c.in-Err-Memory.field-0-is at c.in-Err-Memory.ensures.kept in
-    let alike = back_alike g.H.Host.created g.H.Host.written g.H.Host.failures c.in-Err-Memory.device.path c.new-device.result.path c.args.out c.in-Err-Memory.device.start.seen c.new-device.result.start.seen c.args.host
+    let alike = back_alike g.row.H.coded g.H.Host.written g.H.Host.failures c.in-Err-Memory.device.path c.new-device.result.path c.args.out c.in-Err-Memory.device.start.seen c.new-device.result.start.seen c.args.host
     began c.new-device.ensures.path c.new-device.ensures.start in
     failed_since (g.H.Host.failures c.args.host) (g.H.Host.failures c.end_with-in-Err-Memory.result.host) (g.H.Host.failures c.in-Err-Memory.device.start.seen) c.in-Err-Memory.device.failures
-    c.end_with-in-Err-Memory.result.written alike.failures_are c.end_with-in-Err-Memory.ensures.counted c.end_with-in-Err-Memory.ensures.written
+    c.end_with-in-Err-Memory.result.written (ap g.H.Host.failures alike.1) c.end_with-in-Err-Memory.ensures.counted c.end_with-in-Err-Memory.ensures.written
 
 pub returns-in-Err-Memory-clause-placed : goal.returns-in-Err-Memory-clause-placed
 returns-in-Err-Memory-clause-placed g c =
     let began = rw c.in-Err-Memory.field-0-is at c.in-Err-Memory.ensures.kept in
-    let alike = back_alike g.H.Host.created g.H.Host.written g.H.Host.failures c.in-Err-Memory.device.path c.new-device.result.path c.args.out c.in-Err-Memory.device.start.seen c.new-device.result.start.seen c.args.host
+    let alike = back_alike g.row.H.coded g.H.Host.written g.H.Host.failures c.in-Err-Memory.device.path c.new-device.result.path c.args.out c.in-Err-Memory.device.start.seen c.new-device.result.start.seen c.args.host
     began c.new-device.ensures.path c.new-device.ensures.start in
     placed_since c.in-Err-Memory.device.path.now c.args.out.now (g.H.Host.created c.in-Err-Memory.device.start.seen) (g.H.Host.created c.args.host) (g.H.Host.created c.end_with-in-Err-Memory.result.host)
-    c.end_with-in-Err-Memory.result.created alike.paths alike.created_are c.end_with-in-Err-Memory.ensures.placed
+    c.end_with-in-Err-Memory.result.created alike.0 (ap g.H.Host.created alike.1) c.end_with-in-Err-Memory.ensures.placed
 
 pub returns-in-Err-Memory-clause-untouched : goal.returns-in-Err-Memory-clause-untouched
 returns-in-Err-Memory-clause-untouched g c =
     let began = rw c.in-Err-Memory.field-0-is at c.in-Err-Memory.ensures.kept in
-    let alike = back_alike g.H.Host.created g.H.Host.written g.H.Host.failures c.in-Err-Memory.device.path c.new-device.result.path c.args.out c.in-Err-Memory.device.start.seen c.new-device.result.start.seen c.args.host
+    let alike = back_alike g.row.H.coded g.H.Host.written g.H.Host.failures c.in-Err-Memory.device.path c.new-device.result.path c.args.out c.in-Err-Memory.device.start.seen c.new-device.result.start.seen c.args.host
     began c.new-device.ensures.path c.new-device.ensures.start in
-    λ closed. c.end_with-in-Err-Memory.ensures.untouched closed ∙ alike.written_are
+    λ closed. c.end_with-in-Err-Memory.ensures.untouched closed ∙ ap g.H.Host.written alike.1
+
+pub returns-in-Err-Memory-clause-unchanged : goal.returns-in-Err-Memory-clause-unchanged
+returns-in-Err-Memory-clause-unchanged g c =
+    let began = rw c.in-Err-Memory.field-0-is at c.in-Err-Memory.ensures.kept in
+    let alike = back_alike g.row.H.coded g.H.Host.written g.H.Host.failures c.in-Err-Memory.device.path c.new-device.result.path c.args.out c.in-Err-Memory.device.start.seen c.new-device.result.start.seen c.args.host
+    began c.new-device.ensures.path c.new-device.ensures.start in
+    λ closed fine. c.end_with-in-Err-Memory.ensures.unchanged closed fine ∙ alike.1

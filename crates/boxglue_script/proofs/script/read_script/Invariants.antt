@@ -2,11 +2,13 @@
 use Rattle.std.proofs.Common.{◌≡◌, ◌+◌, ◌≤◌, length}
 use Rattle.std.specs.Str.Lines.{lines}
 use Rattle.boxglue_script.specs.Reading.{reads, lines_then}
+use Rattle.boxglue_script.proofs.ScriptLaws.{IsRightUpTo}
 use Rattle.boxglue_script.proofs.script.read_script.Given as goal
 
 abbrev pub invariant-loop-rest : goal.invariant-loop-rest
 invariant-loop-rest l = record {
   reading : lines_then l.found.items (reads (l.number + 1) (lines l.rest)) ≡ reads 1 (lines l.text);
+  right : IsRightUpTo l.text l.rest;
   counted : l.number + length l.rest ≤ length l.text;
 }
 
