@@ -86,7 +86,8 @@ pub struct Alone {
 impl Alone {
     /// Whether the line is not admitted after any number of lines.
     pub fn is_none(&self) -> bool
-        ensures { result ≡ true → (self.now.first ≡ None) × (self.now.rest ≡ None) }
+        ensures never_admitted { result ≡ true → (self.now.first ≡ None) × (self.now.rest ≡ None) }
+        ensures told { self.now.first ≡ None → self.now.rest ≡ None → result ≡ true }
     {
         self.first.is_none() && self.rest.is_none()
     }

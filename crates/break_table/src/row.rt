@@ -66,6 +66,7 @@ fn move_held(
     ensures front { take (length table.old.items) table.new.items ≡ table.old.items }
     ensures table { OnOk result (table.new.items ≡ table.old.items ++ row_entries row.old.items) }
     ensures row { OnOk result (row.new.items ≡ replicate (length row.old.items) None) }
+    ensures wide { length row.new.items ≡ length row.old.items }
 {
     for index in 0..row.len() {
         if let Some(entry) = row[index] {
@@ -76,7 +77,8 @@ fn move_held(
     Ok(())
 }
 
-/// Appends the offers of a row to a table, and empties the row. If memory is refused, the table is as it was before the call.
+/// Appends the offers of a row to a table, and empties the row. If memory is refused, the table is as it was before the call, and the row keeps its
+/// slots; some of them may be empty then.
 pub fn flush_row(
     table: &mut Vec<ActiveNode>,
     row: &mut Vec<Option<ActiveNode>>,
@@ -84,6 +86,7 @@ pub fn flush_row(
     ensures table { OnOk result (table.new.items ≡ table.old.items ++ row_entries row.old.items) }
     ensures row { OnOk result (row.new.items ≡ replicate (length row.old.items) None) }
     ensures err { OnErr result (table.new.items ≡ table.old.items) }
+    ensures wide { length row.new.items ≡ length row.old.items }
 {
     let count = table.len();
     if let Err(refused) = move_held(table, row) {

@@ -67,7 +67,7 @@ pub returns-then-is_none-clause-row : goal.returns-then-is_none-clause-row
 returns-then-is_none-clause-row c =
     let rules = c.args.rules.now in
     let penalty : to_z w32 (of_z w32 c.args.tried.now.penalty) ≡ c.args.tried.now.penalty = omega (arith, ints) in
-    let none = c.is_none.ensures c.if-is_none.true in
+    let none = c.is_none.ensures.never_admitted c.if-is_none.true in
     subst (λ x. IsOffering c.args.table.now rules.params.now rules.bound c.args.group c.args.tried.now.place x c.args.line.now c.args.group.start c.args.group.end c.args.row.now.items c.args.row.now.items)
     penalty
     (none_offered c.args.table.now rules.params.now rules.bound c.args.group c.args.tried.now.place (to_z w32 (of_z w32 c.args.tried.now.penalty))
