@@ -6,8 +6,9 @@ use Rattle.std.proofs.lemmas.Int.{ints}
 use Rattle.std.proofs.lemmas.Bool.{cases_lt}
 use Rattle.std.proofs.lemmas.List.Elements.{Contains-append_right, Contains-append_cases, Contains-push_cases}
 use Rattle.break_table.specs.Orders.{NotAfter}
-use Rattle.break_table.specs.Problems.{Problem, Path, path_of, key}
+use Rattle.break_table.specs.Problems.{Problem, Path, path_of, ends_of, places_of, key}
 use Rattle.break_table.specs.Chosen.{top, IsFalling, IsBreakList, AdmitsNone, IsChosen}
+use Rattle.break_table.proofs.Lists.{way_of_break_list, break_list_of_way}
 use Rattle.break_table.proofs.Dictionary.{not_after_refl, not_after_trans, not_after_antisym, key_apart}
 use Rattle.vert_core.specs.LeastLists.{is_not_after, lists_up_to, lists_to, lesser_path, least_of, least_path}
 
@@ -272,15 +273,19 @@ no_least p none = by_least (least_of (map (path_of p) (lists_to p p.places))) re
         let from = in_mapped (path_of p) (lists_to p p.places) (Some q) least.one in
         absurd (none from.0 q (is_list p p.places from.0 refl from.1) from.2)
 
+-- A list of breaks is among those that are compared.
+compared : (p : Problem) (places : List ℕ) (q : Path) → IsBreakList p places → path_of p places ≡ Some q → IsIn (map (path_of p) (lists_to p p.places)) (Some q)
+compared p places q is admitted =
+    subst (λ (x : Option Path). IsIn (map (path_of p) (lists_to p p.places)) x) admitted
+    (in_map (path_of p) (lists_to p p.places) places (tried_list p p.places places refl is))
+
 -- The chosen list is the best path.
 pub chosen_least : (p : Problem) (places : List ℕ) (q : Path) → IsChosen p places q → least_path p ≡ Some q
 unfolding least_path
 chosen_least p places q is = by_least (least_of (map (path_of p) (lists_to p p.places))) refl
   where
     tried : IsIn (map (path_of p) (lists_to p p.places)) (Some q)
-    tried =
-        subst (λ (x : Option Path). IsIn (map (path_of p) (lists_to p p.places)) x) is.admitted
-        (in_map (path_of p) (lists_to p p.places) places (tried_list p p.places places refl is.is_list))
+    tried = compared p places q is.is_list is.admitted
 
     by_least : (found : Option Path) → least_of (map (path_of p) (lists_to p p.places)) ≡ found → found ≡ Some q
     by_least None none = absurd (none_of (map (path_of p) (lists_to p p.places)) none q tried)
@@ -288,3 +293,18 @@ chosen_least p places q is = by_least (least_of (map (path_of p) (lists_to p p.p
         let least = least_is (map (path_of p) (lists_to p p.places)) r found in
         let from = in_mapped (path_of p) (lists_to p p.places) (Some r) least.one in
         ap Some (key_apart r q (not_after_antisym (key r) (key q) (least.least q tried) (is.least from.0 r (is_list p p.places from.0 refl from.1) from.2)))
+
+-- If there is no best path, no list is admitted.
+pub none_least : (p : Problem) → least_path p ≡ None → AdmitsNone p
+unfolding least_path
+none_least p none places q is admitted = none_of (map (path_of p) (lists_to p p.places)) none q (compared p places q is admitted)
+
+-- The best path is the chosen list.
+pub least_chosen : (p : Problem) (q : Path) → least_path p ≡ Some q → IsChosen p (places_of (ends_of q)) q
+unfolding least_path
+least_chosen p q found =
+    let least = least_is (map (path_of p) (lists_to p p.places)) q found in
+    let from = in_mapped (path_of p) (lists_to p p.places) (Some q) least.one in
+    let way = way_of_break_list p from.0 q (is_list p p.places from.0 refl from.1) from.2 in
+    let list = break_list_of_way p q way.0 way.1 in
+    record { is_list = list.0; admitted = list.1; least = λ others r is admitted. least.least r (compared p others r is admitted) }

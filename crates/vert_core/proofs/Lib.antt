@@ -8,6 +8,7 @@ pub mod FewLines
 pub mod SetLists
 pub mod LeastLists
 pub mod Settings
+pub mod SettingIs
 pub mod Unbroken
 pub mod Unset
 pub mod Tried

@@ -66,12 +66,20 @@ pub fn line_of_a_special()
 {}
 
 /// There is only one way to set a paragraph that is set, or only one reason why it is not; but memory can be refused even if the paragraph can be
-/// broken.
+/// broken. In the other direction, a paragraph with a setting can be broken and is set so, and otherwise the fault is why it is not set, and is never
+/// that memory was refused.
 pub fn one_setting()
     ensures set { (list : List Node) → (params : Params) → (previous : ℤ) → (set : SetParagraph) →
         unbroken list params.par_fill_skip ≡ None → IsSetParagraph list params previous set → setting list params previous ≡ Ok set }
     ensures unset { (list : List Node) → (params : Params) → (previous : ℤ) → (fault : ParagraphFault) → fault ≢ OutOfMemory →
         IsUnset list params previous fault → setting list params previous ≡ Err fault }
+    ensures breakable { (list : List Node) → (params : Params) → (previous : ℤ) → (set : SetParagraph) →
+        setting list params previous ≡ Ok set → unbroken list params.par_fill_skip ≡ None }
+    ensures is_set { (list : List Node) → (params : Params) → (previous : ℤ) → (set : SetParagraph) →
+        setting list params previous ≡ Ok set → IsSetParagraph list params previous set }
+    ensures is_unset { (list : List Node) → (params : Params) → (previous : ℤ) → (fault : ParagraphFault) →
+        setting list params previous ≡ Err fault → IsUnset list params previous fault }
+    ensures has_memory { (list : List Node) → (params : Params) → (previous : ℤ) → setting list params previous ≢ Err OutOfMemory }
 {}
 
 /// If a line that keeps items is packed to its width and is not overfull, its box has the badness of the line, from which its demerits are computed.
