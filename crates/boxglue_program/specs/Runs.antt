@@ -66,9 +66,9 @@ pub record WasRun (files : List NamedBytes) (n : ℕ) (commands : List Command) 
   pub count : IfOk end (λ summary. summary.bytes ≡ length (whole middle.state.fonts middle.pages))
   pub closed : middle.pages ≢ [] → OnOk end (IfSome bytes_written (λ bytes. IsClosedFor middle.state.fonts bytes middle.pages))
   pub sent : last.state.over ≡ false → IfSome bytes_written (λ bytes. bytes ≡ front last.state.fonts last.pages)
+  pub held : IfSome bytes_written (λ bytes. IsFrontOf (front last.state.fonts last.pages) bytes)
   pub front : end ≡ Err refusals.Device → IfSome bytes_written (λ bytes. IsProperFrontOf bytes (whole middle.state.fonts middle.pages))
   pub part : last.state.over ≡ true → IfSome bytes_written (IsSentPart last)
-  pub held : IfSome bytes_written (λ bytes. IsFrontOf (front last.state.fonts last.pages) bytes)
 
 -- A script was run, and this is the text of its answers.
 pub record RanScript (text : List ℕ) (files : List NamedBytes) (n k : ℕ) (bytes_written : Option (List ℕ)) (answer : List ℕ) (fine : Bool) : Type 0 where
