@@ -44,8 +44,8 @@ finish_handed handed old new status has ends = still_handed old new handed has e
 pub answers_handed : (text_old text_new handed : List ℕ) (size : ℕ) (old new : KeptState) (status : ℕ) → HasHanded old handed → HandsAnswers text_old text_new size old new status → HasHanded new handed
 answers_handed text_old text_new handed size old new status has hands =
     elim hands.handed [
-      inl (holds, done) ↦ let is = hands.given done in same_handed old new handed has (ap (λ (k : KeptState). k.job) is) (ap (λ (k : KeptState). k.taken) is)
-    | inr (small, same, done) ↦ subst (λ (k : KeptState). HasHanded k handed) (sym (hands.same done)) has
+      | inl (holds, done) ↦ let is = hands.given done in same_handed old new handed has (ap (λ (k : KeptState). k.job) is) (ap (λ (k : KeptState). k.taken) is)
+      | inr (small, same, done) ↦ subst (λ (k : KeptState). HasHanded k handed) (sym (hands.same done)) has
     ]
 
 pub waits_handed : (dvi_old dvi_new handed : List ℕ) (size : ℕ) (old new : KeptState) → HasHanded old handed → HandsBytes dvi_old dvi_new size old new 4 → HasHanded new handed
@@ -59,9 +59,9 @@ all_handed dvi_old dvi_new handed size old new has hands =
     ap (λ (n : ℕ). drop n (sent_by old.job)) has.count ∙ (ap (λ (bytes : List ℕ). drop (length handed) bytes) has.sent ∙ drop-append_seam handed has.rest) in
     let same : sent_by new.job ≡ sent_by old.job = ap (λ (k : KeptState). sent_by k.job) (hands.given refl) in
     elim hands.handed [
-      inl (holds, done) ↦
+      | inl (holds, done) ↦
           ap (λ (n : ℕ). handed ++ take n dvi_new) hands.size_is ∙ (ap (λ (bytes : List ℕ). handed ++ bytes) (holds.front ∙ rest_is) ∙ (sym has.sent ∙ sym same))
-    | inr (small, kept, done) ↦ absurd (omega (arith, done))
+      | inr (small, kept, done) ↦ absurd (omega (arith, done))
     ]
 
 pub given_handed : (dvi_old dvi_new handed : List ℕ) (size : ℕ) (old new : KeptState) → HasHanded old handed → HandsBytes dvi_old dvi_new size old new 0 → HasHanded new (handed ++ take size dvi_new)
