@@ -125,10 +125,10 @@ left_to_file text files start begun failures back created done written fresh ope
 pub has_ended : (IsAnswer : List ℕ → Bool → Type 0) (IsUnread : Bor (List ℕ) → Type 0) (LacksPage LacksMemory : Type 0) (end : TaskEnd) (old mid new errors errors' : Option (List ℕ)) (status : ℕ)
     → EndsTask IsAnswer IsUnread LacksPage end old mid → (end ≡ OutOfMemory → LacksMemory) → TellsOutput end mid new → TellsErrors end errors errors' → status ≡ status_of end
     → TaskHasEnded IsAnswer IsUnread LacksPage LacksMemory old new errors errors' status
-has_ended A U L M end old mid new errors errors' status ended wanting said reported is = record {
+has_ended A U L M end old mid new errors errors' status ended memory said reported is = record {
   end = end;
   printed = output_then A U L end old mid new ended said;
-  wanting = wanting;
+  memory = memory;
   reported = reported;
   status_is = is;
 }
@@ -174,7 +174,7 @@ typeset_ended reported input fonts out paths paths' before written has_failed Sa
       printed = output_then A U ⊥ end old mid new
           (ends_weaker (IsToFile text files written Same created done) A (λ path. ⊥) U ⊥ end old mid
           (λ answer fine to. (text, files, read, filed, to)) (λ path none. absurd none) ended) said;
-      wanting = λ wants. inr (text, files, read, filed, left wants);
+      memory = λ wants. inr (text, files, read, filed, left wants);
       middle = between;
       unwritten = unwritten;
       blamed = blamed;
@@ -249,7 +249,7 @@ not_typeset reported input fonts out paths written has_failed Same fault old new
       untouched = λ _. refl;
       unchanged = λ _ _. same;
       printed = unread_output (IsTypeset reported input fonts written Same false true) reported input fonts fault (IsLeftAlone Same false true) old new alone unread said;
-      wanting = λ wants. inl (alone, wanting_script reported input fonts fault wants unread);
+      memory = λ wants. inl (alone, wanting_script reported input fonts fault wants unread);
       middle = errors;
       unwritten = keeps_same errors;
       blamed = blamed;
@@ -281,7 +281,7 @@ was_readable None text read = tt
 was_readable (Some known) text read = rw (← read.all) read.within
 
 -- What is known of the inputs of a task whose memory was refused.
-pub ruleset wanting = (wanting_dvi, wanting_after, was_readable)
+pub ruleset memory = (wanting_dvi, wanting_after, was_readable)
 
 -- A device that took all has not failed.
 pub none_failed : (k : ℕ) (done : Bool) → done ≡ (k == 0) → done ≡ true → k ≡ 0

@@ -51,6 +51,6 @@ EndsOutput IsAnswer IsUnread LacksPage end old new = EndsTask IsAnswer IsUnread 
 pub record TaskHasEnded (IsAnswer : List ℕ → Bool → Type 0) (IsUnread : Bor (List ℕ) → Type 0) (LacksPage LacksMemory : Type 0) (output output' errors errors' : Option (List ℕ)) (status : ℕ) : Type 0 where
   pub end : TaskEnd
   pub printed : EndsOutput IsAnswer IsUnread LacksPage end output output'
-  pub wanting : end ≡ OutOfMemory → LacksMemory
+  pub memory : end ≡ OutOfMemory → LacksMemory
   pub reported : TellsErrors end errors errors'
   pub status_is : status ≡ status_of end

@@ -33,7 +33,7 @@ RefusesWords (faults.NameTwice name) output output' errors errors' status =
     Keeps output output' × TakesText errors errors' (line_of (codes "boxglue: name given twice: ") name.now) × (status ≡ 2)
 
 -- A task was done with the files and the standard input of a host. The paths are those of the files that the host had created and then has, and the bytes
--- those of the created file before and then; the host has failed meanwhile or not. Except for `typeset` it was returned as it was. Memory is wanting only
+-- those of the created file before and then; the host has failed meanwhile or not. Except for `typeset` it was returned as it was. Memory is refused only
 -- for an input that can be read, or after all were read.
 abbrev pub HasDone : (contents : List ℕ → Option (Option (List ℕ))) → (input : Option (List ℕ)) → (paths paths' : List (List ℕ)) → (before written : Option (List ℕ)) → (has_failed : Bool) → (Same : Type 0) → Task → (output output' errors errors' : Option (List ℕ)) → (status : ℕ) → Type 0
 HasDone contents input paths paths' before written has_failed Same tasks.Version output output' errors errors' status = Same × PrintsVersion output output' status × Keeps errors errors'

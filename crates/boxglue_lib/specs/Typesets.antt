@@ -64,7 +64,7 @@ pub record HasTypeset (contents : List ℕ → Option (Option (List ℕ))) (inpu
   pub untouched : created ≡ false → written ≡ before
   pub unchanged : created ≡ false → done ≡ true → Same
   pub printed : EndsOutput (IsTypeset contents input fonts written Same created done) (λ path. IsUnreadScript contents input fonts (File path) × IsLeftAlone Same created done) ⊥ end output output'
-  pub wanting : end ≡ OutOfMemory → LacksMemoryForTask contents input fonts written Same created done
+  pub memory : end ≡ OutOfMemory → LacksMemoryForTask contents input fonts written Same created done
   pub middle : Option (List ℕ)
   pub unwritten : TellsUnwritten done out errors middle
   pub blamed : has_failed ≡ not done

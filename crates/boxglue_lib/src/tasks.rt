@@ -33,10 +33,10 @@ fn end_of(fault: Unread<'_>) -> TaskEnd<'_>
 }
 
 /// Runs the script of standard input on a device in memory, and writes its answers and the bytes of the device. It has no fonts.
-#[tactic(auto, using(crate::proofs::EndLemmas::wanting))]
+#[tactic(auto, using(crate::proofs::EndLemmas::memory))]
 pub fn run_input<'a, H: Host, W: Write>(alloc: Global, host: &H, output: &mut W) -> TaskEnd<'a>
     ensures ended { EndsTask (IsAnsweredInput (H.input host.now)) (IsUnreadInput (H.input host.now)) ⊥ result (W.contents output.old) (W.contents output.new) }
-    ensures wanting { result ≡ TaskEnd.OutOfMemory → IsReadable (H.input host.now) }
+    ensures memory { result ≡ TaskEnd.OutOfMemory → IsReadable (H.input host.now) }
 {
     let text = match host.read_input(alloc) {
         Ok(text) => text,
@@ -51,7 +51,7 @@ pub fn run_input<'a, H: Host, W: Write>(alloc: Global, host: &H, output: &mut W)
 }
 
 /// Lists the DVI file at a path.
-#[tactic(auto, using(crate::proofs::EndLemmas::wanting))]
+#[tactic(auto, using(crate::proofs::EndLemmas::memory))]
 pub fn list<'a, H: Host, W: Write>(
     alloc: Global,
     host: &H,
@@ -61,7 +61,7 @@ pub fn list<'a, H: Host, W: Write>(
 ) -> TaskEnd<'a>
     ensures ended { EndsTask (IsListing (H.file host.now) dvi.entry.now fonts.now) (λ path. IsUnreadDvi (H.file host.now) dvi.entry.now fonts.now (File path)) ⊥
         result (W.contents output.old) (W.contents output.new) }
-    ensures wanting { result ≡ TaskEnd.OutOfMemory → LacksMemoryForDvi (H.file host.now) dvi.entry.now fonts.now }
+    ensures memory { result ≡ TaskEnd.OutOfMemory → LacksMemoryForDvi (H.file host.now) dvi.entry.now fonts.now }
 {
     let inputs = match read_dvi_inputs(alloc, host, dvi, fonts) {
         Ok(inputs) => inputs,
@@ -76,7 +76,7 @@ pub fn list<'a, H: Host, W: Write>(
 }
 
 /// Paints a page of the DVI file at a path.
-#[tactic(auto, using(crate::proofs::EndLemmas::wanting))]
+#[tactic(auto, using(crate::proofs::EndLemmas::memory))]
 pub fn paint<'a, H: Host, W: Write>(
     alloc: Global,
     host: &H,
@@ -91,7 +91,7 @@ pub fn paint<'a, H: Host, W: Write>(
     requires height { (1 ≤ sheet.height) × (sheet.height ≤ 10000) }
     ensures ended { EndsTask (IsPainting (H.file host.now) sheet dvi.entry.now fonts.now) (λ path. IsUnreadDvi (H.file host.now) dvi.entry.now fonts.now (File path))
         (HasNoPage (H.file host.now) sheet dvi.entry.now fonts.now) result (W.contents output.old) (W.contents output.new) }
-    ensures wanting { result ≡ TaskEnd.OutOfMemory → LacksMemoryForDvi (H.file host.now) dvi.entry.now fonts.now }
+    ensures memory { result ≡ TaskEnd.OutOfMemory → LacksMemoryForDvi (H.file host.now) dvi.entry.now fonts.now }
 {
     let inputs = match read_dvi_inputs(alloc, host, dvi, fonts) {
         Ok(inputs) => inputs,

@@ -87,7 +87,7 @@ impl Alone {
     /// Whether the line is not admitted after any number of lines.
     pub fn is_none(&self) -> bool
         ensures never_admitted { result ≡ true → (self.now.first ≡ None) × (self.now.rest ≡ None) }
-        ensures told { self.now.first ≡ None → self.now.rest ≡ None → result ≡ true }
+        ensures otherwise_admitted { self.now.first ≡ None → self.now.rest ≡ None → result ≡ true }
     {
         self.first.is_none() && self.rest.is_none()
     }
