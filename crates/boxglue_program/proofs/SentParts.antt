@@ -1,5 +1,5 @@
 -- What a device has of the file of a job, if it reports its bytes.
-use Rattle.std.proofs.Common.{◌≡◌, ◌++◌, inl, inr, ℕ, List, length, take, Option, IfSome, refl, sym}
+use Rattle.std.proofs.Common.{◌++◌, inl, inr, ℕ, List, length, take, Option, IfSome, refl, sym}
 use Rattle.std.proofs.Math.Seq.{take-append_seam}
 use Rattle.dvi_device.specs.Written.{GrowsByFront, IsFrontOf}
 use Rattle.dvi_layout.specs.Layout.{front, whole}
