@@ -53,7 +53,7 @@ IsSentPart m bytes =
 -- definition of DVI files alone and by the widths that the font files give; they are the file that this writer lays out, and it ends as a file of
 -- these pages does. If the device failed in the end, they are a proper beginning of that file. If the job is not over because its end was
 -- refused, they are the bytes of all pages that were shipped. If the job is over, whatever failed, they are a beginning of the one file. In each case they
--- begin with all bytes of the pages that were shipped, so they tell which command or end met a failure of the device.
+-- begin with all bytes of the pages that were shipped, and they lack some of what a `ship` or end that lost its device sends.
 pub record WasRun (files : List NamedBytes) (n : ℕ) (commands : List Command) (replies : List Reply) (end : Result Summary Refusal) (k : ℕ) (bytes_written : Option (List ℕ)) : Type 0 where
   pub middle : Machine
   pub failed : ℕ
