@@ -146,7 +146,9 @@ def check_words(room, it, ran):
     came, end, rest = check_run(it.script, ran.output)
     require(message or ran.status == int(came != "accepted"), "%s with status %d", came, ran.status)
     if command and not message and it.out and not it.out.startswith("/dev") and end and end[0]:
-        check_made(room, ran.made, end, [word for word in it.words[2:] if word != b"--"], before)
+        if before is not None:
+            room.write(it.out, before)  # where the file is in the place of a metric file, `list` reads that one again
+        check_made(room, ran.made, end, [word for word in it.words if word != b"--"][2:], before)
     require(not rest or not command and HEX.fullmatch(rest), "after the answers come %r", rest[:100])
     return message.decode() or came
 
