@@ -187,11 +187,6 @@ pub rest-some : (items : List Node) (rest : Option SplitRest) (split : Option Pa
 rest-some items None split same some = absurd (cc)
 rest-some items (Some rest) split same some = sym (ap is_some same)
 
--- A list with a rest has an item.
-pub rest-of-some : (items : List Node) (rest : Option SplitRest) → IfSome rest (λ r. IsInside r items) → is_some rest ≡ true → items ≢ []
-rest-of-some items None inside some = absurd (cc)
-rest-of-some items (Some rest) inside some = λ none. omega (arith, inside.free, inside.ordered, inside.within, ap length none)
-
 -- A rest has no more items than the list.
 filter-shorter : (xs : List Node) → length (filter is_special xs) ≤ length xs
 filter-shorter [] = omega arith
