@@ -12,4 +12,4 @@ returns-in_err-extend_from_slice-clause-growth c =
     let text = c.loop-lines.text.items in
     on_any _ c.from_residual.result
     (some_listed c.args.text.now.items text c.next.new.part (lines_ahead c.next.new.self) (listing (map marked_page c.args.pages.now)) inv.front
-    (ap (λ (lines : List ℕ). text ++ lines) (sym (c.next.ensures.part_returned ?)) ∙ inv.whole) (c.next.ensures.filled ?))
+    (ap (λ (lines : List ℕ). text ++ lines) (sym (c.next.ensures.part_returned c.loop-lines-test.true)) ∙ inv.whole) (c.next.ensures.filled c.loop-lines-test.true))
