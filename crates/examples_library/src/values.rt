@@ -5,8 +5,7 @@ ghost use Rattle.dvi_layout.specs.Fonts.{Slots};
 ghost use Rattle.dvi_layout.specs.Shippable.{IsShippable};
 
 use crate::pages::hbox;
-use anyhow::{Context, Result};
-use job_core::{Command, FontName, Register};
+use job_core::{Command, Register};
 use node_core::{BoxNode, Glue, Kind, Node, NodeList, Params, Rule, RuleSize, Setting};
 use scaled_core::Dimen;
 use std::alloc::{AllocError, Global};
@@ -16,12 +15,6 @@ pub const ONE_RULE: &str = "hbox into 0\nrule 1pt 1pt 0pt\nend\nship 0\n";
 
 /// The script of a page with one glyph.
 pub const ONE_GLYPH: &str = "font 0 tiny\nuse 0\nhbox into 0\ntext c\nend\nship 0\n";
-
-/// The name of the font.
-pub fn tiny_name(alloc: Global) -> Result<FontName> {
-    let name = FontName::try_new(Vec::from_slice(alloc, b"tiny")?);
-    name.context("the name has a byte")
-}
 
 /// A rule of this width, 1pt high.
 fn rule(width: Dimen) -> Rule {
