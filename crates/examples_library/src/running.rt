@@ -9,11 +9,12 @@ use crate::resuming::completed;
 use crate::scripts::answered;
 use crate::texts::text_page;
 use crate::tiny::{tiny, tiny_name};
-use crate::values::{ONE_GLYPH, ONE_RULE, box_of_a_rule, narrow, one_rule, two_rules};
+use crate::values::{ONE_GLYPH, ONE_RULE, box_of_a_rule, one_rule, two_rules};
 use crate::writing::same_pages;
 use anyhow::{Context, Result};
 use dvi_write::{Fonts, Memory, Offsets};
 use job_core::FontFile;
+use node_core::Params;
 use scaled_core::Dimen;
 use std::alloc::Global;
 use std::io::Write;
@@ -97,7 +98,7 @@ pub fn run_shown<W: Write>(alloc: Global, output: &mut W) -> Result<()> {
 
 /// Breaks two rules as wide as a line.
 pub fn run_counted<W: Write>(alloc: Global, output: &mut W) -> Result<()> {
-    let params = narrow();
+    let params = Params::first();
     let nodes = two_rules(alloc, &params)?;
     let done = counted(alloc, &nodes, &params);
     let (breaks, tried) = done.context("the list was not broken")?;

@@ -54,22 +54,14 @@ pub fn box_of_a_rule(alloc: Global) -> Result<BoxNode, AllocError>
     })
 }
 
-/// Parameters with lines of 40pt.
-pub fn narrow() -> Params {
-    let mut params = Params::first();
-    params.hsize = Dimen::points(40);
-    params
-}
-
-/// A finished list of two rules 40pt wide, with glue of no width between them.
+/// A finished list of two rules as wide as a line, with glue of no width between them.
 pub fn two_rules(alloc: Global, params: &Params) -> Result<Vec<Node>, AllocError> {
     let mut between: Glue = params.par_fill_skip;
     between.stretch = Dimen::ZERO;
-    let wide = Dimen::points(40);
     let nodes = [
-        Node::Rule(rule(wide)),
+        Node::Rule(rule(params.hsize)),
         Node::Glue(between),
-        Node::Rule(rule(wide)),
+        Node::Rule(rule(params.hsize)),
         Node::Penalty(10_000),
         Node::Glue(params.par_fill_skip),
     ];
