@@ -49,23 +49,30 @@ def task(number):
     return crate, "tests" if "--test" in words else "proof"
 
 
+def is_below(number, root, now):
+    """Whether a process was started by another one, or by a process that this one started."""
+    while number in now and number != root:
+        number = now[number][0]
+    return number == root
+
+
 class Samples:
     """The greatest time that was seen of each process that the prover was started as, with those that it started."""
 
-    def __init__(self):
-        self.seconds, self.tasks, self.started = {}, {}, {}
+    def __init__(self, root):
+        self.root, self.seconds, self.tasks = root, {}, {}
 
     def take(self):
         now = processes()
         times = defaultdict(float)
-        for number, (parent, spent) in now.items():
-            if number not in self.tasks or self.started[number] != parent:
-                self.tasks[number], self.started[number] = task(number), parent
-            top = number
-            while self.tasks.get(top) and self.tasks.get(now[top][0]) == self.tasks[top]:
-                top = now[top][0]
-            if self.tasks.get(top):
-                times[top, self.tasks[top]] += spent
+        tasks = {number: self.tasks.get(number) or task(number) for number in now if is_below(number, self.root, now)}
+        for number, what in tasks.items():
+            if what:
+                top = number
+                while tasks.get(now[top][0]) == what:
+                    top = now[top][0]
+                times[top, what] += now[number][1]
+        self.tasks = tasks
         for key, spent in times.items():
             self.seconds[key] = max(self.seconds.get(key, 0), spent)
 
@@ -101,8 +108,9 @@ def main():
     words.add_argument("--every", type=float, default=0.25)
     words.add_argument("command", nargs=argparse.REMAINDER)
     asked = words.parse_args()
-    begun, samples = time.time(), Samples()
+    begun = time.time()
     running = subprocess.Popen(asked.command)
+    samples = Samples(running.pid)
     while running.poll() is None:
         samples.take()
         time.sleep(asked.every)
