@@ -35,7 +35,8 @@ def documents(work):
     """DVI files by tex and latex, those of TeX Live, and copies by dvicopy, which has the fonts of virtual ones."""
     made, missing = [], []
     for name, (program, text) in DOCUMENTS.items():
-        for _ in range(2 if "\\tableofcontents" in text else 1):
+        # References are those of the run before, so a second run makes the file the same in a used folder too.
+        for _ in range(2 if "\\tableofcontents" in text or "\\ref" in text else 1):
             work.tex("document_" + name, text, program)
         if os.path.exists(work.path("document_%s.dvi" % name)):
             made.append("document_%s.dvi" % name)

@@ -1,6 +1,7 @@
 -- The lines of a listing that are still to come.
-use Rattle.std.proofs.Common.{◌≡◌, ℕ, ℤ, ◌+◌, ◌/◌, ◌%◌, Bool, true, false, if◌then◌else◌, Option, None, Some, ◌++◌, ◌<◌, ◌-◌, take, List, [], ◌∷◌, length, drop, map, get_or, codes, decimal, ap, sym, refl, ◌∙◌, append_assoc, arith, length-append}
-use Rattle.std.proofs.lemmas.List.{take_all}
+use Rattle.std.proofs.Common.{◌≡◌, ◌≢◌, ℕ, ℤ, ◌+◌, ◌/◌, ◌%◌, Bool, true, false, if◌then◌else◌, Option, None, Some, ◌++◌, ◌<◌, ◌-◌, take, List, [], ◌∷◌, length, drop, map, get_or, codes, decimal, ap, sym, refl, ◌∙◌, append_assoc, arith, length-append}
+use Rattle.std.proofs.Math.Nat.{min-le_right}
+use Rattle.std.proofs.lemmas.List.{length-take, take_all}
 use Rattle.std.specs.Borrow.{Bor}
 use Rattle.std.specs.Fmt.{signed_decimal}
 use Rattle.std.specs.List.{flat_map}
@@ -52,3 +53,10 @@ page_first (p ∷ ps) before page bytes some is text =
     ∙ (append_assoc (line (codes "page " ++ (decimal (before + 1) ++ codes " counts")) page.counts) (flat_map mark_line (map mark_of page.marks.items)) rest
     ∙ (ap (λ (bs : List ℕ). bs ++ (flat_map mark_line (map mark_of page.marks.items) ++ rest)) (sym text)
     ∙ ap (λ (qs : List Page). bytes ++ (flat_map mark_line (map mark_of page.marks.items) ++ pages_lines (before + 1 + 1) (map marked_page qs))) (sym (rest_whole p ps))))
+
+-- A listing with lines to come is not empty.
+pub some_listed : (old text part rest all : List ℕ) → take (length old) text ≡ old → text ++ (part ++ rest) ≡ old ++ all → 0 < length part → all ≢ []
+some_listed old text part rest all front whole some = λ none.
+    let sizes : length text + (length part + length rest) ≡ length old + length all =
+    ap (λ n. length text + n) (sym (length-append part rest)) ∙ (sym (length-append text (part ++ rest)) ∙ (ap length whole ∙ length-append old all)) in
+    omega (arith, sizes, some, ap length none, ap length front, length-take (length old) text, min-le_right (length old) (length text))

@@ -1,6 +1,6 @@
 //! A DVI file that was checked as a whole (DVItype, 13 to 20).
 
-ghost use Rattle.std.specs.Prelude.{◌≡◌, ◌≢◌, ◌++◌, ◌<◌, length, map, slice_get, IfErr, IfOk, OnErr, OnOk, Some};
+ghost use Rattle.std.specs.Prelude.{◌≡◌, ◌≢◌, ◌++◌, ◌<◌, [], length, map, slice_get, IfErr, IfOk, OnErr, OnOk, Some};
 ghost use Rattle.dvi_read.specs.Listing.{lines_ahead, listing as listing_of};
 ghost use Rattle.dvi_ops.specs.File.{AreUnits, IsFile};
 ghost use Rattle.dvi_ops.specs.View.{definition, units as view_units};
@@ -131,10 +131,11 @@ impl<'a> Dvi<'a> {
         Lines::new(&self.pages)
     }
 
-    /// Appends the listing of all pages. Where memory is refused, `text` is unchanged.
+    /// Appends the listing of all pages. Where memory is refused, `text` is unchanged. A file without pages takes no memory.
     pub fn listing(&self, text: &mut Vec<u8>) -> Result<(), AllocError>
         ensures ok { OnOk result (text.new.items ≡ text.old.items ++ listing_of self.now.pages) }
         ensures err { OnErr result (text.new.items ≡ text.old.items) }
+        ensures growth { OnErr result (listing_of self.now.pages ≢ []) }
     {
         listing(&self.pages, text)
     }

@@ -1,6 +1,6 @@
 //! The text of a listing.
 
-ghost use Rattle.std.specs.Prelude.{◌≡◌, ◌++◌, ◌+◌, ◌<◌, ◌≤◌, [], false, length, map, take, vec_capacity, vec_len, IsTrue, OnErr, OnOk};
+ghost use Rattle.std.specs.Prelude.{◌≡◌, ◌≢◌, ◌++◌, ◌+◌, ◌<◌, ◌≤◌, [], false, length, map, take, vec_capacity, vec_len, IsTrue, OnErr, OnOk};
 ghost use Rattle.dvi_scan.specs.View.{marked_page};
 ghost use Rattle.dvi_read.specs.Listing.{lines_ahead, listing};
 ghost use Rattle.dvi_read.specs.declared.part.TheConstants.{PART};
@@ -84,6 +84,7 @@ impl<'a, 'f> Lines<'a, 'f> {
 fn push_lines(pages: &[Page<'_>], text: &mut Vec<u8>) -> Result<(), AllocError>
     ensures ok { OnOk result (text.new.items ≡ text.old.items ++ listing (map marked_page pages.now)) }
     ensures front { take (length text.old.items) text.new.items ≡ text.old.items }
+    ensures growth { OnErr result (listing (map marked_page pages.now) ≢ []) }
 {
     let mut lines = Lines::new(pages);
     let mut part = ListingPart::new();
@@ -95,10 +96,11 @@ fn push_lines(pages: &[Page<'_>], text: &mut Vec<u8>) -> Result<(), AllocError>
 
 /// Appends the listing of pages, which are numbered from 1. Each page is a line `page I counts c0 .. c9` and then a line for each of its marks:
 /// `glyph FONT CODE H V`, `rule H V HEIGHT WIDTH` or `special H V TEXT`, in DVI units and decimal numbers (the marks are DVItype's, 15 and 16; the
-/// text is own). Where memory is refused, `text` is unchanged.
+/// text is own). Where memory is refused, `text` is unchanged. Without pages no memory is needed.
 pub fn listing(pages: &[Page<'_>], text: &mut Vec<u8>) -> Result<(), AllocError>
     ensures ok { OnOk result (text.new.items ≡ text.old.items ++ listing (map marked_page pages.now)) }
     ensures err { OnErr result (text.new.items ≡ text.old.items) }
+    ensures growth { OnErr result (listing (map marked_page pages.now) ≢ []) }
 {
     let held = text.len();
     let listed = push_lines(pages, text);

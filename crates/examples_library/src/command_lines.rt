@@ -3,6 +3,15 @@
 use boxglue_lib::{HeldFile, MemoryHost, program};
 use std::alloc::{AllocError, Global};
 
+/// The words of a command line, as the program takes them.
+fn owned_words(alloc: Global, words: &[&str]) -> Result<Vec<String>, AllocError> {
+    let mut owned = Vec::new(alloc);
+    for word in words {
+        owned.push(String::from_str(alloc, word)?)?;
+    }
+    Ok(owned)
+}
+
 /// Runs the program with words, such as `typeset`, `out.dvi`, `tiny=tiny.tfm`, on a script and with this one file. Returns its status, its output, its
 /// errors, and the host, whose `written()` is the DVI file.
 pub fn run(
@@ -11,15 +20,12 @@ pub fn run(
     script: Vec<u8>,
     metrics: Vec<u8>,
 ) -> Result<(u8, Vec<u8>, Vec<u8>, MemoryHost), AllocError> {
-    let mut files = Vec::new(alloc);
-    files.push(HeldFile::new(Vec::from_slice(alloc, "tiny.tfm".as_bytes())?, metrics))?;
-    let mut owned = Vec::new(alloc);
-    for word in words {
-        owned.push(String::from_str(alloc, word)?)?;
-    }
+    let words = owned_words(alloc, words)?;
+    let path = Vec::from_slice(alloc, b"tiny.tfm")?;
+    let files = Vec::from_array(alloc, [HeldFile::new(path, metrics)])?;
+    let host = MemoryHost::new(alloc, files, script);
     let mut output = Vec::new(alloc);
     let mut errors = Vec::new(alloc);
-    let host = MemoryHost::new(alloc, files, script);
-    let (status, host) = program(alloc, &owned, host, &mut output, &mut errors);
+    let (status, host) = program(alloc, &words, host, &mut output, &mut errors);
     Ok((status, output, errors, host))
 }

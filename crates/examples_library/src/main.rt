@@ -9,6 +9,7 @@ mod paragraphs;
 mod printing;
 mod reading;
 mod resuming;
+mod running;
 mod scripts;
 mod texts;
 mod tiny;
@@ -16,20 +17,21 @@ mod values;
 mod writing;
 
 use anyhow::Result;
-use printing::{
-    print_answered, print_completed, print_counted, print_pages, print_run, print_same_pages,
-    print_shown,
+use running::{
+    run_answered, run_completed, run_counted, run_one_rule_page, run_program, run_same_pages,
+    run_shown, run_text_page,
 };
 
 /// Runs the examples in the order of the document.
 fn main(rt: HostRuntime) -> Result<()> {
     let alloc = rt.alloc();
     let mut output = rt.stdout();
-    print_answered(alloc, &mut output)?;
-    print_run(alloc, &mut output)?;
-    print_pages(alloc, &mut output)?;
-    print_completed(alloc, &mut output)?;
-    print_same_pages(alloc, &mut output)?;
-    print_shown(alloc, &mut output)?;
-    print_counted(alloc, &mut output)
+    run_answered(alloc, &mut output)?;
+    run_program(alloc, &mut output)?;
+    run_one_rule_page(alloc, &mut output)?;
+    run_text_page(alloc, &mut output)?;
+    run_completed(alloc, &mut output)?;
+    run_same_pages(alloc, &mut output)?;
+    run_shown(alloc, &mut output)?;
+    run_counted(alloc, &mut output)
 }

@@ -5,21 +5,27 @@ use raster_core::Bitmap;
 use std::alloc::Global;
 use tfm_core::FontFile;
 
-/// The listing of a DVI file, and its first page as a bitmap of 850 by 1,100 pixels in plain PBM, white if the file has no page.
-pub fn shown(
-    alloc: Global,
-    bytes: &[u8],
-    files: &[FontFile],
-) -> Result<(Vec<u8>, Vec<u8>), DviFault> {
-    let dvi = Dvi::open(alloc, bytes, files)?; // the whole file is checked
-    let mut text = Vec::new(alloc);
-    let mut picture = Vec::new(alloc);
+/// The first page of a file as a bitmap of 850 by 1,100 pixels, white if the file has no page.
+fn first_page(alloc: Global, dvi: &Dvi) -> Result<Bitmap, DviFault> {
     let Ok(mut bitmap) = Bitmap::new(alloc, 850, 1100) else {
         return Err(DviFault::OutOfMemory); // the size is in range, so memory was refused
     };
     if dvi.pages() > 0 {
         bitmap.paint(dvi.page(0), dvi.units(), 100);
     }
+    Ok(bitmap)
+}
+
+/// The listing of a DVI file, and its first page in plain PBM.
+pub fn shown(
+    alloc: Global,
+    bytes: &[u8],
+    files: &[FontFile],
+) -> Result<(Vec<u8>, Vec<u8>), DviFault> {
+    let dvi = Dvi::open(alloc, bytes, files)?; // the whole file is checked
+    let bitmap = first_page(alloc, &dvi)?;
+    let mut text = Vec::new(alloc);
+    let mut picture = Vec::new(alloc);
     if dvi.listing(&mut text).is_err() || bitmap.write_pbm(&mut picture).is_err() {
         return Err(DviFault::OutOfMemory);
     }

@@ -6,6 +6,20 @@ use job_core::{
 };
 use std::alloc::Global;
 
+/// Puts a vertical list with one paragraph of text into the first register, and returns the answer to the end of the paragraph.
+fn put_text(job: &mut Job<Memory>, text: Vec<u8>) -> Result<Answer, Refusal> {
+    job.step(&Command::Open(Opening {
+        form: BoxForm::Vbox,
+        target: Target::Natural,
+        into: Some(Register::FIRST),
+    }))?;
+    job.step(&Command::Paragraph)?;
+    job.step(&Command::Text(Characters::new(text)))?; // Answer::Shaped { items, missing }
+    let paragraph = job.step(&Command::End)?; // Answer::Paragraph { lines, pass, overhang, demerits }
+    job.step(&Command::End)?;
+    Ok(paragraph)
+}
+
 /// The DVI file of a page with a paragraph of text, in the font of the first of these files with this name, and the answer to the end of the paragraph.
 pub fn text_page(
     alloc: Global,
@@ -23,15 +37,7 @@ pub fn text_page(
     };
     job.step(&Command::LoadFont(load))?;
     job.step(&Command::UseFont(0))?;
-    job.step(&Command::Open(Opening {
-        form: BoxForm::Vbox,
-        target: Target::Natural,
-        into: Some(Register::FIRST),
-    }))?;
-    job.step(&Command::Paragraph)?;
-    job.step(&Command::Text(Characters::new(text)))?; // Answer::Shaped { items, missing }
-    let paragraph = job.step(&Command::End)?; // Answer::Paragraph { lines, pass, overhang, demerits }
-    job.step(&Command::End)?;
+    let paragraph = put_text(&mut job, text)?;
     job.step(&Command::Ship(Register::FIRST))?;
     job.finish()?;
     Ok((job.into_device(), paragraph))

@@ -5,8 +5,7 @@ ghost use Rattle.dvi_layout.specs.Fonts.{Slots};
 ghost use Rattle.dvi_layout.specs.Shippable.{IsShippable};
 
 use crate::pages::hbox;
-use anyhow::{Context, Result};
-use job_core::{Command, FontName, Register};
+use job_core::{Command, Register};
 use node_core::{BoxNode, Glue, Kind, Node, NodeList, Params, Rule, RuleSize, Setting};
 use scaled_core::Dimen;
 use std::alloc::{AllocError, Global};
@@ -16,12 +15,6 @@ pub const ONE_RULE: &str = "hbox into 0\nrule 1pt 1pt 0pt\nend\nship 0\n";
 
 /// The script of a page with one glyph.
 pub const ONE_GLYPH: &str = "font 0 tiny\nuse 0\nhbox into 0\ntext c\nend\nship 0\n";
-
-/// The name of the font.
-pub fn tiny_name(alloc: Global) -> Result<FontName> {
-    let name = FontName::try_new(Vec::from_slice(alloc, b"tiny")?);
-    name.context("the name has a byte")
-}
 
 /// A rule of this width, 1pt high.
 fn rule(width: Dimen) -> Rule {
@@ -61,22 +54,14 @@ pub fn box_of_a_rule(alloc: Global) -> Result<BoxNode, AllocError>
     })
 }
 
-/// Parameters with lines of 40pt.
-pub fn narrow() -> Params {
-    let mut params = Params::first();
-    params.hsize = Dimen::points(40);
-    params
-}
-
-/// A finished list of two rules 40pt wide, with glue of no width between them.
+/// A finished list of two rules as wide as a line, with glue of no width between them.
 pub fn two_rules(alloc: Global, params: &Params) -> Result<Vec<Node>, AllocError> {
     let mut between: Glue = params.par_fill_skip;
     between.stretch = Dimen::ZERO;
-    let wide = Dimen::points(40);
     let nodes = [
-        Node::Rule(rule(wide)),
+        Node::Rule(rule(params.hsize)),
         Node::Glue(between),
-        Node::Rule(rule(wide)),
+        Node::Rule(rule(params.hsize)),
         Node::Penalty(10_000),
         Node::Glue(params.par_fill_skip),
     ];

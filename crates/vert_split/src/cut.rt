@@ -1,6 +1,6 @@
 //! Splitting a vertical list (TeX: The Program, part 44, §977 to §979, vsplit).
 
-ghost use Rattle.std.specs.Prelude.{◌≡◌, ◌≤◌, ◌-◌, Some, None, IfOk, IfErr, OnOk, OnErr, true, is_some, length, take};
+ghost use Rattle.std.specs.Prelude.{◌≡◌, ◌≢◌, ◌≤◌, ◌-◌, [], Some, None, IfOk, IfErr, OnOk, OnErr, true, is_some, length, take};
 ghost use Rattle.node_core.specs.Nodes.{max_nodes, items_of, nodes_of};
 ghost use Rattle.pack_core.specs.Boxes.{packed_of};
 ghost use Rattle.vert_split.specs.Split.{front_of, rest_of, refusal, fault_of};
@@ -86,9 +86,10 @@ pub fn split_list(list: NodeList, height: Dimen, params: &SplitParams) -> Result
     }
 }
 
-/// A copy of the nodes. The error is that memory was refused.
+/// A copy of the nodes. The error is that memory was refused, which is needed only if there are nodes.
 fn copied(alloc: Global, nodes: &[Node]) -> Result<Vec<Node>, AllocError>
-    ensures { IfOk result (λ copy. copy.items ≡ nodes.now) }
+    ensures ok { IfOk result (λ copy. copy.items ≡ nodes.now) }
+    ensures growth { OnErr result (nodes.now ≢ []) }
 {
     let mut copy = Vec::with_capacity(alloc, nodes.len())?;
     for node in nodes {
@@ -103,6 +104,7 @@ fn split_copy(alloc: Global, nodes: &[Node], plan: &Plan) -> Result<Split, Alloc
     requires sound { PlanFits nodes.now plan.now }
     ensures front { IfOk result (λ s. s.front ≡ packed_of (items_of (take plan.now.place nodes.now)) plan.now.front) }
     ensures rest_part { IfOk result (λ s. s.rest ≡ packed_left plan.now.rest nodes.now) }
+    ensures growth { OnErr result (nodes.now ≢ []) }
 {
     match carry_out(copied(alloc, nodes)?, plan) {
         Ok(parts) => Ok(parts),
@@ -110,7 +112,7 @@ fn split_copy(alloc: Global, nodes: &[Node], plan: &Plan) -> Result<Split, Alloc
     }
 }
 
-/// Splits a copy of a vertical list to this height, with the faults of `split_list`.
+/// Splits a copy of a vertical list to this height, with the faults of `split_list`. The copy of an empty list takes no memory.
 pub fn split(
     alloc: Global,
     nodes: &[Node],
@@ -122,6 +124,8 @@ pub fn split(
     ensures rest_part { IfOk result (λ s. s.rest ≡ rest_of params.now height nodes.now) }
     ensures ok { OnOk result (refusal params.now height nodes.now ≡ None) }
     ensures fault { IfErr result (λ e. e ≡ fault_of (refusal params.now height nodes.now)) }
+    // Memory is needed only if there are nodes to copy.
+    ensures growth { OnErr result (refusal params.now height nodes.now ≡ None → nodes.now ≢ []) }
 {
     match plan_split(nodes, height, params) {
         Err(fault) => Err(fault),

@@ -1,0 +1,107 @@
+//! Each example is run and its output printed.
+
+use crate::command_lines::run;
+use crate::pages::one_rule_page;
+use crate::paragraphs::counted;
+use crate::printing::{print_answers, print_breaks, print_end, print_listing, print_page};
+use crate::reading::shown;
+use crate::resuming::completed;
+use crate::scripts::answered;
+use crate::texts::text_page;
+use crate::tiny::{tiny, tiny_name};
+use crate::values::{ONE_GLYPH, ONE_RULE, box_of_a_rule, one_rule, two_rules};
+use crate::writing::same_pages;
+use anyhow::{Context, Result};
+use dvi_write::{Fonts, Memory, Offsets};
+use job_core::FontFile;
+use node_core::Params;
+use scaled_core::Dimen;
+use std::alloc::Global;
+use std::io::Write;
+
+/// Runs the script of the page with one rule.
+pub fn run_answered<W: Write>(alloc: Global, output: &mut W) -> Result<()> {
+    let done = answered(alloc, ONE_RULE.as_bytes(), &[]).ok();
+    let (answers, memory) = done.context("memory was refused")?;
+    print_answers(output, &answers, memory.bytes().len())?;
+    Ok(())
+}
+
+/// Runs the program on the script of a page with one glyph.
+pub fn run_program<W: Write>(alloc: Global, output: &mut W) -> Result<()> {
+    let words = ["typeset", "out.dvi", "tiny=tiny.tfm"];
+    let script = Vec::from_slice(alloc, ONE_GLYPH.as_bytes())?;
+    let (status, answers, errors, host) = run(alloc, &words, script, tiny(alloc)?)?;
+    print_end(output, &answers, status, errors.len(), host.written().len())?;
+    Ok(())
+}
+
+/// Makes the page with one rule. The answer is to the end of its box.
+pub fn run_one_rule_page<W: Write>(alloc: Global, output: &mut W) -> Result<()> {
+    let (memory, packed) = one_rule_page(alloc, Dimen::points(1))?;
+    print_page(output, "one_rule_page", &packed, memory.bytes().len())?;
+    Ok(())
+}
+
+/// Makes a page of the paragraph `c c`. The answer is to the end of the paragraph.
+pub fn run_text_page<W: Write>(alloc: Global, output: &mut W) -> Result<()> {
+    let files = [FontFile::new(tiny_name(alloc)?, tiny(alloc)?)];
+    let text = Vec::from_slice(alloc, b"c c")?;
+    let (memory, paragraph) = text_page(alloc, &files, tiny_name(alloc)?, text)?;
+    print_page(output, "text_page", &paragraph, memory.bytes().len())?;
+    Ok(())
+}
+
+/// Makes the page with one rule on a device that fails at this call.
+fn complete<W: Write>(alloc: Global, output: &mut W, fails_at: u64) -> Result<()> {
+    let done = completed(alloc, &one_rule(), fails_at);
+    let (is_whole, device) = done.context("memory was refused")?;
+    let length = device.bytes().len();
+    writeln!(output, "{fails_at}: {is_whole}, {length} bytes")?;
+    Ok(())
+}
+
+/// Makes the page with one rule on a device that fails at no call, at the first and at the second.
+pub fn run_completed<W: Write>(alloc: Global, output: &mut W) -> Result<()> {
+    writeln!(output, "== completed")?;
+    complete(alloc, output, 0)?;
+    complete(alloc, output, 1)?;
+    complete(alloc, output, 2)
+}
+
+/// The file of two pages with one rule.
+fn two_pages(alloc: Global) -> Result<Memory> {
+    let shown = box_of_a_rule(alloc)?;
+    let fonts = Fonts::new(alloc)?;
+    let at = Offsets {
+        h: Dimen::ZERO,
+        v: Dimen::ZERO,
+    };
+    let counts = [[0; 10], [7; 10]];
+    Ok(same_pages(alloc, &shown, &at, &counts, &fonts)?)
+}
+
+/// Writes two pages with one rule.
+pub fn run_same_pages<W: Write>(alloc: Global, output: &mut W) -> Result<()> {
+    let memory = two_pages(alloc)?;
+    writeln!(output, "== same_pages\n{} bytes", memory.bytes().len())?;
+    Ok(())
+}
+
+/// Lists and paints the page with one rule.
+pub fn run_shown<W: Write>(alloc: Global, output: &mut W) -> Result<()> {
+    let (memory, _) = one_rule_page(alloc, Dimen::points(1))?;
+    let (listing, picture) = shown(alloc, memory.bytes(), &[])?;
+    print_listing(output, &listing, &picture)?;
+    Ok(())
+}
+
+/// Breaks two rules as wide as a line.
+pub fn run_counted<W: Write>(alloc: Global, output: &mut W) -> Result<()> {
+    let params = Params::first();
+    let nodes = two_rules(alloc, &params)?;
+    let done = counted(alloc, &nodes, &params);
+    let (breaks, tried) = done.context("the list was not broken")?;
+    print_breaks(output, &breaks, tried)?;
+    Ok(())
+}
