@@ -1,7 +1,8 @@
 -- The innermost open list, and the one around it, while the code empties, fills, changes and closes them.
-use Rattle.std.proofs.Common.{◌≡◌, ◌≢◌, ◌∙◌, ℕ, ◌-◌, ◌==◌, ◌≤◌, List, [], ◌∷◌, ◌++◌, length, take, set, get_or, false, Option, Some, None, Result, Ok, Err, OnErr, ap, sym, arith}
+use Rattle.std.proofs.Common.{◌≡◌, ◌≢◌, ◌∙◌, ℕ, ◌-◌, ◌==◌, ◌≤◌, List, [], ◌∷◌, ◌++◌, length, take, set, get_or, false, true, Option, Some, None, Result, Ok, Err, OnErr, refl, ap, sym, arith}
 use Rattle.std.specs.Prelude.{pos, IsSome, slice_get, slice_set}
 use Rattle.std.proofs.Math.Seq.{take-set-lt}
+use Rattle.std.proofs.lemmas.Bool.{eqb-true}
 use Rattle.std.proofs.lemmas.List.{take-set-le, length-take-le, length-set}
 use Rattle.node_core.specs.declared.tree.BoxNode.{BoxNode}
 use Rattle.node_core.specs.declared.tree.Node.{Node}
@@ -122,3 +123,7 @@ no_list (Some l) some is = cc
 pub some_nodes : (nodes : List Node) → (length nodes == 0) ≡ false → nodes ≢ []
 some_nodes [] is = λ none. cc
 some_nodes (n ∷ nodes) is = λ none. cc
+
+pub no_nodes : (nodes : List Node) → (length nodes == 0) ≡ true → nodes ≡ []
+no_nodes [] empty = refl
+no_nodes (n ∷ nodes) empty = absurd (omega (arith, eqb-true (length (n ∷ nodes)) 0 empty))

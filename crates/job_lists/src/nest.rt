@@ -151,12 +151,13 @@ impl Nest {
         }
     }
 
-    /// Moves the nodes of another list, in order, to the end of the innermost one. An empty list takes no memory.
+    /// Moves the nodes of another list, in order, to the end of the innermost one. The other list is then empty. An empty list takes no memory.
     /// Where memory is refused, both lists are unchanged.
-    #[tactic(auto, using(job_machine::proofs::States::same_innermost, job_machine::proofs::States::none_added, crate::proofs::Nests::some_nodes))]
+    #[tactic(auto, using(job_machine::proofs::States::same_innermost, job_machine::proofs::States::none_added, crate::proofs::Nests::some_nodes, crate::proofs::Nests::no_nodes))]
     pub fn append_list(&mut self, list: &mut NodeList) -> Result<(), AllocError>
         requires { length (nodes_of (items_in (innermost self.old))) + length (nodes_of list.old) ≤ MAX_ITEMS }
         ensures ok { OnOk result (self.new ≡ with_nodes self.old (nodes_of list.old) (innermost self.old)) }
+        ensures emptied { OnOk result (IsSome (innermost self.old) → nodes_of list.new ≡ []) }
         ensures err { OnErr result (self.new ≡ self.old) }
         ensures list_returned { OnErr result (list.new ≡ list.old) }
         ensures takes { OnErr result (nodes_of list.old ≢ []) }
