@@ -14,8 +14,8 @@ pub fn hbox() -> Command {
     })
 }
 
-/// Puts a box with one rule as wide and high as a point into the first register, and returns the answer to the end of its list.
-fn put_rule(job: &mut Job<Memory>, point: Dimen) -> Result<Answer, Refusal> {
+/// Ships a page with one rule as wide and high as a point, and returns the answer to the command that packed its box.
+fn ship_rule(job: &mut Job<Memory>, point: Dimen) -> Result<Answer, Refusal> {
     let rule = Rule {
         width: RuleSize::Fixed(point),
         height: RuleSize::Fixed(point),
@@ -23,16 +23,17 @@ fn put_rule(job: &mut Job<Memory>, point: Dimen) -> Result<Answer, Refusal> {
     };
     job.step(&hbox())?; // an Err is a refusal, which changes nothing
     job.step(&Command::Rule(rule))?;
-    job.step(&Command::End) // Answer::Packed(sizes, badness)
+    let packed = job.step(&Command::End)?; // Answer::Packed(sizes, badness)
+    job.step(&Command::Ship(Register::FIRST))?; // Answer::Shipped(1): the page was sent to the device
+    Ok(packed)
 }
 
-/// The DVI file of a page with one rule as wide and high as a point, and the answer to the command that packed its box.
+/// The DVI file of this page, and the answer to the command that packed its box.
 pub fn one_rule_page(alloc: Global, point: Dimen) -> Result<(Memory, Answer), Refusal> {
     let Ok(mut job) = Job::new(alloc, Memory::new(alloc), &[]) else {
         return Err(Refusal::OutOfMemory); // the Err has the device
     };
-    let packed = put_rule(&mut job, point)?;
-    job.step(&Command::Ship(Register::FIRST))?; // Answer::Shipped(1): the page was sent to the device
+    let packed = ship_rule(&mut job, point)?;
     job.finish()?; // sends the end of the file
     Ok((job.into_device(), packed)) // the bytes() of the device are the file
 }

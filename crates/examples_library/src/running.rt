@@ -7,7 +7,7 @@ use crate::printing::{print_answers, print_breaks, print_end, print_listing, pri
 use crate::reading::shown;
 use crate::resuming::completed;
 use crate::scripts::answered;
-use crate::texts::text_page;
+use crate::texts::{text_commands, text_page};
 use crate::tiny::{tiny, tiny_name};
 use crate::values::{ONE_GLYPH, ONE_RULE, box_of_a_rule, one_rule, two_rules};
 use crate::writing::same_pages;
@@ -46,9 +46,11 @@ pub fn run_one_rule_page<W: Write>(alloc: Global, output: &mut W) -> Result<()> 
 /// Makes a page of the paragraph `c c`. The answer is to the end of the paragraph.
 pub fn run_text_page<W: Write>(alloc: Global, output: &mut W) -> Result<()> {
     let files = [FontFile::new(tiny_name(alloc)?, tiny(alloc)?)];
-    let text = Vec::from_slice(alloc, b"c c")?;
-    let (memory, paragraph) = text_page(alloc, &files, tiny_name(alloc)?, text)?;
-    print_page(output, "text_page", &paragraph, memory.bytes().len())?;
+    let commands = text_commands(tiny_name(alloc)?, Vec::from_slice(alloc, b"c c")?);
+    let (memory, replies) = text_page(alloc, &files, &commands)?;
+    if let Some(Ok(paragraph)) = replies.get(5) {
+        print_page(output, "text_page", paragraph, memory.bytes().len())?;
+    }
     Ok(())
 }
 

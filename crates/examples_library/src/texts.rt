@@ -1,44 +1,46 @@
 //! A page of text is made by a job.
 
 use job_core::{
-    Answer, BoxForm, Characters, Command, FontFile, FontLoad, FontName, Job, Memory, Opening,
-    Refusal, Register, Target,
+    BoxForm, Characters, Command, FontFile, FontLoad, FontName, Job, Memory, Opening, Refusal,
+    Register, Reply, Target,
 };
 use std::alloc::Global;
 
-/// Puts a vertical list with one paragraph of text into the first register, and returns the answer to the end of the paragraph.
-fn put_text(job: &mut Job<Memory>, text: Vec<u8>) -> Result<Answer, Refusal> {
-    job.step(&Command::Open(Opening {
-        form: BoxForm::Vbox,
-        target: Target::Natural,
-        into: Some(Register::FIRST),
-    }))?;
-    job.step(&Command::Paragraph)?;
-    job.step(&Command::Text(Characters::new(text)))?; // Answer::Shaped { items, missing }
-    let paragraph = job.step(&Command::End)?; // Answer::Paragraph { lines, pass, overhang, demerits }
-    job.step(&Command::End)?;
-    Ok(paragraph)
-}
-
-/// The DVI file of a page with a paragraph of text, in the font of the first of these files with this name, and the answer to the end of the paragraph.
-pub fn text_page(
-    alloc: Global,
-    files: &[FontFile],
-    name: FontName,
-    text: Vec<u8>,
-) -> Result<(Memory, Answer), Refusal> {
-    let Ok(mut job) = Job::new(alloc, Memory::new(alloc), files) else {
-        return Err(Refusal::OutOfMemory);
-    };
+/// The commands of a page with a paragraph of text, in the font of this name.
+pub fn text_commands(name: FontName, text: Vec<u8>) -> [Command; 8] {
     let load = FontLoad {
         slot: 0,
         name,
         size: None, // its design size, or Some(FontSize)
     };
-    job.step(&Command::LoadFont(load))?;
-    job.step(&Command::UseFont(0))?;
-    let paragraph = put_text(&mut job, text)?;
-    job.step(&Command::Ship(Register::FIRST))?;
+    let opening = Opening {
+        form: BoxForm::Vbox,
+        target: Target::Natural,
+        into: Some(Register::FIRST),
+    };
+    [
+        Command::LoadFont(load),
+        Command::UseFont(0),
+        Command::Open(opening),
+        Command::Paragraph,
+        Command::Text(Characters::new(text)), // Answer::Shaped { items, missing }
+        Command::End, // Answer::Paragraph { lines, pass, overhang, demerits }
+        Command::End,
+        Command::Ship(Register::FIRST),
+    ]
+}
+
+/// The DVI file of the pages that these commands ship, and the reply to each command. The fonts are those of these files.
+pub fn text_page(
+    alloc: Global,
+    files: &[FontFile],
+    commands: &[Command],
+) -> Result<(Memory, Vec<Reply>), Refusal> {
+    let Ok(mut job) = Job::new(alloc, Memory::new(alloc), files) else {
+        return Err(Refusal::OutOfMemory);
+    };
+    let mut replies = Vec::new(alloc);
+    job.run(commands, &mut replies)?; // a refused command does not stop the run
     job.finish()?;
-    Ok((job.into_device(), paragraph))
+    Ok((job.into_device(), replies))
 }
