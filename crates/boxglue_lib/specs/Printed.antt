@@ -14,8 +14,8 @@ pub record InputsAreRead (contents : List ℕ → Option (Option (List ℕ))) (d
   pub bytes_are : IsFileReading (contents dvi) bytes
   pub files_are : AreFilesOf contents fonts files
 
--- Memory was refused: for an input that can be read, after those before it were read; or after all were read. So it hides no input that cannot be read,
--- unless one before it was not read, and it hides the lack of a page only after all were read.
+-- Memory was refused: for an input that can be read, after those before it were read; or after all were read. Where that was is not
+-- known, so this holds wherever the DVI file can be read: a file of a font that cannot be read, and the lack of a page, may be hidden.
 abbrev pub LacksMemoryForDvi : (List ℕ → Option (Option (List ℕ))) → (dvi : List ℕ) → List NamedPath → Type 0
 LacksMemoryForDvi contents dvi fonts =
     IsUnreadDvi contents dvi fonts WantsMemory ⊎ ((bytes : List ℕ) × (files : List NamedBytes) × InputsAreRead contents dvi fonts bytes files)

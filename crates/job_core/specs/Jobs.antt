@@ -55,8 +55,8 @@ abbrev pub HasPages : Machine → Option (List ℕ) → Type 0
 HasPages m bytes_written = (more : List ℕ) × (bytes_written ≡ written_then (before_writing bytes_written) (front m.state.fonts m.pages ++ more))
 
 -- A job represents a machine: it has the machine's state, and until it is over it has written the machine's pages: its device reports all bytes of
--- them up to the last eop, and no others. Once the job is over, no other bytes were sent than these, or than a beginning of the page that was being
--- sent. Whatever failed, the device has all bytes of the machine's pages.
+-- them up to the last eop, and no others. Once the job is over, it reports the file of the pages or a beginning of it, or a beginning of the file with
+-- the page that was being sent. Whatever failed, it has all bytes of the machine's pages.
 pub record Represents (job : JobView) (m : Machine) : Type 0 where
   pub state : job.state ≡ m.state
   pub count : m.state.pages ≡ length m.pages
