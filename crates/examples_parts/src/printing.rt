@@ -1,42 +1,8 @@
 //! The output of each example, as text.
 
 use break_core::{Breaks, LineEnd};
-use job_core::Answer;
 use std::io;
 use std::io::Write;
-
-/// The answers to a script, and the length of the file.
-pub fn print_answers<W: Write>(output: &mut W, answers: &[u8], length: usize) -> io::Result<()> {
-    writeln!(output, "== answered")?;
-    output.write_all(answers)?;
-    writeln!(output, "{length} bytes")
-}
-
-/// The answers of the program, its status, and the lengths of its errors and of the file.
-pub fn print_end<W: Write>(
-    output: &mut W,
-    answers: &[u8],
-    status: u8,
-    errors: usize,
-    length: usize,
-) -> io::Result<()> {
-    writeln!(output, "== run")?;
-    output.write_all(answers)?;
-    writeln!(
-        output,
-        "status {status}, {errors} bytes of errors\n{length} bytes"
-    )
-}
-
-/// The name of an example, the answer that it returned, and the length of the file.
-pub fn print_page<W: Write>(
-    output: &mut W,
-    name: &str,
-    answer: &Answer,
-    length: usize,
-) -> io::Result<()> {
-    writeln!(output, "== {name}\n{answer:?}\n{length} bytes")
-}
 
 /// A listing, the length of a bitmap's text, and how many digits 1 there are in it.
 pub fn print_listing<W: Write>(output: &mut W, listing: &[u8], picture: &[u8]) -> io::Result<()> {

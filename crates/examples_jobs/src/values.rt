@@ -1,7 +1,10 @@
-//! A font file.
+//! The values that the examples are run on.
 
+use crate::pages::hbox;
 use anyhow::{Context, Result};
-use job_core::FontName;
+use job_core::{Command, FontName, Register};
+use node_core::{Rule, RuleSize};
+use scaled_core::Dimen;
 use std::alloc::{AllocError, Global};
 
 /// A font of the characters 97 to 101 with a design size of 10pt: the file `tiny` of docs/COMMANDS.md.
@@ -25,4 +28,19 @@ pub fn tiny(alloc: Global) -> Result<Vec<u8>, AllocError> {
 pub fn tiny_name(alloc: Global) -> Result<FontName> {
     let name = FontName::try_new(Vec::from_slice(alloc, b"tiny")?);
     name.context("the name has a byte")
+}
+
+/// The commands of the page with one rule.
+pub fn one_rule() -> [Command; 4] {
+    let rule = Rule {
+        width: RuleSize::Fixed(Dimen::points(1)),
+        height: RuleSize::Fixed(Dimen::points(1)),
+        depth: RuleSize::Fixed(Dimen::ZERO),
+    };
+    [
+        hbox(),
+        Command::Rule(rule),
+        Command::End,
+        Command::Ship(Register::FIRST),
+    ]
 }

@@ -4,17 +4,9 @@ ghost use Rattle.std.specs.Prelude.{IfOk};
 ghost use Rattle.dvi_layout.specs.Fonts.{Slots};
 ghost use Rattle.dvi_layout.specs.Shippable.{IsShippable};
 
-use crate::pages::hbox;
-use job_core::{Command, Register};
 use node_core::{BoxNode, Glue, Kind, Node, NodeList, Params, Rule, RuleSize, Setting};
 use scaled_core::Dimen;
 use std::alloc::{AllocError, Global};
-
-/// The script of the page with one rule.
-pub const ONE_RULE: &str = "hbox into 0\nrule 1pt 1pt 0pt\nend\nship 0\n";
-
-/// The script of a page with one glyph.
-pub const ONE_GLYPH: &str = "font 0 tiny\nuse 0\nhbox into 0\ntext c\nend\nship 0\n";
 
 /// A rule of this width, 1pt high.
 fn rule(width: Dimen) -> Rule {
@@ -23,16 +15,6 @@ fn rule(width: Dimen) -> Rule {
         height: RuleSize::Fixed(Dimen::points(1)),
         depth: RuleSize::Fixed(Dimen::ZERO),
     }
-}
-
-/// The commands of the page with one rule.
-pub fn one_rule() -> [Command; 4] {
-    [
-        hbox(),
-        Command::Rule(rule(Dimen::points(1))),
-        Command::End,
-        Command::Ship(Register::FIRST),
-    ]
 }
 
 /// A horizontal box of a rule 1pt wide and high.
