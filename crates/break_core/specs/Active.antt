@@ -2,7 +2,9 @@
 use Rattle.std.specs.Prelude.{◌≡◌, ◌<◌, ◌≤◌, ◌+◌, ◌-◌, ◌⊎◌, ℕ, Bool, true, false, ◌||◌, List, [], ◌∷◌, ◌++◌, ◌==◌, if◌then◌else◌, length, map, slice_get, Some, None}
 use Rattle.node_core.specs.declared.params.Params.{Params}
 use Rattle.break_table.specs.declared.group.ActiveGroup.{ActiveGroup}
-use Rattle.break_table.specs.Problems.{Problem}
+use Rattle.break_table.specs.declared.state.LineCost.{LineCost}
+use Rattle.break_table.specs.Problems.{Problem, Path}
+use Rattle.break_table.specs.Ways.{since, Way}
 use Rattle.break_table.specs.Tables.{Entry, IsTable, offer}
 use Rattle.break_table.specs.Live.{IsGroup}
 use Rattle.break_table.specs.Parts.{part}
@@ -113,6 +115,12 @@ TrialsOnlyGrow before now = (a : ℕ) → before a ≤ now a
 -- A line was tried from the place of each of these groups.
 abbrev pub WereTried : List ActiveGroup → (before now : ℕ → ℕ) → Type 0
 WereTried live before now = (k : ℕ) (g : ActiveGroup) → slice_get live k ≡ Some g → before g.place < now g.place
+
+-- A line was tried from the end of each way that goes on by an admitted line to one of the places up to b.
+abbrev pub WereLinesTried : (p : Problem) (b : ℕ) (before now : ℕ → ℕ) → Type 0
+WereLinesTried p b before now =
+    (q : Path) (place : ℕ) (line : LineCost)
+    → Way p q → q.last.place < place → place ≤ b → since p place ≤ q.last.place → p.line q.last place ≡ Some line → before q.last.place < now q.last.place
 
 -- From each place at most as many lines were tried as there are places after it, both up to b and up to each place where trying stops.
 pub record IsCounted (stop : ℕ → ℕ → Bool) (b : ℕ) (before now : ℕ → ℕ) : Type 0 where

@@ -1,11 +1,15 @@
 -- The greatest number of lines that are tried (own; the active list is after TeX: The Program, part 38, §819 and §860).
-use Rattle.std.specs.Prelude.{◌≡◌, ◌<◌, ◌≤◌, ◌+◌, ◌-◌, ◌<ℤ◌, ◌≤ℤ◌, ◌⊎◌, ◌++◌, ℕ, pos, int_lt, Bool, true, false, List, [], ◌∷◌, if◌then◌else◌}
+use Rattle.std.specs.Prelude.{◌≡◌, ◌<◌, ◌≤◌, ◌+◌, ◌-◌, ◌<ℤ◌, ◌≤ℤ◌, ◌⊎◌, ◌++◌, ℕ, pos, int_lt, Bool, true, false, List, [], ◌∷◌, if◌then◌else◌, slice_get, Some, reverse}
 use Rattle.node_core.specs.declared.params.Params.{Params}
+use Rattle.break_table.specs.declared.state.BreakState.{BreakState}
+use Rattle.break_table.specs.Problems.{Path, ends_of, places_of}
+use Rattle.break_table.specs.Chosen.{IsChosen}
 use Rattle.break_lines.specs.Costs.{line_fit}
 use Rattle.break_lines.specs.Sizes.{line_size, greatest_size, least_width}
 use Rattle.break_core.specs.declared.broken.Pass.{Pass}
 use Rattle.break_core.specs.declared.broken.Pass.TheVariants.{First, Second, Third}
 use Rattle.break_core.specs.declared.broken.Breaks.{Breaks}
+use Rattle.break_core.specs.Passes.{bound_of, problem_of}
 use Rattle.break_lines.specs.Legal.{is_forced}
 use Rattle.break_lines.specs.Facts.{Facts}
 use Rattle.break_lines.specs.Steady.{IsSteady}
@@ -80,6 +84,16 @@ AreBounded facts params passes trials =
 -- No line has been tried yet.
 abbrev pub HasNoTrials : (trials : ℕ → ℕ) → Type 0
 HasNoTrials trials = (place : ℕ) → trials place ≡ 0
+
+-- From each of these ends of lines before the last place a line was tried.
+abbrev pub WereEndsTried : (places : ℕ) → List BreakState → (before now : ℕ → ℕ) → Type 0
+WereEndsTried places ends before now = (k : ℕ) (s : BreakState) → slice_get ends k ≡ Some s → s.place < places → before s.place < now s.place
+
+-- A line was tried from each end of a line of the chosen list but the last one.
+pub record HasTriedLines (facts : Facts) (params : Params) (trials : ℕ → ℕ) (breaks : Breaks) : Type 0 where
+  pub path : Path
+  pub chosen : IsChosen (problem_of facts params (bound_of params breaks.pass)) (places_of (ends_of path)) path
+  pub tried : WereEndsTried facts.places (reverse (ends_of path)) (λ place. 0) trials
 
 -- Two results are the same.
 pub record AreSame (a b : Breaks) : Type 0 where

@@ -5,7 +5,7 @@ ghost use Rattle.std.specs.Option.{unwrap_or};
 ghost use Rattle.node_core.specs.Nodes.{max_nodes};
 ghost use Rattle.break_lines.specs.Facts.{facts_of, refusal};
 ghost use Rattle.break_core.specs.Passes.{IsBroken};
-ghost use Rattle.break_core.specs.Trials.{passes_run, AreBounded, HasNoTrials};
+ghost use Rattle.break_core.specs.Trials.{passes_run, AreBounded, HasNoTrials, HasTriedLines};
 
 use crate::broken::{Breaks, Pass};
 use crate::passes::breaks_of;
@@ -40,6 +40,7 @@ pub fn active_breaks<M: Meter>(
     ensures run { IfOk result (λ breaks. AreBounded (M.facts meter.old) params.now (passes_run params.now breaks.pass) (M.trials meter.new)) }
     ensures trials { AreBounded (M.facts meter.old) params.now (passes_run params.now Pass.Third) (M.trials meter.new) }
     ensures tried { OnOk result (0 < M.trials meter.new 0) }
+    ensures lines_tried { IfOk result (HasTriedLines (M.facts meter.old) params.now (M.trials meter.new)) }
 {
     breaks_of(alloc, meter, params, true)
 }

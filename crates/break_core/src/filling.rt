@@ -4,7 +4,7 @@ ghost use Rattle.std.specs.Prelude.{◌≡◌, ◌+◌, ◌<◌, ◌≤◌, fals
 ghost use Rattle.break_table.specs.Tables.{max_places, slots, IsTable, IsRow};
 ghost use Rattle.break_lines.specs.Legal.{is_forced};
 ghost use Rattle.break_core.specs.Filling.{CountsMayGrow};
-ghost use Rattle.break_core.specs.Active.{stops, pruned, groups_of, MayEnd, AreOver, IsActive, IsFilled, IsSwept, IsCounted, TrialsOnlyGrow, WereTried};
+ghost use Rattle.break_core.specs.Active.{stops, pruned, groups_of, MayEnd, AreOver, IsActive, IsFilled, IsSwept, IsCounted, TrialsOnlyGrow, WereTried, WereLinesTried};
 
 use crate::active_list::{Live, add_group, is_more, keep_group, kept_over};
 use crate::offering::{Tried, offer_line};
@@ -133,6 +133,8 @@ pub(crate) fn fill<M: Meter>(
     ensures trials { IsCounted (stops (M.facts meter.old) rules.now.params.now rules.now.ending) (M.facts meter.old).places (M.trials meter.old) (M.trials meter.new) }
     ensures kept { TrialsOnlyGrow (M.trials meter.old) (M.trials meter.new) }
     ensures tried { OnOk result (M.trials meter.old 0 < M.trials meter.new 0) }
+    ensures lines_tried { OnOk result (
+        WereLinesTried (pruned (M.facts meter.old) rules.now.params.now rules.now.bound rules.now.ending) (M.facts meter.old).places (M.trials meter.old) (M.trials meter.new)) }
 {
     // Most places have at least one entry.
     let table = Vec::with_capacity(alloc, meter.places() + 1)?;

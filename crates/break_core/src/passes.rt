@@ -6,7 +6,7 @@ ghost use Rattle.break_table.specs.Chosen.{AdmitsNone, IsAnswer};
 ghost use Rattle.break_lines.specs.Facts.{Facts};
 ghost use Rattle.break_core.specs.Passes.{problem_of, bound_of, line_end_at, IsBroken};
 ghost use Rattle.break_lines.specs.Steady.{IsSteady};
-ghost use Rattle.break_core.specs.Trials.{is_bounded, IsWidening, MayLeave, first_run, passes_run, AreBounded, HasNoTrials};
+ghost use Rattle.break_core.specs.Trials.{is_bounded, IsWidening, MayLeave, first_run, passes_run, AreBounded, HasNoTrials, HasTriedLines, WereEndsTried};
 ghost use Rattle.break_core.specs.Filling.{IsGrown, CountsMayGrow, AreEndsInParagraph, IsDecided};
 ghost use Rattle.break_core.specs.Active.{TrialsOnlyGrow, MayEnd, IsWithin, AreAdded};
 
@@ -97,6 +97,7 @@ fn chosen_in<M: Meter>(
     ensures trials_counted { IsGrown 8192 (M.trials meter.old) (M.trials meter.new) }
     ensures kept { TrialsOnlyGrow (M.trials meter.old) (M.trials meter.new) }
     ensures tried { OnOk result (M.trials meter.old 0 < M.trials meter.new 0) }
+    ensures lines_tried { IfOk result (λ found. IfSome found (λ least. WereEndsTried (M.facts meter.old).places least.ends.items (M.trials meter.old) (M.trials meter.new))) }
 {
     let places = meter.places();
     let rules = Rules {
@@ -125,6 +126,7 @@ fn chosen_first<M: Meter>(
     ensures trials_counted { IsGrown 8192 (M.trials meter.old) (M.trials meter.new) }
     ensures kept { TrialsOnlyGrow (M.trials meter.old) (M.trials meter.new) }
     ensures tried { IfOk result (λ found. IfSome found (λ least. M.trials meter.old 0 < M.trials meter.new 0)) }
+    ensures lines_tried { IfOk result (λ found. IfSome found (λ least. WereEndsTried (M.facts meter.old).places least.ends.items (M.trials meter.old) (M.trials meter.new))) }
 {
     if params.pretolerance.get() < 0 {
         return Ok(None);
@@ -146,6 +148,7 @@ fn decide<M: Meter>(
         AreAdded (M.facts meter.old) params.now (passes_run params.now decided.0) (M.trials meter.old) (M.trials meter.new)) }
     ensures trials { drops ≡ true → AreAdded (M.facts meter.old) params.now (passes_run params.now Pass.Third) (M.trials meter.old) (M.trials meter.new) }
     ensures tried { OnOk result (M.trials meter.old 0 < M.trials meter.new 0) }
+    ensures lines_tried { IfOk result (λ decided. WereEndsTried (M.facts meter.old).places decided.1.ends.items (M.trials meter.old) (M.trials meter.new)) }
 {
     if let Some(least) = chosen_first(alloc, meter, params, drops)? {
         return Ok((Pass::First, least));
@@ -192,6 +195,7 @@ pub(crate) fn breaks_of<M: Meter>(
     ensures run { drops ≡ true → IfOk result (λ breaks. AreBounded (M.facts meter.old) params.now (passes_run params.now breaks.pass) (M.trials meter.new)) }
     ensures trials { drops ≡ true → AreBounded (M.facts meter.old) params.now (passes_run params.now Pass.Third) (M.trials meter.new) }
     ensures tried { OnOk result (0 < M.trials meter.new 0) }
+    ensures lines_tried { IfOk result (HasTriedLines (M.facts meter.old) params.now (M.trials meter.new)) }
 {
     let (pass, least) = decide(alloc, meter, params, drops)?;
     let lines = line_ends(alloc, meter, &least.ends)?;

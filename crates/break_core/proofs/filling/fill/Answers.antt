@@ -4,6 +4,7 @@ use Rattle.break_core.specs.declared.active_list.Live.{Live}
 use Rattle.break_core.specs.Active.{stops, pruned, groups_of, AreOver, IsFilled, IsSwept}
 use Rattle.break_core.proofs.Counts.{counted_none, counted_more, kept_none, kept_on, started_more}
 use Rattle.break_core.proofs.Lives.{filled_start, over_first}
+use Rattle.break_core.proofs.TriedLines.{lines_more}
 use Rattle.break_core.proofs.filling.fill.Goals as goal
 
 pub loop-before-init : goal.loop-before-init
@@ -23,6 +24,7 @@ loop-before-init g c =
       kept = kept_none (g.M.Meter.trials c.args.meter.now);
       begins = λ _. ap groups_of lives;
       started = λ some. absurd (omega (arith, some));
+      lines = λ q place line way later upto late admitted. absurd (omega (arith, later, upto));
       empty = c.in_ok-row.ensures ∙ ap (λ n. replicate (slots n) None) c.get.ensures.value;
     }
 
@@ -47,9 +49,16 @@ loop-before-preserved g c =
       kept = kept_on first middle now inv.kept c.add_place.ensures.kept;
       begins = λ none. absurd (omega (arith, none));
       started = λ some. started_more before (groups_of c.loop-before.reached.live.items) first middle now inv.begins inv.started inv.kept c.add_place.ensures.kept next.tried;
+      lines = lines_more (pruned (g.M.Meter.facts c.args.meter.now) params bound ending) (stops (g.M.Meter.facts c.args.meter.now) params ending) before
+          c.loop-before.reached.table.items (groups_of c.loop-before.reached.live.items) first middle now
+          (omega (arith, c.loop-before-test.true, c.places-before-end.ensures.count)) inv.filled inv.lines inv.kept c.add_place.ensures.kept next.tried;
       empty = next.empty;
     }
 
 pub returns-clause-tried : goal.returns-clause-tried
 returns-clause-tried g c =
     c.loop-before.invariant.started (omega (arith, c.loop-before-test.false, c.places-before-end.ensures.count, g.met.M.Meter.has_places c.args.meter.now))
+
+pub returns-clause-lines_tried : goal.returns-clause-lines_tried
+returns-clause-lines_tried g c = λ q place line way later upto late admitted.
+    c.loop-before.invariant.lines q place line way later (omega (arith, upto, c.loop-before-test.false, c.places-before-end.ensures.count)) late admitted

@@ -1,6 +1,6 @@
 use Rattle.std.proofs.Common.{◌≡◌, ◌+◌, ◌<◌, [], ◌∷◌, replicate, None}
 use Rattle.break_table.specs.Tables.{slots}
-use Rattle.break_core.specs.Active.{stops, pruned, groups_of, AreOver, IsFilled, IsCounted, TrialsOnlyGrow}
+use Rattle.break_core.specs.Active.{stops, pruned, groups_of, AreOver, IsFilled, IsCounted, TrialsOnlyGrow, WereLinesTried}
 use Rattle.break_core.proofs.Counts.{start_group}
 use Rattle.break_core.proofs.filling.fill.Given as goal
 
@@ -13,5 +13,6 @@ invariant-loop-before g l = record {
   kept : TrialsOnlyGrow (g.M.Meter.trials l.initial.meter) (g.M.Meter.trials l.meter);
   begins : l.before ≡ 0 → groups_of l.reached.live.items ≡ start_group ∷ [];
   started : 0 < l.before → g.M.Meter.trials l.initial.meter 0 < g.M.Meter.trials l.meter 0;
+  lines : WereLinesTried (pruned (g.M.Meter.facts l.initial.meter) l.rules.params.now l.rules.bound l.rules.ending) l.before (g.M.Meter.trials l.initial.meter) (g.M.Meter.trials l.meter);
   empty : l.offers.row.items ≡ replicate (slots l.rules.params.now.first_lines) None;
 }

@@ -1,4 +1,5 @@
-use Rattle.std.proofs.Common.{sym, subst}
+use Rattle.std.proofs.Common.{◌∙◌, ap, sym, subst, arith}
+use Rattle.std.specs.Prelude.{slice_get}
 use Rattle.break_core.specs.Passes.{bound_of}
 use Rattle.break_core.specs.Filling.{AreEndsInParagraph}
 use Rattle.break_core.proofs.Admitting.{answer_within}
@@ -10,4 +11,13 @@ line_ends-requires g c =
     record {
       ends_bounded = subst (λ f. AreEndsInParagraph f c.deref.result.now) (sym c.in_ok-pass.ensures.facts)
           (subst (λ xs. AreEndsInParagraph (g.M.Meter.facts c.args.meter.now) xs) (sym c.deref.ensures.value) is);
+    }
+
+pub returns-clause-lines_tried : goal.returns-clause-lines_tried
+returns-clause-lines_tried g c =
+    let answer = c.in_ok-pass.ensures.decided.answer in
+    record {
+      path = answer.path;
+      chosen = answer.chosen;
+      tried = λ k s at less. omega (arith, c.in_ok-pass.ensures.lines_tried k s (ap (λ xs. slice_get xs k) answer.ends ∙ at) less);
     }

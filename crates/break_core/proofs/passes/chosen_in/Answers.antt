@@ -4,6 +4,7 @@ use Rattle.break_table.specs.Tables.{IsTable}
 use Rattle.break_core.specs.Active.{pruned, MayEnd}
 use Rattle.break_core.proofs.Added.{within_pass}
 use Rattle.break_core.proofs.Admitting.{Found, all_found}
+use Rattle.break_core.proofs.TriedLines.{found_tried}
 use Rattle.break_core.proofs.passes.chosen_in.Goals as goal
 
 pub returns-in_err-table-clause-trials : goal.returns-in_err-table-clause-trials
@@ -29,3 +30,13 @@ pub returns-clause-trials : goal.returns-clause-trials
 returns-clause-trials g c = λ on.
     within_pass (g.M.Meter.facts c.args.meter.now) c.args.params.now c.args.pass c.ending_in.result (g.M.Meter.trials c.args.meter.now)
     (g.M.Meter.trials c.fill.new.meter) (c.ending_in.ensures.overfull on) (c.ending_in.ensures.long on) c.in_ok-table.ensures.trials
+
+pub returns-clause-lines_tried : goal.returns-clause-lines_tried
+returns-clause-lines_tried g c =
+    let f = g.M.Meter.facts c.args.meter.now in
+    let p = pruned f c.args.params.now c.bound_of.result c.ending_in.result in
+    let table : IsTable p (c.places-places.result + 1) c.deref.result.now =
+    subst (IsTable p (c.places-places.result + 1)) (sym c.deref.ensures.value)
+    (subst (λ n. IsTable p (n + 1) c.in_ok-table.table.items) (sym c.places-places.ensures.count) c.in_ok-table.ensures.table) in
+    found_tried p (g.M.Meter.trials c.args.meter.now) (g.M.Meter.trials c.fill.new.meter) c.chosen_list.result c.in_ok-table.ensures.lines_tried
+    (c.chosen_list.ensures p (sym c.places-places.ensures.count) table)
