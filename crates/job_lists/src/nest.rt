@@ -151,7 +151,7 @@ impl Nest {
         }
     }
 
-    /// Moves the nodes of another list, in order, to the end of the innermost one. The other list is then empty. An empty list takes no memory.
+    /// Moves the nodes of another list, in order, to the end of the innermost one. Where a list is open, the other list is then empty. An empty list takes no memory.
     /// Where memory is refused, both lists are unchanged.
     #[tactic(auto, using(job_machine::proofs::States::same_innermost, job_machine::proofs::States::none_added, crate::proofs::Nests::some_nodes, crate::proofs::Nests::no_nodes))]
     pub fn append_list(&mut self, list: &mut NodeList) -> Result<(), AllocError>
