@@ -17,6 +17,7 @@ use Rattle.boxglue_lib.specs.Inputs.{IsUnreadDvi, IsUnreadScript}
 use Rattle.boxglue_lib.specs.Parts.{TellsOutput, end_of}
 use Rattle.boxglue_host.specs.Readings.{IsFileReading, IsReadable, IsReading}
 use Rattle.boxglue_lib.specs.Printed.{LacksMemoryForDvi}
+use Rattle.boxglue_lib.specs.Views.{HostView, IsSame, Streams}
 use Rattle.boxglue_lib.specs.Typesets.{HasTypeset, IsLeftAlone, IsLeftToFile, IsToFile, IsTypeset, IsUsed, TellsUnwritten}
 use Rattle.boxglue_program.specs.Runs.{IsUntouched, RanScript, RefusedScript, WasRunWhole, WritesFront, memory_line}
 use Rattle.boxglue_program.proofs.WritingLemmas.{appends_both, appends_keeps, keeps_appends, keeps_front}
@@ -122,12 +123,12 @@ left_to_file text files start begun failures back created done written fresh ope
     )
 
 -- A task has ended, and its end was reported.
-pub has_ended : (IsAnswer : List ℕ → Bool → Type 0) (IsUnread : Bor (List ℕ) → Type 0) (LacksPage LacksMemory : Type 0) (end : TaskEnd) (old mid new errors errors' : Option (List ℕ)) (status : ℕ)
-    → EndsTask IsAnswer IsUnread LacksPage end old mid → (end ≡ OutOfMemory → LacksMemory) → TellsOutput end mid new → TellsErrors end errors errors' → status ≡ status_of end
-    → TaskHasEnded IsAnswer IsUnread LacksPage LacksMemory old new errors errors' status
-has_ended A U L M end old mid new errors errors' status ended memory said reported is = record {
+pub has_ended : (IsAnswer : List ℕ → Bool → Type 0) (IsUnread : Bor (List ℕ) → Type 0) (LacksPage LacksMemory : Type 0) (end : TaskEnd) (mid : Option (List ℕ)) (before after : Streams) (status : ℕ)
+    → EndsTask IsAnswer IsUnread LacksPage end before.output mid → (end ≡ OutOfMemory → LacksMemory) → TellsOutput end mid after.output → TellsErrors end before.errors after.errors → status ≡ status_of end
+    → TaskHasEnded IsAnswer IsUnread LacksPage LacksMemory before after status
+has_ended A U L M end mid before after status ended memory said reported is = record {
   end = end;
-  printed = output_then A U L end old mid new ended said;
+  printed = output_then A U L end before.output mid after.output ended said;
   memory = memory;
   reported = reported;
   status_is = is;
@@ -155,15 +156,16 @@ keeps_same None = tt
 keeps_same (Some bytes) = refl
 
 -- A script was typeset, and its end was reported.
-pub typeset_ended : (reported : List ℕ → Option (Option (List ℕ))) (input : Option (List ℕ)) (fonts : List NamedPath) (out : List ℕ) (paths paths' : List (List ℕ)) (before written : Option (List ℕ)) (has_failed : Bool) (Same : Type 0) (created done : Bool)
-    (text : List ℕ) (files : List NamedBytes) (end : TaskEnd) (old mid new errors between errors' : Option (List ℕ)) (status : ℕ)
-    → IsReading input text → AreFilesOf reported fonts files → EndsTask (IsToFile text files written Same created done) (λ path. ⊥) ⊥ end old mid
-    → (end ≡ OutOfMemory → IsLeftToFile text files written created done) → TellsUnwritten done out errors between → paths' ≡ created_after created out paths → (created ≡ false → written ≡ before)
-    → (created ≡ false → done ≡ true → Same) → has_failed ≡ not done → TellsOutput end mid new → TellsErrors end between errors' → status ≡ status_of end
-    → HasTypeset reported input fonts out paths paths' before written has_failed Same old new errors errors' status
-typeset_ended reported input fonts out paths paths' before written has_failed Same created done text files end old mid new errors between errors' status read filed ended left unwritten placed untouched unchanged blamed said end_written is =
-    let A : List ℕ → Bool → Type 0 = IsTypeset reported input fonts written Same created done in
-    let U : Bor (List ℕ) → Type 0 = λ path. IsUnreadScript reported input fonts (File path) × IsLeftAlone Same created done in
+pub typeset_ended : {H : Type 0} (fonts : List NamedPath) (out : List ℕ) (host now : HostView H) (created done : Bool)
+    (text : List ℕ) (files : List NamedBytes) (end : TaskEnd) (mid between : Option (List ℕ)) (before after : Streams) (status : ℕ)
+    → IsReading host.input text → AreFilesOf host.files fonts files → EndsTask (IsToFile text files now.written (IsSame host now) created done) (λ path. ⊥) ⊥ end before.output mid
+    → (end ≡ OutOfMemory → IsLeftToFile text files now.written created done) → TellsUnwritten done out before.errors between → now.created ≡ created_after created out host.created
+    → (created ≡ false → now.written ≡ host.written) → (created ≡ false → done ≡ true → IsSame host now) → has_failed host.failures now.failures ≡ not done
+    → TellsOutput end mid after.output → TellsErrors end between after.errors → status ≡ status_of end
+    → HasTypeset out fonts host now before after status
+typeset_ended fonts out host now created done text files end mid between before after status read filed ended left unwritten placed untouched unchanged blamed said end_written is =
+    let A : List ℕ → Bool → Type 0 = IsTypeset fonts host now created done in
+    let U : Bor (List ℕ) → Type 0 = λ path. IsUnreadScript host.files host.input fonts (File path) × IsLeftAlone (IsSame host now) created done in
     record {
       end = end;
       created = created;
@@ -171,8 +173,8 @@ typeset_ended reported input fonts out paths paths' before written has_failed Sa
       placed = placed;
       untouched = untouched;
       unchanged = unchanged;
-      printed = output_then A U ⊥ end old mid new
-          (ends_weaker (IsToFile text files written Same created done) A (λ path. ⊥) U ⊥ end old mid
+      printed = output_then A U ⊥ end before.output mid after.output
+          (ends_weaker (IsToFile text files now.written (IsSame host now) created done) A (λ path. ⊥) U ⊥ end before.output mid
           (λ answer fine to. (text, files, read, filed, to)) (λ path none. absurd none) ended) said;
       memory = λ wants. inr (text, files, read, filed, left wants);
       middle = between;
@@ -235,24 +237,23 @@ wanting_script reported input fonts WantsMemory wants unread = unread
 wanting_script reported input fonts (File path) wants unread = absurd (cc)
 
 -- The input of `typeset` was not read, and that was reported.
-pub not_typeset : (reported : List ℕ → Option (Option (List ℕ))) (input : Option (List ℕ)) (fonts : List NamedPath) (out : List ℕ) (paths : List (List ℕ)) (written : Option (List ℕ)) (has_failed : Bool) (Same : Type 0)
-    (fault : Unread) (old new errors errors' : Option (List ℕ)) (status : ℕ)
-    → Same → has_failed ≡ false → IsUnreadScript reported input fonts fault → TellsOutput (end_of fault) old new → TellsErrors (end_of fault) errors errors' → status ≡ status_of (end_of fault)
-    → HasTypeset reported input fonts out paths paths written written has_failed Same old new errors errors' status
-not_typeset reported input fonts out paths written has_failed Same fault old new errors errors' status same blamed unread said end_written is =
-    let alone : IsLeftAlone Same false true = record { same = same; closed = refl; silent = refl } in
+pub not_typeset : {H : Type 0} (fonts : List NamedPath) (out : List ℕ) (host : HostView H) (fault : Unread) (before after : Streams) (status : ℕ)
+    → IsUnreadScript host.files host.input fonts fault → TellsOutput (end_of fault) before.output after.output → TellsErrors (end_of fault) before.errors after.errors → status ≡ status_of (end_of fault)
+    → HasTypeset out fonts host host before after status
+not_typeset fonts out host fault before after status unread said end_written is =
+    let alone : IsLeftAlone (IsSame host host) false true = record { same = refl; closed = refl; silent = refl } in
     record {
       end = end_of fault;
       created = false;
       done = true;
       placed = refl;
       untouched = λ _. refl;
-      unchanged = λ _ _. same;
-      printed = unread_output (IsTypeset reported input fonts written Same false true) reported input fonts fault (IsLeftAlone Same false true) old new alone unread said;
-      memory = λ wants. inl (alone, wanting_script reported input fonts fault wants unread);
-      middle = errors;
-      unwritten = keeps_same errors;
-      blamed = blamed;
+      unchanged = λ _ _. refl;
+      printed = unread_output (IsTypeset fonts host host false true) host.files host.input fonts fault (IsLeftAlone (IsSame host host) false true) before.output after.output alone unread said;
+      memory = λ wants. inl (alone, wanting_script host.files host.input fonts fault wants unread);
+      middle = before.errors;
+      unwritten = keeps_same before.errors;
+      blamed = unfailed host.failures;
       contents_is = end_written;
       status_is = is;
     }

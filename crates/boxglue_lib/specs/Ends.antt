@@ -4,6 +4,7 @@ use Rattle.std.specs.Borrow.{Bor}
 use Rattle.std.specs.Io.KnownBytes.{Appends, Keeps}
 use Rattle.boxglue_program.specs.Runs.{WritesFront, memory_line}
 use Rattle.boxglue_words.specs.declared.task.TheConstants.{VERSION_LINE}
+use Rattle.boxglue_lib.specs.Views.{Streams}
 use Rattle.boxglue_lib.specs.declared.task_end.TaskEnd.{TaskEnd}
 use Rattle.boxglue_lib.specs.declared.task_end.TaskEnd.TheVariants.{Printed, Unwritten, OutOfMemory, Unreadable, NoSuchPage}
 
@@ -48,9 +49,9 @@ EndsOutput IsAnswer IsUnread LacksPage OutOfMemory old new = TakesText old new m
 EndsOutput IsAnswer IsUnread LacksPage end old new = EndsTask IsAnswer IsUnread LacksPage end old new
 
 -- A task has ended: what the output took, what the errors took, and the status; and what is known if memory was refused.
-pub record TaskHasEnded (IsAnswer : List ℕ → Bool → Type 0) (IsUnread : Bor (List ℕ) → Type 0) (LacksPage LacksMemory : Type 0) (output output' errors errors' : Option (List ℕ)) (status : ℕ) : Type 0 where
+pub record TaskHasEnded (IsAnswer : List ℕ → Bool → Type 0) (IsUnread : Bor (List ℕ) → Type 0) (LacksPage LacksMemory : Type 0) (before after : Streams) (status : ℕ) : Type 0 where
   pub end : TaskEnd
-  pub printed : EndsOutput IsAnswer IsUnread LacksPage end output output'
+  pub printed : EndsOutput IsAnswer IsUnread LacksPage end before.output after.output
   pub memory : end ≡ OutOfMemory → LacksMemory
-  pub reported : TellsErrors end errors errors'
+  pub reported : TellsErrors end before.errors after.errors
   pub status_is : status ≡ status_of end

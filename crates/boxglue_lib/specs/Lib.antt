@@ -1,3 +1,4 @@
+pub mod Views
 pub mod Ends
 pub mod Inputs
 pub mod Printed

@@ -14,6 +14,7 @@ use Rattle.boxglue_lib.specs.Ends.{TaskHasEnded, PrintsVersion, TakesText, line_
 use Rattle.boxglue_lib.specs.Inputs.{IsUnreadDvi}
 use Rattle.boxglue_lib.specs.Printed.{HasNoPage, IsListing, IsPainting, LacksMemoryForDvi}
 use Rattle.boxglue_lib.specs.Typesets.{HasTypeset}
+use Rattle.boxglue_lib.specs.Views.{HostView, IsSame, Streams}
 
 -- Standard input was read, and run without fonts on a device in memory: this text has the answers and the bytes of the device.
 abbrev pub IsAnsweredInput : (input : Option (List ℕ)) → (answer : List ℕ) → (fine : Bool) → Type 0
@@ -24,32 +25,31 @@ abbrev pub IsUnreadInput : (input : Option (List ℕ)) → Bor (List ℕ) → Ty
 IsUnreadInput input path = (path.now ≡ codes "-") × IsUnreadable input
 
 -- What is written for words that are refused, and the status.
-abbrev pub RefusesWords : WordFault → (output output' errors errors' : Option (List ℕ)) → (status : ℕ) → Type 0
-RefusesWords faults.Memory output output' errors errors' status = TakesText output output' memory_line × Keeps errors errors' × (status ≡ 1)
-RefusesWords (faults.Line text) output output' errors errors' status = Keeps output output' × TakesText errors errors' (string_bytes text) × (status ≡ 2)
-RefusesWords (faults.NotPair word) output output' errors errors' status =
-    Keeps output output' × TakesText errors errors' (line_of (codes "boxglue: not NAME=TFM: ") word.now) × (status ≡ 2)
-RefusesWords (faults.NameTwice name) output output' errors errors' status =
-    Keeps output output' × TakesText errors errors' (line_of (codes "boxglue: name given twice: ") name.now) × (status ≡ 2)
+abbrev pub RefusesWords : WordFault → (before after : Streams) → (status : ℕ) → Type 0
+RefusesWords faults.Memory before after status = TakesText before.output after.output memory_line × Keeps before.errors after.errors × (status ≡ 1)
+RefusesWords (faults.Line text) before after status =
+    Keeps before.output after.output × TakesText before.errors after.errors (string_bytes text) × (status ≡ 2)
+RefusesWords (faults.NotPair word) before after status =
+    Keeps before.output after.output × TakesText before.errors after.errors (line_of (codes "boxglue: not NAME=TFM: ") word.now) × (status ≡ 2)
+RefusesWords (faults.NameTwice name) before after status =
+    Keeps before.output after.output × TakesText before.errors after.errors (line_of (codes "boxglue: name given twice: ") name.now) × (status ≡ 2)
 
--- A task was done with the files and the standard input of a host. The paths are those of the files that the host had created and then has, and the bytes
--- those of the created file before and then; the host has failed meanwhile or not. Except for `typeset` it was returned as it was. Memory is refused only
--- for an input that can be read, or after all were read.
-abbrev pub HasDone : (contents : List ℕ → Option (Option (List ℕ))) → (input : Option (List ℕ)) → (paths paths' : List (List ℕ)) → (before written : Option (List ℕ)) → (has_failed : Bool) → (Same : Type 0) → Task → (output output' errors errors' : Option (List ℕ)) → (status : ℕ) → Type 0
-HasDone contents input paths paths' before written has_failed Same tasks.Version output output' errors errors' status = Same × PrintsVersion output output' status × Keeps errors errors'
-HasDone contents input paths paths' before written has_failed Same tasks.Memory output output' errors errors' status =
-    Same × TaskHasEnded (IsAnsweredInput input) (IsUnreadInput input) ⊥ (IsReadable input) output output' errors errors' status
-HasDone contents input paths paths' before written has_failed Same (tasks.Typeset out fonts) output output' errors errors' status =
-    HasTypeset contents input fonts.items out.now paths paths' before written has_failed Same output output' errors errors' status
-HasDone contents input paths paths' before written has_failed Same (tasks.Listing dvi fonts) output output' errors errors' status =
-    Same × TaskHasEnded (IsListing contents dvi.now fonts.items) (λ path. IsUnreadDvi contents dvi.now fonts.items (File path)) ⊥
-    (LacksMemoryForDvi contents dvi.now fonts.items) output output' errors errors' status
-HasDone contents input paths paths' before written has_failed Same (tasks.Painting sheet dvi fonts) output output' errors errors' status =
-    Same × TaskHasEnded (IsPainting contents sheet dvi.now fonts.items) (λ path. IsUnreadDvi contents dvi.now fonts.items (File path))
-    (HasNoPage contents sheet dvi.now fonts.items) (LacksMemoryForDvi contents dvi.now fonts.items) output output' errors errors' status
+-- A task was done with the files and the standard input of a host. Except for `typeset` the host was returned as it was. Memory is refused only for an
+-- input that can be read, or after all were read.
+abbrev pub HasDone : {H : Type 0} → Task → (old new : HostView H) → (before after : Streams) → (status : ℕ) → Type 0
+HasDone tasks.Version old new before after status = IsSame old new × PrintsVersion before.output after.output status × Keeps before.errors after.errors
+HasDone tasks.Memory old new before after status =
+    IsSame old new × TaskHasEnded (IsAnsweredInput old.input) (IsUnreadInput old.input) ⊥ (IsReadable old.input) before after status
+HasDone (tasks.Typeset out fonts) old new before after status = HasTypeset out.now fonts.items old new before after status
+HasDone (tasks.Listing dvi fonts) old new before after status =
+    IsSame old new × TaskHasEnded (IsListing old.files dvi.now fonts.items) (λ path. IsUnreadDvi old.files dvi.now fonts.items (File path)) ⊥
+    (LacksMemoryForDvi old.files dvi.now fonts.items) before after status
+HasDone (tasks.Painting sheet dvi fonts) old new before after status =
+    IsSame old new × TaskHasEnded (IsPainting old.files sheet dvi.now fonts.items) (λ path. IsUnreadDvi old.files dvi.now fonts.items (File path))
+    (HasNoPage old.files sheet dvi.now fonts.items) (LacksMemoryForDvi old.files dvi.now fonts.items) before after status
 
 -- The program was run: its words are refused, and the host was returned as it was; or the task that they ask for was done.
-abbrev pub HasRun : (words : List (List ℕ)) → (contents : List ℕ → Option (Option (List ℕ))) → (input : Option (List ℕ)) → (paths paths' : List (List ℕ)) → (before written : Option (List ℕ)) → (has_failed : Bool) → (Same : Type 0) → (output output' errors errors' : Option (List ℕ)) → (status : ℕ) → Type 0
-HasRun words contents input paths paths' before written has_failed Same output output' errors errors' status =
-    ((fault : WordFault) × IsRefused words fault × Same × RefusesWords fault output output' errors errors' status)
-    ⊎ ((task : Task) × IsTask words task × HasDone contents input paths paths' before written has_failed Same task output output' errors errors' status)
+abbrev pub HasRun : {H : Type 0} → (words : List (List ℕ)) → (old new : HostView H) → (before after : Streams) → (status : ℕ) → Type 0
+HasRun words old new before after status =
+    ((fault : WordFault) × IsRefused words fault × IsSame old new × RefusesWords fault before after status)
+    ⊎ ((task : Task) × IsTask words task × HasDone task old new before after status)

@@ -2,7 +2,7 @@
 use Rattle.std.specs.Prelude.{◌≡◌, ◌≢◌, ◌==◌, ◌⊎◌, [], ℕ, Bool, true, false, not, List, Option, codes}
 use Rattle.std.specs.Option.{ForSome}
 use Rattle.std.specs.Io.KnownBytes.{Keeps}
-use Rattle.boxglue_host.specs.Hosts.{AreFilesOf, created_after, written_to_file}
+use Rattle.boxglue_host.specs.Hosts.{AreFilesOf, created_after, has_failed, written_to_file}
 use Rattle.boxglue_host.specs.Readings.{IsReading}
 use Rattle.boxglue_host.specs.declared.font_files.Unread.TheVariants.{OutOfMemory as WantsMemory, File}
 use Rattle.boxglue_program.specs.Runs.{IsUntouched, RanScript, RefusedScript, WasRunWhole}
@@ -10,6 +10,7 @@ use Rattle.tfm_core.specs.NamedBytes.{NamedBytes}
 use Rattle.boxglue_words.specs.declared.fonts.NamedPath.{NamedPath}
 use Rattle.boxglue_lib.specs.Ends.{EndsOutput, TakesText, TellsErrors, line_of, status_of}
 use Rattle.boxglue_lib.specs.Inputs.{IsUnreadScript}
+use Rattle.boxglue_lib.specs.Views.{HostView, IsSame, Streams}
 use Rattle.boxglue_lib.specs.declared.task_end.TaskEnd.{TaskEnd}
 use Rattle.boxglue_lib.specs.declared.task_end.TaskEnd.TheVariants.{OutOfMemory}
 
@@ -37,36 +38,38 @@ IsLeftToFile text files written created done =
     × IsUsed created done written
 
 -- The files of the fonts and the script were read, and the script was typeset.
-abbrev pub IsTypeset : (List ℕ → Option (Option (List ℕ))) → (input : Option (List ℕ)) → List NamedPath → (written : Option (List ℕ)) → (Same : Type 0) → (created done : Bool) → (answer : List ℕ) → (fine : Bool) → Type 0
-IsTypeset contents input fonts written Same created done answer fine =
-    (text : List ℕ) × (files : List NamedBytes) × IsReading input text × AreFilesOf contents fonts files × IsToFile text files written Same created done answer fine
+abbrev pub IsTypeset : {H : Type 0} → List NamedPath → (old new : HostView H) → (created done : Bool) → (answer : List ℕ) → (fine : Bool) → Type 0
+IsTypeset fonts old new created done answer fine =
+    (text : List ℕ) × (files : List NamedBytes) × IsReading old.input text × AreFilesOf old.files fonts files
+    × IsToFile text files new.written (IsSame old new) created done answer fine
 
 -- Memory was refused: for a file that can be read, and nothing was run; or after all was read.
-abbrev pub LacksMemoryForTask : (List ℕ → Option (Option (List ℕ))) → (input : Option (List ℕ)) → List NamedPath → (written : Option (List ℕ)) → (Same : Type 0) → (created done : Bool) → Type 0
-LacksMemoryForTask contents input fonts written Same created done =
-    (IsLeftAlone Same created done × IsUnreadScript contents input fonts WantsMemory)
-    ⊎ ((text : List ℕ) × (files : List NamedBytes) × IsReading input text × AreFilesOf contents fonts files × IsLeftToFile text files written created done)
+abbrev pub LacksMemoryForTask : {H : Type 0} → List NamedPath → (old new : HostView H) → (created done : Bool) → Type 0
+LacksMemoryForTask fonts old new created done =
+    (IsLeftAlone (IsSame old new) created done × IsUnreadScript old.files old.input fonts WantsMemory)
+    ⊎ ((text : List ℕ) × (files : List NamedBytes) × IsReading old.input text × AreFilesOf old.files fonts files
+    × IsLeftToFile text files new.written created done)
 
 -- The message about a file that did not take all bytes.
 abbrev pub TellsUnwritten : (done : Bool) → (out : List ℕ) → (old new : Option (List ℕ)) → Type 0
 TellsUnwritten true out old new = Keeps old new
 TellsUnwritten false out old new = TakesText old new (line_of (codes "boxglue: cannot write ") out)
 
--- `typeset` has ended: whether its file was created and took all, what the output took, what the errors took, and the status. The host had created files
--- at these paths, the last one first, and reported these bytes of the last one. It has created the file at OUT once more if it was created, and nothing
--- else; if it was not, the host reports the bytes that it reported before, and if nothing failed either, it was returned as it was. The file did not take
--- all if and only if the host has failed meanwhile.
-pub record HasTypeset (contents : List ℕ → Option (Option (List ℕ))) (input : Option (List ℕ)) (fonts : List NamedPath) (out : List ℕ) (paths paths' : List (List ℕ)) (before written : Option (List ℕ)) (has_failed : Bool) (Same : Type 0) (output output' errors errors' : Option (List ℕ)) (status : ℕ) : Type 0 where
+-- `typeset` has ended: whether its file was created and took all, what the streams took, and the status. The host has created the file at OUT once more
+-- if it was created, and nothing else; if it was not, the host reports the bytes that it reported before, and if nothing failed either, it was returned as
+-- it was. The file did not take all if and only if the host has failed meanwhile.
+pub record HasTypeset {H : Type 0} (out : List ℕ) (fonts : List NamedPath) (old new : HostView H) (before after : Streams) (status : ℕ) : Type 0 where
   pub end : TaskEnd
   pub created : Bool
   pub done : Bool
-  pub placed : paths' ≡ created_after created out paths
-  pub untouched : created ≡ false → written ≡ before
-  pub unchanged : created ≡ false → done ≡ true → Same
-  pub printed : EndsOutput (IsTypeset contents input fonts written Same created done) (λ path. IsUnreadScript contents input fonts (File path) × IsLeftAlone Same created done) ⊥ end output output'
-  pub memory : end ≡ OutOfMemory → LacksMemoryForTask contents input fonts written Same created done
+  pub placed : new.created ≡ created_after created out old.created
+  pub untouched : created ≡ false → new.written ≡ old.written
+  pub unchanged : created ≡ false → done ≡ true → IsSame old new
+  pub printed : EndsOutput (IsTypeset fonts old new created done) (λ path. IsUnreadScript old.files old.input fonts (File path) × IsLeftAlone (IsSame old new) created done) ⊥ end before.output after.output
+  pub memory : end ≡ OutOfMemory → LacksMemoryForTask fonts old new created done
+  -- What the errors took before the end was reported.
   pub middle : Option (List ℕ)
-  pub unwritten : TellsUnwritten done out errors middle
-  pub blamed : has_failed ≡ not done
-  pub contents_is : TellsErrors end middle errors'
+  pub unwritten : TellsUnwritten done out before.errors middle
+  pub blamed : has_failed old.failures new.failures ≡ not done
+  pub contents_is : TellsErrors end middle after.errors
   pub status_is : status ≡ status_of end

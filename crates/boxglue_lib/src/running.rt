@@ -1,9 +1,9 @@
 //! The program: it reads words and does the task that they ask for.
 
 ghost use Rattle.std.specs.Prelude.{◌≡◌, map, string_bytes};
-ghost use Rattle.boxglue_host.specs.Hosts.{has_failed};
 ghost use Rattle.boxglue_lib.specs.Parts.{HasRanges};
 ghost use Rattle.boxglue_lib.specs.Programs.{HasDone, HasRun, RefusesWords};
+ghost use Rattle.boxglue_lib.specs.Views.{streams_of, view_of};
 
 use crate::tasks::{list, paint, run_input, typeset};
 use crate::telling::{finish, print_version, say, say_out_of_memory, tell};
@@ -19,7 +19,7 @@ fn refuse_words<W: Write, E: Write>(
     output: &mut W,
     errors: &mut E,
 ) -> u8
-    ensures { RefusesWords fault.now (W.contents output.old) (W.contents output.new) (E.contents errors.old) (E.contents errors.new) result }
+    ensures { let took = streams_of W.contents E.contents in RefusesWords fault.now (took output.old errors.old) (took output.new errors.new) result }
 {
     match fault {
         WordFault::Memory => {
@@ -42,8 +42,8 @@ fn do_task<H: Host, W: Write, E: Write>(
     errors: &mut E,
 ) -> (u8, H)
     requires { HasRanges task }
-    ensures { HasDone (H.file host) (H.input host) (H.created host) (H.created result.1) (H.written host) (H.written result.1) (has_failed (H.failures host) (H.failures result.1)) (result.1 ≡ host) task.entry (W.contents output.old) (W.contents output.new)
-        (E.contents errors.old) (E.contents errors.new) result.0 }
+    ensures { let seen = view_of H.file H.input H.created H.written H.failures in let took = streams_of W.contents E.contents in
+        HasDone task.entry (seen host) (seen result.1) (took output.old errors.old) (took output.new errors.new) result.0 }
 {
     match task {
         Task::Version => (print_version(output), host),
@@ -74,8 +74,8 @@ pub fn program<H: Host, W: Write, E: Write>(
     output: &mut W,
     errors: &mut E,
 ) -> (u8, H)
-    ensures { HasRun (map string_bytes words.now) (H.file host) (H.input host) (H.created host) (H.created result.1) (H.written host) (H.written result.1) (has_failed (H.failures host) (H.failures result.1)) (result.1 ≡ host) (W.contents output.old)
-        (W.contents output.new) (E.contents errors.old) (E.contents errors.new) result.0 }
+    ensures { let seen = view_of H.file H.input H.created H.written H.failures in let took = streams_of W.contents E.contents in
+        HasRun (map string_bytes words.now) (seen host) (seen result.1) (took output.old errors.old) (took output.new errors.new) result.0 }
 {
     match read_words(alloc, words) {
         Ok(task) => do_task(alloc, task, host, output, errors),

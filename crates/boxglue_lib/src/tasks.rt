@@ -1,7 +1,6 @@
 //! The four tasks, with the files of a host.
 
 ghost use Rattle.std.specs.Prelude.{◌≡◌, ◌≤◌};
-ghost use Rattle.boxglue_host.specs.Hosts.{has_failed};
 ghost use Rattle.boxglue_host.specs.Readings.{IsReadable};
 ghost use Rattle.boxglue_host.specs.declared.font_files.Unread.TheVariants.{File};
 ghost use Rattle.boxglue_lib.specs.Ends.{EndsTask};
@@ -10,6 +9,7 @@ ghost use Rattle.boxglue_lib.specs.Parts.{end_of};
 ghost use Rattle.boxglue_lib.specs.Printed.{HasNoPage, IsListing, IsPainting, LacksMemoryForDvi};
 ghost use Rattle.boxglue_lib.specs.Programs.{IsAnsweredInput, IsUnreadInput};
 ghost use Rattle.boxglue_lib.specs.Typesets.{HasTypeset, TellsUnwritten};
+ghost use Rattle.boxglue_lib.specs.Views.{streams_of, view_of};
 
 use crate::inputs::{read_dvi_inputs, read_script_inputs};
 use crate::printing::{PrintFault, list_file, paint_file};
@@ -123,8 +123,8 @@ pub fn typeset<H: Host, W: Write, E: Write>(
     output: &mut W,
     errors: &mut E,
 ) -> (u8, H)
-    ensures { HasTypeset (H.file host) (H.input host) fonts.now out.now (H.created host) (H.created result.1) (H.written host) (H.written result.1) (has_failed (H.failures host) (H.failures result.1)) (result.1 ≡ host) (W.contents output.old)
-        (W.contents output.new) (E.contents errors.old) (E.contents errors.new) result.0 }
+    ensures { let seen = view_of H.file H.input H.created H.written H.failures in let took = streams_of W.contents E.contents in
+        HasTypeset out.now fonts.now (seen host) (seen result.1) (took output.old errors.old) (took output.new errors.new) result.0 }
 {
     let inputs = match read_script_inputs(alloc, &host, fonts) {
         Ok(inputs) => inputs,
