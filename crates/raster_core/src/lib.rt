@@ -7,6 +7,7 @@ pub mod fault;
 mod lanes;
 pub mod laws;
 mod masks;
+mod paint_options;
 mod painting;
 mod pixels;
 mod printing;
@@ -15,6 +16,7 @@ mod text;
 mod word_rows;
 
 pub use fault::BitmapFault;
+pub use paint_options::PaintOptions;
 pub use painting::Bitmap;
 pub use text::{PbmText, ROW_TEXT};
 pub use word_rows::{blacken, is_set};
