@@ -29,7 +29,7 @@ use Rattle.std.proofs.lemmas.List.Folds.{list_all-append}
 use Rattle.std.specs.List.{list_all}
 use Rattle.boxglue_script.specs.declared.script.Line.{Line}
 use Rattle.boxglue_program.specs.Texts.{hexadecimal_text, answer_line, answer_lines}
-use Rattle.boxglue_program.specs.Runs.{commands_of, line_numbers, IsProperFrontOf, WasRun, IsUntouched, IsAnswered, RanScript, RefusedScript, IsAnsweredInMemory, LacksMemory, CompletesFile, IsAnswerOfRest, IsAnsweredOverRest, IsLeftOverRest}
+use Rattle.boxglue_program.specs.Runs.{DeviceView, device_view, commands_of, line_numbers, IsProperFrontOf, WasRun, IsUntouched, IsAnswered, RanScript, RefusedScript, IsAnsweredInMemory, LacksMemory, CompletesFile, IsAnswerOfRest, IsAnsweredOverRest, IsLeftOverRest}
 use Rattle.boxglue_program.specs.declared.run.RunFault.TheVariants.{Memory}
 use Rattle.boxglue_program.proofs.SentParts.{sent_part, pages_held}
 
@@ -101,9 +101,13 @@ no_lines : hexadecimal_text [] ≡ []
 unfolding hexadecimal_text
 no_lines = refl
 
+-- A device in memory as contracts see it.
+abbrev pub memory_view : MemoryState → DeviceView MemoryState
+memory_view = device_view (λ m. Some m.bytes) (λ m. m.failures)
+
 -- The answers, and then the bytes of the memory.
 pub answered_in_memory : (text : List ℕ) (files : List NamedBytes) (start memory : MemoryState) (answer whole : List ℕ) (fine : Bool) → start ≡ record { bytes = []; capacity = 0; failures = 0 }
-    → IsAnswered {D = MemoryState} (λ m. Some m.bytes) (λ m. m.failures) text files start memory answer fine
+    → IsAnswered text files (memory_view start) (memory_view memory) answer fine
     → whole ≡ answer ++ hexadecimal_text memory.bytes → IsAnsweredInMemory text files memory whole fine
 answered_in_memory text files start memory answer whole fine fresh answered is = ⊎_elim
     (λ (ran : RanScript text files start.failures memory.failures (Some memory.bytes) answer fine).
@@ -117,7 +121,7 @@ answered_in_memory text files start memory answer whole fine fresh answered is =
 
 -- If memory is refused after the run, the whole script was run, or it is bad and the device is new.
 pub lacking_in_memory : (text : List ℕ) (files : List NamedBytes) (start memory : MemoryState) (answer : List ℕ) (fine : Bool) (old : Option (List ℕ)) → start ≡ record { bytes = []; capacity = 0; failures = 0 }
-    → IsAnswered {D = MemoryState} (λ m. Some m.bytes) (λ m. m.failures) text files start memory answer fine
+    → IsAnswered text files (memory_view start) (memory_view memory) answer fine
     → LacksMemory text files 0 memory.failures (Some memory.bytes) old old
 lacking_in_memory text files start memory answer fine old fresh answered =
     record {
@@ -174,10 +178,14 @@ script_completes text files n k start_failed at_first sent before start bytes_wr
       other = not_completed ran.end bytes_written inner before all ran.run.file passed;
     }
 
+-- A device for the rest of a file as contracts see it.
+abbrev pub rest_view : {D : Type 0} → (D → Option (List ℕ)) → (D → ℕ) → Resumed D → DeviceView (Resumed D)
+rest_view bytes_written failed = device_view (written_by bytes_written) (λ r. failed r.device + r.failures)
+
 -- The answer to a script that was run over a new device for the rest of a file.
 pub resumed : {D : Type 0} (bytes_written : D → Option (List ℕ)) (failed : D → ℕ) (text : List ℕ) (files : List NamedBytes) (device : D) (sent : List ℕ) (start rest : Resumed D) (inner : D)
     (answer : List ℕ) (fine : Bool) → start ≡ record { device = device; start = device; sent = sent; met = 0; failures = 0 }
-    → IsAnswered (written_by bytes_written) (λ r. failed r.device + r.failures) text files start rest answer fine → began_by bytes_written failed rest ≡ began_by bytes_written failed start → bytes_written device ≡ Some sent
+    → IsAnswered text files (rest_view bytes_written failed start) (rest_view bytes_written failed rest) answer fine → began_by bytes_written failed rest ≡ began_by bytes_written failed start → bytes_written device ≡ Some sent
     → inner ≡ rest.device
     → ((whole : List ℕ) → IfSome (written_by bytes_written rest) (λ bytes. bytes ≡ whole) → IsFrontOf rest.sent whole → bytes_written rest.start ≡ Some rest.sent → bytes_written inner ≡ Some whole)
     → PassesOn rest.sent (bytes_written rest.start) (bytes_written inner) (written_by bytes_written rest) → IsAnswerOfRest text files sent (bytes_written inner) answer fine
@@ -209,9 +217,9 @@ counts_over_rest {D = D} failed P device sent start rest inner new same holds =
 -- The answer to a script that was run over a new device for the rest of a file, whatever the inner device reports.
 pub answered_over_rest : {D : Type 0} (bytes_written : D → Option (List ℕ)) (failed : D → ℕ) (text : List ℕ) (files : List NamedBytes) (device : D) (sent : List ℕ) (start rest : Resumed D) (inner : D)
     (answer : List ℕ) (fine : Bool) → start ≡ record { device = device; start = device; sent = sent; met = 0; failures = 0 }
-    → IsAnswered (written_by bytes_written) (λ r. failed r.device + r.failures) text files start rest answer fine → began_by bytes_written failed rest ≡ began_by bytes_written failed start
+    → IsAnswered text files (rest_view bytes_written failed start) (rest_view bytes_written failed rest) answer fine → began_by bytes_written failed rest ≡ began_by bytes_written failed start
     → inner ≡ rest.device → PassesOn rest.sent (bytes_written rest.start) (bytes_written inner) (written_by bytes_written rest)
-    → IsAnsweredOverRest bytes_written failed text files device sent inner answer fine
+    → IsAnsweredOverRest text files sent (device_view bytes_written failed device) (device_view bytes_written failed inner) answer fine
 answered_over_rest bytes_written failed text files device sent start rest inner answer fine new (inl ran) began same passes = inl (
   written_by bytes_written rest,
   rest.failures,
@@ -227,7 +235,7 @@ pub lacking_over_rest : {D : Type 0} (bytes_written : D → Option (List ℕ)) (
     → LacksMemory text files (failed start.device + start.failures) (failed rest.device + rest.failures) (written_by bytes_written rest) before after
     → began_by bytes_written failed rest ≡ began_by bytes_written failed start → inner ≡ rest.device
     → PassesOn rest.sent (bytes_written rest.start) (bytes_written inner) (written_by bytes_written rest)
-    → IsLeftOverRest bytes_written failed text files device sent (Memory inner) before after
+    → IsLeftOverRest text files sent (device_view bytes_written failed device) (Memory (device_view bytes_written failed inner)) before after
 lacking_over_rest bytes_written failed text files device sent start rest inner before after new lacks began same passes = (
   written_by bytes_written rest,
   rest.failures,

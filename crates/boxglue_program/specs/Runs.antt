@@ -88,10 +88,26 @@ pub record RefusedScript (text answer : List ℕ) (fine : Bool) : Type 0 where
   pub answer_is : answer ≡ script_refusal_text number cause
   pub fine_is : fine ≡ false
 
+-- A device as contracts see it: the device itself; the bytes that it reports, if they are known; and how often it has failed.
+pub record DeviceView (D : Type 0) : Type 0 where
+  pub itself : D
+  pub bytes_written : Option (List ℕ)
+  pub failed : ℕ
+
+-- A device as contracts see it, by what they know of each device of its kind.
+abbrev pub device_view : {D : Type 0} → (bytes_written : D → Option (List ℕ)) → (failed : D → ℕ) → D → DeviceView D
+device_view bytes_written failed device = record { itself = device; bytes_written = bytes_written device; failed = failed device }
+
+-- The fault of a run, with its device as contracts see it.
+abbrev pub fault_view : {D : Type 0} → (D → DeviceView D) → RunFault D → RunFault (DeviceView D)
+fault_view seen (Memory back) = Memory (seen back)
+fault_view seen (Answers back) = Answers (seen back)
+
 -- The answer to a script, and the device after it: the answers and the device on which the script was run; or the one line and the device as it was.
-abbrev pub IsAnswered : {D : Type 0} → (bytes_written : D → Option (List ℕ)) → (failed : D → ℕ) → List ℕ → List NamedBytes → (device back : D) → (answer : List ℕ) → (fine : Bool) → Type 0
-IsAnswered bytes_written failed text files device back answer fine =
-    RanScript text files (failed device) (failed back) (bytes_written back) answer fine ⊎ (RefusedScript text answer fine × (back ≡ device))
+abbrev pub IsAnswered : {D : Type 0} → List ℕ → List NamedBytes → (device back : DeviceView D) → (answer : List ℕ) → (fine : Bool) → Type 0
+IsAnswered text files device back answer fine =
+    RanScript text files device.failed back.failed back.bytes_written answer fine
+    ⊎ (RefusedScript text answer fine × (back.itself ≡ device.itself))
 
 -- A device that has reported no byte and failed as often as before: nothing was run on it.
 pub record IsUntouched (n k : ℕ) (bytes_written : Option (List ℕ)) : Type 0 where
@@ -113,10 +129,11 @@ pub record LacksMemory (text : List ℕ) (files : List NamedBytes) (n k : ℕ) (
   pub silent : Keeps old new
 
 -- What is known if a run failed: memory was refused; or the writer took a beginning of the answer, once, and not all of it.
-abbrev pub IsLeft : {D : Type 0} → (bytes_written : D → Option (List ℕ)) → (failed : D → ℕ) → List ℕ → List NamedBytes → (device : D) → RunFault D → (old new : Option (List ℕ)) → Type 0
-IsLeft bytes_written failed text files device (Memory back) old new = LacksMemory text files (failed device) (failed back) (bytes_written back) old new
-IsLeft bytes_written failed text files device (Answers back) old new =
-    (answer : List ℕ) × (fine : Bool) × IsAnswered bytes_written failed text files device back answer fine × WritesFront old new answer
+abbrev pub IsLeft : {D : Type 0} → List ℕ → List NamedBytes → (device : DeviceView D) → RunFault (DeviceView D)
+    → (old new : Option (List ℕ)) → Type 0
+IsLeft text files device (Memory back) old new = LacksMemory text files device.failed back.failed back.bytes_written old new
+IsLeft text files device (Answers back) old new =
+    (answer : List ℕ) × (fine : Bool) × IsAnswered text files device back answer fine × WritesFront old new answer
 
 -- A script was run on a device in memory: this text has its answers, and then the bytes that the device took.
 pub record RanInMemory (text : List ℕ) (files : List NamedBytes) (failed : ℕ) (bytes answer : List ℕ) (fine : Bool) : Type 0 where
@@ -164,19 +181,21 @@ IsAnswerOfRest text files sent bytes_written answer fine = CompletesFile text fi
 -- The answer to a script that is run again over the rest of a file, whatever the inner device reports. The run's device reported these bytes, those sent
 -- before among them, which were not sent again; and of its failures some were bytes that differ. A bad script has its one line, and the inner device is
 -- as it was.
-abbrev pub IsAnsweredOverRest : {D : Type 0} → (bytes_written : D → Option (List ℕ)) → (failed : D → ℕ) → List ℕ → List NamedBytes → (device : D) → (sent : List ℕ) → (back : D) → (answer : List ℕ) → (fine : Bool) → Type 0
-IsAnsweredOverRest bytes_written failed text files device sent back answer fine =
-    ((reported : Option (List ℕ)) × (differing : ℕ) × PassesOn sent (bytes_written device) (bytes_written back) reported
-    × RanScript text files (failed device) (failed back + differing) reported answer fine)
-    ⊎ (RefusedScript text answer fine × (back ≡ device))
+abbrev pub IsAnsweredOverRest : {D : Type 0} → List ℕ → List NamedBytes → (sent : List ℕ) → (device back : DeviceView D)
+    → (answer : List ℕ) → (fine : Bool) → Type 0
+IsAnsweredOverRest text files sent device back answer fine =
+    ((reported : Option (List ℕ)) × (differing : ℕ) × PassesOn sent device.bytes_written back.bytes_written reported
+    × RanScript text files device.failed (back.failed + differing) reported answer fine)
+    ⊎ (RefusedScript text answer fine × (back.itself ≡ device.itself))
 
 -- What is known if a run over the rest of a file failed: memory was refused; or the writer took a beginning of the answer, once, and not all of it.
-abbrev pub IsLeftOverRest : {D : Type 0} → (bytes_written : D → Option (List ℕ)) → (failed : D → ℕ) → List ℕ → List NamedBytes → (device : D) → (sent : List ℕ) → RunFault D → (old new : Option (List ℕ)) → Type 0
-IsLeftOverRest bytes_written failed text files device sent (Memory back) old new =
-    (reported : Option (List ℕ)) × (differing : ℕ) × PassesOn sent (bytes_written device) (bytes_written back) reported
-    × LacksMemory text files (failed device) (failed back + differing) reported old new
-IsLeftOverRest bytes_written failed text files device sent (Answers back) old new =
-    (answer : List ℕ) × (fine : Bool) × IsAnsweredOverRest bytes_written failed text files device sent back answer fine × WritesFront old new answer
+abbrev pub IsLeftOverRest : {D : Type 0} → List ℕ → List NamedBytes → (sent : List ℕ) → (device : DeviceView D) → RunFault (DeviceView D)
+    → (old new : Option (List ℕ)) → Type 0
+IsLeftOverRest text files sent device (Memory back) old new =
+    (reported : Option (List ℕ)) × (differing : ℕ) × PassesOn sent device.bytes_written back.bytes_written reported
+    × LacksMemory text files device.failed (back.failed + differing) reported old new
+IsLeftOverRest text files sent device (Answers back) old new =
+    (answer : List ℕ) × (fine : Bool) × IsAnsweredOverRest text files sent device back answer fine × WritesFront old new answer
 
 -- The device that is returned if a run failed.
 abbrev pub device_of : {D : Type 0} → RunFault D → D

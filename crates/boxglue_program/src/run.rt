@@ -9,7 +9,7 @@ ghost use Rattle.job_commands.specs.Reply.{Reply};
 ghost use Rattle.dvi_device.specs.Written.{written_then};
 ghost use Rattle.job_core.specs.Jobs.{RunsTo};
 ghost use Rattle.boxglue_program.specs.Texts.{answer_lines, answers_text};
-ghost use Rattle.boxglue_program.specs.Runs.{commands_of, line_numbers, is_accepted, device_of, WasRun, IsAnswered, IsUntouched, WasRunWhole, IsLeft, IsAnswerOfRest, IsAnsweredOverRest, IsLeftOverRest};
+ghost use Rattle.boxglue_program.specs.Runs.{commands_of, line_numbers, is_accepted, device_of, device_view, fault_view, WasRun, IsAnswered, IsUntouched, WasRunWhole, IsLeft, IsAnswerOfRest, IsAnsweredOverRest, IsLeftOverRest};
 
 use crate::texts::{script_refusal_text, with_answer, with_end};
 use crate::writing::{Unwritten, write_text};
@@ -48,7 +48,8 @@ pub fn answer_script<D: Device>(
 ) -> Result<Answered<D>, D>
     requires countable { D.failed device + 1 < 2 ^ 64 }
     requires fresh { IfSome (D.bytes_written device) (λ bytes. bytes ≡ []) }
-    ensures answers { IfOk result (λ done. IsAnswered D.bytes_written D.failed text.now files.now device done.device done.text.items done.accepted) }
+    ensures answers { let seen = device_view D.bytes_written D.failed in
+        IfOk result (λ done. IsAnswered text.now files.now (seen device) (seen done.device) done.text.items done.accepted) }
     ensures left { IfErr result (λ back. IsUntouched (D.failed device) (D.failed back) (D.bytes_written back)
         ⊎ WasRunWhole text.now files.now (D.failed device) (D.failed back) (D.bytes_written back)) }
     ensures began { IfOk result (λ done. D.began done.device ≡ D.began device) }
@@ -99,9 +100,11 @@ pub fn run_script<D: Device, W: Write>(
 ) -> Result<(bool, D), RunFault<D>>
     requires countable { D.failed device + 1 < 2 ^ 64 }
     requires fresh { IfSome (D.bytes_written device) (λ bytes. bytes ≡ []) }
-    ensures answers { IfOk result (λ done. (answer : List ℕ) × IsAnswered D.bytes_written D.failed text.now files.now device done.1 answer done.0
+    ensures answers { let seen = device_view D.bytes_written D.failed in
+        IfOk result (λ done. (answer : List ℕ) × IsAnswered text.now files.now (seen device) (seen done.1) answer done.0
         × Appends (W.contents writer.old) (W.contents writer.new) answer) }
-    ensures left { IfErr result (λ fault. IsLeft D.bytes_written D.failed text.now files.now device fault (W.contents writer.old) (W.contents writer.new)) }
+    ensures left { let seen = device_view D.bytes_written D.failed in
+        IfErr result (λ fault. IsLeft text.now files.now (seen device) (fault_view seen fault) (W.contents writer.old) (W.contents writer.new)) }
     ensures began { IfOk result (λ done. D.began done.1 ≡ D.began device) }
     ensures kept { IfErr result (λ fault. D.began (device_of fault) ≡ D.began device) }
 {
@@ -136,9 +139,12 @@ pub fn run_rest<D: Device, W: Write>(
     requires { D.failed device + 1 < 2 ^ 64 }
     ensures whole { D.bytes_written device ≡ Some sent.items → IfOk result (λ done. (answer : List ℕ) × IsAnswerOfRest text.now files.now sent.items (D.bytes_written done.1) answer done.0
         × Appends (W.contents writer.old) (W.contents writer.new) answer) }
-    ensures answers { IfOk result (λ done. (answer : List ℕ) × IsAnsweredOverRest D.bytes_written D.failed text.now files.now device sent.items done.1 answer done.0
+    ensures answers { let seen = device_view D.bytes_written D.failed in
+        IfOk result (λ done. (answer : List ℕ) × IsAnsweredOverRest text.now files.now sent.items (seen device) (seen done.1) answer done.0
         × Appends (W.contents writer.old) (W.contents writer.new) answer) }
-    ensures left { IfErr result (λ fault. IsLeftOverRest D.bytes_written D.failed text.now files.now device sent.items fault (W.contents writer.old) (W.contents writer.new)) }
+    ensures left { let seen = device_view D.bytes_written D.failed in
+        IfErr result (λ fault. IsLeftOverRest text.now files.now sent.items (seen device) (fault_view seen fault) (W.contents writer.old)
+        (W.contents writer.new)) }
 {
     match run_script(alloc, text, files, Rest::new(device, sent), writer) {
         Ok((accepted, rest)) => Ok((accepted, rest.into_device())),
