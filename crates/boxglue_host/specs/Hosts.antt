@@ -4,7 +4,7 @@ use base.Stored.{Gv, gnil, gnum, gcons}
 use Rattle.dvi_device.specs.Beginnings.{Beginning}
 use Rattle.tfm_core.specs.NamedBytes.{NamedBytes}
 use Rattle.boxglue_words.specs.declared.fonts.NamedPath.{NamedPath}
-use Rattle.boxglue_host.specs.Readings.{IsFileReading, IsReadableFile, IsUnreadableFile}
+use Rattle.boxglue_host.specs.Readings.{Files, IsFileReading, IsReadableFile, IsUnreadableFile}
 use Rattle.boxglue_host.specs.declared.font_files.Unread.{Unread}
 use Rattle.boxglue_host.specs.declared.font_files.Unread.TheVariants.{OutOfMemory as WantsMemory, File}
 
@@ -38,24 +38,24 @@ abbrev pub has_failed : (before now : ℕ) → Bool
 has_failed before now = not (now == before)
 
 -- The file of a font: it has its name, and the bytes at its path.
-pub record IsFileOf (contents : List ℕ → Option (Option (List ℕ))) (font : NamedPath) (file : NamedBytes) : Type 0 where
+pub record IsFileOf (contents : Files) (font : NamedPath) (file : NamedBytes) : Type 0 where
   pub name : file.name ≡ font.name
   pub bytes : IsFileReading (contents font.path.now) file.bytes
 
 -- The files are those of the fonts, in order.
-abbrev pub AreFilesOf : (List ℕ → Option (Option (List ℕ))) → List NamedPath → List NamedBytes → Type 0
+abbrev pub AreFilesOf : Files → List NamedPath → List NamedBytes → Type 0
 AreFilesOf contents [] [] = ⊤
 AreFilesOf contents [] (file ∷ files) = ⊥
 AreFilesOf contents (font ∷ fonts) [] = ⊥
 AreFilesOf contents (font ∷ fonts) (file ∷ files) = IsFileOf contents font file × AreFilesOf contents fonts files
 
 -- The file of a font was not read: out of memory, where the file can be read; or it cannot be read, and its path is named.
-abbrev pub IsUnreadOf : (List ℕ → Option (Option (List ℕ))) → NamedPath → Unread → Type 0
+abbrev pub IsUnreadOf : Files → NamedPath → Unread → Type 0
 IsUnreadOf contents font WantsMemory = IsReadableFile (contents font.path.now)
 IsUnreadOf contents font (File path) = (path.now ≡ font.path.now) × IsUnreadableFile (contents font.path.now)
 
 -- The file of a font was not read; those of the fonts before it were.
-pub record IsUnread (contents : List ℕ → Option (Option (List ℕ))) (fonts : List NamedPath) (fault : Unread) : Type 0 where
+pub record IsUnread (contents : Files) (fonts : List NamedPath) (fault : Unread) : Type 0 where
   pub before : List NamedPath
   pub files : List NamedBytes
   pub font : NamedPath

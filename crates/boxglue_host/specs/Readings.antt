@@ -3,6 +3,10 @@ use Rattle.std.specs.Prelude.{◌≡◌, ◌≤◌, ◌<◌, ℕ, List, length, 
 use Rattle.std.specs.Io.KnownBytes.{Consumes}
 use Rattle.boxglue_host.specs.declared.host.TheConstants.{READ_LIMIT}
 
+-- The files of a host by their paths. Where a file is known, there is none at the path, or it has these bytes.
+abbrev pub Files : Type 0
+Files = List ℕ → Option (Option (List ℕ))
+
 -- All bytes were read, if they are known, and they are not too many.
 pub record IsReading (contents : Option (List ℕ)) (bytes : List ℕ) : Type 0 where
   pub all : IfSome contents (λ known. bytes ≡ known)
