@@ -11,6 +11,7 @@ ghost use Rattle.boxglue_jobs.specs.Calls.{OnJob};
 ghost use Rattle.boxglue_jobs.specs.Jobs.{IsNewJob, KeptState};
 ghost use Rattle.boxglue_jobs.specs.Pieces.{DoesCommands, FinishesKept, HandsAnswers, HandsBytes};
 ghost use Rattle.boxglue_print.specs.Outputs.{IsListed, IsPainted, LacksPage};
+ghost use Rattle.raster_core.specs.Sheets.{sheet_of};
 
 use boxglue_calls::{DviFont, Font, FontSizes, Lengths};
 use boxglue_jobs::JobHandle;
@@ -71,7 +72,7 @@ pub extern "C" fn boxglue_paint(
     ensures lacking { result ≡ 5 → LacksPage (files_of fonts.now) dvi.now page }
     ensures found { LacksPage (files_of fonts.now) dvi.now page → are_named fonts.now ≡ true → is_in_range page dpi width height ≡ true → (result ≡ 2) ⊎ (result ≡ 5) }
     ensures done { (result ≡ 2) ⊎ (result ≡ 3) ⊎ (result ≡ 5) ⊎ (result ≡ 6)
-        ⊎ HandsOverPages (IsPainted (files_of fonts.now) dvi.now page dpi width height) text.old text.new size.new result }
+        ⊎ HandsOverPages (IsPainted (files_of fonts.now) dvi.now (sheet_of page dpi width height)) text.old text.new size.new result }
     ensures text { (result ≡ 2) ⊎ (result ≡ 3) ⊎ (result ≡ 5) ⊎ (result ≡ 6) → text.new ≡ text.old }
     ensures size { (result ≡ 2) ⊎ (result ≡ 3) ⊎ (result ≡ 5) ⊎ (result ≡ 6) → size.new ≡ size.old }
 {

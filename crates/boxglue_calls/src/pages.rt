@@ -1,15 +1,16 @@
 //! The pages of DVI files: their listing, and bitmaps of their rules.
 
-ghost use Rattle.std.specs.Prelude.{◌≡◌, ◌↔◌, ◌⊎◌, false, true, Err, IfOk};
+ghost use Rattle.std.specs.Prelude.{◌≡◌, ◌↔◌, ◌⊎◌, false, true, Err, IfOk, IsTrue, SomeIff};
 ghost use Rattle.boxglue_calls.specs.Fonts.{are_named, files_of};
 ghost use Rattle.boxglue_calls.specs.Pages.{HandsOverPages, is_in_range, status_of};
 ghost use Rattle.boxglue_print.specs.Outputs.{IsListed, IsPainted, LacksPage};
 ghost use Rattle.boxglue_print.specs.declared.output.PaintFault.TheVariants.{NoSuchPage};
+ghost use Rattle.raster_core.specs.Sheets.{sheet_of};
 
 use crate::buffers::hand_over;
 use crate::given::{Font, are_named, font_files};
 use crate::status::{ACCEPTED, BAD_FONT_NAME, NO_SUCH_PAGE, OUT_OF_MEMORY, OUT_OF_RANGE, REFUSED};
-use boxglue_print::{BitmapSize, Output, PaintFault, list_text, paint_text};
+use boxglue_print::{Output, PaintFault, PaintOptions, list_text, paint_text};
 use std::alloc::{AllocError, Global};
 
 /// The status of a DVI file that was read.
@@ -50,17 +51,14 @@ pub fn list(alloc: Global, dvi: &[u8], fonts: &[Font<'_>], text: &mut [u8], size
     }
 }
 
-/// Whether the numbers of a page are in their ranges: the page 1 or more, the pixels an inch, width and height 1 to 10,000.
-fn is_in_range(page: u32, dpi: u32, width: u32, height: u32) -> bool
-    ensures { result ≡ is_in_range page dpi width height }
+/// The options with these numbers, if they are in their ranges: the page 1 or more, the pixels an inch, width and height 1 to 10,000.
+fn options(page: u32, dpi: u32, width: u32, height: u32) -> Option<PaintOptions>
+    ensures { SomeIff result (IsTrue (is_in_range page dpi width height)) (sheet_of page dpi width height) }
 {
-    1 <= page
-        && 1 <= dpi
-        && dpi <= 10_000
-        && 1 <= width
-        && width <= 10_000
-        && 1 <= height
-        && height <= 10_000
+    if dpi < 1 {
+        return None;
+    }
+    PaintOptions::try_new(page, dpi, width, height)
 }
 
 /// The bitmap of a page of a DVI file with these fonts, which have names, or the line of the file's refusal.
@@ -68,16 +66,14 @@ fn painted(
     alloc: Global,
     dvi: &[u8],
     fonts: &[Font<'_>],
-    page: u32,
-    size: BitmapSize,
+    sheet: PaintOptions,
 ) -> Result<Output, PaintFault>
-    requires named { are_named fonts.now ≡ true }
-    requires range { is_in_range page size.dpi size.width size.height ≡ true }
-    ensures ok { IfOk result (λ output. IsPainted (files_of fonts.now) dvi.now page size.dpi size.width size.height output.text.items output.accepted) }
-    ensures missing { result ≡ Err NoSuchPage → LacksPage (files_of fonts.now) dvi.now page }
+    requires { are_named fonts.now ≡ true }
+    ensures ok { IfOk result (λ output. IsPainted (files_of fonts.now) dvi.now sheet output.text.items output.accepted) }
+    ensures missing { result ≡ Err NoSuchPage → LacksPage (files_of fonts.now) dvi.now sheet.page }
 {
     let files = font_files(alloc, fonts)?;
-    paint_text(alloc, dvi, &files, page, size)
+    paint_text(alloc, dvi, &files, sheet)
 }
 
 /// Paints the rules of a page of a DVI file with these fonts. Pages are counted from 1. The bitmap as plain PBM, or the line of the refusal, goes into `text`, and the
@@ -101,18 +97,17 @@ pub fn paint(
     ensures lacking { result ≡ 5 → LacksPage (files_of fonts.now) dvi.now page }
     ensures found { LacksPage (files_of fonts.now) dvi.now page → are_named fonts.now ≡ true → is_in_range page dpi width height ≡ true → (result ≡ 2) ⊎ (result ≡ 5) }
     ensures done { (result ≡ 2) ⊎ (result ≡ 3) ⊎ (result ≡ 5) ⊎ (result ≡ 6)
-        ⊎ HandsOverPages (IsPainted (files_of fonts.now) dvi.now page dpi width height) text.old text.new size.new result }
+        ⊎ HandsOverPages (IsPainted (files_of fonts.now) dvi.now (sheet_of page dpi width height)) text.old text.new size.new result }
     ensures text { (result ≡ 2) ⊎ (result ≡ 3) ⊎ (result ≡ 5) ⊎ (result ≡ 6) → text.new ≡ text.old }
     ensures size { (result ≡ 2) ⊎ (result ≡ 3) ⊎ (result ≡ 5) ⊎ (result ≡ 6) → size.new ≡ size.old }
 {
     if !are_named(fonts) {
         return BAD_FONT_NAME;
     }
-    if !is_in_range(page, dpi, width, height) {
+    let Some(sheet) = options(page, dpi, width, height) else {
         return OUT_OF_RANGE;
-    }
-    let bitmap_size = BitmapSize { dpi, width, height };
-    match painted(alloc, dvi, fonts, page, bitmap_size) {
+    };
+    match painted(alloc, dvi, fonts, sheet) {
         Ok(output) => {
             *size = output.text.len();
             hand_over(&output.text, text, file_status(output.accepted))

@@ -18,10 +18,10 @@ use Rattle.boxglue_lib.specs.Parts.{TellsOutput, end_of}
 use Rattle.boxglue_host.specs.Readings.{IsFileReading, IsReadable, IsReading}
 use Rattle.boxglue_lib.specs.Printed.{LacksMemoryForDvi}
 use Rattle.boxglue_lib.specs.Views.{HostView, IsSame, Streams}
-use Rattle.boxglue_lib.specs.Typesets.{HasTypeset, IsLeftAlone, IsLeftToFile, IsToFile, IsTypeset, IsUsed, TellsUnwritten}
+use Rattle.boxglue_lib.specs.Typesets.{HasTypeset, IsLeftAlone, IsLeftToFile, IsToFile, IsUsed, LeavesHost, OutFile, TellsUnwritten, script_rules, typesetting_rules}
 use Rattle.boxglue_program.specs.Runs.{IsUntouched, RanScript, RefusedScript, WasRunWhole, WritesFront, memory_line}
 use Rattle.boxglue_program.proofs.WritingLemmas.{appends_both, appends_keeps, keeps_appends, keeps_front}
-use Rattle.boxglue_lib.specs.Ends.{EndsOutput, EndsTask, TaskHasEnded, TakesText, TellsErrors, status_of}
+use Rattle.boxglue_lib.specs.Ends.{EndsOutput, EndsTask, TaskHasEnded, TaskRules, TakesText, TellsErrors, status_of}
 use Rattle.boxglue_lib.specs.declared.task_end.TaskEnd.{TaskEnd}
 use Rattle.boxglue_lib.specs.declared.task_end.TaskEnd.TheVariants.{Printed, Unwritten, OutOfMemory, Unreadable, NoSuchPage}
 
@@ -85,70 +85,71 @@ keeps_takes old mid new a h (inl all) = inl (keeps_appends old mid new a h all)
 keeps_takes old mid new a h (inr front) = inr (keeps_front old mid new a h front)
 
 -- What a task has printed, and what the output takes after it.
-pub output_then : (IsAnswer : List ℕ → Bool → Type 0) (IsUnread : Bor (List ℕ) → Type 0) (LacksPage : Type 0) (end : TaskEnd) (old mid new : Option (List ℕ))
-    → EndsTask IsAnswer IsUnread LacksPage end old mid → TellsOutput end mid new → EndsOutput IsAnswer IsUnread LacksPage end old new
-output_then A U L (Printed fine) old mid new ended reported = (ended.0, ended.1, appends_keeps old mid new ended.0 ended.2 reported)
-output_then A U L Unwritten old mid new ended reported = (ended.0, ended.1, ended.2, front_keeps old mid new ended.0 ended.3 reported)
-output_then A U L OutOfMemory old mid new ended reported = keeps_takes old mid new memory_line ended reported
-output_then A U L (Unreadable path) old mid new ended reported = (ended.0, keeps_twice old mid new ended.1 reported)
-output_then A U L NoSuchPage old mid new ended reported = (ended.0, keeps_twice old mid new ended.1 reported)
+pub output_then : (rules : TaskRules) (end : TaskEnd) (old mid new : Option (List ℕ))
+    → EndsTask rules end old mid → TellsOutput end mid new → EndsOutput rules end old new
+output_then rules (Printed fine) old mid new ended reported = (ended.0, ended.1, appends_keeps old mid new ended.0 ended.2 reported)
+output_then rules Unwritten old mid new ended reported = (ended.0, ended.1, ended.2, front_keeps old mid new ended.0 ended.3 reported)
+output_then rules OutOfMemory old mid new ended reported = keeps_takes old mid new memory_line ended reported
+output_then rules (Unreadable path) old mid new ended reported = (ended.0, keeps_twice old mid new ended.1 reported)
+output_then rules NoSuchPage old mid new ended reported = (ended.0, keeps_twice old mid new ended.1 reported)
 
 -- What is known of a device that writes a file, in terms of a script that was typeset.
-pub answered_to_file : (text : List ℕ) (files : List NamedBytes) (start : ℕ) (begun : Bool) (failures : ℕ) (back : Option (List ℕ)) (Same Kept : Type 0) (answer : List ℕ) (fine created done : Bool) (written : Option (List ℕ))
-    → start ≡ 0 → created ≡ begun → done ≡ (failures == 0) → written ≡ back → (Same → begun ≡ false) → (Same → failures ≡ 0) → (Same → Kept)
-    → IsUsed created done written → RanScript text files start failures (written_to_file begun back) answer fine ⊎ (RefusedScript text answer fine × Same) → IsToFile text files written Kept created done answer fine
-answered_to_file text files start begun failures back Same Kept answer fine created done written fresh opened counted kept closed none same used (inl ran) =
+pub answered_to_file : (text : List ℕ) (files : List NamedBytes) (start : ℕ) (begun : Bool) (failures : ℕ) (back : Option (List ℕ)) (Same Kept : Type 0) (answer : List ℕ) (fine : Bool) (file : OutFile)
+    → start ≡ 0 → file.created ≡ begun → file.done ≡ (failures == 0) → file.written ≡ back → (Same → begun ≡ false) → (Same → failures ≡ 0) → (Same → Kept)
+    → IsUsed file → RanScript text files start failures (written_to_file begun back) answer fine ⊎ (RefusedScript text answer fine × Same) → IsToFile text files Kept file answer fine
+answered_to_file text files start begun failures back Same Kept answer fine file fresh opened counted kept closed none same used (inl ran) =
     let at_start = subst (λ (n : ℕ). RanScript text files n failures (written_to_file begun back) answer fine) fresh ran in
     let at_open = subst (λ (is : Bool). RanScript text files 0 failures (written_to_file is back) answer fine) (sym opened) at_start in
-    inl (failures, subst (λ (bytes : Option (List ℕ)). RanScript text files 0 failures (written_to_file created bytes) answer fine) (sym kept) at_open, counted, used)
-answered_to_file text files start begun failures back Same Kept answer fine created done written fresh opened counted kept closed none same used (inr refused) =
+    inl (failures, subst (λ (bytes : Option (List ℕ)). RanScript text files 0 failures (written_to_file file.created bytes) answer fine) (sym kept) at_open, counted, used)
+answered_to_file text files start begun failures back Same Kept answer fine file fresh opened counted kept closed none same used (inr refused) =
     inr (
       refused.0,
       record { same = same refused.1; closed = opened ∙ closed refused.1; silent = counted ∙ ap (λ (n : ℕ). n == 0) (none refused.1) },
     )
 
 -- What is known of such a device if memory was refused.
-pub left_to_file : (text : List ℕ) (files : List NamedBytes) (start : ℕ) (begun : Bool) (failures : ℕ) (back : Option (List ℕ)) (created done : Bool) (written : Option (List ℕ))
-    → start ≡ 0 → created ≡ begun → done ≡ (failures == 0) → written ≡ back → IsUsed created done written
-    → IsUntouched start failures (written_to_file begun back) ⊎ WasRunWhole text files start failures (written_to_file begun back) → IsLeftToFile text files written created done
-left_to_file text files start begun failures back created done written fresh opened counted kept used left =
+pub left_to_file : (text : List ℕ) (files : List NamedBytes) (start : ℕ) (begun : Bool) (failures : ℕ) (back : Option (List ℕ)) (file : OutFile)
+    → start ≡ 0 → file.created ≡ begun → file.done ≡ (failures == 0) → file.written ≡ back → IsUsed file
+    → IsUntouched start failures (written_to_file begun back) ⊎ WasRunWhole text files start failures (written_to_file begun back) → IsLeftToFile text files file
+left_to_file text files start begun failures back file fresh opened counted kept used left =
     let at_start = subst
     (λ (n : ℕ). IsUntouched n failures (written_to_file begun back) ⊎ WasRunWhole text files n failures (written_to_file begun back)) fresh left in
     let at_open = subst
     (λ (is : Bool). IsUntouched 0 failures (written_to_file is back) ⊎ WasRunWhole text files 0 failures (written_to_file is back)) (sym opened) at_start in (
       failures,
-      subst (λ (bytes : Option (List ℕ)). IsUntouched 0 failures (written_to_file created bytes) ⊎ WasRunWhole text files 0 failures (written_to_file created bytes)) (sym kept) at_open,
+      subst (λ (bytes : Option (List ℕ)). IsUntouched 0 failures (written_to_file file.created bytes) ⊎ WasRunWhole text files 0 failures (written_to_file file.created bytes)) (sym kept) at_open,
       counted,
       used,
     )
 
 -- A task has ended, and its end was reported.
-pub has_ended : (IsAnswer : List ℕ → Bool → Type 0) (IsUnread : Bor (List ℕ) → Type 0) (LacksPage LacksMemory : Type 0) (end : TaskEnd) (mid : Option (List ℕ)) (before after : Streams) (status : ℕ)
-    → EndsTask IsAnswer IsUnread LacksPage end before.output mid → (end ≡ OutOfMemory → LacksMemory) → TellsOutput end mid after.output → TellsErrors end before.errors after.errors → status ≡ status_of end
-    → TaskHasEnded IsAnswer IsUnread LacksPage LacksMemory before after status
-has_ended A U L M end mid before after status ended memory said reported is = record {
+pub has_ended : (rules : TaskRules) (end : TaskEnd) (mid : Option (List ℕ)) (before after : Streams) (status : ℕ)
+    → EndsTask rules end before.output mid → (end ≡ OutOfMemory → rules.LacksMemory) → TellsOutput end mid after.output → TellsErrors end before.errors after.errors
+    → status ≡ status_of end → TaskHasEnded rules before after status
+has_ended rules end mid before after status ended memory said reported is = record {
   end = end;
-  printed = output_then A U L end before.output mid after.output ended said;
+  printed = output_then rules end before.output mid after.output ended said;
   memory = memory;
   reported = reported;
   status_is = is;
 }
 
--- An answer under a weaker definition.
-pub ends_weaker : (A B : List ℕ → Bool → Type 0) (U V : Bor (List ℕ) → Type 0) (L : Type 0) (end : TaskEnd) (old new : Option (List ℕ))
-    → ((text : List ℕ) (fine : Bool) → A text fine → B text fine) → ((path : Bor (List ℕ)) → U path → V path) → EndsTask A U L end old new → EndsTask B V L end old new
-ends_weaker A B U V L (Printed fine) old new f u h = (h.0, f h.0 fine h.1, h.2)
-ends_weaker A B U V L Unwritten old new f u h = (h.0, h.1, f h.0 h.1 h.2, h.3)
-ends_weaker A B U V L OutOfMemory old new f u h = h
-ends_weaker A B U V L (Unreadable path) old new f u h = (u path h.0, h.1)
-ends_weaker A B U V L NoSuchPage old new f u h = h
+-- An end under weaker rules.
+pub ends_weaker : (rules weaker : TaskRules) (end : TaskEnd) (old new : Option (List ℕ))
+    → ((text : List ℕ) (fine : Bool) → rules.IsAnswer text fine → weaker.IsAnswer text fine) → ((path : Bor (List ℕ)) → rules.IsUnread path → weaker.IsUnread path)
+    → (rules.LacksPage → weaker.LacksPage) → EndsTask rules end old new → EndsTask weaker end old new
+ends_weaker rules weaker (Printed fine) old new f u l h = (h.0, f h.0 fine h.1, h.2)
+ends_weaker rules weaker Unwritten old new f u l h = (h.0, h.1, f h.0 h.1 h.2, h.3)
+ends_weaker rules weaker OutOfMemory old new f u l h = h
+ends_weaker rules weaker (Unreadable path) old new f u l h = (u path h.0, h.1)
+ends_weaker rules weaker NoSuchPage old new f u l h = (l h.0, h.1)
 
 -- Files that were not read, and the report of it.
-pub unread_output : (A : List ℕ → Bool → Type 0) (reported : List ℕ → Option (Option (List ℕ))) (input : Option (List ℕ)) (fonts : List NamedPath) (fault : Unread) (Alone : Type 0) (old new : Option (List ℕ))
-    → Alone → IsUnreadScript reported input fonts fault → TellsOutput (end_of fault) old new
-    → EndsOutput A (λ path. IsUnreadScript reported input fonts (File path) × Alone) ⊥ (end_of fault) old new
-unread_output A reported input fonts WantsMemory Alone old new alone unread said = said
-unread_output A reported input fonts (File path) Alone old new alone unread said = ((unread, alone), said)
+pub unread_output : {H : Type 0} (fonts : List NamedPath) (host : HostView H) (file : OutFile) (fault : Unread) (old new : Option (List ℕ))
+    → IsLeftAlone (IsSame host host) file → IsUnreadScript host.files host.input fonts fault → TellsOutput (end_of fault) old new
+    → EndsOutput (typesetting_rules fonts host host file) (end_of fault) old new
+unread_output fonts host file WantsMemory old new alone unread said = said
+unread_output fonts host file (File path) old new alone unread said = ((unread, alone), said)
 
 -- Known bytes stay the same if nothing happens.
 pub keeps_same : (known : Option (List ℕ)) → Keeps known known
@@ -156,31 +157,21 @@ keeps_same None = tt
 keeps_same (Some bytes) = refl
 
 -- A script was typeset, and its end was reported.
-pub typeset_ended : {H : Type 0} (fonts : List NamedPath) (out : List ℕ) (host now : HostView H) (created done : Bool)
+pub typeset_ended : {H : Type 0} (fonts : List NamedPath) (out : List ℕ) (old new : HostView H) (file : OutFile)
     (text : List ℕ) (files : List NamedBytes) (end : TaskEnd) (mid between : Option (List ℕ)) (before after : Streams) (status : ℕ)
-    → IsReading host.input text → AreFilesOf host.files fonts files → EndsTask (IsToFile text files now.written (IsSame host now) created done) (λ path. ⊥) ⊥ end before.output mid
-    → (end ≡ OutOfMemory → IsLeftToFile text files now.written created done) → TellsUnwritten done out before.errors between → now.created ≡ created_after created out host.created
-    → (created ≡ false → now.written ≡ host.written) → (created ≡ false → done ≡ true → IsSame host now) → has_failed host.failures now.failures ≡ not done
-    → TellsOutput end mid after.output → TellsErrors end between after.errors → status ≡ status_of end
-    → HasTypeset out fonts host now before after status
-typeset_ended fonts out host now created done text files end mid between before after status read filed ended left unwritten placed untouched unchanged blamed said end_written is =
-    let A : List ℕ → Bool → Type 0 = IsTypeset fonts host now created done in
-    let U : Bor (List ℕ) → Type 0 = λ path. IsUnreadScript host.files host.input fonts (File path) × IsLeftAlone (IsSame host now) created done in
+    → IsReading old.input text → AreFilesOf old.files fonts files → EndsTask (script_rules text files (IsSame old new) file) end before.output mid
+    → (end ≡ OutOfMemory → IsLeftToFile text files file) → LeavesHost out old new file → TellsUnwritten file.done out before.errors between
+    → TellsOutput end mid after.output → TellsErrors end between after.errors → status ≡ status_of end → HasTypeset out fonts old new before after status
+typeset_ended fonts out old new file text files end mid between before after status read filed ended left leaves unwritten said told is =
     record {
       end = end;
-      created = created;
-      done = done;
-      placed = placed;
-      untouched = untouched;
-      unchanged = unchanged;
-      printed = output_then A U ⊥ end before.output mid after.output
-          (ends_weaker (IsToFile text files now.written (IsSame host now) created done) A (λ path. ⊥) U ⊥ end before.output mid
-          (λ answer fine to. (text, files, read, filed, to)) (λ path none. absurd none) ended) said;
+      file = file;
+      leaves = leaves;
+      printed = output_then (typesetting_rules fonts old new file) end before.output mid after.output
+          (ends_weaker (script_rules text files (IsSame old new) file) (typesetting_rules fonts old new file) end before.output mid
+          (λ answer fine to. (text, files, read, filed, to)) (λ path none. absurd none) (λ none. none) ended) said;
       memory = λ wants. inr (text, files, read, filed, left wants);
-      middle = between;
-      unwritten = unwritten;
-      blamed = blamed;
-      contents_is = end_written;
+      reported = record { middle = between; unwritten = unwritten; ended = told };
       status_is = is;
     }
 
@@ -238,29 +229,24 @@ wanting_script reported input fonts (File path) wants unread = absurd (cc)
 
 -- The input of `typeset` was not read, and that was reported.
 pub not_typeset : {H : Type 0} (fonts : List NamedPath) (out : List ℕ) (host : HostView H) (fault : Unread) (before after : Streams) (status : ℕ)
-    → IsUnreadScript host.files host.input fonts fault → TellsOutput (end_of fault) before.output after.output → TellsErrors (end_of fault) before.errors after.errors → status ≡ status_of (end_of fault)
-    → HasTypeset out fonts host host before after status
-not_typeset fonts out host fault before after status unread said end_written is =
-    let alone : IsLeftAlone (IsSame host host) false true = record { same = refl; closed = refl; silent = refl } in
+    → IsUnreadScript host.files host.input fonts fault → TellsOutput (end_of fault) before.output after.output → TellsErrors (end_of fault) before.errors after.errors
+    → status ≡ status_of (end_of fault) → HasTypeset out fonts host host before after status
+not_typeset fonts out host fault before after status unread said told is =
+    let file : OutFile = record { created = false; done = true; written = host.written } in
+    let alone : IsLeftAlone (IsSame host host) file = record { same = refl; closed = refl; silent = refl } in
     record {
       end = end_of fault;
-      created = false;
-      done = true;
-      placed = refl;
-      untouched = λ _. refl;
-      unchanged = λ _ _. refl;
-      printed = unread_output (IsTypeset fonts host host false true) host.files host.input fonts fault (IsLeftAlone (IsSame host host) false true) before.output after.output alone unread said;
+      file = file;
+      leaves = record { written = refl; placed = refl; untouched = λ _. refl; unchanged = λ _ _. refl; blamed = unfailed host.failures };
+      printed = unread_output fonts host file fault before.output after.output alone unread said;
       memory = λ wants. inl (alone, wanting_script host.files host.input fonts fault wants unread);
-      middle = before.errors;
-      unwritten = keeps_same before.errors;
-      blamed = unfailed host.failures;
-      contents_is = end_written;
+      reported = record { middle = before.errors; unwritten = keeps_same before.errors; ended = told };
       status_is = is;
     }
 
 -- A file whose script made no page, or for which nothing was run, was not created, if it is known what it took and no write failed.
-pub not_created : (created done : Bool) (written : Option (List ℕ)) → IsUsed created done written → done ≡ true → IsSome written → IfSome (written_to_file created written) (λ bytes. bytes ≡ [])
-    → created ≡ false
+pub not_created : (created done : Bool) (written : Option (List ℕ)) → IsUsed (record { created = created; done = done; written = written }) → done ≡ true → IsSome written
+    → IfSome (written_to_file created written) (λ bytes. bytes ≡ []) → created ≡ false
 not_created false done written used fine reported empty = refl
 not_created true done None used fine reported empty = cc
 not_created true done (Some bytes) used fine reported empty = absurd (used refl fine bytes refl empty)

@@ -16,11 +16,12 @@ TakesText old new text = Appends old new text ⊎ WritesFront old new text
 abbrev pub line_of : List ℕ → List ℕ → List ℕ
 line_of what name = what ++ (name ++ codes "\n")
 
--- The version was printed, or only a beginning of its line.
+-- The version was printed, with status 0, or only a beginning of its line, with status 1.
 abbrev pub PrintsVersion : (old new : Option (List ℕ)) → (status : ℕ) → Type 0
-PrintsVersion old new status = (Appends old new VERSION_LINE.now × (status ≡ 0)) ⊎ (WritesFront old new VERSION_LINE.now × (status ≡ 1))
+PrintsVersion old new status =
+    (Appends old new VERSION_LINE.now × (status ≡ 0)) ⊎ (WritesFront old new VERSION_LINE.now × (status ≡ 1))
 
--- The status at an end.
+-- The status at an end: 0 if the whole text was printed and nothing was refused, 2 if there is no such page, and otherwise 1.
 abbrev pub status_of : TaskEnd → ℕ
 status_of (Printed true) = 0
 status_of (Printed false) = 1
@@ -35,23 +36,32 @@ TellsErrors (Unreadable path) old new = TakesText old new (line_of (codes "boxgl
 TellsErrors NoSuchPage old new = TakesText old new (codes "boxglue: no such page\n")
 TellsErrors _ old new = Keeps old new
 
--- How a task ended and what it printed: a text that is an answer, or a beginning of one; or nothing, for a path that cannot be read or a missing page.
-abbrev pub EndsTask : (IsAnswer : List ℕ → Bool → Type 0) → (IsUnread : Bor (List ℕ) → Type 0) → (LacksPage : Type 0) → TaskEnd → (old new : Option (List ℕ)) → Type 0
-EndsTask IsAnswer IsUnread LacksPage (Printed fine) old new = (text : List ℕ) × IsAnswer text fine × Appends old new text
-EndsTask IsAnswer IsUnread LacksPage Unwritten old new = (text : List ℕ) × (fine : Bool) × IsAnswer text fine × WritesFront old new text
-EndsTask IsAnswer IsUnread LacksPage OutOfMemory old new = Keeps old new
-EndsTask IsAnswer IsUnread LacksPage (Unreadable path) old new = IsUnread path × Keeps old new
-EndsTask IsAnswer IsUnread LacksPage NoSuchPage old new = LacksPage × Keeps old new
+-- The rules of a task: what is true where it ends with a text as its answer, and with `fine` exactly if nothing was refused; where it ends with a
+-- path that cannot be read; with a missing page; with memory that was refused. An end whose rule is ⊥ does not occur.
+pub record TaskRules : Type 1 where
+  pub IsAnswer : (text : List ℕ) → (fine : Bool) → Type 0
+  pub IsUnread : (path : Bor (List ℕ)) → Type 0
+  pub LacksPage : Type 0
+  pub LacksMemory : Type 0
 
--- The same with what the output takes after it.
-abbrev pub EndsOutput : (IsAnswer : List ℕ → Bool → Type 0) → (IsUnread : Bor (List ℕ) → Type 0) → (LacksPage : Type 0) → TaskEnd → (old new : Option (List ℕ)) → Type 0
-EndsOutput IsAnswer IsUnread LacksPage OutOfMemory old new = TakesText old new memory_line
-EndsOutput IsAnswer IsUnread LacksPage end old new = EndsTask IsAnswer IsUnread LacksPage end old new
+-- How a task ended by its rules, and what it printed: an answer, or only a beginning of one; or nothing, since a path cannot be read, a page is
+-- missing or memory was refused. The rule for memory is in `TaskHasEnded`.
+abbrev pub EndsTask : TaskRules → TaskEnd → (old new : Option (List ℕ)) → Type 0
+EndsTask rules (Printed fine) old new = (text : List ℕ) × rules.IsAnswer text fine × Appends old new text
+EndsTask rules Unwritten old new = (text : List ℕ) × (fine : Bool) × rules.IsAnswer text fine × WritesFront old new text
+EndsTask rules OutOfMemory old new = Keeps old new
+EndsTask rules (Unreadable path) old new = rules.IsUnread path × Keeps old new
+EndsTask rules NoSuchPage old new = rules.LacksPage × Keeps old new
 
--- A task has ended: what the output took, what the errors took, and the status; and what is known if memory was refused.
-pub record TaskHasEnded (IsAnswer : List ℕ → Bool → Type 0) (IsUnread : Bor (List ℕ) → Type 0) (LacksPage LacksMemory : Type 0) (before after : Streams) (status : ℕ) : Type 0 where
+-- The same with what the output takes after it: the line for memory that was refused.
+abbrev pub EndsOutput : TaskRules → TaskEnd → (old new : Option (List ℕ)) → Type 0
+EndsOutput rules OutOfMemory old new = TakesText old new memory_line
+EndsOutput rules end old new = EndsTask rules end old new
+
+-- A task has ended by its rules: what the output took, when memory may be refused, what the errors took, and the status.
+pub record TaskHasEnded (rules : TaskRules) (before after : Streams) (status : ℕ) : Type 0 where
   pub end : TaskEnd
-  pub printed : EndsOutput IsAnswer IsUnread LacksPage end before.output after.output
-  pub memory : end ≡ OutOfMemory → LacksMemory
+  pub printed : EndsOutput rules end before.output after.output
+  pub memory : end ≡ OutOfMemory → rules.LacksMemory
   pub reported : TellsErrors end before.errors after.errors
   pub status_is : status ≡ status_of end

@@ -1,15 +1,15 @@
 -- What a task reads, and why it is not read (own).
 use Rattle.std.specs.Prelude.{◌≡◌, ◌⊎◌, ℕ, List, Option, codes}
 use Rattle.boxglue_host.specs.Hosts.{AreFilesOf, IsUnread}
-use Rattle.boxglue_host.specs.Readings.{IsFileReading, IsReadable, IsReadableFile, IsUnreadable, IsUnreadableFile}
+use Rattle.boxglue_host.specs.Readings.{Files, IsFileReading, IsReadable, IsReadableFile, IsUnreadable, IsUnreadableFile}
 use Rattle.boxglue_host.specs.declared.font_files.Unread.{Unread}
 use Rattle.boxglue_host.specs.declared.font_files.Unread.TheVariants.{OutOfMemory, File}
 use Rattle.tfm_core.specs.NamedBytes.{NamedBytes}
 use Rattle.boxglue_words.specs.declared.fonts.NamedPath.{NamedPath}
 
--- Why the files of the fonts and then the script of standard input were not read: out of memory, at the file of a font or at standard input that can be
--- read, or one of them cannot be read. What comes before it was read.
-abbrev pub IsUnreadScript : (List ℕ → Option (Option (List ℕ))) → (input : Option (List ℕ)) → List NamedPath → Unread → Type 0
+-- Why the files of the fonts and then the script of standard input were not read: out of memory, at the file of a font or at standard input that can
+-- be read, or one of them cannot be read. What comes before it was read.
+abbrev pub IsUnreadScript : Files → (input : Option (List ℕ)) → List NamedPath → Unread → Type 0
 IsUnreadScript contents input fonts OutOfMemory =
     IsUnread contents fonts OutOfMemory
     ⊎ (((files : List NamedBytes) × AreFilesOf contents fonts files) × IsReadable input)
@@ -19,7 +19,7 @@ IsUnreadScript contents input fonts (File path) =
 
 -- Why a DVI file and then the files of the fonts were not read: out of memory, at the DVI file or the file of a font that can be read, or one of them
 -- cannot be read. What comes before it was read.
-abbrev pub IsUnreadDvi : (List ℕ → Option (Option (List ℕ))) → (dvi : List ℕ) → List NamedPath → Unread → Type 0
+abbrev pub IsUnreadDvi : Files → (dvi : List ℕ) → List NamedPath → Unread → Type 0
 IsUnreadDvi contents dvi fonts OutOfMemory =
     IsReadableFile (contents dvi)
     ⊎ (((bytes : List ℕ) × IsFileReading (contents dvi) bytes) × IsUnread contents fonts OutOfMemory)

@@ -1,12 +1,9 @@
 -- What the parts of the program pass to each other (own; private calls alone, no public clause speaks of it).
-use Rattle.std.specs.Prelude.{◌≤◌, ⊤, List, ℕ, Option}
+use Rattle.std.specs.Prelude.{List, ℕ, Option}
 use Rattle.std.specs.Io.KnownBytes.{Keeps}
 use Rattle.boxglue_host.specs.declared.font_files.Unread.{Unread}
 use Rattle.boxglue_host.specs.declared.font_files.Unread.TheVariants.{OutOfMemory as WantsMemory, File}
 use Rattle.boxglue_program.specs.Runs.{memory_line}
-use Rattle.boxglue_words.specs.declared.task.PaintOptions.{PaintOptions}
-use Rattle.boxglue_words.specs.declared.task.Task.{Task}
-use Rattle.boxglue_words.specs.declared.task.Task.TheVariants as tasks
 use Rattle.boxglue_lib.specs.Ends.{TakesText}
 use Rattle.boxglue_lib.specs.declared.task_end.TaskEnd.{TaskEnd}
 use Rattle.boxglue_lib.specs.declared.task_end.TaskEnd.TheVariants.{OutOfMemory, Unreadable}
@@ -20,16 +17,3 @@ end_of (File path) = Unreadable path
 abbrev pub TellsOutput : TaskEnd → (old new : Option (List ℕ)) → Type 0
 TellsOutput OutOfMemory old new = TakesText old new memory_line
 TellsOutput _ old new = Keeps old new
-
--- The numbers of a sheet are in the ranges that painting needs.
-abbrev pub IsRanged : PaintOptions → Type 0
-IsRanged sheet =
-    (1 ≤ sheet.page) × (sheet.dpi ≤ 10000) × ((1 ≤ sheet.width) × (sheet.width ≤ 10000)) × ((1 ≤ sheet.height) × (sheet.height ≤ 10000))
-
--- The numbers of a task are in range.
-abbrev pub HasRanges : Task → Type 0
-HasRanges tasks.Version = ⊤
-HasRanges tasks.Memory = ⊤
-HasRanges (tasks.Typeset out fonts) = ⊤
-HasRanges (tasks.Listing dvi fonts) = ⊤
-HasRanges (tasks.Painting sheet dvi fonts) = IsRanged sheet

@@ -3,16 +3,14 @@ use Rattle.std.specs.Prelude.{◌≡◌, ◌⊎◌, ℕ, Bool, List, [], Option,
 use Rattle.std.specs.Borrow.{Bor}
 use Rattle.std.specs.Io.KnownBytes.{Keeps}
 use Rattle.boxglue_host.specs.Readings.{IsReadable, IsReading, IsUnreadable}
-use Rattle.boxglue_host.specs.declared.font_files.Unread.TheVariants.{File}
 use Rattle.boxglue_program.specs.Runs.{IsAnswerInMemory, memory_line}
 use Rattle.boxglue_words.specs.Tasks.{IsRefused, IsTask}
 use Rattle.boxglue_words.specs.declared.fonts.WordFault.{WordFault}
 use Rattle.boxglue_words.specs.declared.fonts.WordFault.TheVariants as faults
 use Rattle.boxglue_words.specs.declared.task.Task.{Task}
 use Rattle.boxglue_words.specs.declared.task.Task.TheVariants as tasks
-use Rattle.boxglue_lib.specs.Ends.{TaskHasEnded, PrintsVersion, TakesText, line_of}
-use Rattle.boxglue_lib.specs.Inputs.{IsUnreadDvi}
-use Rattle.boxglue_lib.specs.Printed.{HasNoPage, IsListing, IsPainting, LacksMemoryForDvi}
+use Rattle.boxglue_lib.specs.Ends.{TaskHasEnded, TaskRules, PrintsVersion, TakesText, line_of}
+use Rattle.boxglue_lib.specs.Printed.{listing_rules, painting_rules}
 use Rattle.boxglue_lib.specs.Typesets.{HasTypeset}
 use Rattle.boxglue_lib.specs.Views.{HostView, IsSame, Streams}
 
@@ -24,31 +22,44 @@ IsAnsweredInput input answer fine = (text : List ℕ) × IsReading input text ×
 abbrev pub IsUnreadInput : (input : Option (List ℕ)) → Bor (List ℕ) → Type 0
 IsUnreadInput input path = (path.now ≡ codes "-") × IsUnreadable input
 
--- What is written for words that are refused, and the status.
+-- The rules of a run without words: the answers and the bytes of the script of standard input; or standard input cannot be read. No page is missing,
+-- and memory is refused only where standard input can be read.
+abbrev pub input_rules : (input : Option (List ℕ)) → TaskRules
+input_rules input =
+    record { IsAnswer = IsAnsweredInput input; IsUnread = IsUnreadInput input; LacksPage = ⊥; LacksMemory = IsReadable input }
+
+-- What is written for words that are refused, and the status: the line for a refused growth of memory on the output, with status 1; any other message
+-- on the errors, with status 2.
 abbrev pub RefusesWords : WordFault → (before after : Streams) → (status : ℕ) → Type 0
-RefusesWords faults.Memory before after status = TakesText before.output after.output memory_line × Keeps before.errors after.errors × (status ≡ 1)
+RefusesWords faults.Memory before after status =
+    TakesText before.output after.output memory_line × Keeps before.errors after.errors × (status ≡ 1)
 RefusesWords (faults.Line text) before after status =
     Keeps before.output after.output × TakesText before.errors after.errors (string_bytes text) × (status ≡ 2)
 RefusesWords (faults.NotPair word) before after status =
-    Keeps before.output after.output × TakesText before.errors after.errors (line_of (codes "boxglue: not NAME=TFM: ") word.now) × (status ≡ 2)
+    Keeps before.output after.output
+    × TakesText before.errors after.errors (line_of (codes "boxglue: not NAME=TFM: ") word.now) × (status ≡ 2)
 RefusesWords (faults.NameTwice name) before after status =
-    Keeps before.output after.output × TakesText before.errors after.errors (line_of (codes "boxglue: name given twice: ") name.now) × (status ≡ 2)
+    Keeps before.output after.output
+    × TakesText before.errors after.errors (line_of (codes "boxglue: name given twice: ") name.now) × (status ≡ 2)
 
--- A task was done with the files and the standard input of a host. Except for `typeset` the host was returned as it was. Memory is refused only for an
--- input that can be read, or after all were read.
+-- A task was done with the files and the standard input of a host. The version is printed. Without words the script of standard input is run in
+-- memory; `typeset` runs it on a file, `list` prints the pages of a DVI file and `paint` a bitmap of one page, each by its rules. Except for
+-- `typeset` the host was returned as it was. Memory is refused only for an input that can be read, or after all were read.
 abbrev pub HasDone : {H : Type 0} → Task → (old new : HostView H) → (before after : Streams) → (status : ℕ) → Type 0
-HasDone tasks.Version old new before after status = IsSame old new × PrintsVersion before.output after.output status × Keeps before.errors after.errors
+HasDone tasks.Version old new before after status =
+    IsSame old new × PrintsVersion before.output after.output status × Keeps before.errors after.errors
 HasDone tasks.Memory old new before after status =
-    IsSame old new × TaskHasEnded (IsAnsweredInput old.input) (IsUnreadInput old.input) ⊥ (IsReadable old.input) before after status
+    IsSame old new × TaskHasEnded (input_rules old.input) before after status
 HasDone (tasks.Typeset out fonts) old new before after status = HasTypeset out.now fonts.items old new before after status
 HasDone (tasks.Listing dvi fonts) old new before after status =
-    IsSame old new × TaskHasEnded (IsListing old.files dvi.now fonts.items) (λ path. IsUnreadDvi old.files dvi.now fonts.items (File path)) ⊥
-    (LacksMemoryForDvi old.files dvi.now fonts.items) before after status
+    IsSame old new × TaskHasEnded (listing_rules old.files dvi.now fonts.items) before after status
 HasDone (tasks.Painting sheet dvi fonts) old new before after status =
-    IsSame old new × TaskHasEnded (IsPainting old.files sheet dvi.now fonts.items) (λ path. IsUnreadDvi old.files dvi.now fonts.items (File path))
-    (HasNoPage old.files sheet dvi.now fonts.items) (LacksMemoryForDvi old.files dvi.now fonts.items) before after status
+    IsSame old new × TaskHasEnded (painting_rules old.files sheet dvi.now fonts.items) before after status
 
--- The program was run: its words are refused, and the host was returned as it was; or the task that they ask for was done.
+-- The program was run with these words: `old` is the host that it was given and `new` the one that it returned, `before` and `after` are what the
+-- output and the errors had taken, and this is its status. There are two cases. Its words are refused, for a fault that `IsRefused` allows: then the
+-- host was returned as it was, and one message was written (`RefusesWords`). Or its words are a command line, and `IsTask` names its task: then this
+-- was done (`HasDone`).
 abbrev pub HasRun : {H : Type 0} → (words : List (List ℕ)) → (old new : HostView H) → (before after : Streams) → (status : ℕ) → Type 0
 HasRun words old new before after status =
     ((fault : WordFault) × IsRefused words fault × IsSame old new × RefusesWords fault before after status)

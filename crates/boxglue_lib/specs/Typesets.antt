@@ -8,68 +8,100 @@ use Rattle.boxglue_host.specs.declared.font_files.Unread.TheVariants.{OutOfMemor
 use Rattle.boxglue_program.specs.Runs.{IsUntouched, RanScript, RefusedScript, WasRunWhole}
 use Rattle.tfm_core.specs.NamedBytes.{NamedBytes}
 use Rattle.boxglue_words.specs.declared.fonts.NamedPath.{NamedPath}
-use Rattle.boxglue_lib.specs.Ends.{EndsOutput, TakesText, TellsErrors, line_of, status_of}
+use Rattle.boxglue_lib.specs.Ends.{EndsOutput, TakesText, TaskRules, TellsErrors, line_of, status_of}
 use Rattle.boxglue_lib.specs.Inputs.{IsUnreadScript}
 use Rattle.boxglue_lib.specs.Views.{HostView, IsSame, Streams}
 use Rattle.boxglue_lib.specs.declared.task_end.TaskEnd.{TaskEnd}
 use Rattle.boxglue_lib.specs.declared.task_end.TaskEnd.TheVariants.{OutOfMemory}
 
--- Nothing was run: the host was returned as it was, no file was created, and there is no file to report.
-pub record IsLeftAlone (Same : Type 0) (created done : Bool) : Type 0 where
+-- The file OUT of a `typeset` that has ended: whether it was created; whether no creation and no write of it failed; and the bytes that it took, if
+-- they are known.
+pub record OutFile : Type 0 where
+  pub created : Bool
+  pub done : Bool
+  pub written : Option (List ℕ)
+
+-- Nothing was run: the host was returned as it was, no file was created, and no failure is to report.
+pub record IsLeftAlone (Same : Type 0) (file : OutFile) : Type 0 where
   pub same : Same
-  pub closed : created ≡ false
-  pub silent : done ≡ true
+  pub closed : file.created ≡ false
+  pub silent : file.done ≡ true
 
 -- If a file was created and took all that was written to it, it has taken a byte, if it is known what it took.
-abbrev pub IsUsed : (created done : Bool) → (written : Option (List ℕ)) → Type 0
-IsUsed created done written = created ≡ true → done ≡ true → ForSome written (λ bytes. bytes ≢ [])
+abbrev pub IsUsed : OutFile → Type 0
+IsUsed file = file.created ≡ true → file.done ≡ true → ForSome file.written (λ bytes. bytes ≢ [])
 
 -- A script was run with these font files on a new device that writes a file, and this is what is then known of that file; or the script is bad, and
 -- nothing was run.
-abbrev pub IsToFile : (text : List ℕ) → List NamedBytes → (written : Option (List ℕ)) → (Same : Type 0) → (created done : Bool) → (answer : List ℕ) → (fine : Bool) → Type 0
-IsToFile text files written Same created done answer fine =
-    ((failed : ℕ) × RanScript text files 0 failed (written_to_file created written) answer fine × (done ≡ (failed == 0)) × IsUsed created done written)
-    ⊎ (RefusedScript text answer fine × IsLeftAlone Same created done)
+abbrev pub IsToFile : (text : List ℕ) → List NamedBytes → (Same : Type 0) → OutFile → (answer : List ℕ) → (fine : Bool) → Type 0
+IsToFile text files Same file answer fine =
+    ((failed : ℕ) × RanScript text files 0 failed (written_to_file file.created file.written) answer fine × (file.done ≡ (failed == 0))
+    × IsUsed file)
+    ⊎ (RefusedScript text answer fine × IsLeftAlone Same file)
 
--- Memory was refused when a script was to be run with these font files on a new device that writes a file: nothing was run on it, or the whole script.
-abbrev pub IsLeftToFile : (text : List ℕ) → List NamedBytes → (written : Option (List ℕ)) → (created done : Bool) → Type 0
-IsLeftToFile text files written created done =
-    (failed : ℕ) × (IsUntouched 0 failed (written_to_file created written) ⊎ WasRunWhole text files 0 failed (written_to_file created written)) × (done ≡ (failed == 0))
-    × IsUsed created done written
+-- Memory was refused when a script was to be run with these font files on a new device that writes a file: nothing was run on it, or the whole
+-- script.
+abbrev pub IsLeftToFile : (text : List ℕ) → List NamedBytes → OutFile → Type 0
+IsLeftToFile text files file =
+    (failed : ℕ)
+    × (IsUntouched 0 failed (written_to_file file.created file.written)
+    ⊎ WasRunWhole text files 0 failed (written_to_file file.created file.written))
+    × (file.done ≡ (failed == 0)) × IsUsed file
+
+-- The rules of a script that was read and is run on a new device that writes a file. All files were read, so no path is unread.
+abbrev pub script_rules : (text : List ℕ) → List NamedBytes → (Same : Type 0) → OutFile → TaskRules
+script_rules text files Same file =
+    record { IsAnswer = IsToFile text files Same file; IsUnread = λ path. ⊥; LacksPage = ⊥; LacksMemory = IsLeftToFile text files file }
 
 -- The files of the fonts and the script were read, and the script was typeset.
-abbrev pub IsTypeset : {H : Type 0} → List NamedPath → (old new : HostView H) → (created done : Bool) → (answer : List ℕ) → (fine : Bool) → Type 0
-IsTypeset fonts old new created done answer fine =
+abbrev pub IsTypeset : {H : Type 0} → List NamedPath → (old new : HostView H) → OutFile → (answer : List ℕ) → (fine : Bool) → Type 0
+IsTypeset fonts old new file answer fine =
     (text : List ℕ) × (files : List NamedBytes) × IsReading old.input text × AreFilesOf old.files fonts files
-    × IsToFile text files new.written (IsSame old new) created done answer fine
+    × IsToFile text files (IsSame old new) file answer fine
 
 -- Memory was refused: for a file that can be read, and nothing was run; or after all was read.
-abbrev pub LacksMemoryForTask : {H : Type 0} → List NamedPath → (old new : HostView H) → (created done : Bool) → Type 0
-LacksMemoryForTask fonts old new created done =
-    (IsLeftAlone (IsSame old new) created done × IsUnreadScript old.files old.input fonts WantsMemory)
-    ⊎ ((text : List ℕ) × (files : List NamedBytes) × IsReading old.input text × AreFilesOf old.files fonts files
-    × IsLeftToFile text files new.written created done)
+abbrev pub LacksMemoryForTask : {H : Type 0} → List NamedPath → (old new : HostView H) → OutFile → Type 0
+LacksMemoryForTask fonts old new file =
+    (IsLeftAlone (IsSame old new) file × IsUnreadScript old.files old.input fonts WantsMemory)
+    ⊎ ((text : List ℕ) × (files : List NamedBytes) × IsReading old.input text × AreFilesOf old.files fonts files × IsLeftToFile text files file)
+
+-- The rules of `typeset`: the answers of the script or the line of its refusal; or a path that cannot be read, and then nothing was run. No page is
+-- missing.
+abbrev pub typesetting_rules : {H : Type 0} → List NamedPath → (old new : HostView H) → OutFile → TaskRules
+typesetting_rules fonts old new file = record {
+  IsAnswer = IsTypeset fonts old new file;
+  IsUnread = λ path. IsUnreadScript old.files old.input fonts (File path) × IsLeftAlone (IsSame old new) file;
+  LacksPage = ⊥;
+  LacksMemory = LacksMemoryForTask fonts old new file;
+}
+
+-- What a host is after `typeset`. It has created the file at OUT once more if that was created, and no other; it reports the bytes that the file
+-- took, or, if it was not created, the bytes that it reported before. If it was not created and nothing failed, the host was returned as it was. It
+-- has failed meanwhile if and only if the file did not take all.
+pub record LeavesHost {H : Type 0} (out : List ℕ) (old new : HostView H) (file : OutFile) : Type 0 where
+  pub written : file.written ≡ new.written
+  pub placed : new.created ≡ created_after file.created out old.created
+  pub untouched : file.created ≡ false → new.written ≡ old.written
+  pub unchanged : file.created ≡ false → file.done ≡ true → IsSame old new
+  pub blamed : has_failed old.failures new.failures ≡ not file.done
 
 -- The message about a file that did not take all bytes.
 abbrev pub TellsUnwritten : (done : Bool) → (out : List ℕ) → (old new : Option (List ℕ)) → Type 0
 TellsUnwritten true out old new = Keeps old new
 TellsUnwritten false out old new = TakesText old new (line_of (codes "boxglue: cannot write ") out)
 
--- `typeset` has ended: whether its file was created and took all, what the streams took, and the status. The host has created the file at OUT once more
--- if it was created, and nothing else; if it was not, the host reports the bytes that it reported before, and if nothing failed either, it was returned as
--- it was. The file did not take all if and only if the host has failed meanwhile.
+-- What the errors take at the end of `typeset`: a message if the file did not take all, and after it what they take at that end of a task.
+pub record TellsTypeset (out : List ℕ) (done : Bool) (end : TaskEnd) (old new : Option (List ℕ)) : Type 0 where
+  pub middle : Option (List ℕ)
+  pub unwritten : TellsUnwritten done out old middle
+  pub ended : TellsErrors end middle new
+
+-- `typeset` has ended: what is known of its file and of the host, what the output took, what the errors took, and the status.
 pub record HasTypeset {H : Type 0} (out : List ℕ) (fonts : List NamedPath) (old new : HostView H) (before after : Streams) (status : ℕ) : Type 0 where
   pub end : TaskEnd
-  pub created : Bool
-  pub done : Bool
-  pub placed : new.created ≡ created_after created out old.created
-  pub untouched : created ≡ false → new.written ≡ old.written
-  pub unchanged : created ≡ false → done ≡ true → IsSame old new
-  pub printed : EndsOutput (IsTypeset fonts old new created done) (λ path. IsUnreadScript old.files old.input fonts (File path) × IsLeftAlone (IsSame old new) created done) ⊥ end before.output after.output
-  pub memory : end ≡ OutOfMemory → LacksMemoryForTask fonts old new created done
-  -- What the errors took before the end was reported.
-  pub middle : Option (List ℕ)
-  pub unwritten : TellsUnwritten done out before.errors middle
-  pub blamed : has_failed old.failures new.failures ≡ not done
-  pub contents_is : TellsErrors end middle after.errors
+  pub file : OutFile
+  pub leaves : LeavesHost out old new file
+  pub printed : EndsOutput (typesetting_rules fonts old new file) end before.output after.output
+  pub memory : end ≡ OutOfMemory → LacksMemoryForTask fonts old new file
+  pub reported : TellsTypeset out file.done end before.errors after.errors
   pub status_is : status ≡ status_of end

@@ -1,17 +1,18 @@
 -- What contracts know of a host, and of the two streams of a program (own).
 use Rattle.std.specs.Prelude.{◌≡◌, ℕ, List, Option}
+use Rattle.boxglue_host.specs.Readings.{Files}
 
--- A host as contracts see it: the host itself; its files by their paths and its standard input, if they are known; the paths of the files that it
--- created, the last one first; the bytes that the last one took, if they are known; and how often it has failed.
+-- A host as contracts see it: the host itself; its files by their paths, and its standard input, if they are known; the paths of the files that it
+-- has created, the last one first; the bytes that the last one took, if they are known; and how many creations and writes have failed.
 pub record HostView (H : Type 0) : Type 0 where
   pub itself : H
-  pub files : List ℕ → Option (Option (List ℕ))
+  pub files : Files
   pub input : Option (List ℕ)
   pub created : List (List ℕ)
   pub written : Option (List ℕ)
   pub failures : ℕ
 
--- What the output and the errors of a program took, if it is known.
+-- All bytes that the output and the errors of a program took, if they are known.
 pub record Streams : Type 0 where
   pub output : Option (List ℕ)
   pub errors : Option (List ℕ)
@@ -21,10 +22,17 @@ abbrev pub IsSame : {H : Type 0} → (old new : HostView H) → Type 0
 IsSame old new = new.itself ≡ old.itself
 
 -- A host as contracts see it, by what they know of each host of its kind.
-abbrev pub view_of : {H : Type 0} → (files : H → List ℕ → Option (Option (List ℕ))) → (input : H → Option (List ℕ)) → (created : H → List (List ℕ)) → (written : H → Option (List ℕ)) → (failures : H → ℕ) → H → HostView H
-view_of files input created written failures host =
-    record { itself = host; files = files host; input = input host; created = created host; written = written host; failures = failures host }
+abbrev pub view_of : {H : Type 0} → (files : H → Files) → (input : H → Option (List ℕ)) → (created : H → List (List ℕ))
+    → (written : H → Option (List ℕ)) → (failures : H → ℕ) → H → HostView H
+view_of files input created written failures host = record {
+  itself = host;
+  files = files host;
+  input = input host;
+  created = created host;
+  written = written host;
+  failures = failures host;
+}
 
 -- What the output and the errors took, by what is known of writers of their kinds.
-abbrev pub streams_of : {W E : Type 0} → (W → Option (List ℕ)) → (E → Option (List ℕ)) → W → E → Streams
+abbrev pub streams_of : {W E : Type 0} → (taken : W → Option (List ℕ)) → (told : E → Option (List ℕ)) → W → E → Streams
 streams_of taken told output errors = record { output = taken output; errors = told errors }

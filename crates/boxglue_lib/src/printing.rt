@@ -10,9 +10,8 @@ ghost use Rattle.raster_core.specs.declared.text.TheConstants.{ROW_TEXT};
 ghost use Rattle.boxglue_program.specs.Runs.{WritesFront};
 ghost use Rattle.boxglue_lib.specs.declared.printing.PrintFault.TheVariants.{OutOfMemory, Unwritten};
 
-use boxglue_print::{Bitmap, BitmapSize, Dvi, Output, PaintFault, page_bitmap, refusal};
+use boxglue_print::{Bitmap, Dvi, Output, PaintFault, PaintOptions, page_bitmap, refusal};
 use boxglue_program::{FontFile, Unwritten, write_text};
-use boxglue_words::PaintOptions;
 use std::alloc::{AllocError, Global};
 use std::io::Write;
 use thiserror::Error;
@@ -67,7 +66,8 @@ fn write_listing<W: Write>(
     Ok(())
 }
 
-/// Writes the listing of a DVI file with these metric files, or the one line of its refusal, and nothing else. The result is true if the file is accepted.
+/// Writes the listing of a DVI file with these metric files, or the one line of its refusal, and nothing else. The result is true if the file is
+/// accepted.
 ///
 /// Errors: OutOfMemory before anything is written; Unwritten if the writer did not take all.
 pub fn list_file<W: Write>(
@@ -95,7 +95,8 @@ pub fn list_file<W: Write>(
     Ok(true)
 }
 
-/// Writes the text of a bitmap in pieces. All memory is taken before: a piece has room for ROW_TEXT bytes, so memory is never refused within the text.
+/// Writes the text of a bitmap in pieces. All memory is taken before: a piece has room for ROW_TEXT bytes, so memory is never refused within the
+/// text.
 fn write_bitmap<W: Write>(
     bitmap: &Bitmap,
     rows: &mut Vec<u8>,
@@ -112,8 +113,8 @@ fn write_bitmap<W: Write>(
     Ok(())
 }
 
-/// Writes a page of a DVI file with these metric files as a bitmap in plain PBM, or the one line of the file's refusal, and nothing else. The page is
-/// counted from 1; sizes are in pixels. The result is true if the file is accepted.
+/// Writes a page of a DVI file with these metric files as a bitmap in plain PBM, or the one line of the file's refusal, and nothing else. The result
+/// is true if the file is accepted.
 ///
 /// Errors: NoSuchPage if the file has fewer pages, and OutOfMemory, both before anything is written; Unwritten if the writer did not take all. The
 /// whole file is checked first, so NoSuchPage means that it is accepted.
@@ -124,25 +125,15 @@ pub fn paint_file<W: Write>(
     sheet: PaintOptions,
     writer: &mut W,
 ) -> Result<bool, PrintFault>
-    requires page { 1 ≤ sheet.page }
-    requires dpi { sheet.dpi ≤ 10000 }
-    requires width { (1 ≤ sheet.width) × (sheet.width ≤ 10000) }
-    requires height { (1 ≤ sheet.height) × (sheet.height ≤ 10000) }
-    ensures painted { IfOk result (λ fine. (text : List ℕ) × IsPainted files.now dvi.now sheet.page sheet.dpi sheet.width sheet.height text fine
+    ensures painted { IfOk result (λ fine. (text : List ℕ) × IsPainted files.now dvi.now sheet text fine
         × Appends (W.contents writer.old) (W.contents writer.new) text) }
     ensures unwritten { result ≡ Err PrintFault.Unwritten → (text : List ℕ) × (fine : Bool)
-        × IsPainted files.now dvi.now sheet.page sheet.dpi sheet.width sheet.height text fine × WritesFront (W.contents writer.old) (W.contents writer.new) text }
+        × IsPainted files.now dvi.now sheet text fine × WritesFront (W.contents writer.old) (W.contents writer.new) text }
     ensures silent { result ≡ Err PrintFault.OutOfMemory → Keeps (W.contents writer.old) (W.contents writer.new) }
     ensures unpainted { result ≡ Err PrintFault.NoSuchPage → Keeps (W.contents writer.old) (W.contents writer.new) }
     ensures missing { result ≡ Err PrintFault.NoSuchPage → LacksPage files.now dvi.now sheet.page }
     ensures found { LacksPage files.now dvi.now sheet.page → (result ≡ Err PrintFault.NoSuchPage) ⊎ (result ≡ Err PrintFault.OutOfMemory) }
 {
-    let PaintOptions {
-        page,
-        dpi,
-        width,
-        height,
-    } = sheet;
     let opened = match Dvi::open(alloc, dvi, files) {
         Ok(opened) => opened,
         Err(fault) => {
@@ -151,8 +142,7 @@ pub fn paint_file<W: Write>(
             return Ok(accepted);
         }
     };
-    let size = BitmapSize { dpi, width, height };
-    let bitmap = match page_bitmap(alloc, &opened, page, size) {
+    let bitmap = match page_bitmap(alloc, &opened, sheet) {
         Ok(bitmap) => bitmap,
         Err(PaintFault::OutOfMemory) => return Err(PrintFault::OutOfMemory),
         Err(PaintFault::NoSuchPage) => return Err(PrintFault::NoSuchPage),

@@ -1,7 +1,6 @@
 //! The program: it reads words and does the task that they ask for.
 
-ghost use Rattle.std.specs.Prelude.{◌≡◌, map, string_bytes};
-ghost use Rattle.boxglue_lib.specs.Parts.{HasRanges};
+ghost use Rattle.std.specs.Prelude.{map, string_bytes};
 ghost use Rattle.boxglue_lib.specs.Programs.{HasDone, HasRun, RefusesWords};
 ghost use Rattle.boxglue_lib.specs.Views.{streams_of, view_of};
 
@@ -19,7 +18,8 @@ fn refuse_words<W: Write, E: Write>(
     output: &mut W,
     errors: &mut E,
 ) -> u8
-    ensures { let took = streams_of W.contents E.contents in RefusesWords fault.now (took output.old errors.old) (took output.new errors.new) result }
+    ensures { let took = streams_of W.contents E.contents in
+        RefusesWords fault.now (took output.old errors.old) (took output.new errors.new) result }
 {
     match fault {
         WordFault::Memory => {
@@ -41,7 +41,6 @@ fn do_task<H: Host, W: Write, E: Write>(
     output: &mut W,
     errors: &mut E,
 ) -> (u8, H)
-    requires { HasRanges task }
     ensures { let seen = view_of H.file H.input H.created H.written H.failures in let took = streams_of W.contents E.contents in
         HasDone task.entry (seen host) (seen result.1) (took output.old errors.old) (took output.new errors.new) result.0 }
 {
@@ -66,7 +65,8 @@ fn do_task<H: Host, W: Write, E: Write>(
 /// Reads words and does the task that they ask for, with the files and the standard input of a host. The host is returned: as it was, except for the
 /// file that `typeset` writes. Answers, listings, bitmaps and what is wrong with a script or a DVI file go to the output, messages to the errors.
 ///
-/// The status is 0 if all was accepted and written; 2 if the words are refused, or the file does not have the page that is asked for; and otherwise 1.
+/// The status is 0 if all was accepted and written; 2 if the words are refused, or the file does not have the page that is asked for; and otherwise
+/// 1.
 pub fn program<H: Host, W: Write, E: Write>(
     alloc: Global,
     words: &[String],

@@ -1,13 +1,11 @@
 //! The four tasks, with the files of a host.
 
-ghost use Rattle.std.specs.Prelude.{◌≡◌, ◌≤◌};
+ghost use Rattle.std.specs.Prelude.{◌≡◌};
 ghost use Rattle.boxglue_host.specs.Readings.{IsReadable};
-ghost use Rattle.boxglue_host.specs.declared.font_files.Unread.TheVariants.{File};
 ghost use Rattle.boxglue_lib.specs.Ends.{EndsTask};
-ghost use Rattle.boxglue_lib.specs.Inputs.{IsUnreadDvi};
 ghost use Rattle.boxglue_lib.specs.Parts.{end_of};
-ghost use Rattle.boxglue_lib.specs.Printed.{HasNoPage, IsListing, IsPainting, LacksMemoryForDvi};
-ghost use Rattle.boxglue_lib.specs.Programs.{IsAnsweredInput, IsUnreadInput};
+ghost use Rattle.boxglue_lib.specs.Printed.{LacksMemoryForDvi, listing_rules, painting_rules};
+ghost use Rattle.boxglue_lib.specs.Programs.{input_rules};
 ghost use Rattle.boxglue_lib.specs.Typesets.{HasTypeset, TellsUnwritten};
 ghost use Rattle.boxglue_lib.specs.Views.{streams_of, view_of};
 
@@ -35,7 +33,7 @@ fn end_of(fault: Unread<'_>) -> TaskEnd<'_>
 /// Runs the script of standard input on a device in memory, and writes its answers and the bytes of the device. It has no fonts.
 #[tactic(auto, using(crate::proofs::EndLemmas::memory))]
 pub fn run_input<'a, H: Host, W: Write>(alloc: Global, host: &H, output: &mut W) -> TaskEnd<'a>
-    ensures ended { EndsTask (IsAnsweredInput (H.input host.now)) (IsUnreadInput (H.input host.now)) ⊥ result (W.contents output.old) (W.contents output.new) }
+    ensures ended { EndsTask (input_rules (H.input host.now)) result (W.contents output.old) (W.contents output.new) }
     ensures memory { result ≡ TaskEnd.OutOfMemory → IsReadable (H.input host.now) }
 {
     let text = match host.read_input(alloc) {
@@ -59,8 +57,7 @@ pub fn list<'a, H: Host, W: Write>(
     fonts: &[NamedPath<'a>],
     output: &mut W,
 ) -> TaskEnd<'a>
-    ensures ended { EndsTask (IsListing (H.file host.now) dvi.entry.now fonts.now) (λ path. IsUnreadDvi (H.file host.now) dvi.entry.now fonts.now (File path)) ⊥
-        result (W.contents output.old) (W.contents output.new) }
+    ensures ended { EndsTask (listing_rules (H.file host.now) dvi.entry.now fonts.now) result (W.contents output.old) (W.contents output.new) }
     ensures memory { result ≡ TaskEnd.OutOfMemory → LacksMemoryForDvi (H.file host.now) dvi.entry.now fonts.now }
 {
     let inputs = match read_dvi_inputs(alloc, host, dvi, fonts) {
@@ -85,12 +82,7 @@ pub fn paint<'a, H: Host, W: Write>(
     fonts: &[NamedPath<'a>],
     output: &mut W,
 ) -> TaskEnd<'a>
-    requires page { 1 ≤ sheet.page }
-    requires dpi { sheet.dpi ≤ 10000 }
-    requires width { (1 ≤ sheet.width) × (sheet.width ≤ 10000) }
-    requires height { (1 ≤ sheet.height) × (sheet.height ≤ 10000) }
-    ensures ended { EndsTask (IsPainting (H.file host.now) sheet dvi.entry.now fonts.now) (λ path. IsUnreadDvi (H.file host.now) dvi.entry.now fonts.now (File path))
-        (HasNoPage (H.file host.now) sheet dvi.entry.now fonts.now) result (W.contents output.old) (W.contents output.new) }
+    ensures ended { EndsTask (painting_rules (H.file host.now) sheet dvi.entry.now fonts.now) result (W.contents output.old) (W.contents output.new) }
     ensures memory { result ≡ TaskEnd.OutOfMemory → LacksMemoryForDvi (H.file host.now) dvi.entry.now fonts.now }
 {
     let inputs = match read_dvi_inputs(alloc, host, dvi, fonts) {

@@ -3,7 +3,7 @@
 ghost use Rattle.std.specs.Prelude.{◌≡◌, ◌+◌, ◌==◌, false, true, not};
 ghost use Rattle.boxglue_host.specs.Hosts.{created_after, has_failed};
 ghost use Rattle.boxglue_lib.specs.Ends.{EndsTask};
-ghost use Rattle.boxglue_lib.specs.Typesets.{IsLeftToFile, IsToFile, IsUsed};
+ghost use Rattle.boxglue_lib.specs.Typesets.{IsLeftToFile, IsUsed, OutFile, script_rules};
 
 use crate::inputs::Inputs;
 use crate::task_end::TaskEnd;
@@ -22,8 +22,8 @@ pub struct TypesetEnd<'a, H> {
 }
 
 /// Runs a script with these font files on a device that writes the file `out`, and then writes the texts of the answers, or the one line of a bad
-/// script. The file is created at its first write, once, and no other; if it is not created, the host reports of its file what it reported before, and is
-/// returned as it was unless it failed. `written` is false if and only if the host failed in this call.
+/// script. The file is created at its first write, once, and no other; if it is not created, the host reports of its file what it reported before,
+/// and is returned as it was unless it failed. `written` is false if and only if the host failed in this call.
 pub fn typeset_file<'a, H: Host, W: Write>(
     alloc: Global,
     host: H,
@@ -31,10 +31,11 @@ pub fn typeset_file<'a, H: Host, W: Write>(
     inputs: &Inputs,
     writer: &mut W,
 ) -> TypesetEnd<'a, H>
-    ensures task_ended { EndsTask (IsToFile inputs.now.bytes.items inputs.now.files.items (H.written result.host) (result.host ≡ host) result.created result.written)
-        (λ path. ⊥) ⊥ result.end (W.contents writer.old) (W.contents writer.new) }
-    ensures left { result.end ≡ TaskEnd.OutOfMemory
-        → IsLeftToFile inputs.now.bytes.items inputs.now.files.items (H.written result.host) result.created result.written }
+    ensures task_ended { let file : OutFile = record { created = result.created; done = result.written; written = H.written result.host } in
+        EndsTask (script_rules inputs.now.bytes.items inputs.now.files.items (result.host ≡ host) file)
+        result.end (W.contents writer.old) (W.contents writer.new) }
+    ensures left { let file : OutFile = record { created = result.created; done = result.written; written = H.written result.host } in
+        result.end ≡ TaskEnd.OutOfMemory → IsLeftToFile inputs.now.bytes.items inputs.now.files.items file }
     ensures placed { H.created result.host ≡ created_after result.created out.now (H.created host) }
     ensures untouched { result.created ≡ false → H.written result.host ≡ H.written host }
     ensures unchanged { result.created ≡ false → result.written ≡ true → result.host ≡ host }
@@ -54,7 +55,7 @@ fn end_with<'a, H: Host>(end: TaskEnd<'a>, device: FileDevice<'_, H>) -> Typeset
     ensures created { result.created ≡ device.entry.is_open }
     ensures written { result.written ≡ (device.entry.failures == 0) }
     ensures host { result.host ≡ device.entry.host }
-    ensures used { IsUsed result.created result.written (H.written result.host) }
+    ensures used { IsUsed (record { created = result.created; done = result.written; written = H.written result.host }) }
     ensures counted { H.failures result.host ≡ H.failures device.entry.start.seen + device.entry.failures }
     ensures placed { H.created result.host ≡ created_after result.created device.entry.path.now (H.created device.entry.start.seen) }
     ensures untouched { result.created ≡ false → H.written result.host ≡ H.written device.entry.start.seen }

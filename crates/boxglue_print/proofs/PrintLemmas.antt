@@ -18,6 +18,7 @@ use Rattle.dvi_read.specs.declared.fault.DviFault.TheVariants.{OutOfMemory}
 use Rattle.raster_core.specs.Pictures.{PixelGrid, painted, white}
 use Rattle.raster_core.specs.Pixels.{is_covered, scale_of}
 use Rattle.raster_core.specs.PlainText.{pbm}
+use Rattle.raster_core.specs.Sheets.{Sheet}
 use Rattle.tfm_core.specs.FileWidths.{file_widths}
 use Rattle.tfm_core.specs.NamedBytes.{NamedBytes}
 
@@ -42,27 +43,27 @@ listed_refusal files bytes fault (Ok output) broken none other text accepted =
 listed_refusal files bytes fault (Err e) broken none other text accepted = tt
 
 -- The bitmap of a page is printed.
-pub paints : (files : List NamedBytes) (bytes : List ℕ) (page dpi width height : ℕ) (dvi : Opened) (picture : PixelGrid) (text : List ℕ)
-    → IsFile (file_widths files) bytes dvi.pages → HasUnitsOf bytes dvi → ShowsPage dvi page dpi width height picture
-    → text ≡ pbm picture → Paints files bytes page dpi width height text true
-paints files bytes page dpi width height dvi picture text file units shows text_is = record {
+pub paints : (files : List NamedBytes) (bytes : List ℕ) (sheet : Sheet) (dvi : Opened) (picture : PixelGrid) (text : List ℕ)
+    → IsFile (file_widths files) bytes dvi.pages → HasUnitsOf bytes dvi → ShowsPage dvi sheet picture
+    → text ≡ pbm picture → Paints files bytes sheet text true
+paints files bytes sheet dvi picture text file units shows text_is = record {
   pages = dvi.pages;
   file = file;
   shown = shows.shown;
   page_is = shows.page_is;
-  text_is = text_is ∙ (ap pbm shows.picture_is ∙ ap (λ (u : Units). pbm (painted (is_covered (scale_of u dpi) shows.shown.marks) (white width height))) (units file.frame));
+  text_is = text_is ∙ (ap pbm shows.picture_is ∙ ap (λ (u : Units). pbm (painted (is_covered (scale_of u sheet.dpi) shows.shown.marks) (white sheet.width sheet.height))) (units file.frame));
   accepted_is = refl;
 }
 
 -- A file whose page is painted has that page.
-pub has_page : (files : List NamedBytes) (bytes : List ℕ) (page dpi width height : ℕ) (text : List ℕ) (accepted : Bool) → IsPainted files bytes page dpi width height text accepted
-    → LacksPage files bytes page → ⊥
-has_page files bytes page dpi width height text accepted (inl paints) lacks =
+pub has_page : (files : List NamedBytes) (bytes : List ℕ) (sheet : Sheet) (text : List ℕ) (accepted : Bool) → IsPainted files bytes sheet text accepted
+    → LacksPage files bytes sheet.page → ⊥
+has_page files bytes sheet text accepted (inl paints) lacks =
     let same = ap (λ (pages : List MarkedPage). length pages) (one_list_of_pages (file_widths files) bytes paints.pages lacks.pages paints.file lacks.file) in
-    let within = slice_get_within paints.pages (page - 1) paints.shown paints.page_is in
+    let within = slice_get_within paints.pages (sheet.page - 1) paints.shown paints.page_is in
     let few = lacks.few in
     absurd (omega arith)
-has_page files bytes page dpi width height text accepted (inr refuses) lacks = refuses.none lacks.pages lacks.file
+has_page files bytes sheet text accepted (inr refuses) lacks = refuses.none lacks.pages lacks.file
 
 -- The known lines, computed by the definitions.
 pub known_lines : KnownLines

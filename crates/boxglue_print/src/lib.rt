@@ -7,6 +7,6 @@ pub mod laws;
 mod output;
 
 pub use dvi_read::{Dvi, DviFault, Lines, PART};
-pub use output::{BitmapSize, Output, PaintFault, list_text, page_bitmap, paint_text, refusal};
-pub use raster_core::{Bitmap, PbmText, ROW_TEXT};
+pub use output::{Output, PaintFault, list_text, page_bitmap, paint_text, refusal};
+pub use raster_core::{Bitmap, PaintOptions, PbmText, ROW_TEXT};
 pub use tfm_core::FontFile;

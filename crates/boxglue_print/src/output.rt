@@ -1,6 +1,6 @@
 //! The listing of a DVI file and the bitmap of one of its pages.
 
-ghost use Rattle.std.specs.Prelude.{◌≡◌, ◌≢◌, ◌<◌, ◌≤◌, ◌↔◌, ◌⊎◌, false, length, Err, IfOk, IsTrue, OnOk};
+ghost use Rattle.std.specs.Prelude.{◌≡◌, ◌≢◌, ◌<◌, ◌↔◌, ◌⊎◌, false, length, Err, IfOk, IsTrue, OnOk};
 ghost use Rattle.dvi_ops.specs.File.{AreUnits};
 ghost use Rattle.dvi_ops.specs.View.{units as units_of};
 ghost use Rattle.dvi_scan.specs.View.{marked_page};
@@ -14,7 +14,7 @@ use crate::faults::push_fault;
 use dvi_ops::Units;
 use dvi_read::{Dvi, DviFault};
 use dvi_scan::Page;
-use raster_core::Bitmap;
+use raster_core::{Bitmap, PaintOptions};
 use std::alloc::{AllocError, Global};
 use tfm_core::FontFile;
 use thiserror::Error;
@@ -89,77 +89,58 @@ pub fn list_text(alloc: Global, dvi: &[u8], files: &[FontFile]) -> Result<Output
     })
 }
 
-/// The size of a bitmap in pixels, and the pixels an inch.
-#[derive(Clone, Copy, Debug, PartialEq, Eq)]
-pub struct BitmapSize {
-    pub dpi: u32,
-    pub width: u32,
-    pub height: u32,
-}
-
 /// The bitmap of a page.
 fn painted_page(
     alloc: Global,
     page: &Page<'_>,
     units: Units,
-    size: BitmapSize,
+    sheet: PaintOptions,
 ) -> Result<Bitmap, AllocError>
-    requires units { AreUnits (units_of units) }
-    requires dpi { size.dpi ≤ 10000 }
+    requires { AreUnits (units_of units) }
     ensures { IfOk result (λ bitmap. bitmap
-        ≡ painted (is_covered (scale_of (units_of units) size.dpi) (marked_page page.now).marks) (white size.width size.height)) }
+        ≡ painted (is_covered (scale_of (units_of units) sheet.dpi) (marked_page page.now).marks) (white sheet.width sheet.height)) }
 {
-    let Ok(mut bitmap) = Bitmap::new(alloc, size.width, size.height) else {
+    let Ok(mut bitmap) = Bitmap::new(alloc, sheet.width(), sheet.height()) else {
         return Err(AllocError);
     };
-    bitmap.paint(page, units, size.dpi);
+    bitmap.paint(page, units, sheet.dpi());
     Ok(bitmap)
 }
 
-/// The bitmap of a page of an opened DVI file. Pages are counted from 1. The fault is NoSuchPage or OutOfMemory.
+/// The bitmap of a page of an opened DVI file. The fault is NoSuchPage or OutOfMemory.
 pub fn page_bitmap(
     alloc: Global,
     opened: &Dvi<'_>,
-    page: u32,
-    size: BitmapSize,
+    sheet: PaintOptions,
 ) -> Result<Bitmap, PaintFault>
-    requires page { 1 ≤ page }
-    requires dpi { size.dpi ≤ 10000 }
-    requires width { (1 ≤ size.width) × (size.width ≤ 10000) }
-    requires height { (1 ≤ size.height) × (size.height ≤ 10000) }
-    ensures ok { IfOk result (ShowsPage opened.now page size.dpi size.width size.height) }
-    ensures missing { result ≡ Err PaintFault.NoSuchPage ↔ length opened.now.pages < page }
+    ensures ok { IfOk result (ShowsPage opened.now sheet) }
+    ensures missing { result ≡ Err PaintFault.NoSuchPage ↔ length opened.now.pages < sheet.page }
 {
-    let index = page as usize - 1;
+    let index = sheet.page() as usize - 1;
     if index >= opened.pages() {
         return Err(PaintFault::NoSuchPage);
     }
     let shown = opened.page(index);
-    Ok(painted_page(alloc, shown, opened.units(), size)?)
+    Ok(painted_page(alloc, shown, opened.units(), sheet)?)
 }
 
-/// The bitmap of a page of a DVI file with these metric files, or the line of the file's refusal. Pages are counted from 1. The whole file is checked
-/// before NoSuchPage is returned, which is the fault exactly where it is accepted and has fewer pages, unless memory is refused: then it is OutOfMemory.
+/// The bitmap of a page of a DVI file with these metric files, or the line of the file's refusal. The whole file is checked before NoSuchPage is
+/// returned, which is the fault exactly where it is accepted and has fewer pages, unless memory is refused: then it is OutOfMemory.
 pub fn paint_text(
     alloc: Global,
     dvi: &[u8],
     files: &[FontFile],
-    page: u32,
-    size: BitmapSize,
+    sheet: PaintOptions,
 ) -> Result<Output, PaintFault>
-    requires page { 1 ≤ page }
-    requires dpi { size.dpi ≤ 10000 }
-    requires width { (1 ≤ size.width) × (size.width ≤ 10000) }
-    requires height { (1 ≤ size.height) × (size.height ≤ 10000) }
-    ensures ok { IfOk result (λ output. IsPainted files.now dvi.now page size.dpi size.width size.height output.text.items output.accepted) }
-    ensures missing { result ≡ Err PaintFault.NoSuchPage → LacksPage files.now dvi.now page }
-    ensures found { LacksPage files.now dvi.now page → (result ≡ Err PaintFault.NoSuchPage) ⊎ (result ≡ Err PaintFault.OutOfMemory) }
+    ensures ok { IfOk result (λ output. IsPainted files.now dvi.now sheet output.text.items output.accepted) }
+    ensures missing { result ≡ Err PaintFault.NoSuchPage → LacksPage files.now dvi.now sheet.page }
+    ensures found { LacksPage files.now dvi.now sheet.page → (result ≡ Err PaintFault.NoSuchPage) ⊎ (result ≡ Err PaintFault.OutOfMemory) }
 {
     let opened = match Dvi::open(alloc, dvi, files) {
         Ok(opened) => opened,
         Err(fault) => return Ok(refusal(alloc, fault)?),
     };
-    let bitmap = page_bitmap(alloc, &opened, page, size)?;
+    let bitmap = page_bitmap(alloc, &opened, sheet)?;
     let mut text = Vec::new(alloc);
     bitmap.write_pbm(&mut text)?;
     Ok(Output {

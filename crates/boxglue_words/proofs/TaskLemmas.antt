@@ -22,7 +22,7 @@ use Rattle.boxglue_words.specs.declared.fonts.WordFault.{WordFault}
 use Rattle.boxglue_words.specs.declared.fonts.WordFault.TheVariants.{Line, Memory, NotPair, NameTwice}
 use Rattle.boxglue_words.specs.CommandLine.{boxglue}
 use Rattle.boxglue_words.specs.Pairs.{IsFaulty}
-use Rattle.boxglue_words.specs.declared.task.PaintOptions.{PaintOptions}
+use Rattle.raster_core.specs.Sheets.{Sheet}
 use Rattle.boxglue_words.specs.declared.task.Task.{Task}
 use Rattle.boxglue_words.specs.declared.task.Task.TheVariants.{Version}
 use Rattle.boxglue_words.proofs.VersionLemmas.{alone_fault, has_version, only_version}
@@ -67,7 +67,7 @@ no_painting rows lacks (lists dvi fonts) h = absurd (cc h.0)
 no_painting rows lacks (paints sheet dvi fonts) h = absurd (cc (lacks, h.2))
 
 -- Without its numbers `paint` asks for nothing either.
-pub no_sheet : (rows : List Row) → ((sheet : PaintOptions) → IsSheet rows sheet → ⊥) → (request : Request) → AsksBy (codes "paint") rows request → ⊥
+pub no_sheet : (rows : List Row) → ((sheet : Sheet) → IsSheet rows sheet → ⊥) → (request : Request) → AsksBy (codes "paint") rows request → ⊥
 no_sheet rows lacks version h = h
 no_sheet rows lacks nothing h = h
 no_sheet rows lacks (typesets out fonts) h = absurd (cc h.0)

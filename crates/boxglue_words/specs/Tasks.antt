@@ -3,9 +3,9 @@ use Rattle.std.specs.Prelude.{◌≡◌, ◌≤◌, ⊤, List, [], ◌∷◌, �
 use Rattle.std.specs.Str.Parse.{IsNumeral, digits_value, without_leading_plus}
 use Rattle.clap.specs.Words.{Row, Text, all_of, fault_of, first_of, one_of, subcommand_of}
 use Rattle.clap.specs.declared.error.kind.ErrorKind.TheVariants.{DisplayVersion}
+use Rattle.raster_core.specs.Sheets.{Sheet}
 use Rattle.boxglue_words.specs.declared.fonts.WordFault.{WordFault}
 use Rattle.boxglue_words.specs.declared.fonts.WordFault.TheVariants.{Line, Memory as WantsMemory}
-use Rattle.boxglue_words.specs.declared.task.PaintOptions.{PaintOptions}
 use Rattle.boxglue_words.specs.declared.task.Task.{Task}
 use Rattle.boxglue_words.specs.declared.task.Task.TheVariants.{Version, Memory, Typeset, Listing, Painting}
 use Rattle.boxglue_words.specs.CommandLine.{boxglue}
@@ -17,7 +17,7 @@ pub data Request : Type 0 where
   nothing : Request
   typesets : Text → List Text → Request
   lists : Text → List Text → Request
-  paints : PaintOptions → Text → List Text → Request
+  paints : Sheet → Text → List Text → Request
 
 -- The words NAME=TFM of a subcommand.
 abbrev pub font_words : List Row → List Text
@@ -33,7 +33,7 @@ pub record IsNumber (most : ℕ) (rows : List Row) (id : Text) (number : ℕ) : 
   pub most_is : number ≤ most
 
 -- The four numbers of `paint`.
-pub record IsSheet (rows : List Row) (sheet : PaintOptions) : Type 0 where
+pub record IsSheet (rows : List Row) (sheet : Sheet) : Type 0 where
   pub page : IsNumber 4294967295 rows (codes "page") sheet.page
   pub dpi : IsNumber 10000 rows (codes "dpi") sheet.dpi
   pub width : IsNumber 10000 rows (codes "width") sheet.width

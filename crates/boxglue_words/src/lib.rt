@@ -12,6 +12,7 @@ mod words;
 pub use command::command_line;
 pub use fonts::{NamedPath, WordFault};
 pub use pairs::read_pairs;
-pub use task::{PaintOptions, Task, VERSION_LINE};
+pub use raster_core::PaintOptions;
+pub use task::{Task, VERSION_LINE};
 pub use tfm_core::FontName;
 pub use words::read_words;

@@ -3,6 +3,7 @@
 ghost use Rattle.std.specs.Prelude.{◌≡◌, ◌≢◌, ℕ, None, IfOk, IfErr, IfSome, codes, map, string_bytes};
 ghost use Rattle.clap.specs.Words.{found_of, kind_of, rows_of, subcommand_rows_of};
 ghost use Rattle.clap.specs.declared.error.kind.ErrorKind.TheVariants.{DisplayVersion, OutOfMemory};
+ghost use Rattle.raster_core.specs.Sheets.{Sheet};
 ghost use Rattle.boxglue_words.specs.Pairs.{AreFonts, IsFaulty};
 ghost use Rattle.boxglue_words.specs.Steps.{IsLine, IsTaskBy};
 ghost use Rattle.boxglue_words.specs.Tasks.{Asks, AsksBy, IsNumber, IsRefused, IsRefusedBy, IsSheet, IsTask, IsTaskOf, Request, font_words};
@@ -10,9 +11,10 @@ ghost use Rattle.boxglue_words.specs.Tasks.{Asks, AsksBy, IsNumber, IsRefused, I
 use crate::command::command_line;
 use crate::fonts::{NamedPath, WordFault};
 use crate::pairs::read_pairs;
-use crate::task::{PaintOptions, Task};
+use crate::task::Task;
 use clap::error::ErrorKind;
 use clap::{ArgMatches, Error};
+use raster_core::PaintOptions;
 use std::alloc::Global;
 
 /// The number of an option, if it is given and from 1 to `most`.
@@ -30,14 +32,13 @@ fn number(matches: &ArgMatches<'_>, id: &str, most: u32) -> Option<u32>
 /// The four numbers of `paint`.
 fn sheet(matches: &ArgMatches<'_>) -> Option<PaintOptions>
     ensures sheet_returned { IfSome result (IsSheet (rows_of (found_of matches.now))) }
-    ensures none { result ≡ None → (sheet : PaintOptions) → IsSheet (rows_of (found_of matches.now)) sheet → ⊥ }
+    ensures none { result ≡ None → (sheet : Sheet) → IsSheet (rows_of (found_of matches.now)) sheet → ⊥ }
 {
-    Some(PaintOptions {
-        page: number(matches, "page", u32::MAX)?,
-        dpi: number(matches, "dpi", 10_000)?,
-        width: number(matches, "width", 10_000)?,
-        height: number(matches, "height", 10_000)?,
-    })
+    let page = number(matches, "page", u32::MAX)?;
+    let dpi = number(matches, "dpi", 10_000)?;
+    let width = number(matches, "width", 10_000)?;
+    let height = number(matches, "height", 10_000)?;
+    PaintOptions::try_new(page, dpi, width, height)
 }
 
 /// The fonts of a subcommand.

@@ -1,15 +1,20 @@
 -- A page that is painted is there, and where one is painted the status is none of those that write nothing.
-use Rattle.std.proofs.Common.{Err, ap}
+use Rattle.std.proofs.Common.{Err, ap, subst, sym}
 use Rattle.boxglue_calls.specs.Fonts.{files_of}
 use Rattle.boxglue_print.proofs.PrintLemmas.{has_page}
+use Rattle.boxglue_print.specs.Outputs.{LacksPage}
+use Rattle.raster_core.specs.Sheets.{Sheet}
 use Rattle.boxglue_calls.proofs.PageLaws.{handed_status, not_silent}
 use Rattle.boxglue_calls.proofs.pages.paint.Goals as goal
 
 pub returns-in-Ok-clause-found : goal.returns-in-Ok-clause-found
 returns-in-Ok-clause-found c =
     let output = c.in-Ok.output in
+    let files = files_of c.args.fonts.now in
+    let same = c.in-Some.ensures.1 in
     λ lacks named range.
-    absurd (has_page (files_of c.args.fonts.now) c.args.dvi.now c.args.page c.args.dpi c.args.width c.args.height output.text.items output.accepted c.in-Ok.ensures.ok lacks)
+    absurd (has_page files c.args.dvi.now c.in-Some.sheet output.text.items output.accepted c.in-Ok.ensures.ok
+    (subst (λ (sheet : Sheet). LacksPage files c.args.dvi.now sheet.page) (sym same) lacks))
 
 pub returns-in-Ok-clause-size : goal.returns-in-Ok-clause-size
 returns-in-Ok-clause-size c =
@@ -17,4 +22,6 @@ returns-in-Ok-clause-size c =
 
 pub returns-in-Err-NoSuchPage-clause-lacking : goal.returns-in-Err-NoSuchPage-clause-lacking
 returns-in-Err-NoSuchPage-clause-lacking c =
-    λ five. c.in-Err-NoSuchPage.ensures.missing (ap (λ fault. Err fault) c.in-Err-NoSuchPage.field-0-is)
+    let same = c.in-Some.ensures.1 in
+    let missing = c.in-Err-NoSuchPage.ensures.missing (ap (λ fault. Err fault) c.in-Err-NoSuchPage.field-0-is) in
+    λ five. subst (λ (sheet : Sheet). LacksPage (files_of c.args.fonts.now) c.args.dvi.now sheet.page) same missing

@@ -31,7 +31,7 @@ returns-in-Err-clause-painted g c =
 pub returns-clause-painted : goal.returns-clause-painted
 returns-clause-painted g c = (
   pbm c.in-Ok-page_bitmap.bitmap,
-  inl (paints c.args.files.now c.args.dvi.now c.args.sheet.page c.args.sheet.dpi c.args.sheet.width c.args.sheet.height c.in-Ok.opened c.in-Ok-page_bitmap.bitmap _
+  inl (paints c.args.files.now c.args.dvi.now c.args.sheet c.in-Ok.opened c.in-Ok-page_bitmap.bitmap _
       c.in-Ok.ensures.ok c.in-Ok.ensures.units c.in-Ok-page_bitmap.ensures.ok refl),
   c.in_ok-write_bitmap.ensures.all,
 )
@@ -40,7 +40,7 @@ pub returns-in_err-write_bitmap-clause-unwritten : goal.returns-in_err-write_bit
 returns-in_err-write_bitmap-clause-unwritten g c said = (
   pbm c.in-Ok-page_bitmap.bitmap,
   true,
-  inl (paints c.args.files.now c.args.dvi.now c.args.sheet.page c.args.sheet.dpi c.args.sheet.width c.args.sheet.height c.in-Ok.opened c.in-Ok-page_bitmap.bitmap _
+  inl (paints c.args.files.now c.args.dvi.now c.args.sheet c.in-Ok.opened c.in-Ok-page_bitmap.bitmap _
       c.in-Ok.ensures.ok c.in-Ok.ensures.units c.in-Ok-page_bitmap.ensures.ok refl),
   c.in_err-write_bitmap.ensures.front,
 )
@@ -55,14 +55,14 @@ returns-in-Err-clause-found g c =
 
 pub returns-clause-found : goal.returns-clause-found
 returns-clause-found g c =
-    λ lacks. absurd (has_page c.args.files.now c.args.dvi.now c.args.sheet.page c.args.sheet.dpi c.args.sheet.width c.args.sheet.height (pbm c.in-Ok-page_bitmap.bitmap) true
-    (inl (paints c.args.files.now c.args.dvi.now c.args.sheet.page c.args.sheet.dpi c.args.sheet.width c.args.sheet.height c.in-Ok.opened c.in-Ok-page_bitmap.bitmap _
+    λ lacks. absurd (has_page c.args.files.now c.args.dvi.now c.args.sheet (pbm c.in-Ok-page_bitmap.bitmap) true
+    (inl (paints c.args.files.now c.args.dvi.now c.args.sheet c.in-Ok.opened c.in-Ok-page_bitmap.bitmap _
     c.in-Ok.ensures.ok c.in-Ok.ensures.units c.in-Ok-page_bitmap.ensures.ok refl)) lacks)
 
 pub returns-in_err-write_bitmap-clause-found : goal.returns-in_err-write_bitmap-clause-found
 returns-in_err-write_bitmap-clause-found g c =
-    λ lacks. absurd (has_page c.args.files.now c.args.dvi.now c.args.sheet.page c.args.sheet.dpi c.args.sheet.width c.args.sheet.height (pbm c.in-Ok-page_bitmap.bitmap) true
-    (inl (paints c.args.files.now c.args.dvi.now c.args.sheet.page c.args.sheet.dpi c.args.sheet.width c.args.sheet.height c.in-Ok.opened c.in-Ok-page_bitmap.bitmap _
+    λ lacks. absurd (has_page c.args.files.now c.args.dvi.now c.args.sheet (pbm c.in-Ok-page_bitmap.bitmap) true
+    (inl (paints c.args.files.now c.args.dvi.now c.args.sheet c.in-Ok.opened c.in-Ok-page_bitmap.bitmap _
     c.in-Ok.ensures.ok c.in-Ok.ensures.units c.in-Ok-page_bitmap.ensures.ok refl)) lacks)
 
 pub returns-in-Err-OutOfMemory-clause-silent : goal.returns-in-Err-OutOfMemory-clause-silent

@@ -9,7 +9,7 @@ returns-in-Version g c = rw c.in-Version.is (refl, c.print_version.ensures, keep
 pub returns-in-Memory : goal.returns-in-Memory
 returns-in-Memory g c =
     rw c.in-Memory.is
-    (refl, has_ended _ _ _ _ c.run_input-end.result _ _ _ _ c.run_input-end.ensures.ended c.run_input-end.ensures.memory c.finish.ensures.output c.finish.ensures.errors c.finish.ensures.status)
+    (refl, has_ended _ c.run_input-end.result _ _ _ _ c.run_input-end.ensures.ended c.run_input-end.ensures.memory c.finish.ensures.output c.finish.ensures.errors c.finish.ensures.status)
 
 pub returns-in-Typeset : goal.returns-in-Typeset
 returns-in-Typeset g c =
@@ -21,23 +21,11 @@ returns-in-Listing g c =
     let done = rw c.deref-in-Listing.ensures.value at c.list-end.ensures.ended in
     let memory = rw c.deref-in-Listing.ensures.value at c.list-end.ensures.memory in
     rw c.in-Listing.is
-    (refl, has_ended _ _ _ _ c.list-end.result _ _ _ _ done memory c.finish-in-Listing.ensures.output c.finish-in-Listing.ensures.errors c.finish-in-Listing.ensures.status)
+    (refl, has_ended _ c.list-end.result _ _ _ _ done memory c.finish-in-Listing.ensures.output c.finish-in-Listing.ensures.errors c.finish-in-Listing.ensures.status)
 
 pub returns-in-Painting : goal.returns-in-Painting
 returns-in-Painting g c =
     let done = rw c.deref-in-Painting.ensures.value at c.paint-end.ensures.ended in
     let memory = rw c.deref-in-Painting.ensures.value at c.paint-end.ensures.memory in
     rw c.in-Painting.is
-    (refl, has_ended _ _ _ _ c.paint-end.result _ _ _ _ done memory c.finish-in-Painting.ensures.output c.finish-in-Painting.ensures.errors c.finish-in-Painting.ensures.status)
-
-pub paint-end-requires-clause-page : goal.paint-end-requires-clause-page
-paint-end-requires-clause-page g c = let ranges = rw c.in-Painting.is at c.requires in ranges.0
-
-pub paint-end-requires-clause-dpi : goal.paint-end-requires-clause-dpi
-paint-end-requires-clause-dpi g c = let ranges = rw c.in-Painting.is at c.requires in ranges.1
-
-pub paint-end-requires-clause-width : goal.paint-end-requires-clause-width
-paint-end-requires-clause-width g c = let ranges = rw c.in-Painting.is at c.requires in ranges.2
-
-pub paint-end-requires-clause-height : goal.paint-end-requires-clause-height
-paint-end-requires-clause-height g c = let ranges = rw c.in-Painting.is at c.requires in ranges.3
+    (refl, has_ended _ c.paint-end.result _ _ _ _ done memory c.finish-in-Painting.ensures.output c.finish-in-Painting.ensures.errors c.finish-in-Painting.ensures.status)

@@ -6,9 +6,11 @@ use Rattle.boxglue_lib.proofs.tasks.typeset.Goals as goal
 pub returns : goal.returns
 returns g c =
     let run = c.typeset_file-written.result in
-    typeset_ended c.args.fonts.now c.args.out.now _ _ run.created run.written c.in-Ok.inputs.bytes.items
-    c.in-Ok.inputs.files.items run.end _ _ _ _ _ c.in-Ok.ensures.script c.in-Ok.ensures.files c.typeset_file-written.ensures.task_ended c.typeset_file-written.ensures.left c.tell_unwritten.ensures
-    c.typeset_file-written.ensures.placed c.typeset_file-written.ensures.untouched c.typeset_file-written.ensures.unchanged c.typeset_file-written.ensures.blamed c.finish-2.ensures.output c.finish-2.ensures.errors c.finish-2.ensures.status
+    let does = c.typeset_file-written.ensures in
+    typeset_ended c.args.fonts.now c.args.out.now _ _ (record { created = run.created; done = run.written; written = g.H.Host.written run.host }) c.in-Ok.inputs.bytes.items
+    c.in-Ok.inputs.files.items run.end _ _ _ _ _ c.in-Ok.ensures.script c.in-Ok.ensures.files does.task_ended does.left
+    (record { written = refl; placed = does.placed; untouched = does.untouched; unchanged = does.unchanged; blamed = does.blamed }) c.tell_unwritten.ensures
+    c.finish-2.ensures.output c.finish-2.ensures.errors c.finish-2.ensures.status
 
 pub returns-in-Err : goal.returns-in-Err
 returns-in-Err g c =

@@ -9,8 +9,8 @@ returns-in-Ok-clause-task_ended g c =
     rw c.end_with.ensures.end (
       done.0,
       answered_to_file c.args.inputs.now.bytes.items c.args.inputs.now.files.items c.new-device.result.failures c.in-Ok.device.is_open c.in-Ok.device.failures
-          (g.H.Host.written c.in-Ok.device.host) (c.in-Ok.device ≡ c.new-device.result) (c.end_with.result.host ≡ c.args.host) done.0 c.in-Ok.accepted c.end_with.result.created c.end_with.result.written
-          (g.H.Host.written c.end_with.result.host) c.new-device.ensures.fine c.end_with.ensures.created c.end_with.ensures.written (cc) (λ same. cc) (λ same. cc) (λ same. cc) c.end_with.ensures.used done.1,
+          (g.H.Host.written c.in-Ok.device.host) (c.in-Ok.device ≡ c.new-device.result) (c.end_with.result.host ≡ c.args.host) done.0 c.in-Ok.accepted
+          (record { created = c.end_with.result.created; done = c.end_with.result.written; written = g.H.Host.written c.end_with.result.host }) c.new-device.ensures.fine c.end_with.ensures.created c.end_with.ensures.written (cc) (λ same. cc) (λ same. cc) (λ same. cc) c.end_with.ensures.used done.1,
       done.2,
     )
 
@@ -23,7 +23,7 @@ returns-in-Err-Answers-clause-task_ended g c =
       done.1,
       answered_to_file c.args.inputs.now.bytes.items c.args.inputs.now.files.items c.new-device.result.failures c.in-Err-Answers.device.is_open
           c.in-Err-Answers.device.failures (g.H.Host.written c.in-Err-Answers.device.host) (c.in-Err-Answers.device ≡ c.new-device.result) (c.end_with-in-Err-Answers.result.host ≡ c.args.host) done.0 done.1
-          c.end_with-in-Err-Answers.result.created c.end_with-in-Err-Answers.result.written (g.H.Host.written c.end_with-in-Err-Answers.result.host)
+          (record { created = c.end_with-in-Err-Answers.result.created; done = c.end_with-in-Err-Answers.result.written; written = g.H.Host.written c.end_with-in-Err-Answers.result.host })
           c.new-device.ensures.fine c.end_with-in-Err-Answers.ensures.created c.end_with-in-Err-Answers.ensures.written (cc) (λ same. cc) (λ same. cc) (λ same. cc) c.end_with-in-Err-Answers.ensures.used done.2,
       done.3,
     )
@@ -33,8 +33,8 @@ returns-in-Err-Memory-clause-left g c =
     let left = rw c.in-Err-Memory.field-0-is at c.in-Err-Memory.ensures.left in
     let lacks = rw (c.deref.ensures.value, c.deref-2.ensures.value) at left in
     λ _. left_to_file c.args.inputs.now.bytes.items c.args.inputs.now.files.items c.new-device.result.failures c.in-Err-Memory.device.is_open
-    c.in-Err-Memory.device.failures (g.H.Host.written c.in-Err-Memory.device.host) c.end_with-in-Err-Memory.result.created
-    c.end_with-in-Err-Memory.result.written (g.H.Host.written c.end_with-in-Err-Memory.result.host) c.new-device.ensures.fine
+    c.in-Err-Memory.device.failures (g.H.Host.written c.in-Err-Memory.device.host)
+    (record { created = c.end_with-in-Err-Memory.result.created; done = c.end_with-in-Err-Memory.result.written; written = g.H.Host.written c.end_with-in-Err-Memory.result.host }) c.new-device.ensures.fine
     c.end_with-in-Err-Memory.ensures.created c.end_with-in-Err-Memory.ensures.written (cc) c.end_with-in-Err-Memory.ensures.used lacks.device
 
 pub returns-in-Ok-clause-blamed : goal.returns-in-Ok-clause-blamed

@@ -12,13 +12,13 @@ returns-in-Err-clause-ok c =
 pub returns-clause-ok : goal.returns-clause-ok
 returns-clause-ok c =
     let text_is : c.write_pbm.new.out.items ≡ pbm c.in_ok-bitmap.bitmap = search rules in
-    inl (paints c.args.files.now c.args.dvi.now c.args.page c.args.size.dpi c.args.size.width c.args.size.height c.in-Ok.opened c.in_ok-bitmap.bitmap _
+    inl (paints c.args.files.now c.args.dvi.now c.args.sheet c.in-Ok.opened c.in_ok-bitmap.bitmap _
     c.in-Ok.ensures.ok c.in-Ok.ensures.units c.in_ok-bitmap.ensures.ok text_is)
 
 pub returns-in-Err-clause-found : goal.returns-in-Err-clause-found
 returns-in-Err-clause-found c =
-    λ lacks. absurd (has_page c.args.files.now c.args.dvi.now c.args.page c.args.size.dpi c.args.size.width c.args.size.height _ _ (returns-in-Err-clause-ok c) lacks)
+    λ lacks. absurd (has_page c.args.files.now c.args.dvi.now c.args.sheet _ _ (returns-in-Err-clause-ok c) lacks)
 
 pub returns-clause-found : goal.returns-clause-found
 returns-clause-found c =
-    λ lacks. absurd (has_page c.args.files.now c.args.dvi.now c.args.page c.args.size.dpi c.args.size.width c.args.size.height _ _ (returns-clause-ok c) lacks)
+    λ lacks. absurd (has_page c.args.files.now c.args.dvi.now c.args.sheet _ _ (returns-clause-ok c) lacks)
