@@ -120,7 +120,7 @@ refuses bytes rows text accepted fault other text_is accepted_is rows_is broken 
 
 -- A table that is handed over.
 pub handed_fonts : (bytes : List ℕ) (old new : List DviFont) (text_old text_new : List ℕ) (sizes : FontSizes) (done status : ℕ) (rows put : List DviFont) (text sent : List ℕ) (accepted : Bool)
-    → IsFontTable bytes rows text accepted → put ≡ rows → sent ≡ text → done ≡ status_of accepted → HandsOverBoth old new put text_old text_new sent done status
+    → IsFontTable bytes rows text accepted → put ≡ rows → sent ≡ text → done ≡ status_of accepted → HandsOverBoth (record { old = old; new = new; items = put }) (record { old = text_old; new = text_new; items = sent }) done status
     → sizes.fonts ≡ length rows → sizes.text ≡ length text → HandsOverFonts bytes old new text_old text_new sizes status
 handed_fonts bytes old new text_old text_new sizes done status rows put text sent accepted table put_is sent_is done_is handed fonts_size text_size =
     record {
@@ -129,9 +129,9 @@ handed_fonts bytes old new text_old text_new sizes done status rows put text sen
       accepted = accepted;
       table = table;
       handed =
-          subst (λ (items : List DviFont). HandsOverBoth old new items text_old text_new text (status_of accepted) status) put_is
-          (subst (λ (bytes : List ℕ). HandsOverBoth old new put text_old text_new bytes (status_of accepted) status) sent_is
-          (subst (λ (n : ℕ). HandsOverBoth old new put text_old text_new sent n status) done_is handed));
+          subst (λ (items : List DviFont). HandsOverBoth (record { old = old; new = new; items = items }) (record { old = text_old; new = text_new; items = text }) (status_of accepted) status) put_is
+          (subst (λ (bytes : List ℕ). HandsOverBoth (record { old = old; new = new; items = put }) (record { old = text_old; new = text_new; items = bytes }) (status_of accepted) status) sent_is
+          (subst (λ (n : ℕ). HandsOverBoth (record { old = old; new = new; items = put }) (record { old = text_old; new = text_new; items = sent }) n status) done_is handed));
       fonts_size = fonts_size;
       text_size = text_size;
     }

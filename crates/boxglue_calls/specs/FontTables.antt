@@ -67,6 +67,7 @@ pub record HandsOverFonts (bytes : List ℕ) (old new : List DviFont) (text_old 
   pub text : List ℕ
   pub accepted : Bool
   pub table : IsFontTable bytes fonts text accepted
-  pub handed : HandsOverBoth old new fonts text_old text_new text (status_of accepted) status
+  pub handed : HandsOverBoth (record { old = old; new = new; items = fonts }) (record { old = text_old; new = text_new; items = text })
+      (status_of accepted) status
   pub fonts_size : sizes.fonts ≡ length fonts
   pub text_size : sizes.text ≡ length text

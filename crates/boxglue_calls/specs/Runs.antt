@@ -28,6 +28,6 @@ pub record HandsOverRun (Is : (answers dvi : List ℕ) → (accepted : Bool) →
   pub done : ℕ
   pub run : Is answers dvi accepted
   pub done_is : IsRunStatus answers accepted done
-  pub handed : HandsOverBoth old new answers dvi_old dvi_new dvi done status
+  pub handed : HandsOverBoth (record { old = old; new = new; items = answers }) (record { old = dvi_old; new = dvi_new; items = dvi }) done status
   pub answers_size : lengths.answers ≡ length answers
   pub dvi_size : lengths.dvi ≡ length dvi

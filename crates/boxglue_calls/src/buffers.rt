@@ -32,7 +32,8 @@ pub(crate) fn hand_over_both<T: Copy>(
     text_buffer: &mut [u8],
     done: u32,
 ) -> u32
-    ensures { HandsOverBoth buffer.old buffer.new items.now text_buffer.old text_buffer.new text.now done result }
+    ensures { HandsOverBoth (record { old = buffer.old; new = buffer.new; items = items.now })
+        (record { old = text_buffer.old; new = text_buffer.new; items = text.now }) done result }
 {
     if items.len() > buffer.len() {
         return BUFFER_TOO_SMALL;
