@@ -7,10 +7,14 @@
  * Rules for all calls; the library checks none of them:
  *
  * - The caller owns all memory that it passes. The library reads its inputs and writes its outputs during the call, and keeps no pointer to them after it.
- *   What it allocates by malloc, realloc and free during a call it frees before the call returns. The memory of a job alone stays allocated between calls.
- * - No pointer is null, not even where its length is 0. Use the address of any byte or struct then. Pointers to structs are aligned as C aligns them.
+ *   What it allocates during a call it frees before the call returns. The memory of a job alone stays allocated between calls.
+ * - It allocates by malloc, realloc and free of the program. The three come from one allocator, and malloc and realloc align a block to each power of two up to 16
+ *   that divides its size, as to 8 for 24 bytes. Those of a C library do; so does what a program puts in their place, such as a pool or a counting heap.
+ * - A pointer that has a size, a count or a room beside it may be null where that is 0, in C and C++ through this header. No other pointer is null: not those
+ *   without one, as to the sizes of the outputs or to a job; not those within a struct boxglue_font, where any address of a byte serves for an empty file; and none
+ *   in a call of the library's symbols from another language. Pointers to structs are aligned as C aligns them.
  * - No output overlaps another output or an input. Inputs may overlap each other. The struct boxglue_job of a call is an output.
- * - Each length is below 2^63 bytes.
+ * - Each input and each output is below 2^63 bytes.
  * - The stack has room. Boxes 200 deep, the deepest there are, ran with 256 KiB left, and most calls need far less.
  * - No call comes from a signal handler, or from the child of a process with threads after fork.
  *
@@ -59,7 +63,7 @@ enum boxglue_status {
 };
 
 /* A font that the caller hands in: the name by which scripts and DVI files mean it, 1 to 255 bytes, and the bytes of its metric file (TFM).
- * Where several have one name, the first one counts. */
+ * Where several have one name, the first one counts. Neither pointer is null, not even where its size is 0. */
 struct boxglue_font {
     const uint8_t *name;
     size_t name_size;
@@ -146,7 +150,8 @@ uint32_t boxglue_version(void);
 /* A handle of a job that is kept between calls: struct boxglue_job job = {0};
  *
  * The library alone reads and writes `at`, which is null where there is no job. Memory of the job stays allocated from boxglue_job_new to boxglue_job_free.
- * A handle goes to one call at a time, is never copied, and may move from one thread to another between two calls. */
+ * A handle goes to one call at a time, and is never copied. It may move from one thread to another between two calls, where a lock, the start or the join of a
+ * thread, or an atomic operation in the order memory_order_seq_cst puts the first call before the second. So any thread may free the job. */
 struct boxglue_job {
     void *at;
 };
@@ -198,6 +203,109 @@ uint32_t boxglue_job_finish(struct boxglue_job *job);
 
 /* Frees all memory of the job, whether it was finished or not. The handle is null then, and may get another job. A handle without a job stays as it is. */
 void boxglue_job_free(struct boxglue_job *job);
+
+/* What is below is for C and C++ alone: a call by each of these names passes an address of its own where a size, a count or a room is 0, so that the pointer may be
+ * null there. (boxglue_run)(..) in parentheses calls the symbol of the library itself, and so does each call where BOXGLUE_NO_INLINE is defined before this header. */
+#ifndef BOXGLUE_NO_INLINE
+
+static inline const uint8_t *boxglue_bytes_at(const uint8_t *at, size_t size) {
+    static uint8_t none;
+    return size ? at : &none;
+}
+
+static inline uint8_t *boxglue_room_at(uint8_t *at, size_t size) {
+    static uint8_t none;
+    return size ? at : &none;
+}
+
+static inline const struct boxglue_font *boxglue_fonts_at(const struct boxglue_font *at, size_t size) {
+    static struct boxglue_font none;
+    return size ? at : &none;
+}
+
+static inline struct boxglue_dvi_font *boxglue_dvi_fonts_at(struct boxglue_dvi_font *at, size_t size) {
+    static struct boxglue_dvi_font none;
+    return size ? at : &none;
+}
+
+static inline uint32_t boxglue_run_or_null(const uint8_t *script, size_t script_size,
+                                           const struct boxglue_font *fonts, size_t font_count,
+                                           uint8_t *answers, size_t answers_room,
+                                           uint8_t *dvi, size_t dvi_room,
+                                           struct boxglue_lengths *lengths) {
+    return boxglue_run(boxglue_bytes_at(script, script_size), script_size,
+                       boxglue_fonts_at(fonts, font_count), font_count,
+                       boxglue_room_at(answers, answers_room), answers_room,
+                       boxglue_room_at(dvi, dvi_room), dvi_room,
+                       lengths);
+}
+
+static inline uint32_t boxglue_list_or_null(const uint8_t *dvi, size_t dvi_size,
+                                            const struct boxglue_font *fonts, size_t font_count,
+                                            uint8_t *text, size_t text_room,
+                                            size_t *size) {
+    return boxglue_list(boxglue_bytes_at(dvi, dvi_size), dvi_size,
+                        boxglue_fonts_at(fonts, font_count), font_count,
+                        boxglue_room_at(text, text_room), text_room,
+                        size);
+}
+
+static inline uint32_t boxglue_paint_or_null(const uint8_t *dvi, size_t dvi_size,
+                                             const struct boxglue_font *fonts, size_t font_count,
+                                             uint32_t page, uint32_t dpi, uint32_t width, uint32_t height,
+                                             uint8_t *text, size_t text_room,
+                                             size_t *size) {
+    return boxglue_paint(boxglue_bytes_at(dvi, dvi_size), dvi_size,
+                         boxglue_fonts_at(fonts, font_count), font_count,
+                         page, dpi, width, height,
+                         boxglue_room_at(text, text_room), text_room,
+                         size);
+}
+
+static inline uint32_t boxglue_fonts_or_null(const uint8_t *dvi, size_t dvi_size,
+                                             struct boxglue_dvi_font *fonts, size_t font_room,
+                                             uint8_t *text, size_t text_room,
+                                             struct boxglue_font_sizes *sizes) {
+    return boxglue_fonts(boxglue_bytes_at(dvi, dvi_size), dvi_size,
+                         boxglue_dvi_fonts_at(fonts, font_room), font_room,
+                         boxglue_room_at(text, text_room), text_room,
+                         sizes);
+}
+
+static inline uint32_t boxglue_job_new_or_null(struct boxglue_job *job,
+                                               const struct boxglue_font *fonts, size_t font_count) {
+    return boxglue_job_new(job, boxglue_fonts_at(fonts, font_count), font_count);
+}
+
+static inline uint32_t boxglue_job_commands_or_null(struct boxglue_job *job,
+                                                    const uint8_t *script, size_t script_size) {
+    return boxglue_job_commands(job, boxglue_bytes_at(script, script_size), script_size);
+}
+
+static inline uint32_t boxglue_job_answers_or_null(struct boxglue_job *job,
+                                                   uint8_t *text, size_t text_room,
+                                                   size_t *size) {
+    return boxglue_job_answers(job, boxglue_room_at(text, text_room), text_room,
+                               size);
+}
+
+static inline uint32_t boxglue_job_take_or_null(struct boxglue_job *job,
+                                                uint8_t *dvi, size_t dvi_room,
+                                                size_t *size) {
+    return boxglue_job_take(job, boxglue_room_at(dvi, dvi_room), dvi_room,
+                            size);
+}
+
+#define boxglue_run boxglue_run_or_null
+#define boxglue_list boxglue_list_or_null
+#define boxglue_paint boxglue_paint_or_null
+#define boxglue_fonts boxglue_fonts_or_null
+#define boxglue_job_new boxglue_job_new_or_null
+#define boxglue_job_commands boxglue_job_commands_or_null
+#define boxglue_job_answers boxglue_job_answers_or_null
+#define boxglue_job_take boxglue_job_take_or_null
+
+#endif
 
 #ifdef __cplusplus
 }

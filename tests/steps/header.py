@@ -1,4 +1,5 @@
-"""include/boxglue.h: the functions, structs, statuses and the version that it declares are those of the exports.
+"""include/boxglue.h: the functions, structs, statuses and the version that it declares are those of the exports, and each function that has a pointer with a size has
+a call that takes a null pointer where the size is 0.
 Only texts are compared: names, the order and the width of parameters and fields. No program is run."""
 import re
 from functools import partial
@@ -9,6 +10,7 @@ HEADER = "include/boxglue.h"
 EXPORTS = "crates/boxglue_c/src/lib.rt"
 CALLS = "crates/boxglue_calls/src"
 JOBS = "crates/boxglue_jobs/src"
+CALLS_OF_C = "#ifndef BOXGLUE_NO_INLINE"
 TYPES = {"u8": "uint8_t", "u32": "uint32_t", "u64": "uint64_t", "i32": "int32_t", "usize": "size_t", "": "void", "*mut u8": "void *", "JobHandle": "struct boxglue_job"}
 
 
@@ -60,12 +62,42 @@ def exports(root):
         yield f"{c_type(result)} {name}({', '.join(c_list(parameters)) or 'void'});"
 
 
+def functions_of(text):
+    """The functions that are declared before the calls for C."""
+    return re.findall(r"\w+ boxglue_\w+\([^)]*\);", text.partition(CALLS_OF_C)[0])
+
+
 def functions(root):
     """What is wrong with the functions."""
-    text = declared(root)
-    found = re.findall(r"\w+ boxglue_\w+\([^)]*\);", text)
+    found = functions_of(declared(root))
     wanted = list(exports(root))
     return None if wanted and found == wanted else f"the header declares {found}, and the exports are {wanted}"
+
+
+def address_call(kind, name, size):
+    """What gives an address for a pointer of a type that may be null where its size is 0."""
+    plain = kind.removeprefix("const ").removeprefix("struct boxglue_")
+    many = {"uint8_t": "bytes" if plain != kind else "room"}.get(plain) or re.sub(r"ys$", "ies", f"{plain}s")
+    return f"boxglue_{many}_at({name}, {size})"
+
+
+def words_of(parameters):
+    """The words with which a call passes its parameters on."""
+    pairs = [re.fullmatch(r"(.*?) ?\*?(\w+)", it).groups() for it in parameters.split(", ")]
+    following = [name for _, name in pairs[1:]] + [""]
+    return [address_call(kind, name, size) if re.search(r"_(size|count|room)$", size) else name for (kind, name), size in zip(pairs, following)]
+
+
+def null_calls(root):
+    """What is wrong with the calls that take null pointers."""
+    before, _, after = declared(root).partition(CALLS_OF_C)
+    wanted = []
+    for name, parameters in re.findall(r"uint32_t (boxglue_\w+)\(([^)]*)\);", before):
+        passed = ", ".join(words_of(parameters))
+        if "_at(" in passed:
+            wanted.append((name, f"static inline uint32_t {name}_or_null({parameters}) {{ return {name}({passed}); }}"))
+    missing = [call for name, call in wanted if call not in after or f"#define {name} {name}_or_null " not in f"{after} "]
+    return f"the header has not {missing}" if missing or not wanted else None
 
 
 def structs(root):
@@ -97,5 +129,5 @@ def version(root):
 
 def cases(_programs, root):
     """A case for each kind of declaration."""
-    for check in (functions, structs, statuses, version):
+    for check in (functions, null_calls, structs, statuses, version):
         yield check.__name__, partial(check, root)

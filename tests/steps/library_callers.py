@@ -1,5 +1,5 @@
 """Callers of the library for C: those of docs/LIBRARY.md, in C, Python and Rust, compile and give the page of one rule; the tests of the binding for Python pass;
-and the client of examples/markdown makes a page."""
+the client of examples/markdown makes a page; and through the header a pointer with the size 0 may be null, in C and C++."""
 import os
 import re
 import shutil
@@ -7,7 +7,7 @@ import subprocess
 import tempfile
 from functools import partial
 
-from steps.library_build import build_shared, built, compile_c, heap_archive, lacking, python_words
+from steps.library_build import build_shared, built, compile_c, heap_archive, lacking, python_words, run_build
 from steps.outcome import Skipped
 from steps.plain_font import metric_file
 from steps.texts import last_lines
@@ -18,6 +18,23 @@ NEEDS_PROGRAM = True
 LIMIT = 120
 SECTION = "## 7. From C"
 FILE_SIZE = 116
+# The compilers of the tests of the header, and the warnings that a program may ask for.
+LANGUAGES = {"C99": ["cc", "-std=c99"], "C11": ["cc", "-std=c11"], "C++98": ["c++", "-x", "c++", "-std=c++98", "-Wno-long-long"], "C++17": ["c++", "-x", "c++", "-std=c++17"]}
+WARNINGS = "-Wall -Wextra -Wpedantic -Wconversion -Wshadow -Wcast-qual -Wcast-align -Wundef -Werror".split()
+SYMBOLS = "run list paint fonts job_new job_commands job_answers job_take".split()
+# The empty script is answered by "end: pages 0 bytes 0", and the empty file by "refused 20 BadDvi 0 Trailer".
+NULL_CALLS = b"""run 4 86 116
+run 4 21 0
+list 4 28 0
+list by a pointer 4 28 0
+paint 4 28 0
+fonts 4 0 28
+new 0 0 0
+commands 0 0 0
+answers 0 0 0
+finish 0 0 0
+take 0 0 0
+"""
 WANTED = b"1: ok\n2: ok\n3: packed 1.0pt 1.0pt 0.0pt badness 0\n4: shipped 1\nend: pages 1 bytes 116\n"
 
 
@@ -68,6 +85,19 @@ def caller_in_rust(root, archive, folder):
     return run_wrong(words, wanted=None) or run_wrong([f"{folder}/caller"])
 
 
+def null_pointers(language, root, archive, folder):
+    """Calls with null pointers, by symbols of the library that refuse them."""
+    compiler, *flags = LANGUAGES[language]
+    if not shutil.which(compiler):
+        return Skipped(f"there is no {compiler} on the path")
+    steps = f"{root}/tests/steps"
+    wraps = [f"-Wl,--wrap=boxglue_{it}" for it in SYMBOLS]
+    return (run_build([compiler, *flags, *WARNINGS, f"-I{root}/include", "-c", f"{steps}/null_pointers.c", "-o", f"{folder}/calls.o"])
+            or run_build(["cc", "-std=c11", *WARNINGS, f"-I{root}/include", "-c", f"{steps}/null_symbols.c", "-o", f"{folder}/symbols.o"])
+            or run_build([compiler, "-o", f"{folder}/calls", f"{folder}/calls.o", f"{folder}/symbols.o", archive, heap_archive(), *wraps])
+            or run_wrong([f"{folder}/calls"], wanted=NULL_CALLS))
+
+
 def binding(root, archive, folder):
     words, env = python_words(root, archive, ["-m", "unittest", "-q", "test_boxglue"])
     return run_wrong(words, env, wanted=b"", folder=folder)
@@ -94,4 +124,5 @@ def cases(programs, root):
     """The callers."""
     calls = {"LIBRARY.md in C": partial(caller_in_c, 0), "LIBRARY.md in C, a job": partial(caller_in_c, 1), "LIBRARY.md in Python": partial(caller_in_python, 0),
              "LIBRARY.md in Python, a job": partial(caller_in_python, 1), "LIBRARY.md in Rust": caller_in_rust, "test_boxglue.py": binding, "examples/markdown": client}
+    calls |= {f"null pointers in {it}": partial(null_pointers, it) for it in LANGUAGES}
     return [(name, partial(outcome, call, root, *programs)) for name, call in calls.items()]
