@@ -36,8 +36,10 @@ from typing import Callable, Iterable, Mapping, NoReturn, TypeVar, Union
 __all__ = ["Answers", "AnswersLost", "BadFontName", "Bitmap", "BoxglueError", "DviFont", "Job", "NoJob", "NoSuchPage", "OutOfMemory", "OutOfRange", "Refused",
            "Run", "fonts", "listing", "paint", "run", "version"]
 
-Text = Union[str, bytes, bytearray, memoryview]
-Fonts = Union[Mapping[Text, bytes], Iterable["tuple[Text, bytes]"]]
+# Anything that is like bytes, as bytearray, memoryview or mmap; Python before 3.12 has no name for all of them.
+Data = Union[bytes, bytearray, memoryview]
+Text = Union[str, Data]
+Fonts = Union[Mapping[Text, Data], Iterable["tuple[Text, Data]"]]
 
 ACCEPTED, REFUSED, OUT_OF_MEMORY, BAD_FONT_NAME, BUFFER_TOO_SMALL, NO_SUCH_PAGE, OUT_OF_RANGE, REFUSED_MEMORY, NO_JOB, JOB_EXISTS, ANSWERS_LOST = range(11)
 # The sizes of the first buffers. Where an output needs more, the call is made again with what it needs.
@@ -52,14 +54,24 @@ class BoxglueError(Exception):
 class Refused(BoxglueError):
     """A command, a script or a DVI file was refused.
 
-    `name` and `number` are those of the refusal (docs/COMMANDS.md, section 2), such as "NoFont" and 4; `line` is the line of the command, or None where no
-    command was refused; `detail` is what follows the name, such as "74 Trailer" after "BadDvi".
+    `name` and `number` are those of the refusal (docs/COMMANDS.md, section 2), such as "NoFont" and 4. `line` is the line of the command or of the bad line of
+    a script, `place` the place in a DVI file where a rule is broken, and `cause` the name of what is wrong there or in a metric file, such as "Word" after
+    "BadScript"; each is None where there is none. `detail` is what follows the name, such as "74 Trailer" after "BadDvi".
     """
 
     def __init__(self, name: str, number: int, line: int | None = None, detail: str = "") -> None:
-        self.name, self.number, self.line, self.detail = name, number, line, detail
-        place = f"line {line}: " if line is not None else ""
-        super().__init__(f"{place}refused {number} {name} {detail}".rstrip())
+        self.name, self.number, self.detail = name, number, detail
+        where, _, cause = detail.rpartition(" ")
+        self.line = int(where) if name == "BadScript" else line
+        self.place = int(where) if name == "BadDvi" else None
+        self.cause = cause or None
+        self._given = name, number, line, detail
+        said = f"line {line}: " if line is not None else ""
+        super().__init__(f"{said}refused {number} {name} {detail}".rstrip())
+
+    def __reduce__(self) -> tuple:
+        # By default an exception is made again from its message alone, which fails; a worker of a process pool that raises it would hang the pool.
+        return type(self), self._given
 
 
 class OutOfMemory(BoxglueError, MemoryError):
@@ -206,22 +218,43 @@ def _library_path() -> str:
 
 @functools.lru_cache(None)
 def _library() -> ctypes.CDLL:
-    library = ctypes.CDLL(_library_path())
+    path = _library_path()
+    try:
+        library = ctypes.CDLL(path)
+        library.boxglue_version.argtypes, library.boxglue_version.restype = [], c_uint32
+        found = library.boxglue_version()
+    except (OSError, AttributeError) as error:
+        raise BoxglueError(f"{path} is no library of boxglue: {error}") from error
+    if found // 10_000 != 1:
+        raise BoxglueError(f"{path} has version {_shown(found)}, and this module is for 1.x")
+    # Before the calls are looked up, so that an older library is named as one.
     for name, types in _CALLS.items():
-        call = getattr(library, f"boxglue_{name}")
+        try:
+            call = getattr(library, f"boxglue_{name}")
+        except AttributeError:
+            raise BoxglueError(f"{path} has version {_shown(found)}, and lacks boxglue_{name}: it is older than this module") from None
         call.argtypes, call.restype = types, None if name == "job_free" else c_uint32
-    if library.boxglue_version() // 10_000 != 1:
-        raise BoxglueError(f"libboxglue.so has version {library.boxglue_version()}, and this module is for 1.x")
     return library
 
 
-def _bytes(text: Text) -> bytes:
-    return text.encode("utf-8", "surrogateescape") if isinstance(text, str) else bytes(text)
+def _shown(number: int) -> str:
+    return f"{number // 10_000}.{number // 100 % 100}.{number % 100}"
 
 
-def _input(text: Text) -> tuple[bytes, int]:
-    data = _bytes(text)
+def _data(given: Data, what: str) -> tuple[bytes, int]:
+    """The bytes of what is like bytes, for a call. Nothing else is taken: bytes(7) would be seven zeros, and the name of a file is not the file."""
+    try:
+        data = given if isinstance(given, bytes) else memoryview(given).tobytes()
+    except TypeError:
+        raise TypeError(f"{what} must be bytes, not {type(given).__name__}") from None
     return data, len(data)
+
+
+def _text(given: Text, what: str) -> tuple[bytes, int]:
+    """The bytes of a text, for a call: a `str` as UTF-8."""
+    if isinstance(given, str):
+        given = given.encode("utf-8", "surrogateescape")
+    return _data(given, what)
 
 
 def _buffer(room: int) -> ctypes.Array:
@@ -230,10 +263,12 @@ def _buffer(room: int) -> ctypes.Array:
 
 
 def _given(given: Fonts) -> tuple[ctypes.Array, int]:
+    if isinstance(given, (str, bytes, bytearray, memoryview)):
+        raise TypeError(f"fonts must be a mapping or pairs, not {type(given).__name__}")
     pairs = list(given.items() if isinstance(given, Mapping) else given)
     array = (_Font * max(len(pairs), 1))()
     for at, (name, metrics) in enumerate(pairs):
-        array[at] = _Font(*_input(name), *_input(metrics))
+        array[at] = _Font(*_text(name, "the name of a font"), *_data(metrics, "a metric file"))
     if not pairs:
         array[0] = _Font(b"", 0, b"", 0)
     return array, len(pairs)
@@ -264,8 +299,7 @@ def _one_text(call: Callable[..., int], room: int) -> str:
 
 def version() -> str:
     """The version of the library, such as "1.0.0"."""
-    number = _library().boxglue_version()
-    return f"{number // 10_000}.{number // 100 % 100}.{number % 100}"
+    return _shown(_library().boxglue_version())
 
 
 def run(script: Text, fonts: Fonts = ()) -> Run:
@@ -273,7 +307,7 @@ def run(script: Text, fonts: Fonts = ()) -> Run:
 
     A refused command is among the answers, and `accepted` is false then; `run(..).check()` raises it. Raises OutOfMemory or BadFontName.
     """
-    lengths, text, given = _Lengths(), _input(script), _given(fonts)
+    lengths, text, given = _Lengths(), _text(script, "a script"), _given(fonts)
     rooms = _TEXT_ROOM, _DVI_ROOM
     while True:
         answers, dvi = map(_buffer, rooms)
@@ -289,7 +323,7 @@ def run(script: Text, fonts: Fonts = ()) -> Run:
 
 def listing(dvi: bytes, fonts: Fonts = ()) -> str:
     """The listing of the marks of all pages of a DVI file. Raises Refused, OutOfMemory or BadFontName."""
-    words = *_input(dvi), *_given(fonts)
+    words = *_data(dvi, "a DVI file"), *_given(fonts)
     return _one_text(lambda *room: _library().boxglue_list(*words, *room), _DVI_ROOM)
 
 
@@ -300,7 +334,7 @@ def paint(dvi: bytes, fonts: Fonts = (), *, page: int = 1, dpi: int = 100, width
     """
     if not all(0 <= it < 1 << 32 for it in (page, dpi, width, height)):
         _fail(OUT_OF_RANGE)  # ctypes would cut it to 32 bits
-    words = *_input(dvi), *_given(fonts), page, dpi, width, height
+    words = *_data(dvi, "a DVI file"), *_given(fonts), page, dpi, width, height
     room = len(f"P1\n{width} {height}\n") + (width + -(-width // 70)) * height if max(width, height) <= 10_000 else 0
     return Bitmap(_one_text(lambda *buffer: _library().boxglue_paint(*words, *buffer), max(room, _TEXT_ROOM)))
 
@@ -310,7 +344,7 @@ def fonts(dvi: bytes) -> list[DviFont]:
 
     It needs no metric files, and reads no page. Raises Refused or OutOfMemory.
     """
-    given, sizes, rooms = _input(dvi), _FontSizes(), (_FONT_ROOM, _TEXT_ROOM)
+    given, sizes, rooms = _data(dvi, "a DVI file"), _FontSizes(), (_FONT_ROOM, _TEXT_ROOM)
     while True:
         rows, text = (_DviFont * max(rooms[0], 1))(), _buffer(rooms[1])
         status = _library().boxglue_fonts(*given, rows, rooms[0], text, rooms[1], byref(sizes))
@@ -333,11 +367,13 @@ class Job:
     """
 
     def __init__(self, fonts: Fonts = ()) -> None:
-        self._handle, self._lock = _Job(), threading.Lock()
+        self._handle, self._lock, self._is_asked = _Job(), threading.Lock(), False
+        self._free = weakref.finalize(self, _library().boxglue_job_free, self._handle)
+        # When the program ends, a thread that is a daemon may still be inside a call on this job. Its memory goes with the process.
+        self._free.atexit = False
         status = _library().boxglue_job_new(self._handle, *_given(fonts))
         if status != ACCEPTED:
             _fail(status)
-        self._free = weakref.finalize(self, _library().boxglue_job_free, self._handle)
 
     def __reduce__(self) -> NoReturn:
         raise TypeError("a job cannot be copied")
@@ -348,10 +384,20 @@ class Job:
     def __exit__(self, *_error: object) -> None:
         self.close()
 
-    def _answers(self, status: int) -> Answers:
+    def _kept(self) -> str:
+        return _one_text(lambda *room: _library().boxglue_job_answers(self._handle, *room), _TEXT_ROOM)
+
+    def _answered(self, call: Callable[[], int]) -> Answers:
+        """Makes a call that gives answers, and takes them. The caller has the lock."""
+        if self._is_asked:
+            self._kept()  # the answers of a call that KeyboardInterrupt or MemoryError cut off: they are not those of this one
+        self._is_asked = True
+        status = call()
         if status not in (ACCEPTED, REFUSED, REFUSED_MEMORY):
+            self._is_asked = False
             _fail(status)
-        text = _one_text(lambda *room: _library().boxglue_job_answers(self._handle, *room), _TEXT_ROOM)
+        text = self._kept()
+        self._is_asked = False
         return Answers(text, status == ACCEPTED)
 
     def commands(self, script: Text) -> Answers:
@@ -360,8 +406,9 @@ class Job:
         A piece with a bad line is refused as a whole: its answer is the line of this refusal, nothing of it is run, and the job goes on.
         Raises OutOfMemory, and then nothing was run, or AnswersLost.
         """
+        text = _text(script, "a script")
         with self._lock:
-            return self._answers(_library().boxglue_job_commands(self._handle, *_input(script)))
+            return self._answered(lambda: _library().boxglue_job_commands(self._handle, *text))
 
     def take(self) -> bytes:
         """The bytes of the DVI file that went out since the last call: pages as they were shipped, and the end of the file after `finish`."""
@@ -374,7 +421,7 @@ class Job:
         Raises AnswersLost, and then the next call shows whether the job has ended: its answer is JobOver.
         """
         with self._lock:
-            return self._answers(_library().boxglue_job_finish(self._handle))
+            return self._answered(lambda: _library().boxglue_job_finish(self._handle))
 
     def close(self) -> None:
         """Frees the memory of the job. What was not taken is lost. It may be closed twice."""

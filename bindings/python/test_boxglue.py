@@ -2,11 +2,17 @@
 import copy
 import gc
 import glob
+import multiprocessing
 import os
+import pickle
 import random
 import re
+import subprocess
+import sys
 import threading
+import types
 import unittest
+from unittest import mock
 
 import boxglue
 
@@ -46,7 +52,7 @@ class Runs(unittest.TestCase):
 
     def test_bad_script(self):
         refused, = boxglue.run("hbox into 0\nkern x\n").refusals
-        self.assertEqual((refused.line, refused.number, refused.name, refused.detail), (None, 2, "BadScript", "2 Dimension"))
+        self.assertEqual((refused.line, refused.number, refused.name, refused.cause), (2, 2, "BadScript", "Dimension"))
 
     def test_characters_beyond_ascii(self):
         self.assertEqual(boxglue.run("text ä\n").refusals[0].detail, "1 Byte")
@@ -163,7 +169,7 @@ class Jobs(unittest.TestCase):
         with boxglue.Job() as job:
             job.commands("hbox into 0\nrule 1pt 1pt 0pt\n").check()
             refused, = job.commands("end\nship 0\nkern x\n").refusals
-            self.assertEqual((refused.line, refused.name, refused.detail), (None, "BadScript", "5 Dimension"))
+            self.assertEqual((refused.line, refused.name, refused.cause), (5, "BadScript", "Dimension"))
             self.assertEqual(job.take(), b"")
             self.assertEqual(job.commands("end\nship 0\n").answers, "".join(ANSWERS.splitlines(True)[2:4]))
             self.assertEqual(job.finish().answers + str(len(job.take())), "end: pages 1 bytes 116\n116")
@@ -268,6 +274,135 @@ class Pages(unittest.TestCase):
     def test_numbers_out_of_range(self):
         for words in ({"page": 0}, {"page": -1}, {"page": (1 << 32) + 1}, {"dpi": 10_001}, {"dpi": -1}, {"width": 0}, {"width": 10_001}, {"height": (1 << 32) + 1}):
             self.assertRaises(boxglue.OutOfRange, boxglue.paint, self.dvi, **words)
+
+
+def refused_in_a_worker(script):
+    """What a worker of a pool does: `check` raises there, and the refusal goes to the other process."""
+    boxglue.run(script).check()
+
+
+class Refusals(unittest.TestCase):
+    def refused(self, call, *words):
+        with self.assertRaises(boxglue.Refused) as caught:
+            call(*words)
+        return caught.exception
+
+    def test_fields(self):
+        dvi = boxglue.run(TEXT, plain()).dvi
+        cases = [
+            (boxglue.run("\nkern 12px\n").refusals[0], ("BadScript", 2, None, "Dimension")),
+            (self.refused(boxglue.fonts, dvi[:74]), ("BadDvi", None, 74, "Trailer")),
+            (self.refused(boxglue.listing, dvi, {"plain": b"no metric file"}), ("BadTfm", None, None, "TooShort")),
+            (boxglue.run("font 0 plain\n", {"plain": b""}).refusals[0], ("BadTfm", 1, None, "TooShort")),
+            (boxglue.run("end\n").refusals[0], ("NoOpenList", 1, None, None)),
+            (boxglue.run("hbox into 0\n").refusals[0], ("ListsOpen", None, None, None)),
+        ]
+        for error, wanted in cases:
+            self.assertEqual((error.name, error.line, error.place, error.cause), wanted)
+
+    def test_copies(self):
+        for script in ("kern 12px\n", "end\n", "hbox into 0\n", "font 0 plain\n"):
+            error = boxglue.run(script, {"plain": b""}).refusals[0]
+            for other in (pickle.loads(pickle.dumps(error)), copy.copy(error), copy.deepcopy(error)):
+                self.assertEqual((str(other), vars(other)), (str(error), vars(error)))
+
+    def test_process_pool(self):
+        """A worker that raises a refusal does not hang the pool."""
+        with multiprocessing.get_context("spawn").Pool(1) as pool:
+            self.assertEqual(self.refused(pool.apply_async(refused_in_a_worker, ("kern 12px\n",)).get, 20).cause, "Dimension")
+            self.assertIsNone(pool.apply(refused_in_a_worker, (RULE,)))
+
+
+class Inputs(unittest.TestCase):
+    def test_other_types(self):
+        job = boxglue.Job()
+        self.addCleanup(job.close)
+        for call in (boxglue.run, job.commands):
+            for script in (7, [1, 2], None, 1.5, object()):
+                self.assertRaises(TypeError, call, script)
+        dvi = boxglue.run(RULE).dvi
+        for call in (boxglue.listing, boxglue.fonts, boxglue.paint):
+            for given in ("page.dvi", 7, None, [0]):
+                self.assertRaises(TypeError, call, given)
+        for fonts in ({"cmr10": "cmr10.tfm"}, {"cmr10": 5}, {"cmr10": None}, {7: b""}, "cmr10", b"cmr10", 7):
+            for call in (boxglue.run, boxglue.listing, boxglue.Job):
+                self.assertRaises(TypeError, *(call,) if call is boxglue.Job else (call, dvi), fonts)
+        self.assertEqual(job.commands(RULE[:12]).answers, "1: ok\n")
+
+    def test_types_of_bytes(self):
+        dvi = boxglue.run(RULE).dvi
+        for given in (bytearray(dvi), memoryview(dvi)):
+            self.assertEqual(boxglue.listing(given), boxglue.listing(dvi))
+        every_second = memoryview(bytes(it for byte in dvi for it in (byte, 0)))[::2]
+        self.assertEqual(boxglue.listing(every_second), boxglue.listing(dvi))
+
+
+class Versions(unittest.TestCase):
+    """What is said of a library that is not the one of this module: a stand-in with its version, and without any other call."""
+
+    def message(self, number):
+        version = lambda: number
+        with mock.patch("ctypes.CDLL", lambda _: types.SimpleNamespace(boxglue_version=version)), self.assertRaises(boxglue.BoxglueError) as caught:
+            boxglue._library.__wrapped__()
+        return str(caught.exception)
+
+    def test_other_version(self):
+        self.assertIn("has version 2.3.4, and this module is for 1.x", self.message(20304))
+
+    def test_older_version(self):
+        self.assertRegex(self.message(10000), r"has version 1\.0\.0, and lacks boxglue_\w+: it is older than this module")
+
+    def test_other_library(self):
+        with mock.patch("ctypes.CDLL", lambda _: types.SimpleNamespace()):
+            self.assertRaisesRegex(boxglue.BoxglueError, "is no library of boxglue", boxglue._library.__wrapped__)
+        with mock.patch.dict(os.environ, BOXGLUE_LIBRARY=__file__):
+            self.assertRaisesRegex(boxglue.BoxglueError, "is no library of boxglue", boxglue._library.__wrapped__)
+
+
+# A program that ends while a daemon thread is inside a call on a job. The library is a stand-in whose call waits, and which says what is freed meanwhile.
+ENDS = """
+import threading, time, boxglue
+inside, library = threading.Event(), boxglue._library()
+class Slow:
+    boxglue_job_new = library.boxglue_job_new
+    boxglue_job_free = staticmethod(lambda handle: print("freed inside a call", flush=True))
+    @staticmethod
+    def boxglue_job_commands(*words):
+        inside.set()
+        time.sleep(60)
+boxglue._library = lambda: Slow
+job = boxglue.Job()
+threading.Thread(target=job.commands, args=("hbox into 0\\n",), daemon=True).start()
+inside.wait(60)
+"""
+
+
+class Ends(unittest.TestCase):
+    def test_cut_off_between_two_calls(self):
+        """The answers of a call that was cut off before they were taken are not those of the next call."""
+        for error in (KeyboardInterrupt, MemoryError):
+            with boxglue.Job() as job:
+                with mock.patch.object(boxglue, "_one_text", side_effect=error):
+                    self.assertRaises(error, job.commands, "ship 3\n")
+                self.assertEqual(job.commands("hbox into 0\n"), boxglue.Answers("2: ok\n", True))
+                with mock.patch.object(boxglue, "_one_text", side_effect=error):
+                    self.assertRaises(error, job.finish)
+                self.assertEqual(job.commands("end\n").check().answers, "3: packed 0.0pt 0.0pt 0.0pt badness 0\n")
+
+    def test_thread_inside_a_call(self):
+        """A job is not freed while a thread is inside a call on it."""
+        done = subprocess.run([sys.executable, "-c", ENDS], env={**os.environ, "PYTHONPATH": HERE}, stdout=subprocess.PIPE, timeout=60)
+        self.assertEqual((done.stdout, done.returncode), (b"", 0))
+
+    def test_dropped_job(self):
+        """A job that is dropped is freed."""
+        library, freed = boxglue._library(), []
+        slow = types.SimpleNamespace(boxglue_job_new=library.boxglue_job_new, boxglue_job_free=lambda handle: (freed.append(1), library.boxglue_job_free(handle)))
+        with mock.patch.object(boxglue, "_library", lambda: slow):
+            job = boxglue.Job()
+        del job
+        gc.collect()
+        self.assertEqual(freed, [1])
 
 
 if __name__ == "__main__":
