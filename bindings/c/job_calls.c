@@ -72,9 +72,10 @@ static void finish_job(struct boxglue_job *job, struct job_result *result) {
     } while (status == BOXGLUE_REFUSED_MEMORY);
 }
 
-/* The piece of this number, from 0, which begins at this byte: pieces have from no line to most lines. */
+/* The piece of this number, from 0, which begins at this byte: pieces have from no line to most lines. Or there is one piece of all lines. */
 static struct input piece_at(const struct pieces *pieces, size_t from, size_t number) {
     const struct input *script = &pieces->script;
+    if (!pieces->most) return *script;
     size_t end = from;
     for (size_t lines = (7 * number + 3) % (pieces->most + 1); lines && end < script->size; end++) lines -= script->bytes[end] == '\n';
     return (struct input){script->bytes + from, end - from};

@@ -6,7 +6,7 @@
 
 enum { STATUS_COUNT = BOXGLUE_ANSWERS_LOST + 1 };
 
-/* A script with its fonts, and how many lines a piece of it has at most, 1 or more. */
+/* A script with its fonts, and how many lines a piece of it has at most; 0 for one piece of all lines. */
 struct pieces {
     struct input script;
     struct fonts fonts;
@@ -40,6 +40,9 @@ uint32_t whole_status(const struct job_result *result);
 
 /* Refuses each growth of the calls in turn, and prints how they end. */
 void refuse_job_growths(const struct pieces *pieces);
+
+/* Frees jobs after each line of a script, finished and not, with all answers and bytes waiting. Fails where a block of one is not freed. */
+void free_after_each_line(const struct pieces *pieces);
 
 /* Fails where a call on a handle without a job, or with one already, does something. */
 void require_handles(void);
