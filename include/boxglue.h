@@ -4,6 +4,8 @@
  * Between two calls they keep nothing but what a struct boxglue_job holds, which goes to one call at a time.
  * docs/LIBRARY.md shows how to link a program, and has callers in C, Python and Rust.
  *
+ * A size is a number of bytes, a count one of structs, and a room how many bytes or structs a buffer takes.
+ *
  * Rules for all calls; the library checks none of them:
  *
  * - The caller owns all memory that it passes. The library reads its inputs and writes its outputs during the call, and keeps no pointer to them after it.
@@ -204,9 +206,29 @@ uint32_t boxglue_job_finish(struct boxglue_job *job);
 /* Frees all memory of the job, whether it was finished or not. The handle is null then, and may get another job. A handle without a job stays as it is. */
 void boxglue_job_free(struct boxglue_job *job);
 
-/* What is below is for C and C++ alone: a call by each of these names passes an address of its own where a size, a count or a room is 0, so that the pointer may be
- * null there. (boxglue_run)(..) in parentheses calls the symbol of the library itself, and so does each call where BOXGLUE_NO_INLINE is defined before this header. */
+/* What is below is for C and C++ alone, and not in the library: texts of the statuses, and calls by the names above.
+ *
+ * A call passes an address of its own where a size, a count or a room is 0, so that the pointer beside it may be null. (boxglue_run)(..) in parentheses calls the
+ * library itself, and so does each call where BOXGLUE_NO_INLINE is defined before this header. */
 #ifndef BOXGLUE_NO_INLINE
+
+/* A status in a few words, as for a message. */
+static inline const char *boxglue_status_text(uint32_t status) {
+    switch (status) {
+    case BOXGLUE_ACCEPTED: return "accepted";
+    case BOXGLUE_REFUSED: return "refused: the text says why";
+    case BOXGLUE_OUT_OF_MEMORY: return "out of memory";
+    case BOXGLUE_BAD_FONT_NAME: return "the name of a font has not 1 to 255 bytes";
+    case BOXGLUE_BUFFER_TOO_SMALL: return "a buffer is too small: the sizes say what is needed";
+    case BOXGLUE_NO_SUCH_PAGE: return "the DVI file has no page of this number";
+    case BOXGLUE_OUT_OF_RANGE: return "a number is out of its range";
+    case BOXGLUE_REFUSED_MEMORY: return "refused: there was no memory for a command, or for the end of the job";
+    case BOXGLUE_NO_JOB: return "the handle has no job";
+    case BOXGLUE_JOB_EXISTS: return "the handle has a job already";
+    case BOXGLUE_ANSWERS_LOST: return "the commands were run, and there was no memory for their answers";
+    default: return "no status of boxglue";
+    }
+}
 
 static inline const uint8_t *boxglue_bytes_at(const uint8_t *at, size_t size) {
     static uint8_t none;

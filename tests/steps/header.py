@@ -10,6 +10,7 @@ HEADER = "include/boxglue.h"
 EXPORTS = "crates/boxglue_c/src/lib.rt"
 CALLS = "crates/boxglue_calls/src"
 JOBS = "crates/boxglue_jobs/src"
+STATUSES_OF_PYTHON = "bindings/python/boxglue/_status.py"
 CALLS_OF_C = "#ifndef BOXGLUE_NO_INLINE"
 TYPES = {"u8": "uint8_t", "u32": "uint32_t", "u64": "uint64_t", "i32": "int32_t", "usize": "size_t", "": "void", "*mut u8": "void *", "JobHandle": "struct boxglue_job"}
 
@@ -118,6 +119,16 @@ def statuses(root):
     return None if wanted and found == wanted else f"the header has {found}, and the calls have {wanted}"
 
 
+def status_texts(root):
+    """What is wrong with the texts of the statuses: C and Python have the same ones."""
+    found = re.findall(r'case BOXGLUE_(\w+): return ("[^"]+");', declared(root))
+    wanted = re.findall(r'Status\.(\w+): ("[^"]+"),', read(root, STATUSES_OF_PYTHON))
+    names = re.findall(r"BOXGLUE_(\w+) = \d+", re.search(r"enum boxglue_status \{([^}]*)\}", declared(root))[1])
+    if [name for name, _ in found] != names:
+        return f"the header has texts of {[name for name, _ in found]}, and the statuses {names}"
+    return None if found == wanted else f"the header has {found}, and Python has {wanted}"
+
+
 def version(root):
     """What is wrong with the version."""
     first, second, third = (int(it) for it in re.search(r'"boxglue (\d+)\.(\d+)\.(\d+) ', read(root, "crates/boxglue_words/src/task.rt")).groups())
@@ -129,5 +140,5 @@ def version(root):
 
 def cases(_programs, root):
     """A case for each kind of declaration."""
-    for check in (functions, null_calls, structs, statuses, version):
+    for check in (functions, null_calls, structs, statuses, status_texts, version):
         yield check.__name__, partial(check, root)

@@ -23,17 +23,17 @@ LANGUAGES = {"C99": ["cc", "-std=c99"], "C11": ["cc", "-std=c11"], "C++98": ["c+
 WARNINGS = "-Wall -Wextra -Wpedantic -Wconversion -Wshadow -Wcast-qual -Wcast-align -Wundef -Werror".split()
 SYMBOLS = "run list paint fonts job_new job_commands job_answers job_take".split()
 # The empty script is answered by "end: pages 0 bytes 0", and the empty file by "refused 20 BadDvi 0 Trailer".
-NULL_CALLS = b"""run 4 86 116
-run 4 21 0
-list 4 28 0
-list by a pointer 4 28 0
-paint 4 28 0
-fonts 4 0 28
-new 0 0 0
-commands 0 0 0
-answers 0 0 0
-finish 0 0 0
-take 0 0 0
+NULL_CALLS = b"""run 4 86 116: a buffer is too small: the sizes say what is needed
+run 4 21 0: a buffer is too small: the sizes say what is needed
+list 4 28 0: a buffer is too small: the sizes say what is needed
+list by a pointer 4 28 0: a buffer is too small: the sizes say what is needed
+paint 4 28 0: a buffer is too small: the sizes say what is needed
+fonts 4 0 28: a buffer is too small: the sizes say what is needed
+new 0 0 0: accepted
+commands 0 0 0: accepted
+answers 0 0 0: accepted
+finish 0 0 0: accepted
+take 0 0 0: accepted
 """
 WANTED = b"1: ok\n2: ok\n3: packed 1.0pt 1.0pt 0.0pt badness 0\n4: shipped 1\nend: pages 1 bytes 116\n"
 
@@ -98,9 +98,15 @@ def null_pointers(language, root, archive, folder):
             or run_wrong([f"{folder}/calls"], wanted=NULL_CALLS))
 
 
-def binding(root, archive, folder):
-    words, env = python_words(root, archive, ["-m", "unittest", "-q", "test_boxglue"])
+def binding(tests, root, archive, folder):
+    """Runs tests of the binding."""
+    words, env = python_words(root, archive, ["-m", "unittest", "discover", "-q", "-s", f"{root}/bindings/python/tests", "-t", f"{root}/bindings/python", "-p", tests])
     return run_wrong(words, env, wanted=b"", folder=folder)
+
+
+def types_of_binding(root, archive, folder):
+    """The types of the binding, which one of its tests checks where there is mypy."""
+    return binding("test_types.py", root, archive, folder) if shutil.which("mypy") else Skipped("there is no mypy on the path")
 
 
 def client(root, archive, folder):
@@ -123,6 +129,7 @@ def outcome(call, root, archive=None, *_programs):
 def cases(programs, root):
     """The callers."""
     calls = {"LIBRARY.md in C": partial(caller_in_c, 0), "LIBRARY.md in C, a job": partial(caller_in_c, 1), "LIBRARY.md in Python": partial(caller_in_python, 0),
-             "LIBRARY.md in Python, a job": partial(caller_in_python, 1), "LIBRARY.md in Rust": caller_in_rust, "test_boxglue.py": binding, "examples/markdown": client}
+             "LIBRARY.md in Python, a job": partial(caller_in_python, 1), "LIBRARY.md in Rust": caller_in_rust, "tests of bindings/python": partial(binding, "test_*.py"),
+             "types of bindings/python": types_of_binding, "examples/markdown": client}
     calls |= {f"null pointers in {it}": partial(null_pointers, it) for it in LANGUAGES}
     return [(name, partial(outcome, call, root, *programs)) for name, call in calls.items()]

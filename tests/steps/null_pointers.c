@@ -9,7 +9,7 @@ static const uint8_t SCRIPT[] = "hbox into 0\nrule 1pt 1pt 0pt\nend\nship 0\n";
 typedef uint32_t listing(const uint8_t *dvi, size_t dvi_size, const struct boxglue_font *fonts, size_t font_count, uint8_t *text, size_t text_room, size_t *size);
 
 static void print_call(const char *call, uint32_t status, size_t first, size_t second) {
-    printf("%s %u %u %u\n", call, (unsigned)status, (unsigned)first, (unsigned)second);
+    printf("%s %u %u %u: %s\n", call, (unsigned)status, (unsigned)first, (unsigned)second, boxglue_status_text(status));
 }
 
 static void call_whole(const uint8_t *script, size_t script_size) {
