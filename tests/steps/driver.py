@@ -8,7 +8,7 @@ from collections import Counter
 from concurrent.futures import ThreadPoolExecutor
 from dataclasses import dataclass
 
-from steps import trying
+from steps import outside_tools, trying
 from steps.outcome import Skipped
 from steps.part import all_parts
 from steps.progress import Progress
@@ -24,7 +24,9 @@ crates/boxglue makes out/boxglue; `rt ci` makes out/boxglue and out/boxglue.by-r
 With --library the parts library_.. call the library for C, whose archive `rt lib` in crates/boxglue_c makes as out/libboxglue_c.a. They compare it with the
 first --program, and need a C compiler. Without --library they are skipped.
 
-The parts `claims`, `definitions`, `header`, `known_devices`, `known_files`, `known_growths`, `library` and `names` run no program. `definitions` checks that docs/DEFINITIONS.md is fresh:
+With --gate, which needs those three, a case is skipped only where a tool is missing that docs/GATE.md lists: every other skip is a failure.
+
+The parts `claims`, `definitions`, `header`, `known_devices`, `known_files`, `known_growths`, `library`, `names` and `outside_tools` run no program. `definitions` checks that docs/DEFINITIONS.md is fresh:
 where it is not, run tests/definitions.
 
 A line is printed for each part: ok, FAILED or skipped, its seconds, how many of its cases passed; and a line at least every ten seconds.
@@ -44,12 +46,13 @@ class Result:
 
 def words_of(given):
     """Reads the command line."""
-    usage = "tests/run [NAME ..] [--program PATH ..] [--rows PATH ..] [--library ARCHIVE], tests/run --list"
+    usage = "tests/run [NAME ..] [--program PATH ..] [--rows PATH ..] [--library ARCHIVE] [--gate], tests/run --list"
     parser = argparse.ArgumentParser(usage=usage, description=ABOUT, formatter_class=argparse.RawDescriptionHelpFormatter)
     parser.add_argument("names", metavar="NAME", nargs="*", help="run these parts alone (--list names them)")
     parser.add_argument("--program", metavar="PATH", nargs="+", default=[], help="run over these builds of boxglue, in place of building")
     parser.add_argument("--rows", metavar="PATH", nargs="+", default=[], help="run rows_scripts over these builds of it, in place of building")
     parser.add_argument("--library", metavar="ARCHIVE", help="run the tests of the library for C over this archive")
+    parser.add_argument("--gate", action="store_true", help="let no case be skipped but for a missing tool that docs/GATE.md lists")
     parser.add_argument("--list", action="store_true", help="print the names of the parts, and what each tests")
     return parser, parser.parse_intermixed_args(given)
 
@@ -98,8 +101,8 @@ def pairs_of(part, programs, root):
     return [("its cases", lambda: why)] if why else pairs
 
 
-def run_part(part, built, root, progress):
-    """Runs a part, and prints its results."""
+def run_part(part, built, in_gate, root, progress):
+    """Runs a part, and prints its results. In the gate a case that is skipped for want of anything but a listed tool has failed."""
     began = time.monotonic()
     programs = built.get(part.program, [])
     if part.program == "library" and programs:
@@ -109,6 +112,9 @@ def run_part(part, built, root, progress):
         result = Result(0, [], [(name, f"it needs {NEEDED[part.program]}") for name, _ in pairs])
     else:
         result = run_cases(part, pairs, bool(programs) or not part.tries, progress)
+    if in_gate:
+        wrong = outside_tools.others(result.skipped, root)
+        result = Result(result.passed, result.failed + wrong, [it for it in result.skipped if it not in wrong])
     progress.end(part.name)
     for line in lines_of(part, len(pairs), result, time.monotonic() - began):
         progress.say(line)
@@ -126,10 +132,10 @@ def lines_of(part, count, result, seconds):
             yield f"    {what}: {', '.join(names[:6])}{f' and {len(names) - 6} more' if len(names) > 6 else ''}: {why[:600]}"
 
 
-def run_all(parts, built, root):
+def run_all(parts, built, in_gate, root):
     """Runs parts side by side."""
     with Progress(len(parts)) as progress, ThreadPoolExecutor(lanes()) as pool:
-        futures = [pool.submit(run_part, it, built, root, progress) for it in parts]
+        futures = [pool.submit(run_part, it, built, in_gate, root, progress) for it in parts]
         try:
             return [it.result() for it in futures]
         except BaseException:
@@ -156,6 +162,8 @@ def main(root, given):
     if words.list:
         print("".join(f"{it.name:16}{it.title}\n" for it in sorted(parts, key=lambda it: it.name)), end="")
         return 0
+    if words.gate and not (words.program and words.rows and words.library):
+        parser.error("--gate needs --program, --rows and --library")
     built = {"boxglue": [*map(os.path.abspath, words.program)], "rows_scripts": [*map(os.path.abspath, words.rows)]}
     absent = [f"program {it}" for paths in built.values() for it in paths if not os.access(it, os.X_OK) or os.path.isdir(it)]
     if words.library:
@@ -165,7 +173,7 @@ def main(root, given):
         print("".join(f"FAILED: no {it}\n" for it in absent) + f"0 passed, {len(absent)} failed, 0 skipped", flush=True)
         return 1
     signal.signal(signal.SIGTERM, lambda number, _: sys.exit(128 + number))
-    results = run_all(parts, built, root)
+    results = run_all(parts, built, words.gate, root)
     passed, failed, skipped = (sum(it) for it in zip(*((it.passed, len(it.failed), len(it.skipped)) for it in results)))
     print(f"{NOTHING_PROVED}\n{passed} passed, {failed} failed, {skipped} skipped", flush=True)
     return 1 if failed else 0

@@ -8,7 +8,7 @@ import tempfile
 from functools import partial
 
 from steps.library_build import build_shared, built, compile_c, heap_archive, lacking, python_words, run_build
-from steps.outcome import Skipped
+from steps.outcome import lacks
 from steps.plain_font import metric_file
 from steps.texts import last_lines
 
@@ -76,8 +76,8 @@ def caller_in_python(number, root, archive, folder):
 
 
 def caller_in_rust(root, archive, folder):
-    if not shutil.which("rustc"):
-        return Skipped("there is no rustc on the path")
+    if lacks("rustc"):
+        return lacks("rustc")
     write(f"{folder}/caller.rs", block(root, "rs", 0))
     shutil.copy(archive, f"{folder}/libboxglue_c.a")  # the name by which rustc finds it
     paths = [f"-Lnative={it}" for it in (folder, os.path.dirname(heap_archive()))]
@@ -88,8 +88,8 @@ def caller_in_rust(root, archive, folder):
 def null_pointers(language, root, archive, folder):
     """Calls with null pointers, by symbols of the library that refuse them."""
     compiler, *flags = LANGUAGES[language]
-    if not shutil.which(compiler):
-        return Skipped(f"there is no {compiler} on the path")
+    if lacks(compiler):
+        return lacks(compiler)
     steps = f"{root}/tests/steps"
     wraps = [f"-Wl,--wrap=boxglue_{it}" for it in SYMBOLS]
     return (run_build([compiler, *flags, *WARNINGS, f"-I{root}/include", "-c", f"{steps}/null_pointers.c", "-o", f"{folder}/calls.o"])
@@ -106,7 +106,7 @@ def binding(tests, root, archive, folder):
 
 def types_of_binding(root, archive, folder):
     """The types of the binding, which one of its tests checks where there is mypy."""
-    return binding("test_types.py", root, archive, folder) if shutil.which("mypy") else Skipped("there is no mypy on the path")
+    return lacks("mypy") or binding("test_types.py", root, archive, folder)
 
 
 def client(root, archive, folder):
