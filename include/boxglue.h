@@ -149,6 +149,12 @@ uint32_t boxglue_fonts(const uint8_t *dvi, size_t dvi_size,
 /* Returns the version of the library, as BOXGLUE_VERSION counts it. A program compares the two. */
 uint32_t boxglue_version(void);
 
+/* In a library that was built without proofs this is a text, "UNPROVED, with run-time checks". Else its address is null, so `if (boxglue_unproved)` asks for it.
+ * In such a library a fault of its own ends the program by a trap. */
+#if defined(__GNUC__) || defined(__clang__)
+extern const char boxglue_unproved[] __attribute__((weak));
+#endif
+
 /* A handle of a job that is kept between calls: struct boxglue_job job = {0};
  *
  * The library alone reads and writes `at`, which is null where there is no job. Memory of the job stays allocated from boxglue_job_new to boxglue_job_free.

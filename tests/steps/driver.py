@@ -8,21 +8,22 @@ from collections import Counter
 from concurrent.futures import ThreadPoolExecutor
 from dataclasses import dataclass
 
-from steps import outside_tools, trying
+from steps import library_build, outside_tools, trying, unproved
 from steps.outcome import Skipped
 from steps.part import all_parts
 from steps.progress import Progress
 
 ABOUT = """Runs all tests of boxglue, without proofs: nothing is proved by it. It needs the kit's `rt`, and no network.
 
-Without --program it builds by `rt try`, up to three builds at a time where memory allows: the #[test] functions of each crate that has
-some, the rows of rows_scripts, and those cases of tests/program that can run in one build. What can only run a built program is skipped.
+Without words it builds by `rt try`, up to three builds at a time where memory allows: the #[test] functions of each crate that has
+some, the rows of rows_scripts, and those cases of tests/program that can run in one build. What can only run a built program runs over one that
+tools/unproved.py builds without proofs, and so do the parts library_.. over the library for C, which need a C compiler too.
 
-With --program it builds nothing: all that is data runs over these programs, and the crates' own tests are left out. `rt run` in
+With --program it builds no program: all that is data runs over these programs, and the crates' own tests are left out. `rt run` in
 crates/boxglue makes out/boxglue; `rt ci` makes out/boxglue and out/boxglue.by-rattle.
 
-With --library the parts library_.. call the library for C, whose archive `rt lib` in crates/boxglue_c makes as out/libboxglue_c.a. They compare it with the
-first --program, and need a C compiler. Without --library they are skipped.
+With --library the parts library_.. run over this archive, which `rt lib` in crates/boxglue_c makes as out/libboxglue_c.a; else over one that is built
+without proofs. They compare it with the first --program.
 
 With --gate, which needs those three, a case is skipped only where a tool is missing that docs/GATE.md lists: every other skip is a failure.
 
@@ -33,7 +34,7 @@ A line is printed for each part: ok, FAILED or skipped, its seconds, how many of
 The last line is `N passed, M failed, K skipped`. The status is 0 where nothing failed, 1 where something did, 2 where the words are wrong."""
 NOTHING_PROVED = "Nothing is proved by these tests: only `rt ci` proves."
 LANES, ROOM = 3, 1_500_000_000
-NEEDED = {"boxglue": "a built program: --program", "rows_scripts": "a built program: --rows", "library": "an archive: --library"}
+NEEDED = {"boxglue": "a built program: --program", "rows_scripts": "a built program: --rows", "library": "a C compiler and rt on the path"}
 
 
 @dataclass
@@ -51,7 +52,7 @@ def words_of(given):
     parser.add_argument("names", metavar="NAME", nargs="*", help="run these parts alone (--list names them)")
     parser.add_argument("--program", metavar="PATH", nargs="+", default=[], help="run over these builds of boxglue, in place of building")
     parser.add_argument("--rows", metavar="PATH", nargs="+", default=[], help="run rows_scripts over these builds of it, in place of building")
-    parser.add_argument("--library", metavar="ARCHIVE", help="run the tests of the library for C over this archive")
+    parser.add_argument("--library", metavar="ARCHIVE", help="run the tests of the library for C over this archive, in place of building it without proofs")
     parser.add_argument("--gate", action="store_true", help="let no case be skipped but for a missing tool that docs/GATE.md lists")
     parser.add_argument("--list", action="store_true", help="print the names of the parts, and what each tests")
     return parser, parser.parse_intermixed_args(given)
@@ -101,14 +102,26 @@ def pairs_of(part, programs, root):
     return [("its cases", lambda: why)] if why else pairs
 
 
+def programs_of(part, built, root, progress):
+    """The programs over which a part runs. What it needs and was not given is built without proofs: the library, and the program where no program was given."""
+    given, is_given = built.get(part.program, []), any(built.values())
+    progress.step(part.name, "waits for what it runs")
+    if part.program == "library" and not library_build.lacking():
+        return [*(given or [unproved.built(root, "library")]), *(built["boxglue"] or [unproved.built(root, "program")])]
+    if part.program == "boxglue" and part.needs_program and not is_given:
+        return [unproved.built(root, "program")]
+    return given
+
+
 def run_part(part, built, in_gate, root, progress):
     """Runs a part, and prints its results. In the gate a case that is skipped for want of anything but a listed tool has failed."""
-    began = time.monotonic()
-    programs = built.get(part.program, [])
-    if part.program == "library" and programs:
-        programs = programs + built["boxglue"]
-    pairs = pairs_of(part, programs, root)
-    if not programs and (part.needs_program or any(built.values())):
+    began, why = time.monotonic(), None
+    try:
+        programs = programs_of(part, built, root, progress)
+    except unproved.Unbuilt as error:
+        programs, why = [], str(error)
+    pairs = [("what it runs", lambda: why)] if why else pairs_of(part, programs, root)
+    if not programs and not why and (part.needs_program or any(built.values())):
         result = Result(0, [], [(name, f"it needs {NEEDED[part.program]}") for name, _ in pairs])
     else:
         result = run_cases(part, pairs, bool(programs) or not part.tries, progress)
