@@ -25,12 +25,12 @@ from ._dimensions import points, scaled_points
 from ._files import Bitmap, DviFont, fonts, listing, paint
 from ._fonts import FontFolder
 from ._job import Job
-from ._library import version
+from ._library import proved, version
 from ._runs import Answers, Run, run
 from ._status import AnswersLost, BadFontName, BoxglueError, NoJob, NoSuchPage, OutOfMemory, OutOfRange, Refused, Status
 
 __all__ = [
     "Answers", "AnswersLost", "BadFontName", "Bitmap", "BoxglueError", "DviFont", "FontFolder", "Job", "NoJob", "NoSuchPage", "OutOfMemory", "OutOfRange",
-    "Refused", "Run", "Status", "fonts", "listing", "paint", "points", "run", "scaled_points", "version",
+    "Refused", "Run", "Status", "fonts", "listing", "paint", "points", "proved", "run", "scaled_points", "version",
 ]
 __version__ = "1.0.0"

@@ -97,6 +97,11 @@ def version() -> str:
     return shown_version(library().boxglue_version())
 
 
+def proved() -> bool:
+    """Whether the library that is loaded was proved. One that was not (`./install --unproved`) has run-time checks, and a fault of its own ends the process."""
+    return not hasattr(library(), "boxglue_unproved")
+
+
 def data_of(given: Data, what: str) -> bytes:
     """The bytes of what is like bytes. Nothing else is taken: bytes(7) would be seven zeros, and the name of a file is not the file."""
     try:

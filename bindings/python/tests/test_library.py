@@ -38,6 +38,13 @@ class Versions(unittest.TestCase):
             self.assertRaisesRegex(boxglue.BoxglueError, "there is no libboxglue.so", _library.library_path)
 
 
+class Proofs(unittest.TestCase):
+    def test_proved(self):
+        """A library that was built without proofs has a symbol that says so."""
+        with open(_library.library_path(), "rb") as it:
+            self.assertEqual(boxglue.proved(), b"boxglue_unproved" not in it.read())
+
+
 class Texts(unittest.TestCase):
     def test_statuses(self):
         self.assertEqual([int(it) for it in boxglue.Status], [*range(11)])
