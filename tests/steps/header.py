@@ -11,6 +11,8 @@ EXPORTS = "crates/boxglue_c/src/lib.rt"
 CALLS = "crates/boxglue_calls/src"
 JOBS = "crates/boxglue_jobs/src"
 STATUSES_OF_PYTHON = "bindings/python/boxglue/_status.py"
+RUST = "bindings/rust/boxglue-sys/src/lib.rs"
+PYTHON = "bindings/python/boxglue/_library.py"
 CALLS_OF_C = "#ifndef BOXGLUE_NO_INLINE"
 TYPES = {"u8": "uint8_t", "u32": "uint32_t", "u64": "uint64_t", "i32": "int32_t", "usize": "size_t", "": "void", "*mut u8": "void *", "JobHandle": "struct boxglue_job"}
 
@@ -129,6 +131,38 @@ def status_texts(root):
     return None if found == wanted else f"the header has {found}, and Python has {wanted}"
 
 
+def c_of_rust(text):
+    """What C writes for parameters or fields of Rust. A name that is a word of Rust has an underscore after it there."""
+    made = []
+    for name, kind in re.findall(r"(\w+): ([^,]+)", re.sub(r"///.*|\bpub ", "", text)):
+        pointer, length = re.fullmatch(r"\*(const|mut) (\S+)\s*", kind), re.fullmatch(r"\[(\w+); (\d+)\]\s*", kind)
+        item = (pointer[2] if pointer else length[1] if length else kind).strip()
+        plain = {"core::ffi::c_void": "void", "i64": "int64_t"}.get(item) or TYPES.get(item) or f"struct {item}"
+        made.append(f"{'const ' if pointer and pointer[1] == 'const' else ''}{plain} {'*' if pointer else ''}{name.rstrip('_')}{f'[{length[2]}]' if length else ''}")
+    return made
+
+
+def rust(root):
+    """What is wrong with the declarations of bindings/rust."""
+    text = read(root, RUST)
+    found = [f"{c_type(result)} {name}({', '.join(c_of_rust(given)) or 'void'});" for name, given, result in re.findall(r"pub fn (\w+)\(([^)]*)\)(?: -> (\w+))?;", text)]
+    if found != functions_of(declared(root)):
+        return f"Rust declares {found}, and the header {functions_of(declared(root))}"
+    found = {f"struct {name}": c_of_rust(fields) for name, fields in re.findall(r"pub struct (\w+) \{(.*?)\n\}", text, flags=re.S)}
+    wanted = {name: [it.strip() for it in fields.split(";") if it.strip()] for name, fields in re.findall(r"(struct boxglue_\w+) \{([^}]*)\};", declared(root))}
+    if found != wanted:
+        return f"Rust has {found}, and the header {wanted}"
+    found, wanted = re.findall(r"pub const (BOXGLUE_\w+): u32 = (\d+);", text), re.findall(r"(BOXGLUE_\w+) = (\d+)", declared(root))
+    return None if found == wanted else f"Rust has {found}, and the header {wanted}"
+
+
+def python(root):
+    """What is wrong with the names of the calls of bindings/python."""
+    found = re.findall(r'^    "(\w+)": \[', read(root, PYTHON).partition("_CALLS = {")[2].partition("\n}")[0], flags=re.M)
+    wanted = [it.removeprefix("boxglue_") for it in re.findall(r" (boxglue_\w+)\(", " ".join(functions_of(declared(root))))]
+    return None if found and not {*found} - {*wanted} else f"Python calls {found}, and the header declares {wanted}"
+
+
 def version(root):
     """What is wrong with the version."""
     first, second, third = (int(it) for it in re.search(r'"boxglue (\d+)\.(\d+)\.(\d+) ', read(root, "crates/boxglue_words/src/task.rt")).groups())
@@ -140,5 +174,5 @@ def version(root):
 
 def cases(_programs, root):
     """A case for each kind of declaration."""
-    for check in (functions, null_calls, structs, statuses, status_texts, version):
+    for check in (functions, null_calls, structs, statuses, status_texts, rust, python, version):
         yield check.__name__, partial(check, root)
