@@ -33,8 +33,10 @@
 extern "C" {
 #endif
 
-/* What boxglue_version returns for the library that this header describes, 1.0.0: 10,000 times the first number, 100 times the second, and the third. */
-#define BOXGLUE_VERSION 10000
+/* What boxglue_version returns for the library that this header describes, 1.1.0: 10,000 times the first number, 100 times the second, and the third.
+ * From 1.1.0 on, the second number rises where calls, statuses and structs are added; none of those that are there changes before the first number does. So a program
+ * runs with each library that has its first number and is not older than its header. */
+#define BOXGLUE_VERSION 10100
 
 enum boxglue_status {
     /* All was accepted. The outputs are written. */

@@ -17,6 +17,7 @@ PLACES = [
     ("crates/boxglue_calls/src/edition.rt", rf"(?<=ensures {{ result ≡ ){NUMBER}"),
     ("crates/boxglue_calls/src/edition.rt", rf"(?<=\n    ){NUMBER}(?=\n)"),
     ("crates/boxglue_c/src/lib.rt", rf"(?<=boxglue_version\(\) -> u32\n    ensures {{ result ≡ ){NUMBER}"),
+    ("crates/tests_calls/src/scripts.rt", rf"(?<=version\(\), ){NUMBER}"),
     ("docs/boxglue.1", rf'(?<=\.BR "boxglue ){DOTTED}'),
     ("bindings/python/boxglue/__init__.py", rf'(?<=__version__ = "){DOTTED}'),
     ("bindings/rust/Cargo.toml", rf'(?<=\nversion = "){DOTTED}'),

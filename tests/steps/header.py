@@ -1,8 +1,13 @@
 """include/boxglue.h: the functions, structs, statuses and the version that it declares are those of the exports, and each function that has a pointer with a size has
 a call that takes a null pointer where the size is 0.
 Only texts are compared: names, the order and the width of parameters and fields. No program is run."""
+import os
 import re
+import shutil
+import tempfile
 from functools import partial
+
+from tools import version as tools_version
 
 TITLE = "include/boxglue.h declares what boxglue_c exports"
 TRIES = False
@@ -164,15 +169,22 @@ def python(root):
 
 
 def version(root):
-    """What is wrong with the version."""
-    first, second, third = (int(it) for it in re.search(r'"boxglue (\d+)\.(\d+)\.(\d+) ', read(root, "crates/boxglue_words/src/task.rt")).groups())
-    wanted = 10000 * first + 100 * second + third
-    header = int(re.search(r"#define BOXGLUE_VERSION (\d+)", declared(root))[1])
-    call = int(re.search(r"\{\n    ([\d_]+)\n\}", read(root, f"{CALLS}/edition.rt"))[1].replace("_", ""))
-    return None if header == call == wanted else f"the program's version is {wanted}, that of the header {header}, and that of the calls {call}"
+    """What is wrong with the version: the places that have another one than the header."""
+    return "; ".join(tools_version.wrong(root)) or None
+
+
+def new_version(root):
+    """What is wrong with a new version that is written into copies of all places."""
+    with tempfile.TemporaryDirectory(prefix="boxglue-version-") as room:
+        for path in {path for path, _ in tools_version.PLACES}:
+            os.makedirs(os.path.dirname(f"{room}/{path}"), exist_ok=True)
+            shutil.copy(f"{root}/{path}", f"{room}/{path}")
+        tools_version.write(room, "1.23.4")
+        wrong = tools_version.wrong(room)
+        return "; ".join(wrong) or (None if (tools_version.number(room), tools_version.dotted(room)) == (12304, "1.23.4") else "the header has another version")
 
 
 def cases(_programs, root):
     """A case for each kind of declaration."""
-    for check in (functions, null_calls, structs, statuses, status_texts, rust, python, version):
+    for check in (functions, null_calls, structs, statuses, status_texts, rust, python, version, new_version):
         yield check.__name__, partial(check, root)

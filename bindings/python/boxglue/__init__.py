@@ -33,4 +33,4 @@ __all__ = [
     "Answers", "AnswersLost", "BadFontName", "Bitmap", "BoxglueError", "DviFont", "FontFolder", "Job", "NoJob", "NoSuchPage", "OutOfMemory", "OutOfRange",
     "Refused", "Run", "Status", "fonts", "listing", "paint", "points", "proved", "run", "scaled_points", "version",
 ]
-__version__ = "1.0.0"
+__version__ = "1.1.0"

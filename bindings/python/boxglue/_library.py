@@ -93,7 +93,7 @@ def library() -> Any:
 
 
 def version() -> str:
-    """The version of the library that is loaded, such as "1.0.0"."""
+    """The version of the library that is loaded, such as "1.1.0"."""
     return shown_version(library().boxglue_version())
 
 

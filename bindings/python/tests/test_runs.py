@@ -57,7 +57,7 @@ class Runs(unittest.TestCase):
         self.assertEqual(found, [boxglue.run(RULE)] * 800)
 
     def test_version(self):
-        self.assertEqual(boxglue.version(), "1.0.0")
+        self.assertEqual(boxglue.version(), boxglue.__version__)
 
 
 class Fonts(unittest.TestCase):

@@ -99,7 +99,7 @@ pub extern "C" fn boxglue_fonts(
 /// The version of the library: 10,000 times the first of its three numbers, 100 times the second, and the third.
 #[unsafe(no_mangle)]
 pub extern "C" fn boxglue_version() -> u32
-    ensures { result ≡ 10000 }
+    ensures { result ≡ 10100 }
 {
     boxglue_calls::version()
 }
