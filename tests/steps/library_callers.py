@@ -2,7 +2,6 @@
 the client of examples/markdown makes a page; and through the header a pointer with the size 0 may be null, in C and C++."""
 import os
 import re
-import shutil
 import subprocess
 import tempfile
 from functools import partial
@@ -76,13 +75,14 @@ def caller_in_python(number, root, archive, folder):
 
 
 def caller_in_rust(root, archive, folder):
-    if lacks("rustc"):
-        return lacks("rustc")
-    write(f"{folder}/caller.rs", block(root, "rs", 0))
-    shutil.copy(archive, f"{folder}/libboxglue_c.a")  # the name by which rustc finds it
-    paths = [f"-Lnative={it}" for it in (folder, os.path.dirname(heap_archive()))]
-    words = ["rustc", "--edition", "2021", "-O", *paths, "-lstatic=boxglue_c", "-lstatic=libc_c", "-o", f"{folder}/caller", f"{folder}/caller.rs"]
-    return run_wrong(words, wanted=None) or run_wrong([f"{folder}/caller"])
+    if lacks("cargo"):
+        return lacks("cargo")
+    write(f"{folder}/Cargo.toml", f'[package]\nname = "caller"\nversion = "0.1.0"\nedition = "2021"\n[dependencies]\nboxglue = {{ path = "{root}/bindings/rust/boxglue" }}\n')
+    os.mkdir(f"{folder}/src")
+    write(f"{folder}/src/main.rs", block(root, "rs", 0))
+    env = {**os.environ, "BOXGLUE_LIB_DIR": folder, "CARGO_TARGET_DIR": f"{folder}/target"}
+    words = ["cargo", "run", "--quiet", "--offline", "--manifest-path", f"{folder}/Cargo.toml"]
+    return run_build([f"{root}/bindings/build", "--static", archive, f"{folder}/libboxglue.a"]) or run_wrong(words, env)
 
 
 def null_pointers(language, root, archive, folder):
