@@ -44,7 +44,8 @@ RefusesWords (faults.NameTwice name) before after status =
 
 -- A task was done with the files and the standard input of a host. The version is printed. Without words the script of standard input is run in
 -- memory; `typeset` runs it on a file, `list` prints the pages of a DVI file and `paint` a bitmap of one page, each by its rules. Except for
--- `typeset` the host was returned as it was. Memory is refused only for an input that can be read, or after all were read.
+-- `typeset` the host was returned as it was. Once the words are read, memory is refused only for an input that can be read, or after all were read;
+-- a growth that was refused before refuses the words themselves (`IsRefused`), and looks the same from outside.
 abbrev pub HasDone : {H : Type 0} → Task → (old new : HostView H) → (before after : Streams) → (status : ℕ) → Type 0
 HasDone tasks.Version old new before after status =
     IsSame old new × PrintsVersion before.output after.output status × Keeps before.errors after.errors

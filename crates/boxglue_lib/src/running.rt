@@ -65,8 +65,8 @@ fn do_task<H: Host, W: Write, E: Write>(
 /// Reads words and does the task that they ask for, with the files and the standard input of a host. The host is returned: as it was, except for the
 /// file that `typeset` writes. Answers, listings, bitmaps and what is wrong with a script or a DVI file go to the output, messages to the errors.
 ///
-/// The status is 0 if all was accepted and written; 2 if the words are refused, or the file does not have the page that is asked for; and otherwise
-/// 1.
+/// The status is 0 if all was accepted and written; 2 if the words are wrong, or the file does not have the page that is asked for; and otherwise 1,
+/// also where memory for the words was refused.
 pub fn program<H: Host, W: Write, E: Write>(
     alloc: Global,
     words: &[String],
