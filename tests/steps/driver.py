@@ -188,5 +188,7 @@ def main(root, given):
     signal.signal(signal.SIGTERM, lambda number, _: sys.exit(128 + number))
     results = run_all(parts, built, words.gate, root)
     passed, failed, skipped = (sum(it) for it in zip(*((it.passed, len(it.failed), len(it.skipped)) for it in results)))
+    if words.gate:
+        print(outside_tools.note([case for it in results for case in it.skipped], root))
     print(f"{NOTHING_PROVED}\n{passed} passed, {failed} failed, {skipped} skipped", flush=True)
     return 1 if failed else 0

@@ -21,6 +21,13 @@ def others(skipped, root):
     return [(name, why) for name, why in skipped if why not in reasons]
 
 
+def note(skipped, root):
+    """A line about the tools of the list: those that these skipped cases lacked, and the others."""
+    missing = [it for it in listed(root) if any(why == f"no {it}" for _, why in skipped)]
+    there = [it for it in listed(root) if it not in missing]
+    return f"Of the outside tools these were there: {' '.join(there) or 'none'}; these were missing: {' '.join(missing) or 'none'}."
+
+
 def sources(root):
     """The text of all modules of the parts."""
     texts = []
