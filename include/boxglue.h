@@ -11,7 +11,7 @@
  * - The caller owns all memory that it passes. The library reads its inputs and writes its outputs during the call, and keeps no pointer to them after it.
  *   What it allocates during a call it frees before the call returns. The memory of a job alone stays allocated between calls.
  * - It allocates by malloc, realloc and free of the program. The three come from one allocator, and malloc and realloc align a block to each power of two up to 16
- *   that divides its size, as to 8 for 24 bytes. Those of a C library do; so does what a program puts in their place, such as a pool or a counting heap.
+ *   that divides its size, as to 8 for 24 bytes. Those of a C library do, and what a program puts in their place, such as a pool or a heap that counts, has to.
  * - A pointer that has a size, a count or a room beside it may be null where that is 0, in C and C++ through this header. No other pointer is null: not those
  *   without one, as to the sizes of the outputs or to a job; not those within a struct boxglue_font, where any address of a byte serves for an empty file; and none
  *   in a call of the library's symbols from another language. Pointers to structs are aligned as C aligns them.
