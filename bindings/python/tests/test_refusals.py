@@ -39,7 +39,7 @@ class Refusals(unittest.TestCase):
     def test_process_pool(self):
         """A worker that raises a refusal does not hang the pool."""
         with multiprocessing.get_context("spawn").Pool(1) as pool:
-            self.assertEqual(refusal_of(pool.apply_async(refused_in_a_worker, ("kern 12px\n",)).get, 20).cause, "Dimension")
+            self.assertEqual(refusal_of(pool.apply_async(refused_in_a_worker, ("kern 12px\n",)).get, 60).cause, "Dimension")
             self.assertIsNone(pool.apply(refused_in_a_worker, (RULE,)))
 
 

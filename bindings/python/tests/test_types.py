@@ -11,7 +11,7 @@ class Types(unittest.TestCase):
     @unittest.skipUnless(shutil.which("mypy"), "there is no mypy on the path")
     def test_package(self):
         folder = os.path.dirname(boxglue.__file__)
-        done = subprocess.run(["mypy", "--strict", "--cache-dir", os.devnull, folder], stdout=subprocess.PIPE, text=True, timeout=120)
+        done = subprocess.run(["mypy", "--strict", "--cache-dir", os.devnull, folder], stdout=subprocess.PIPE, text=True, timeout=300)
         self.assertEqual(done.returncode, 0, done.stdout)
 
     def test_marked_as_typed(self):
