@@ -18,7 +18,7 @@ use Rattle.dvi_ops.specs.Instruction.{Definition, Instruction, Postamble, Pre}
 use Rattle.dvi_ops.specs.Tokens.{Token, IsSpelled, says, written}
 use Rattle.dvi_ops.proofs.Appends.{fonts_back}
 use Rattle.dvi_scan.specs.Pass.{Between}
-use Rattle.dvi_scan.specs.Passed.{IsFramed, IsPassed}
+use Rattle.dvi_scan.specs.Passed.{framing, IsFramed, IsPassed}
 use Rattle.dvi_scan.specs.Reached.{AreNumbersOf, ReadSoFar, all_left}
 use Rattle.dvi_scan.proofs.KnownLemmas.{same_self}
 use Rattle.dvi_scan.proofs.PassedLemmas.{file_passed}
@@ -43,7 +43,7 @@ module _ (files : List NamedBytes) (bytes : List ℕ) (post after last : ℕ) (s
   pub after_within : last - 5 ≤ length bytes
   after_within = let padded = framed.ends.closed.trailed.padded in omega arith
 
-  module _ (pages : List MarkedPage) (f : IsPassed (file_widths files) bytes post after last stop chain pages) where
+  module _ (pages : List MarkedPage) (f : IsPassed (file_widths files) bytes (framing post after last stop chain) pages) where
     -- The instructions after post in a file.
     closes_there : Closes bytes after (last - 5) (known_after [] (says f.front)) f.tail
     closes_there =
@@ -65,7 +65,7 @@ module _ (files : List NamedBytes) (bytes : List ℕ) (post after last : ℕ) (s
             fault.none f.comment (subst (λ (i : Instruction). StandsAt bytes 0 post i) first (first_stands bytes 0 post t more (omega arith) post_within here (subst (λ (n : ℕ). written (t ∷ more) ≡ take n bytes) whole_size whole))) f.units
 
     -- A fault at the place of post.
-    pub pages_ended : (bad : BadDvi) (from : ℕ) (ahead : List ℤ) (seen : ReadSoFar) → HasPages files bytes post after last stop chain from ahead seen → IsUnended seen.pass seen.left post bad → ⊥
+    pub pages_ended : (bad : BadDvi) (from : ℕ) (ahead : List ℤ) (seen : ReadSoFar) → HasPages files bytes (framing post after last stop chain) from ahead seen → IsUnended seen.pass seen.left post bad → ⊥
     pages_ended bad from ahead seen has (place, broken) =
         let (p, left) = end_right (file_widths files) bytes post after last stop chain pages f post_within ahead (numbers_are ahead has.looked) post seen (omega arith) has.reached refl in by_rule broken p left
       where
@@ -74,7 +74,7 @@ module _ (files : List NamedBytes) (bytes : List ℕ) (post after last : ℕ) (s
         by_rule (inl (cause, inside)) p left = inside pages p
         by_rule (inr (cause, closed, some)) p left = some left
 
-    pub tail_is_right : (bad : BadDvi) (from : ℕ) (ahead : List ℤ) (seen : ReadSoFar) (new : List Definition) → HasPages files bytes post after last stop chain from ahead seen
+    pub tail_is_right : (bad : BadDvi) (from : ℕ) (ahead : List ℤ) (seen : ReadSoFar) (new : List Definition) → HasPages files bytes (framing post after last stop chain) from ahead seen
         → IsClosingFault bytes after (last - 5) seen.known new (frames.Bad bad) → ⊥
     tail_is_right bad from ahead seen new has broken =
         let tail = tail_right (file_widths files) bytes post after last stop chain pages f post_within ahead seen has.reached in

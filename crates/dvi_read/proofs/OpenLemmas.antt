@@ -1,5 +1,5 @@
 -- A whole file: its parts make a file, and each refusal has a reason.
-use Rattle.std.proofs.Common.{◌≡◌, ◌≢◌, ◌+◌, ◌-◌, ◌++◌, List, length, ℕ, ℤ, Result, Ok, Err, refl, sym, ◌∙◌, ap, ap₂, subst, inl, inr, arith}
+use Rattle.std.proofs.Common.{◌≡◌, ◌≢◌, ◌-◌, ◌++◌, List, length, ℕ, ℤ, Result, Ok, Err, refl, sym, ◌∙◌, ap, ap₂, subst, inl, inr, arith}
 use Rattle.std.specs.Prelude.{IfOk, IfErr}
 use Rattle.std.proofs.lemmas.Grind.{flat_map-append}
 use Rattle.dvi_fonts.specs.Closing.{ClosesTo, IsClosingFault}
@@ -15,7 +15,7 @@ use Rattle.dvi_ops.specs.Instruction.{Definition, Postamble}
 use Rattle.dvi_ops.specs.Tokens.{Token, says, written}
 use Rattle.dvi_ops.proofs.Frames.{one_list, one_list_of_pages}
 use Rattle.dvi_scan.specs.Pass.{PassStateView}
-use Rattle.dvi_scan.specs.Passed.{IsFramed}
+use Rattle.dvi_scan.specs.Passed.{framing, IsFramed}
 use Rattle.dvi_scan.specs.Reached.{IsReached, IsTail, Left, ReadSoFar, before_pages}
 use Rattle.dvi_scan.proofs.PassedLemmas.{frame_parts, passed_file}
 use Rattle.dvi_scan.proofs.ReachedLemmas.{reached_end, reached_first}
@@ -55,7 +55,7 @@ strays files ahead bytes post after last stop chain fault framed broken = λ bad
 
 -- The parts make a file of the pages.
 pub opened : (files : List NamedBytes) (bytes : List ℕ) (post after last : ℕ) (stop : Postamble) (chain : List ℕ) (from : ℕ) (ahead : List ℤ) (seen : ReadSoFar) (pages : List MarkedPage) (new : List Definition)
-    → HasPages files bytes post after last stop chain from ahead seen → PagesHaveEnded seen.pass seen.left pages → ClosesTo bytes after (last - 5) seen.known new → IsFile (file_widths files) bytes pages
+    → HasPages files bytes (framing post after last stop chain) from ahead seen → PagesHaveEnded seen.pass seen.left pages → ClosesTo bytes after (last - 5) seen.known new → IsFile (file_widths files) bytes pages
 opened files bytes post after last stop chain from ahead seen pages new has ended (tail, closes, new_is) =
     let framed = has.starts.chained.framed in
     let numbers = looked bytes after (last - 5) ahead seen.known tail (after_within files bytes post after last stop chain framed) has.looked closes in
@@ -72,7 +72,7 @@ units_of_post bytes post e stop ends f =
 
 -- A refusal at the place of post or after it.
 pub finish_refused : (files : List NamedBytes) (bytes : List ℕ) (post after last : ℕ) (stop : Postamble) (chain : List ℕ) (from : ℕ) (ahead : List ℤ) (seen : ReadSoFar) (fault : DviFault)
-    → HasPages files bytes post after last stop chain from ahead seen → IsFinishFault bytes post after last seen.pass seen.left seen.known fault → IsDviFault files bytes fault
+    → HasPages files bytes (framing post after last stop chain) from ahead seen → IsFinishFault bytes post after last seen.pass seen.left seen.known fault → IsDviFault files bytes fault
 finish_refused files bytes post after last stop chain from ahead seen faults.OutOfMemory has (pages, ended, new, wants) =
     ForDefinitions post after last stop chain from ahead seen pages new refl has ended wants
 finish_refused files bytes post after last stop chain from ahead seen (faults.Bad bad) has (inl unended) =
@@ -96,7 +96,7 @@ fonts_read metrics ahead bytes post after last stop chain seen new framed r (tai
 
 -- The result of reading a whole file.
 pub read_from : (files : List NamedBytes) (bytes : List ℕ) (post after last : ℕ) (stop : Postamble) (chain : List ℕ) (from : ℕ) (ahead : List ℤ) (seen : ReadSoFar) (pages : List MarkedPage) (new : List Definition)
-    → HasPages files bytes post after last stop chain from ahead seen → PagesHaveEnded seen.pass seen.left pages → ClosesTo bytes after (last - 5) seen.known new
+    → HasPages files bytes (framing post after last stop chain) from ahead seen → PagesHaveEnded seen.pass seen.left pages → ClosesTo bytes after (last - 5) seen.known new
     → IsReadFrom files bytes (record { units = stop.units; pages = pages; fonts = new })
 read_from files bytes post after last stop chain from ahead seen pages new has ended closes =
     record {
@@ -139,7 +139,7 @@ tail_refused bytes post after last p left pages known new (frames.Bad fault) end
 
 -- The same for pages that are equal to those of the walk.
 pub read_kept : (files : List NamedBytes) (bytes : List ℕ) (post after last : ℕ) (stop : Postamble) (chain : List ℕ) (from : ℕ) (ahead : List ℤ) (seen : ReadSoFar) (pages kept : List MarkedPage)
-    (new : List Definition) → HasPages files bytes post after last stop chain from ahead seen → PagesHaveEnded seen.pass seen.left pages → ClosesTo bytes after (last - 5) seen.known new → kept ≡ pages
+    (new : List Definition) → HasPages files bytes (framing post after last stop chain) from ahead seen → PagesHaveEnded seen.pass seen.left pages → ClosesTo bytes after (last - 5) seen.known new → kept ≡ pages
     → IsReadFrom files bytes (record { units = stop.units; pages = kept; fonts = new })
 read_kept files bytes post after last stop chain from ahead seen pages kept new has ended closes same =
     subst (λ (ps : List MarkedPage). IsReadFrom files bytes (record { units = stop.units; pages = ps; fonts = new })) (sym same)

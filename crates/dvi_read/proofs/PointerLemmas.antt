@@ -15,7 +15,7 @@ use Rattle.dvi_scan.specs.Pass.{PassStateView, Between, Inside}
 use Rattle.dvi_scan.specs.Reached.{IsIn, IsReached, Left, ReadSoFar, all_left, after_bops}
 use Rattle.dvi_scan.specs.Execution.{BreaksTurn}
 use Rattle.dvi_scan.proofs.StrayLemmas.{all_met, later_left, stray}
-use Rattle.dvi_read.specs.Stops.{BreaksPages, BreaksRule, IsUnended, IsWalkFault}
+use Rattle.dvi_read.specs.Stops.{page_bytes, BreaksPages, BreaksRule, IsUnended, IsWalkFault}
 use Rattle.dvi_read.specs.declared.fault.DviFault.TheVariants.{Bad}
 use Rattle.tfm_core.specs.FileWidths.{file_widths}
 use Rattle.tfm_core.specs.NamedBytes.{NamedBytes}
@@ -43,7 +43,7 @@ pub stray_bop : (files : List NamedBytes) (ahead : List ℤ) (bytes : List ℕ) 
 stray_bop files ahead bytes stop chain post bad cause (at, stops) =
     let metrics : WidthsByName = file_widths files in
     let (place, broken) = stops.stops in
-    let (i, stands, rule) = subst (λ (cause : DviCause). BreaksPages metrics ahead bytes (min 1024 stop.stack_depth) at post stops.seen cause) cause broken in
+    let (i, stands, rule) = subst (λ (cause : DviCause). BreaksPages metrics (page_bytes ahead bytes (min 1024 stop.stack_depth) post) at stops.seen cause) cause broken in
     subst (λ (n : ℕ). IsPageAt bytes n post) (sym place) (by_rule i stands rule)
   where
     by_rule : (i : Instruction) → StandsAt bytes at post i → BreaksRule (file_widths files) ahead (min 1024 stop.stack_depth) at stops.seen i Pointer → IsPageAt bytes at post
@@ -56,7 +56,7 @@ stray_pointer files ahead bytes stop chain post bound pointer bad high links cau
     let metrics : WidthsByName = file_widths files in
     let (place, broken) = stops.stops in
     let below = stops.before in
-    let (i, stands, rule) = subst (λ (cause : DviCause). BreaksPages metrics ahead bytes (min 1024 stop.stack_depth) at post stops.seen cause) cause broken in
+    let (i, stands, rule) = subst (λ (cause : DviCause). BreaksPages metrics (page_bytes ahead bytes (min 1024 stop.stack_depth) post) at stops.seen cause) cause broken in
     let here : IsIn at (reverse chain) = subst (λ (n : ℕ). IsIn n (reverse chain)) place there in
     by_rule i rule (later_left metrics ahead bytes stop chain at stops.seen stops.reached bound pointer at (omega arith) links here (omega arith))
   where

@@ -21,7 +21,7 @@ use Rattle.dvi_ops.specs.Instruction.{Definition, FontNum, Instruction, Do, Push
 use Rattle.dvi_ops.specs.Tokens.{says}
 use Rattle.scaled_core.proofs.EachOf.{all_append, all_weaker}
 use Rattle.dvi_scan.specs.Pass.{PassStateView, Between, Inside}
-use Rattle.dvi_scan.specs.Passed.{IsPassed}
+use Rattle.dvi_scan.specs.Passed.{framing, IsPassed}
 use Rattle.dvi_scan.specs.Reached.{AreNumbersOf, HasWidths, IsReached, IsRightAt, Left, ReadSoFar, all_left, before_pages, has_number}
 use Rattle.dvi_scan.specs.Execution.{BreaksTurn, pass_at}
 use Rattle.dvi_scan.specs.View.{marked_page}
@@ -33,7 +33,7 @@ use Rattle.dvi_scan.proofs.TurnLemmas.{broken_turn}
 use Rattle.dvi_read.specs.ReadFonts.{IsCurrent, FontIsRead}
 use Rattle.dvi_read.specs.Faults.{fault_in}
 use Rattle.dvi_read.specs.Steps.{BreaksStep, StopsStep, known_of, places_left, so_far, stand_of}
-use Rattle.dvi_read.specs.Stops.{BreaksPages, BreaksRest, BreaksRule, IsPagesFault, IsUnended, IsWalkFault, LacksWidths}
+use Rattle.dvi_read.specs.Stops.{page_bytes, BreaksPages, BreaksRest, BreaksRule, IsPagesFault, IsUnended, IsWalkFault, LacksWidths}
 use Rattle.dvi_read.specs.Walks.{IsBegun, IsWalked, Reads, StopsReading}
 use Rattle.dvi_read.specs.declared.fault.DviFault.{DviFault}
 use Rattle.dvi_read.specs.declared.fault.DviFault.TheVariants as faults
@@ -55,7 +55,7 @@ no_cut does most i (Between pages) b = b
 
 -- A rule that an instruction breaks is one of the pages.
 pages_break : (metrics : WidthsByName) (ahead : List ℤ) (bytes : List ℕ) (most at post : ℕ) (s : ReadSoFar) (cause : DviCause) (i : Instruction) → StandsAt bytes at post i
-    → BreaksRule metrics ahead most at s i cause → BreaksPages metrics ahead bytes most at post s cause
+    → BreaksRule metrics ahead most at s i cause → BreaksPages metrics (page_bytes ahead bytes most post) at s cause
 pages_break metrics ahead bytes most at post s Truncated i stands (inl b) = absurd (no_cut (acts (widths_of metrics s.known)) most i s.pass b)
 pages_break metrics ahead bytes most at post s Truncated i stands (inr (on, b)) = absurd b
 pages_break metrics ahead bytes most at post s Opcode i stands b = inr (i, stands, b)
@@ -63,7 +63,7 @@ pages_break metrics ahead bytes most at post s cause i stands b = (i, stands, b)
 
 -- The fault of an instruction that is there.
 taken : (files : List NamedBytes) (ahead : List ℤ) (bytes : List ℕ) (most at post : ℕ) (s : ReadSoFar) (i : Instruction) (fault : StepFault) → StandsAt bytes at post i
-    → BreaksStep files ahead most at s i fault → IsPagesFault files ahead bytes most at post s (fault_in at fault)
+    → BreaksStep files ahead most at s i fault → IsPagesFault files (page_bytes ahead bytes most post) at s (fault_in at fault)
 taken files ahead bytes most at post s i OutOfMemory stands b = (i, stands, b)
 taken files ahead bytes most at post s i (Broken cause) stands b = (refl, pages_break (file_widths files) ahead bytes most at post s cause i stands b)
 taken files ahead bytes most at post s i (Refused refusals.OutOfMemory) stands (f, is, selects) = absurd (selects.unread.other refl)
@@ -72,12 +72,12 @@ taken files ahead bytes most at post s i (Refused (refusals.BadTfm cause)) stand
 taken files ahead bytes most at post s i (Refused refusals.DimensionTooLarge) stands (f, is, unread) = (f, subst (λ (i : Instruction). StandsAt bytes at post i) is stands, unread)
 
 pub taken_fault : (files : List NamedBytes) (ahead : List ℤ) (bytes : List ℕ) (stop : Postamble) (at post : ℕ) (walk : Walk) (i : Instruction) (fault : StepFault) → StandsAt bytes at post i
-    → StopsStep files ahead (min 1024 stop.stack_depth) at i walk fault → StopsReading files ahead bytes stop at post walk (fault_in at fault)
+    → StopsStep files ahead (min 1024 stop.stack_depth) at i walk fault → StopsReading files (page_bytes ahead bytes (min 1024 stop.stack_depth) post) at walk (fault_in at fault)
 taken_fault files ahead bytes stop at post walk i fault stands b selected read = taken files ahead bytes (min 1024 stop.stack_depth) at post (so_far selected walk) i fault stands (b selected read)
 
 -- One more instruction.
 pub walked_more : (metrics : WidthsByName) (ahead : List ℤ) (bytes : List ℕ) (stop : Postamble) (chain : List ℕ) (at post next : ℕ) (old new : Walk) → post ≤ length bytes
-    → IsWalked metrics ahead bytes stop chain at old → Reads metrics ahead bytes stop at post old new next → IsWalked metrics ahead bytes stop chain next new
+    → IsWalked metrics ahead bytes stop chain at old → Reads metrics (page_bytes ahead bytes (min 1024 stop.stack_depth) post) at old new next → IsWalked metrics ahead bytes stop chain next new
 walked_more metrics ahead bytes stop chain at post next old new high walked reads =
     let steps = reads.steps in
     let forward = reads.forward in
@@ -121,7 +121,7 @@ module _ (metrics : WidthsByName) (ahead : List ℤ) (stop : Postamble) (at : �
 -- Where a rule is broken, no right instruction is there.
 pub nothing_right : (files : List NamedBytes) (ahead : List ℤ) (bytes : List ℕ) (stop : Postamble) (at post : ℕ) (s : ReadSoFar) (i : Instruction) (t : ReadSoFar)
     (fault : DviFault) → fault ≢ faults.OutOfMemory → StandsAt bytes at post i
-    → IsRightAt (file_widths files) ahead stop at s i t → IsPagesFault files ahead bytes (min 1024 stop.stack_depth) at post s fault → ⊥
+    → IsRightAt (file_widths files) ahead stop at s i t → IsPagesFault files (page_bytes ahead bytes (min 1024 stop.stack_depth) post) at s fault → ⊥
 nothing_right files ahead bytes stop at post s i t fault other stands right = by_fault fault other
   where
     rule : (cause : DviCause) (j : Instruction) → StandsAt bytes at post j → BreaksRule (file_widths files) ahead (min 1024 stop.stack_depth) at s j cause → ⊥
@@ -129,13 +129,13 @@ nothing_right files ahead bytes stop at post s i t fault other stands right = by
         rule_holds (file_widths files) ahead stop at s i t right cause
         (subst (λ (i : Instruction). BreaksRule (file_widths files) ahead (min 1024 stop.stack_depth) at s i cause) (one_stands bytes at post post j i there stands) b)
 
-    pages : (cause : DviCause) → BreaksPages (file_widths files) ahead bytes (min 1024 stop.stack_depth) at post s cause → ⊥
+    pages : (cause : DviCause) → BreaksPages (file_widths files) (page_bytes ahead bytes (min 1024 stop.stack_depth) post) at s cause → ⊥
     pages Truncated (begins, none) = none i stands
     pages Opcode (inl (code, none)) = none i stands
     pages Opcode (inr (j, there, b)) = rule Opcode j there b
     pages cause b = rule cause b.0 b.1 b.2
 
-    widths : (refusal : FontRefusal) → LacksWidths files ahead bytes (min 1024 stop.stack_depth) at post s refusal → ⊥
+    widths : (refusal : FontRefusal) → LacksWidths files (page_bytes ahead bytes (min 1024 stop.stack_depth) post) at s refusal → ⊥
     widths refusal (f, there, selects) =
         let unread = selects.unread in
         let is : i ≡ Do (FontNum f) = one_stands bytes at post post i (Do (FontNum f)) stands there in
@@ -145,7 +145,7 @@ nothing_right files ahead bytes stop at post s i t fault other stands right = by
         let none : IsSome nowhere = subst (λ (o : Option (ℤ → Option ℤ)). IsSome o) (no_widths files unread.font refusal unread.other unread.refused) found in
         cc
 
-    by_fault : (fault : DviFault) → fault ≢ faults.OutOfMemory → IsPagesFault files ahead bytes (min 1024 stop.stack_depth) at post s fault → ⊥
+    by_fault : (fault : DviFault) → fault ≢ faults.OutOfMemory → IsPagesFault files (page_bytes ahead bytes (min 1024 stop.stack_depth) post) at s fault → ⊥
     by_fault faults.OutOfMemory other b = other refl
     by_fault (faults.Bad bad) other (place, b) = pages bad.cause b
     by_fault faults.NoFont other b = widths refusals.NoFont b
@@ -154,7 +154,7 @@ nothing_right files ahead bytes stop at post s i t fault other stands right = by
 
 -- In a file no walk stops.
 pub walk_fault : (files : List NamedBytes) (ahead : List ℤ) (bytes : List ℕ) (post after last : ℕ) (stop : Postamble) (chain : List ℕ) (pages : List MarkedPage) (fault : DviFault) → post ≤ length bytes
-    → fault ≢ faults.OutOfMemory → IsWalkFault files ahead bytes stop chain post fault → (f : IsPassed (file_widths files) bytes post after last stop chain pages) → AreNumbersOf ahead (definitions (says f.tail)) → ⊥
+    → fault ≢ faults.OutOfMemory → IsWalkFault files ahead bytes stop chain post fault → (f : IsPassed (file_widths files) bytes (framing post after last stop chain) pages) → AreNumbersOf ahead (definitions (says f.tail)) → ⊥
 walk_fault files ahead bytes post after last stop chain pages fault high other (at, stops) f numbers =
     let below = stops.before in
     let next = next_right (file_widths files) bytes post after last stop chain pages f high ahead numbers at stops.seen (omega arith) stops.reached below in

@@ -11,7 +11,7 @@ use Rattle.dvi_scan.specs.declared.fault.FrameFault.TheVariants as frames
 use Rattle.dvi_ops.specs.File.{MarkedPage}
 use Rattle.dvi_ops.specs.Instruction.{Definition, Postamble}
 use Rattle.dvi_ops.specs.Tokens.{Token, places}
-use Rattle.dvi_scan.specs.Passed.{IsFramed}
+use Rattle.dvi_scan.specs.Passed.{Framing, framing, IsFramed}
 use Rattle.dvi_scan.specs.Reached.{IsIn, IsReached, ReadSoFar}
 use Rattle.dvi_read.specs.Stops.{PagesHaveEnded, IsUnended, IsWalkFault}
 use Rattle.dvi_read.specs.declared.fault.DviFault.{DviFault}
@@ -30,10 +30,10 @@ pub record StartsAt (bytes : List ℕ) (post after last : ℕ) (stop : Postamble
   pub preamble : HasPreamble bytes post stop from
 
 -- All instructions before post are right: `seen` is what was read there, and `ahead` has the numbers of fonts that are defined after post.
-pub record HasPages (files : List NamedBytes) (bytes : List ℕ) (post after last : ℕ) (stop : Postamble) (chain : List ℕ) (from : ℕ) (ahead : List ℤ) (seen : ReadSoFar) : Type 0 where
-  pub starts : StartsAt bytes post after last stop chain from
-  pub looked : IsLookedAhead bytes after (last - 5) ahead
-  pub reached : IsReached (file_widths files) ahead bytes stop chain post seen
+pub record HasPages (files : List NamedBytes) (bytes : List ℕ) (parts : Framing) (from : ℕ) (ahead : List ℤ) (seen : ReadSoFar) : Type 0 where
+  pub starts : StartsAt bytes parts.post parts.after parts.last parts.stop parts.chain from
+  pub looked : IsLookedAhead bytes parts.after (parts.last - 5) ahead
+  pub reached : IsReached (file_widths files) ahead bytes parts.stop parts.chain parts.post seen
 
 -- Where a fault in the pages is Pointer, a bop is at its place, and this place is not in the chain.
 abbrev pub IsStray : List ℕ → (post : ℕ) → (chain : List ℕ) → DviFault → Type 0
@@ -59,10 +59,10 @@ pub data IsDviFault (files : List NamedBytes) (bytes : List ℕ) (fault : DviFau
       → IsLookedAhead bytes after (last - 5) ahead → IsWalkFault files ahead bytes stop chain post fault → IsStray bytes post chain fault
       → IsDviFault files bytes fault
   AtPost : (bad : BadDvi) (post after last : ℕ) (stop : Postamble) (chain : List ℕ) (from : ℕ) (ahead : List ℤ) (seen : ReadSoFar) → fault ≡ Bad bad
-      → (has : HasPages files bytes post after last stop chain from ahead seen) → IsUnended seen.pass seen.left post bad → IsUnmet has.reached.before chain bad → IsDviFault files bytes fault
+      → (has : HasPages files bytes (framing post after last stop chain) from ahead seen) → IsUnended seen.pass seen.left post bad → IsUnmet has.reached.before chain bad → IsDviFault files bytes fault
   AfterPost : (bad : BadDvi) (post after last : ℕ) (stop : Postamble) (chain : List ℕ) (from : ℕ) (ahead : List ℤ) (seen : ReadSoFar) (pages : List MarkedPage) (new : List Definition)
-      → fault ≡ Bad bad → HasPages files bytes post after last stop chain from ahead seen → PagesHaveEnded seen.pass seen.left pages
+      → fault ≡ Bad bad → HasPages files bytes (framing post after last stop chain) from ahead seen → PagesHaveEnded seen.pass seen.left pages
       → IsClosingFault bytes after (last - 5) seen.known new (frames.Bad bad) → IsDviFault files bytes fault
   ForDefinitions : (post after last : ℕ) (stop : Postamble) (chain : List ℕ) (from : ℕ) (ahead : List ℤ) (seen : ReadSoFar) (pages : List MarkedPage) (new : List Definition)
-      → fault ≡ OutOfMemory → HasPages files bytes post after last stop chain from ahead seen → PagesHaveEnded seen.pass seen.left pages
+      → fault ≡ OutOfMemory → HasPages files bytes (framing post after last stop chain) from ahead seen → PagesHaveEnded seen.pass seen.left pages
       → IsClosingFault bytes after (last - 5) seen.known new frames.OutOfMemory → IsDviFault files bytes fault

@@ -4,9 +4,10 @@ use Rattle.std.specs.Prelude.{◌⊎◌, ◌-◌, List, ℕ, ℤ}
 use Rattle.dvi_fonts.specs.Closing.{IsClosingFault}
 use Rattle.dvi_scan.specs.declared.fault.FrameFault.TheVariants as frames
 use Rattle.dvi_ops.specs.File.{MarkedPage}
-use Rattle.dvi_ops.specs.Instruction.{Definition, Postamble}
+use Rattle.dvi_ops.specs.Instruction.{Definition}
 use Rattle.dvi_ops.specs.View.{postamble}
 use Rattle.dvi_scan.specs.Pass.{PassStateView}
+use Rattle.dvi_scan.specs.Passed.{Framing}
 use Rattle.dvi_scan.specs.Reached.{Left}
 use Rattle.dvi_read.specs.Opening.{HasPages, StartsAt}
 use Rattle.dvi_read.specs.declared.before_pages.BeforePages.{BeforePages}
@@ -22,8 +23,8 @@ abbrev pub HasFront : List ℕ → BeforePages → Type 0
 HasFront bytes f = StartsAt bytes f.ending.post f.ending.after f.ending.last (postamble f.ending.stop) f.chain.items f.from
 
 -- All instructions before post are right, and a walk has what was read there.
-abbrev pub HoldsPages : List NamedBytes → (bytes : List ℕ) → (post after last : ℕ) → Postamble → (chain : List ℕ) → (from : ℕ) → Walk → Type 0
-HoldsPages files bytes post after last stop chain from walk = (ahead : List ℤ) × (selected : List ℤ) × HasPages files bytes post after last stop chain from ahead (so_far selected walk)
+abbrev pub HoldsPages : List NamedBytes → (bytes : List ℕ) → Framing → (from : ℕ) → Walk → Type 0
+HoldsPages files bytes parts from walk = (ahead : List ℤ) × (selected : List ℤ) × HasPages files bytes parts from ahead (so_far selected walk)
 
 -- Why the reading does not end at the place of post, or the part after post is wrong, or memory is refused for a definition there.
 abbrev pub IsFinishFault : List ℕ → (post after last : ℕ) → PassStateView → Left → (known : List Definition) → DviFault → Type 0

@@ -71,40 +71,50 @@ pub record SelectsUnread (files : List NamedBytes) (ahead : List ℤ) (most : �
   pub goes_on : PassContinues (file_widths files) most s (Do (FontNum f))
   pub unread : FontIsUnread files ahead s.known f refusal
 
+-- The bytes of the pages: those before post, with the numbers of the fonts that are defined after post, and the most pushes that may be open.
+pub record PageBytes : Type 0 where
+  pub ahead : List ℤ
+  pub bytes : List ℕ
+  pub most : ℕ
+  pub post : ℕ
+
+abbrev pub page_bytes : (ahead : List ℤ) → (bytes : List ℕ) → (most post : ℕ) → PageBytes
+page_bytes ahead bytes most post = record { ahead = ahead; bytes = bytes; most = most; post = post }
+
 -- An instruction at a place before post breaks a rule.
-abbrev pub BreaksAt : WidthsByName → (ahead : List ℤ) → (bytes : List ℕ) → (most at post : ℕ) → ReadSoFar → DviCause → Type 0
-BreaksAt metrics ahead bytes most at post s cause = (i : Instruction) × StandsAt bytes at post i × BreaksRule metrics ahead most at s i cause
+abbrev pub BreaksAt : WidthsByName → PageBytes → (at : ℕ) → ReadSoFar → DviCause → Type 0
+BreaksAt metrics part at s cause = (i : Instruction) × StandsAt part.bytes at part.post i × BreaksRule metrics part.ahead part.most at s i cause
 
 -- A rule of the pages is broken at a place: a byte begins an instruction that is cut off by post; a byte begins none; or the instruction breaks the
 -- rule.
-abbrev pub BreaksPages : WidthsByName → (ahead : List ℤ) → (bytes : List ℕ) → (most at post : ℕ) → ReadSoFar → DviCause → Type 0
-BreaksPages metrics ahead bytes most at post s Truncated = (250 ≤ slice_index bytes at → ⊥) × ((i : Instruction) → StandsAt bytes at post i → ⊥)
-BreaksPages metrics ahead bytes most at post s Opcode =
-    (250 ≤ slice_index bytes at) × ((i : Instruction) → StandsAt bytes at post i → ⊥) ⊎ BreaksAt metrics ahead bytes most at post s Opcode
-BreaksPages metrics ahead bytes most at post s cause = BreaksAt metrics ahead bytes most at post s cause
+abbrev pub BreaksPages : WidthsByName → PageBytes → (at : ℕ) → ReadSoFar → DviCause → Type 0
+BreaksPages metrics part at s Truncated = (250 ≤ slice_index part.bytes at → ⊥) × ((i : Instruction) → StandsAt part.bytes at part.post i → ⊥)
+BreaksPages metrics part at s Opcode =
+    (250 ≤ slice_index part.bytes at) × ((i : Instruction) → StandsAt part.bytes at part.post i → ⊥) ⊎ BreaksAt metrics part at s Opcode
+BreaksPages metrics part at s cause = BreaksAt metrics part at s cause
 
 -- A font is selected at a place in a page, is defined before it and after post, and has no widths for this reason.
-abbrev pub LacksWidths : List NamedBytes → (ahead : List ℤ) → (bytes : List ℕ) → (most at post : ℕ) → ReadSoFar → FontRefusal → Type 0
-LacksWidths files ahead bytes most at post s refusal = (f : ℤ) × StandsAt bytes at post (Do (FontNum f)) × SelectsUnread files ahead most s f refusal
+abbrev pub LacksWidths : List NamedBytes → PageBytes → (at : ℕ) → ReadSoFar → FontRefusal → Type 0
+LacksWidths files part at s refusal = (f : ℤ) × StandsAt part.bytes at part.post (Do (FontNum f)) × SelectsUnread files part.ahead part.most s f refusal
 
 -- A fault at a place. Memory is refused only for an instruction that is there.
-abbrev pub IsPagesFault : List NamedBytes → (ahead : List ℤ) → (bytes : List ℕ) → (most at post : ℕ) → ReadSoFar → DviFault → Type 0
-IsPagesFault files ahead bytes most at post s faults.OutOfMemory = (i : Instruction) × StandsAt bytes at post i × InstructionAllocates files ahead most s i
-IsPagesFault files ahead bytes most at post s (faults.Bad fault) = (fault.place ≡ at) × BreaksPages (file_widths files) ahead bytes most at post s fault.cause
-IsPagesFault files ahead bytes most at post s faults.NoFont = LacksWidths files ahead bytes most at post s refusals.NoFont
-IsPagesFault files ahead bytes most at post s (faults.BadTfm cause) = LacksWidths files ahead bytes most at post s (refusals.BadTfm cause)
-IsPagesFault files ahead bytes most at post s faults.DimensionTooLarge = LacksWidths files ahead bytes most at post s refusals.DimensionTooLarge
+abbrev pub IsPagesFault : List NamedBytes → PageBytes → (at : ℕ) → ReadSoFar → DviFault → Type 0
+IsPagesFault files part at s faults.OutOfMemory = (i : Instruction) × StandsAt part.bytes at part.post i × InstructionAllocates files part.ahead part.most s i
+IsPagesFault files part at s (faults.Bad fault) = (fault.place ≡ at) × BreaksPages (file_widths files) part at s fault.cause
+IsPagesFault files part at s faults.NoFont = LacksWidths files part at s refusals.NoFont
+IsPagesFault files part at s (faults.BadTfm cause) = LacksWidths files part at s (refusals.BadTfm cause)
+IsPagesFault files part at s faults.DimensionTooLarge = LacksWidths files part at s refusals.DimensionTooLarge
 
 -- Why the reading of the pages stops at a place before post, where all instructions before the place are right.
-pub record StopsAt (files : List NamedBytes) (ahead : List ℤ) (bytes : List ℕ) (stop : Postamble) (chain : List ℕ) (at post : ℕ) (fault : DviFault) : Type 0 where
-  pub before : at < post
+pub record StopsAt (files : List NamedBytes) (part : PageBytes) (stop : Postamble) (chain : List ℕ) (at : ℕ) (fault : DviFault) : Type 0 where
+  pub before : at < part.post
   pub seen : ReadSoFar
-  pub reached : IsReached (file_widths files) ahead bytes stop chain at seen
-  pub stops : IsPagesFault files ahead bytes (min 1024 stop.stack_depth) at post seen fault
+  pub reached : IsReached (file_widths files) part.ahead part.bytes stop chain at seen
+  pub stops : IsPagesFault files part at seen fault
 
 -- The same for a fault at some place.
 abbrev pub IsWalkFault : List NamedBytes → (ahead : List ℤ) → (bytes : List ℕ) → Postamble → (chain : List ℕ) → (post : ℕ) → DviFault → Type 0
-IsWalkFault files ahead bytes stop chain post fault = (at : ℕ) × StopsAt files ahead bytes stop chain at post fault
+IsWalkFault files ahead bytes stop chain post fault = (at : ℕ) × StopsAt files (page_bytes ahead bytes (min 1024 stop.stack_depth) post) stop chain at fault
 
 -- At the place of post no page is open, no place of the chain is still to come, and none was missed.
 pub record PagesHaveEnded (p : PassStateView) (left : Left) (pages : List MarkedPage) : Type 0 where

@@ -1,6 +1,6 @@
 -- The walk over the pages of a file, as the code does it (own). No clause of a call that other crates use to read a file reaches these definitions,
 -- except `IsWalked`: they are about the values of the code.
-use Rattle.std.specs.Prelude.{◌≡◌, ◌≤◌, ◌<◌, ◌-◌, min, [], false, List, drop, take, ℕ, ℤ}
+use Rattle.std.specs.Prelude.{◌≡◌, ◌≤◌, ◌<◌, ◌-◌, [], false, List, drop, take, ℕ, ℤ}
 use Rattle.std.specs.BTreeMap.{IsEmpty}
 use Rattle.dvi_ops.specs.Fonts.{WidthsByName}
 use Rattle.dvi_ops.specs.Instruction.{Instruction, Postamble}
@@ -9,7 +9,7 @@ use Rattle.dvi_scan.specs.Reached.{IsReached}
 use Rattle.dvi_scan.specs.declared.executing.PassState.TheVariants as stands
 use Rattle.dvi_read.specs.ReadFonts.{AreSound, IsCurrent}
 use Rattle.dvi_read.specs.Steps.{FontsAreRead, IsWalkStep, known_of, so_far}
-use Rattle.dvi_read.specs.Stops.{IsPagesFault}
+use Rattle.dvi_read.specs.Stops.{PageBytes, IsPagesFault}
 use Rattle.dvi_read.specs.declared.fault.DviFault.{DviFault}
 use Rattle.dvi_read.specs.declared.walk.Walk.{Walk}
 use Rattle.tfm_core.specs.NamedBytes.{NamedBytes}
@@ -23,16 +23,16 @@ pub record IsWalked (metrics : WidthsByName) (ahead : List ℤ) (bytes : List �
   pub current : IsCurrent walk.fonts walk.stand
 
 -- One instruction was read and accepted.
-pub record Reads (metrics : WidthsByName) (ahead : List ℤ) (bytes : List ℕ) (stop : Postamble) (at post : ℕ) (old new : Walk) (next : ℕ) : Type 0 where
+pub record Reads (metrics : WidthsByName) (part : PageBytes) (at : ℕ) (old new : Walk) (next : ℕ) : Type 0 where
   pub forward : at < next
-  pub within : next ≤ post
+  pub within : next ≤ part.post
   pub here : Instruction
-  pub spelled : Spells here (take (next - at) (drop at bytes))
-  pub steps : IsWalkStep metrics ahead (min 1024 stop.stack_depth) at here old new
+  pub spelled : Spells here (take (next - at) (drop at part.bytes))
+  pub steps : IsWalkStep metrics part.ahead part.most at here old new
 
 -- No instruction was accepted, for any fonts that may have been selected so far and were all read.
-abbrev pub StopsReading : List NamedBytes → (ahead : List ℤ) → (bytes : List ℕ) → Postamble → (at post : ℕ) → Walk → DviFault → Type 0
-StopsReading files ahead bytes stop at post walk fault = (selected : List ℤ) → FontsAreRead walk.fonts selected → IsPagesFault files ahead bytes (min 1024 stop.stack_depth) at post (so_far selected walk) fault
+abbrev pub StopsReading : List NamedBytes → PageBytes → (at : ℕ) → Walk → DviFault → Type 0
+StopsReading files part at walk fault = (selected : List ℤ) → FontsAreRead walk.fonts selected → IsPagesFault files part at (so_far selected walk) fault
 
 -- A walk before the first page.
 pub record IsBegun (left : List ℕ) (walk : Walk) : Type 0 where

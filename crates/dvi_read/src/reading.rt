@@ -8,6 +8,7 @@ ghost use Rattle.dvi_read.specs.Opening.{IsDviFault, StartsAt};
 ghost use Rattle.dvi_read.specs.OpeningParts.{HoldsPages, IsFinishFault};
 ghost use Rattle.dvi_read.specs.Steps.{known_of, places_left, stand_of};
 ghost use Rattle.dvi_read.specs.Stops.{PagesHaveEnded};
+ghost use Rattle.dvi_scan.specs.Passed.{framing};
 
 use crate::fault::DviFault;
 use crate::walk::{Source, Walk};
@@ -29,7 +30,7 @@ pub(crate) fn read_pages<'a>(
     requires low { ending.now.after + 5 ≤ ending.now.last }
     requires high { ending.now.last ≤ length bytes.now }
     requires starts { StartsAt bytes.now ending.now.post ending.now.after ending.now.last (postamble ending.now.stop) chain.items from }
-    ensures ok { IfOk result (HoldsPages files.now bytes.now ending.now.post ending.now.after ending.now.last (postamble ending.now.stop) chain.items from) }
+    ensures ok { IfOk result (HoldsPages files.now bytes.now (framing ending.now.post ending.now.after ending.now.last (postamble ending.now.stop) chain.items) from) }
     ensures bad { IfErr result (IsDviFault files.now bytes.now) }
 {
     let ahead = prescan_definitions(alloc, bytes, ending.after, ending.last - 5)?;

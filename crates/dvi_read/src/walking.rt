@@ -1,6 +1,6 @@
 //! The walk over the pages of a file, from the preamble to post (DVItype, 15 and 18).
 
-ghost use Rattle.std.specs.Prelude.{◌≡◌, ◌≤◌, ◌<◌, length, map, IfErr, IfOk, OnOk};
+ghost use Rattle.std.specs.Prelude.{◌≡◌, ◌≤◌, ◌<◌, length, map, min, IfErr, IfOk, OnOk};
 ghost use Rattle.std.specs.List.{AllByRecursion};
 ghost use Rattle.dvi_ops.specs.Fonts.{IsFontSize};
 ghost use Rattle.dvi_ops.specs.View.{postamble};
@@ -8,7 +8,7 @@ ghost use Rattle.dvi_scan.specs.Reached.{IsReached, before_pages};
 ghost use Rattle.dvi_scan.specs.View.{marked_page};
 ghost use Rattle.dvi_read.specs.ReadFonts.{AreSound, IsCurrent};
 ghost use Rattle.dvi_read.specs.Steps.{known_of, places_left, stand_of};
-ghost use Rattle.dvi_read.specs.Stops.{PagesHaveEnded, IsUnended, IsWalkFault};
+ghost use Rattle.dvi_read.specs.Stops.{page_bytes, PagesHaveEnded, IsUnended, IsWalkFault};
 ghost use Rattle.dvi_read.specs.Walks.{IsBegun, IsWalked, Reads, StopsReading};
 ghost use Rattle.tfm_core.specs.FileWidths.{file_widths};
 
@@ -32,8 +32,12 @@ fn read_step<'a>(
     requires sizes { AllByRecursion (λ d. IsFontSize d.size) (known_of walk.old) }
     requires sound { AreSound (file_widths source.now.files.now) (known_of walk.old) walk.old.fonts }
     requires current { IsCurrent walk.old.fonts walk.old.stand }
-    ensures ok { IfOk result (Reads (file_widths source.now.files.now) source.now.ahead.now.keys source.now.bytes.now (postamble source.now.ending.now.stop) at source.now.ending.now.post walk.old walk.new) }
-    ensures bad { IfErr result (StopsReading source.now.files.now source.now.ahead.now.keys source.now.bytes.now (postamble source.now.ending.now.stop) at source.now.ending.now.post walk.old) }
+    ensures ok { IfOk result (Reads (file_widths source.now.files.now)
+        (page_bytes source.now.ahead.now.keys source.now.bytes.now (min 1024 (postamble source.now.ending.now.stop).stack_depth) source.now.ending.now.post)
+        at walk.old walk.new) }
+    ensures bad { IfErr result (StopsReading source.now.files.now
+        (page_bytes source.now.ahead.now.keys source.now.bytes.now (min 1024 (postamble source.now.ending.now.stop).stack_depth) source.now.ending.now.post)
+        at walk.old) }
 {
     let (op, next) = match read_at(source.bytes, at, source.ending.post) {
         Ok(found) => found,

@@ -19,7 +19,7 @@ use Rattle.dvi_scan.proofs.PlaceLemmas.{same_front}
 use Rattle.dvi_scan.proofs.LinkLemmas.{one_chain}
 use Rattle.dvi_scan.proofs.FaultLemmas.{chained, file_chain}
 use Rattle.dvi_scan.specs.Pass.{Between, passes}
-use Rattle.dvi_scan.specs.Passed.{IsFramed, IsPassed, drawing_by}
+use Rattle.dvi_scan.specs.Passed.{framing, IsFramed, IsPassed, drawing_by}
 use Rattle.dvi_scan.specs.Reached.{HasWidths, IsDefined}
 use Rattle.dvi_scan.proofs.FontLemmas.{has_definition, same_definition, selected_defined}
 use Rattle.dvi_scan.proofs.PartLemmas.{passes-parts, passed_parts}
@@ -175,7 +175,7 @@ module _ (bytes : List ℕ) (post after last : ℕ) (stop : Postamble) (chain : 
       }
 
   -- Bytes that were accepted are a file.
-  pub passed_file : (metrics : WidthsByName) (pages : List MarkedPage) → stop.pages ≡ length chain % 65536 → IsPassed metrics bytes post after last stop chain pages → IsFile metrics bytes pages
+  pub passed_file : (metrics : WidthsByName) (pages : List MarkedPage) → stop.pages ≡ length chain % 65536 → IsPassed metrics bytes (framing post after last stop chain) pages → IsFile metrics bytes pages
   unfolding frame_of
   passed_file metrics pages count p =
       let (parts, whole, shows, deep) = passed_parts (drawing_by metrics p.front) (min 1024 stop.stack_depth) p.body pages p.passed in
@@ -205,7 +205,7 @@ module _ (bytes : List ℕ) (post after last : ℕ) (stop : Postamble) (chain : 
       }
 
   -- A file is accepted.
-  pub file_passed : (metrics : WidthsByName) (pages : List MarkedPage) → IsFile metrics bytes pages → IsPassed metrics bytes post after last stop chain pages
+  pub file_passed : (metrics : WidthsByName) (pages : List MarkedPage) → IsFile metrics bytes pages → IsPassed metrics bytes (framing post after last stop chain) pages
   file_passed metrics pages f =
       let g = f.frame in
       let found = frame_ends bytes g in

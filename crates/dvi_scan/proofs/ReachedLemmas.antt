@@ -14,7 +14,7 @@ use Rattle.dvi_ops.proofs.Appends.{says-append, written-append, places-append, f
 use Rattle.dvi_ops.proofs.Frames.{begins, not_empty, one_list}
 use Rattle.dvi_scan.specs.Known.{HasSame}
 use Rattle.dvi_scan.specs.Pass.{PassStateView, Between, execute, then_pass, passes}
-use Rattle.dvi_scan.specs.Passed.{IsPassed}
+use Rattle.dvi_scan.specs.Passed.{framing, IsPassed}
 use Rattle.dvi_scan.specs.Reached.{AreNumbersOf, HasRight, HasWidths, IsDefined, IsReached, IsRightAt, IsTail, Left, ReadSoFar, all_left, before_pages, after_bops, has_number}
 use Rattle.dvi_scan.proofs.FontLemmas.{SameNow, all_more_widths, all_same_widths, defined_more, same_passes, same_turn, some_definition}
 use Rattle.dvi_scan.proofs.KnownLemmas.{fonts_same, same_after, same_right, same_self, same_sym}
@@ -138,7 +138,7 @@ selected_widths metrics xs ys (Do (FontNum f)) some (widths, none) = (fewer_widt
 selected_widths metrics xs ys i right all = tt
 
 module _ (metrics : WidthsByName) (bytes : List ℕ) (post after last : ℕ) (stop : Postamble) (chain : List ℕ) (pages : List MarkedPage)
-    (f : IsPassed metrics bytes post after last stop chain pages) (small : post ≤ length bytes)
+    (f : IsPassed metrics bytes (framing post after last stop chain) pages) (small : post ≤ length bytes)
     (ahead : List ℤ) (numbers : AreNumbersOf ahead (definitions (says f.tail))) (at : ℕ) (s : ReadSoFar) (low : at ≤ post) (r : IsReached metrics ahead bytes stop chain at s) where
   -- The instructions that are still to come.
   pub record Rest : Type 0 where
@@ -271,7 +271,7 @@ module _ (metrics : WidthsByName) (bytes : List ℕ) (post after last : ℕ) (st
 -- The end of the pass.
 pub reached_end : (metrics : WidthsByName) (bytes : List ℕ) (post after last : ℕ) (stop : Postamble) (chain : List ℕ) (pages : List MarkedPage) (ahead : List ℤ) (s : ReadSoFar) (tail : List Token) → AreUnits stop.units
     → AreNumbersOf ahead (definitions (says tail)) → IsReached metrics ahead bytes stop chain post s → s.pass ≡ Between pages → s.left ≡ all_left [] → IsTail bytes after last s.known tail
-    → IsPassed metrics bytes post after last stop chain pages
+    → IsPassed metrics bytes (framing post after last stop chain) pages
 reached_end metrics bytes post after last stop chain pages ahead s tail units numbers r pass_is left_is t =
     let bops = r.bops ∙ ap (λ (l : Left). Some l) left_is in
     let order = same_order (says r.before) s.known r.known_is in
@@ -301,7 +301,7 @@ reached_end metrics bytes post after last stop chain pages ahead s tail units nu
     }
 
 -- The tail of a file, after the fonts that are known at the place of post.
-pub tail_right : (metrics : WidthsByName) (bytes : List ℕ) (post after last : ℕ) (stop : Postamble) (chain : List ℕ) (pages : List MarkedPage) (f : IsPassed metrics bytes post after last stop chain pages)
+pub tail_right : (metrics : WidthsByName) (bytes : List ℕ) (post after last : ℕ) (stop : Postamble) (chain : List ℕ) (pages : List MarkedPage) (f : IsPassed metrics bytes (framing post after last stop chain) pages)
     → post ≤ length bytes → (ahead : List ℤ) (s : ReadSoFar) → IsReached metrics ahead bytes stop chain post s → IsTail bytes after last s.known f.tail
 tail_right metrics bytes post after last stop chain pages f small ahead s r =
     let same : f.front ≡ r.before = one_list f.front r.before f.front_spelled r.spelled (f.front_whole ∙ sym r.whole) in

@@ -12,6 +12,18 @@ use Rattle.dvi_scan.specs.Chain.{Links}
 use Rattle.dvi_scan.specs.Pass.{Between, passes}
 use Rattle.dvi_scan.specs.Reached.{HasWidths, IsDefined}
 
+-- The places that the end of a file names: of post, of the first byte after post, and of the end of post_post's beginning; with the postamble and the
+-- places of the pages, the last one first.
+pub record Framing : Type 0 where
+  pub post : ℕ
+  pub after : ℕ
+  pub last : ℕ
+  pub stop : Postamble
+  pub chain : List ℕ
+
+abbrev pub framing : (post after last : ℕ) → Postamble → (chain : List ℕ) → Framing
+framing post after last stop chain = record { post = post; after = after; last = last; stop = stop; chain = chain }
+
 -- The places of the parts that a file names at its end, and its pages from the last one back, as found before the pass.
 pub record IsFramed (bytes : List ℕ) (post after last : ℕ) (stop : Postamble) (chain : List ℕ) : Type 0 where
   pub ends : HasPostamble bytes post last stop
@@ -25,21 +37,21 @@ abbrev pub drawing_by : WidthsByName → List Token → Acts
 drawing_by metrics tokens = kept (acts (widths_of metrics (definitions (says tokens))))
 
 -- The pass over a file: its preamble, the instructions before post, and those between post and post_post.
-pub record IsPassed (metrics : WidthsByName) (bytes : List ℕ) (post after last : ℕ) (stop : Postamble) (chain : List ℕ) (pages : List MarkedPage) : Type 0 where
+pub record IsPassed (metrics : WidthsByName) (bytes : List ℕ) (parts : Framing) (pages : List MarkedPage) : Type 0 where
   pub front : List Token
   pub tail : List Token
   pub front_spelled : AllByRecursion IsSpelled front
   pub tail_spelled : AllByRecursion IsSpelled tail
-  pub front_whole : written front ≡ take post bytes
-  pub tail_whole : written tail ≡ take (last - 5 - after) (drop after bytes)
+  pub front_whole : written front ≡ take parts.post bytes
+  pub tail_whole : written tail ≡ take (parts.last - 5 - parts.after) (drop parts.after bytes)
   -- A preamble of version 2 with the units of the postamble, which are positive; then the instructions of the pass.
   pub comment : List ℕ
   pub body : List Instruction
-  pub front_is : says front ≡ Pre 2 stop.units comment ∷ body
-  pub units : AreUnits stop.units
-  pub passed : passes (drawing_by metrics front) (min 1024 stop.stack_depth) body (Between []) ≡ Some (Between pages)
+  pub front_is : says front ≡ Pre 2 parts.stop.units comment ∷ body
+  pub units : AreUnits parts.stop.units
+  pub passed : passes (drawing_by metrics front) (min 1024 parts.stop.stack_depth) body (Between []) ≡ Some (Between pages)
   -- The places of the bops are those of the chain.
-  pub bops : places 0 front ≡ reverse chain
+  pub bops : places 0 front ≡ reverse parts.chain
   -- After post there are only nops and font definitions, and all definitions are right. Each selected font has widths, and its number is defined
   -- after post too.
   pub tail_is : AllByRecursion IsIdle (says tail)

@@ -6,20 +6,20 @@ ghost use Rattle.dvi_ops.specs.File.{IsFile, MarkedPage};
 ghost use Rattle.dvi_ops.specs.Fonts.{WidthsByName, defined, definitions, selections};
 ghost use Rattle.dvi_ops.specs.Instruction.{Postamble};
 ghost use Rattle.dvi_ops.specs.Tokens.{says};
-ghost use Rattle.dvi_scan.specs.Passed.{IsFramed, IsPassed};
+ghost use Rattle.dvi_scan.specs.Passed.{framing, IsFramed, IsPassed};
 
 /// Bytes that the pass accepts are a file of the pages that it gives.
 pub fn passed_is_file()
     ensures { (metrics : WidthsByName) (bytes : List ℕ) (post after last : ℕ) (stop : Postamble) (chain : List ℕ) (pages : List MarkedPage)
         → IsFramed bytes post after last stop chain → stop.pages ≡ length chain % 65536
-        → IsPassed metrics bytes post after last stop chain pages → IsFile metrics bytes pages }
+        → IsPassed metrics bytes (framing post after last stop chain) pages → IsFile metrics bytes pages }
 {}
 
 /// The pass accepts each file, and gives its pages.
 pub fn file_is_passed()
     ensures { (metrics : WidthsByName) (bytes : List ℕ) (post after last : ℕ) (stop : Postamble) (chain : List ℕ) (pages : List MarkedPage)
         → IsFramed bytes post after last stop chain
-        → IsFile metrics bytes pages → IsPassed metrics bytes post after last stop chain pages }
+        → IsFile metrics bytes pages → IsPassed metrics bytes (framing post after last stop chain) pages }
 {}
 
 /// In a file, a selected font has one definition: the first one of its number in the file, which is before the selection, equals the first one after

@@ -1,5 +1,5 @@
 -- Memory is refused only where there is a line to append.
-use Rattle.std.proofs.Common.{◌++◌, ℕ, List, length, map, ap, sym, ◌∙◌}
+use Rattle.std.proofs.Common.{◌++◌, ℕ, List, map, ap, sym, ◌∙◌}
 use Rattle.dvi_scan.specs.View.{marked_page}
 use Rattle.dvi_fonts.proofs.AheadLemmas.{on_any}
 use Rattle.dvi_read.specs.Listing.{lines_ahead, listing}

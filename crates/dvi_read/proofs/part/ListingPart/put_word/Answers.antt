@@ -1,4 +1,4 @@
-use Rattle.std.proofs.Common.{◌-◌, arith, ap, length, length-drop, drop}
+use Rattle.std.proofs.Common.{◌-◌, arith, length}
 use Rattle.std.proofs.lemmas.Slice.{drop-put_mid}
 use Rattle.dvi_read.proofs.PartLemmas.{end_stays}
 use Rattle.dvi_read.proofs.part.ListingPart.put_word.Goals as goal
