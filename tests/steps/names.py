@@ -5,10 +5,12 @@ import os
 import re
 from functools import partial
 
-TITLE = "the names of code in four documents are in the sources, as the clauses of PROVED.md; no comment writes the test attribute, no code has floating-point numbers"
+TITLE = "the names of code in four documents are in the sources, as the clauses of PROVED.md; no comment writes the test attribute, no code has floating-point numbers; the job knows no crate of DVI"
 TRIES = False
 DOCUMENTS = ("PROVED", "ARCHITECTURE", "EVIDENCE", "DECISIONS")
 SOURCES = ("crates/*/src/**/*.rt", "crates/*/specs/*.antt", "crates/*/proofs/**/*.antt", "crates/rows_scripts/stdin", "tests/steps/*.py", "crates.txt")
+# These crates know pages, and no crate of DVI.
+BEFORE_DVI = ("page_core", "job_commands", "job_machine", "job_lists", "job_state")
 WORD = re.compile(r"[A-Za-z_][A-Za-z_0-9]*")
 # `rt ci` knows a crate with tests by this attribute, wherever it is.
 IN_COMMENT = re.compile(r"(?m)//.*#\s*\[[^]]*\btest\b")
@@ -52,6 +54,13 @@ def test_attributes(root):
     return f"a comment writes the test attribute in {', '.join(sorted(wrong))}" if wrong else None
 
 
+def job_before_dvi(root):
+    """Files of the machine and of the job below `job_core` that name a crate of DVI: pages stand before there is DVI."""
+    wrong = [os.path.relpath(path, root) for crate in BEFORE_DVI for path in sorted(glob.glob(f"{root}/crates/{crate}/*/**/*.*", recursive=True))
+             if path.endswith((".rt", ".antt", ".edit")) and re.search(r"\b(dvi_\w+|ship_core|move_core)(::|\.)", read(path))]
+    return f"a crate of DVI is named in {', '.join(wrong)}" if wrong else None
+
+
 def float_types(root):
     """Sources that name a type of floating-point numbers: all arithmetic is over integers."""
     wrong = [os.path.relpath(path, root) for path in glob.glob(f"{root}/crates/*/src/**/*.rt", recursive=True) if re.search(r"\bf(32|64)\b", read(path))]
@@ -92,3 +101,4 @@ def cases(_programs, root):
     yield "clauses", partial(clauses, root)
     yield "test_attributes", partial(test_attributes, root)
     yield "float_types", partial(float_types, root)
+    yield "job_before_dvi", partial(job_before_dvi, root)
