@@ -9,7 +9,8 @@ use Rattle.dvi_ops.specs.File.{IsIdle}
 use Rattle.dvi_ops.specs.Fonts.{defined, definitions_in, definitions}
 use Rattle.dvi_ops.specs.Instruction.{Definition, FontDef, Instruction, Do}
 use Rattle.dvi_ops.specs.Tokens.{Token, IsSpelled, says, written}
-use Rattle.dvi_ops.proofs.Appends.{all_append, all_back, says-append, written-append, definitions-append}
+use Rattle.scaled_core.proofs.EachOf.{all_append, all_back}
+use Rattle.dvi_ops.proofs.Appends.{says-append, written-append, definitions-append}
 use Rattle.dvi_ops.proofs.Frames.{begins}
 use Rattle.dvi_scan.specs.Ends.{StandsAt}
 use Rattle.dvi_scan.proofs.PlaceLemmas.{one_stands}

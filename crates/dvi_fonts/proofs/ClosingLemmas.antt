@@ -7,7 +7,8 @@ use Rattle.dvi_ops.specs.File.{IsIdle}
 use Rattle.dvi_ops.specs.Fonts.{FontsAreRight, IsRightAfter, IsFontSize, definitions_in, definitions, known_after}
 use Rattle.dvi_ops.specs.Table.{Spells}
 use Rattle.dvi_ops.specs.Tokens.{Token, IsSpelled, says, written}
-use Rattle.dvi_ops.proofs.Appends.{all_append, all_back, says-append, written-append, definitions-append, fonts_append, fonts_back}
+use Rattle.scaled_core.proofs.EachOf.{all_append, all_back}
+use Rattle.dvi_ops.proofs.Appends.{says-append, written-append, definitions-append, fonts_append, fonts_back}
 use Rattle.dvi_ops.proofs.Frames.{begins}
 use Rattle.dvi_scan.specs.Ends.{StandsAt}
 use Rattle.dvi_scan.specs.declared.fault.BadDvi.{BadDvi}

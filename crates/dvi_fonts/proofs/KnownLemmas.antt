@@ -9,7 +9,7 @@ use Rattle.dvi_ops.specs.Fonts.{AgreesWith, defined}
 use Rattle.dvi_ops.specs.Instruction.{Definition}
 use Rattle.dvi_ops.specs.View.{definition}
 use Rattle.dvi_ops.specs.declared.op.FontDefinition.{FontDefinition}
-use Rattle.dvi_ops.proofs.Appends.{all_append, all_both, all_weaker}
+use Rattle.scaled_core.proofs.EachOf.{all_append, all_both, all_weaker}
 use Rattle.dvi_fonts.specs.Known.{AddsFirst, HasFirstDefinitions}
 
 -- A property of all definitions is one of the first one of a number, which has that number.

@@ -11,13 +11,14 @@ use Rattle.dvi_ops.specs.Fonts.{definitions}
 use Rattle.dvi_ops.specs.File.{FilePart, Defines, Shows, instructions, push_depth_of}
 use Rattle.dvi_ops.specs.Spelling.{NumberFits, NumbersFit, UnitsFit}
 use Rattle.dvi_ops.specs.Layout.{bytes_of, define, preamble, scaled_points, Sheet, WriterKnowledge, after_preamble, sheet_from, after, sheets_from, after_all, front_of, stop_of, padding_after, IsTabled, IsWritable, Table}
-use Rattle.dvi_ops.proofs.Appends.{all_append, definitions-append, instructions-append}
+use Rattle.scaled_core.proofs.EachOf.{all_append}
+use Rattle.dvi_ops.proofs.Appends.{definitions-append, instructions-append}
 use Rattle.dvi_ops.proofs.Layouts.{says-wrote, definitions-define, instructions-define, length-bytes_of-append, parts_of}
 use Rattle.dvi_ops.proofs.WholeFile.{frame_of, padding_low, padding_fills, size_of_front}
-use Rattle.ship_core.specs.Marks.{ShippedPage}
-use Rattle.ship_core.specs.Pages.{reach_down, reach_right}
+use Rattle.page_core.specs.Marks.{ShippedPage}
+use Rattle.page_core.specs.Pages.{reach_down, reach_right}
 use Rattle.node_core.specs.declared.limits.TheConstants.{MAX_DEPTH}
-use Rattle.dvi_layout.specs.Fonts.{Slots, AreDefinable}
+use Rattle.tfm_core.specs.Slots.{Slots, AreDefinable}
 use Rattle.dvi_layout.specs.Sheets.{written_body, definitions_of, fresh_slots, in_rising_order, sheet_of}
 use Rattle.dvi_layout.specs.Layout.{slots_after, slots_after_all, sheets_of, greatest, closing_of, ended, front, whole}
 use Rattle.dvi_layout.specs.Shippable.{slot_widths, IsRightPage}

@@ -10,9 +10,9 @@ use Rattle.std.proofs.lemmas.List.Elements.{filter-append}
 use Rattle.dvi_ops.specs.Instruction.{Definition, FontNum, Instruction, Do}
 use Rattle.dvi_ops.specs.Fonts.{selections, defined, known_after}
 use Rattle.dvi_ops.specs.Layout.{define}
-use Rattle.dvi_ops.proofs.Appends.{all_append, all_weaker}
-use Rattle.dvi_layout.specs.declared.fonts.LoadedFont.{LoadedFont}
-use Rattle.dvi_layout.specs.Fonts.{Slots, font_in}
+use Rattle.scaled_core.proofs.EachOf.{all_append, all_weaker}
+use Rattle.tfm_core.specs.declared.slots.LoadedFont.{LoadedFont}
+use Rattle.tfm_core.specs.Slots.{Slots, font_in}
 use Rattle.dvi_layout.specs.MoreFonts.{Extends}
 use Rattle.dvi_layout.specs.Sheets.{numbers_below, definition_of, definition_by, definitions_of, selects, is_among, is_fresh, fresh_slots, in_rising_order}
 

@@ -15,18 +15,18 @@ use Rattle.dvi_ops.specs.File.{IsFile}
 use Rattle.dvi_ops.specs.Spelling.{NumberFits}
 use Rattle.dvi_ops.specs.Layout.{Table, WriterKnowledge, after_preamble, after, after_all, define, padding_after, table_widths, IsTabled, IsGood, AreGood, IsClosing}
 use Rattle.dvi_ops.proofs.WholeFile.{whole_file, padding_low}
-use Rattle.ship_core.specs.Marks.{ShippedPage, marks_of_page}
-use Rattle.ship_core.specs.Pages.{reach_down, reach_right}
+use Rattle.page_core.specs.Marks.{ShippedPage, marks_of_page}
+use Rattle.page_core.specs.Pages.{reach_down, reach_right}
 use Rattle.ship_core.specs.Shown.{HasWidth}
 use Rattle.ship_core.proofs.DrawnMarks.{number_within}
 use Rattle.ship_core.proofs.DrawnPages.{HasFont, fits_down, fits_right}
-use Rattle.dvi_layout.specs.declared.fonts.LoadedFont.{LoadedFont}
-use Rattle.dvi_layout.specs.Fonts.{Slots, font_in, AreDefinable}
+use Rattle.tfm_core.specs.declared.slots.LoadedFont.{LoadedFont}
+use Rattle.tfm_core.specs.Slots.{Slots, font_in, AreDefinable}
 use Rattle.dvi_layout.specs.Sheets.{written_body, definition_of, definitions_of, fresh_slots, in_rising_order, selects, sheet_of}
 use Rattle.dvi_layout.specs.Layout.{slots_after, slots_after_all, sheets_of, greatest, closing_of, ended, front, whole}
 use Rattle.dvi_layout.specs.Shippable.{slot_font_widths, slot_widths, IsRightPage, GivesFonts, read_page, IsFileOfPages}
 use Rattle.dvi_layout.proofs.DefinedFonts.{AreKnown, HasSelected, none_known, known_next, selected_known, each_selected, each_of, rising_among, listed_at, defined_among, holds_selected}
-use Rattle.dvi_layout.proofs.Leaves.{each_leaf}
+use Rattle.node_core.proofs.Leaves.{each_leaf}
 use Rattle.dvi_layout.proofs.NextPages.{size-some}
 use Rattle.dvi_layout.proofs.Rooms.{definable_in}
 use Rattle.dvi_layout.proofs.WrittenBodies.{selections_written, shown_written, writable_written, definitions-written, nests_written}

@@ -10,7 +10,7 @@ use Rattle.std.proofs.lemmas.List.{get_or-set_other}
 use Rattle.std.proofs.lemmas.Grind.{get_or-set_at}
 use Rattle.std.proofs.lemmas.List.Elements.{filter-append}
 use Rattle.std.proofs.lemmas.List.Folds.{list_any-append}
-use Rattle.dvi_layout.specs.Fonts.{Slots, font_in}
+use Rattle.tfm_core.specs.Slots.{Slots, font_in}
 use Rattle.dvi_ops.specs.Instruction.{FontNum, Instruction, Do}
 use Rattle.dvi_layout.specs.Sheets.{numbers_below, selects, font_of, is_among, is_fresh, is_marked_fresh, fresh_slots, in_rising_order}
 

@@ -1,5 +1,3 @@
-pub mod EachOf
-pub mod Leaves
 pub mod Spelled
 pub mod WrittenBodies
 pub mod PageBytes

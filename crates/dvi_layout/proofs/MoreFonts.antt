@@ -8,12 +8,12 @@ use Rattle.dvi_ops.specs.Forest.{flat}
 use Rattle.dvi_ops.specs.Instruction.{Definition}
 use Rattle.dvi_ops.specs.Layout.{Sheet, after_preamble, after_all, front_of}
 use Rattle.dvi_ops.specs.Fonts.{width_in}
-use Rattle.dvi_ops.proofs.Appends.{all_weaker}
-use Rattle.ship_core.specs.Marks.{ShippedPage}
-use Rattle.ship_core.specs.Pages.{reach_down, reach_right}
+use Rattle.scaled_core.proofs.EachOf.{all_weaker}
+use Rattle.page_core.specs.Marks.{ShippedPage}
+use Rattle.page_core.specs.Pages.{reach_down, reach_right}
 use Rattle.ship_core.specs.Shown.{HasWidth}
-use Rattle.dvi_layout.specs.declared.fonts.LoadedFont.{LoadedFont}
-use Rattle.dvi_layout.specs.Fonts.{Slots, font_in}
+use Rattle.tfm_core.specs.declared.slots.LoadedFont.{LoadedFont}
+use Rattle.tfm_core.specs.Slots.{Slots, font_in}
 use Rattle.dvi_layout.specs.MoreFonts.{Extends}
 use Rattle.dvi_layout.specs.Sheets.{written_body, definitions_of, fresh_slots, sheet_of}
 use Rattle.dvi_layout.specs.Layout.{slots_after, slots_after_all, sheets_of, greatest, load_on, front}
@@ -21,7 +21,7 @@ use Rattle.dvi_layout.specs.Shippable.{slot_font_widths, slot_widths, IsShippabl
 use Rattle.dvi_layout.specs.SoFar.{ProgressView, so_far_of}
 use Rattle.dvi_layout.proofs.DefinedFonts.{fresh_parts, among_fresh, fresh_same, definitions_same}
 use Rattle.dvi_layout.proofs.Files.{has_selected}
-use Rattle.dvi_layout.proofs.Leaves.{each_leaf}
+use Rattle.node_core.proofs.Leaves.{each_leaf}
 
 module _ (fonts more : Slots) (extends : Extends fonts more) where
   width_kept : (slot : ℕ) (c w : ℤ) (held : Option LoadedFont) → font_in fonts slot ≡ held → width_in (slot_font_widths held) c ≡ Some w → slot_widths more (pos slot) c ≡ Some w

@@ -11,9 +11,9 @@ use Rattle.dvi_ops.proofs.Layouts.{length-bytes_of-append}
 use Rattle.dvi_ops.proofs.WholeFile.{front_more, after_all-append, size_of_front}
 use Rattle.node_core.specs.declared.tree.BoxNode.{BoxNode}
 use Rattle.node_core.specs.Loads.{Load, heavier}
-use Rattle.ship_core.specs.Marks.{ShippedPage}
-use Rattle.ship_core.specs.Pages.{reach_down, reach_right}
-use Rattle.dvi_layout.specs.Fonts.{Slots}
+use Rattle.page_core.specs.Marks.{ShippedPage}
+use Rattle.page_core.specs.Pages.{reach_down, reach_right}
+use Rattle.tfm_core.specs.Slots.{Slots}
 use Rattle.dvi_layout.specs.Sheets.{sheet_of}
 use Rattle.dvi_layout.specs.Layout.{slots_after, slots_after_all, sheets_of, greatest, load_on, closing_of, ended, front, whole}
 use Rattle.dvi_layout.specs.SoFar.{ProgressView, so_far_of, opening, bytes_before, next_bytes, with_next, closing_so_far, last_bytes}

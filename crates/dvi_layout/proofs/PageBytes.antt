@@ -14,11 +14,11 @@ use Rattle.dvi_ops.specs.Spelling.{operand, code_size, spelling, leaf_spelling}
 use Rattle.dvi_ops.specs.Layout.{bytes_of, define, sheet_from}
 use Rattle.dvi_ops.proofs.Layouts.{length-bytes_of-append}
 use Rattle.dvi_ops.proofs.Spelled.{operand_length}
-use Rattle.dvi_layout.specs.declared.fonts.LoadedFont.{LoadedFont}
-use Rattle.dvi_layout.specs.Fonts.{Slots, font_in}
-use Rattle.ship_core.specs.Marks.{ShippedPage}
+use Rattle.tfm_core.specs.declared.slots.LoadedFont.{LoadedFont}
+use Rattle.tfm_core.specs.Slots.{Slots, font_in}
+use Rattle.page_core.specs.Marks.{ShippedPage}
 use Rattle.dvi_layout.specs.Sheets.{written_body, definition_of, definition_by, definitions_of, fresh_slots, sheet_of}
-use Rattle.ship_core.specs.Pages.{page_of_box}
+use Rattle.page_core.specs.Pages.{page_of_box}
 use Rattle.ship_core.specs.Shown.{HasWidth}
 use Rattle.dvi_layout.proofs.WrittenBodies.{written_bytes}
 

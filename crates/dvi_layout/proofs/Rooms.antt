@@ -9,17 +9,17 @@ use Rattle.dvi_ops.specs.Spelling.{spelling, operand}
 use Rattle.dvi_ops.proofs.Layouts.{length-bytes_of-append}
 use Rattle.node_core.specs.Items.{items_text}
 use Rattle.node_core.specs.Nodes.{box_count, box_text}
-use Rattle.ship_core.specs.Marks.{ShippedPage, is_huge}
+use Rattle.page_core.specs.Marks.{ShippedPage, is_huge}
 use Rattle.dvi_layout.specs.declared.fault.WriteFault.TheVariants.{TooManyPages, TooMuchShipped, TooMuchSpecial, HugePage}
 use Rattle.node_core.specs.declared.limits.TheConstants.{MAX_PAGES, MAX_SHIPPED_NODES, MAX_SHIPPED_TEXT}
-use Rattle.dvi_layout.specs.declared.fonts.LoadedFont.{LoadedFont}
-use Rattle.dvi_layout.specs.Fonts.{Slots, font_in, IsDefinable, AreDefinable}
+use Rattle.tfm_core.specs.declared.slots.LoadedFont.{LoadedFont}
+use Rattle.tfm_core.specs.Slots.{Slots, font_in, IsDefinable, AreDefinable}
 use Rattle.dvi_layout.specs.Shippable.{IsShippable, slot_widths}
 use Rattle.dvi_layout.specs.Sheets.{written_body, definitions_of, fresh_slots, sheet_of}
 use Rattle.dvi_layout.specs.SoFar.{ProgressView, nothing_so_far, opening, next_bytes, with_next}
 use Rattle.dvi_layout.specs.Limits.{HasRoom, limit_of}
 use Rattle.dvi_layout.proofs.DefinedFonts.{few_defined, none_rising, defined_once}
-use Rattle.dvi_layout.proofs.EachOf.{each_held, held_within}
+use Rattle.scaled_core.proofs.EachOf.{each_held, held_within}
 use Rattle.dvi_layout.proofs.PageBytes.{HasShortNames, sheet_bytes}
 use Rattle.dvi_layout.proofs.WrittenBodies.{nests_written}
 

@@ -11,12 +11,12 @@ use Rattle.dvi_ops.specs.Fonts.{definitions, selections}
 use Rattle.dvi_ops.specs.Spelling.{HasSpelling}
 use Rattle.dvi_ops.specs.Layout.{IsWritable, bytes_of}
 use Rattle.dvi_ops.specs.Plain.{NamesNoRegister}
-use Rattle.dvi_ops.proofs.Appends.{all_append, all_front, all_back}
+use Rattle.scaled_core.proofs.EachOf.{all_append, all_front, all_back}
 use Rattle.move_core.specs.Reused.{reused}
 use Rattle.move_core.specs.SamePage.{IsPlainBody, still_of, still}
 use Rattle.move_core.proofs.SameBody.{reused_length, reused_nests, reused_order, reused_fits}
 use Rattle.move_core.proofs.Sheets.{reused_selections, reused_definitions, reused_kept}
-use Rattle.ship_core.specs.Marks.{ShippedPage, marks_of_page, is_huge}
+use Rattle.page_core.specs.Marks.{ShippedPage, marks_of_page, is_huge}
 use Rattle.ship_core.specs.Drawing.{body_of}
 use Rattle.ship_core.specs.Shown.{HasWidth}
 use Rattle.ship_core.proofs.DrawnBytes.{body_bytes}

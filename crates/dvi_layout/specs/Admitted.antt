@@ -1,6 +1,6 @@
 -- The page that a file has room for (own).
-use Rattle.ship_core.specs.Marks.{ShippedPage}
-use Rattle.ship_core.specs.Pages.{page_at}
+use Rattle.page_core.specs.Marks.{ShippedPage}
+use Rattle.page_core.specs.Pages.{page_at}
 use Rattle.dvi_layout.specs.declared.page.AdmittedPage.{AdmittedPage}
 
 -- The page that is shipped: its counts, its reference point and its box.

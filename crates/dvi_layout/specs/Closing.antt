@@ -6,10 +6,10 @@ use Rattle.dvi_ops.specs.Fonts.{definitions}
 use Rattle.dvi_ops.specs.Layout.{scaled_points}
 use Rattle.dvi_ops.specs.Tokens.{says}
 use Rattle.dvi_ops.specs.File.{FilePart, instructions, push_depth_of, Frame}
-use Rattle.dvi_layout.specs.declared.fonts.LoadedFont.{LoadedFont}
-use Rattle.dvi_layout.specs.Fonts.{Slots, font_in}
-use Rattle.ship_core.specs.Marks.{ShippedPage}
-use Rattle.ship_core.specs.Pages.{reach_down, reach_right}
+use Rattle.tfm_core.specs.declared.slots.LoadedFont.{LoadedFont}
+use Rattle.tfm_core.specs.Slots.{Slots, font_in}
+use Rattle.page_core.specs.Marks.{ShippedPage}
+use Rattle.page_core.specs.Pages.{reach_down, reach_right}
 use Rattle.dvi_layout.specs.Sheets.{definition_of}
 
 -- The greatest number of a list: no number of the list is greater, and it is one of them (own).

@@ -6,9 +6,9 @@ use Rattle.dvi_ops.specs.Forest.{flat}
 use Rattle.dvi_ops.specs.Instruction.{Definition}
 use Rattle.dvi_ops.specs.Layout.{Sheet, front_of, whole_of, padding_after}
 use Rattle.node_core.specs.Loads.{Load, heavier}
-use Rattle.ship_core.specs.Marks.{ShippedPage}
-use Rattle.ship_core.specs.Pages.{reach_down, reach_right}
-use Rattle.dvi_layout.specs.Fonts.{Slots}
+use Rattle.page_core.specs.Marks.{ShippedPage}
+use Rattle.page_core.specs.Pages.{reach_down, reach_right}
+use Rattle.tfm_core.specs.Slots.{Slots}
 use Rattle.dvi_layout.specs.Sheets.{written_body, definitions_of, fresh_slots, in_rising_order, sheet_of}
 
 -- The defined slots after a page, where these are defined before it.

@@ -1,4 +1,3 @@
-pub mod Fonts
 pub mod MoreFonts
 pub mod Sheets
 pub mod Layout

@@ -1,7 +1,7 @@
 -- The limits of a file (own; the limits of a job).
 use Rattle.std.specs.Prelude.{◌≡◌, ◌+◌, ◌*◌, ◌≤◌, length, Option, Some, None, if◌then◌else◌, nat_le, nat_lt}
 use Rattle.node_core.specs.Nodes.{box_count, box_text}
-use Rattle.ship_core.specs.Marks.{ShippedPage, is_huge}
+use Rattle.page_core.specs.Marks.{ShippedPage, is_huge}
 use Rattle.dvi_layout.specs.declared.fault.WriteFault.{WriteFault}
 use Rattle.dvi_layout.specs.declared.fault.WriteFault.TheVariants.{TooManyPages, TooMuchShipped, TooMuchSpecial, HugePage}
 use Rattle.node_core.specs.declared.limits.TheConstants.{MAX_PAGES, MAX_SHIPPED_NODES, MAX_SHIPPED_TEXT, MAX_DEPTH}

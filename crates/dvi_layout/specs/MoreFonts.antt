@@ -1,7 +1,7 @@
 -- More fonts in the slots (own).
 use Rattle.std.specs.Prelude.{◌≡◌, ℕ, Some}
-use Rattle.dvi_layout.specs.declared.fonts.LoadedFont.{LoadedFont}
-use Rattle.dvi_layout.specs.Fonts.{Slots, font_in}
+use Rattle.tfm_core.specs.declared.slots.LoadedFont.{LoadedFont}
+use Rattle.tfm_core.specs.Slots.{Slots, font_in}
 
 -- All fonts of some slots, and perhaps more.
 abbrev pub Extends : Slots → Slots → Type 0

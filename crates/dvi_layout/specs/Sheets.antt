@@ -5,11 +5,11 @@ use Rattle.std.specs.List.{flat_map, list_any}
 use Rattle.dvi_ops.specs.Instruction.{Definition, FontNum, Instruction, Do}
 use Rattle.dvi_ops.specs.Forest.{Forest, flat}
 use Rattle.dvi_ops.specs.Layout.{Sheet}
-use Rattle.ship_core.specs.Marks.{ShippedPage}
+use Rattle.page_core.specs.Marks.{ShippedPage}
 use Rattle.ship_core.specs.Drawing.{body_of}
 use Rattle.move_core.specs.Reused.{reused}
-use Rattle.dvi_layout.specs.declared.fonts.LoadedFont.{LoadedFont}
-use Rattle.dvi_layout.specs.Fonts.{Slots, font_in}
+use Rattle.tfm_core.specs.declared.slots.LoadedFont.{LoadedFont}
+use Rattle.tfm_core.specs.Slots.{Slots, font_in}
 
 -- The body of a page as it is written: without empty groups, and with movements by w, x, y and z where their amounts come again. Only this body is
 -- written; the plan of the page stays `body_of`.

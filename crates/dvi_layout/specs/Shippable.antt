@@ -1,5 +1,5 @@
 -- The pages that may be written, which is a condition on the callers of the writer (own; the widths: TeX: The Program, part 30; DVItype, 18).
-use Rattle.std.specs.Prelude.{◌≡◌, ◌≤◌, ◌+ℤ◌, [], ◌∷◌, ℕ, ℤ, pos, negsuc, false, List, length, map, Option, Some, None}
+use Rattle.std.specs.Prelude.{◌≡◌, ◌≤◌, [], ◌∷◌, ℕ, ℤ, pos, negsuc, false, List, length, map, Option, Some, None}
 use Rattle.std.specs.List.{AllByRecursion}
 use Rattle.tfm_core.specs.FileWidths.{width_at}
 use Rattle.node_core.specs.declared.tree.BoxNode.{BoxNode}
@@ -9,13 +9,11 @@ use Rattle.dvi_ops.specs.Body.{Widths}
 use Rattle.dvi_ops.specs.Fonts.{WidthsByName, width_in}
 use Rattle.dvi_ops.specs.File.{MarkedPage, IsFile}
 use Rattle.dvi_ops.specs.Spelling.{NumberFits}
-use Rattle.ship_core.specs.Marks.{ShippedPage, marks_of_page, is_huge}
-use Rattle.ship_core.specs.Pages.{page_at}
+use Rattle.page_core.specs.Marks.{ShippedPage, marks_of_page, is_huge}
 use Rattle.ship_core.specs.Shown.{HasWidth}
-use Rattle.dvi_layout.specs.declared.fonts.LoadedFont.{LoadedFont}
-use Rattle.dvi_layout.specs.declared.page.Offsets.{Offsets}
+use Rattle.tfm_core.specs.declared.slots.LoadedFont.{LoadedFont}
 use Rattle.node_core.specs.declared.limits.TheConstants.{MAX_DEPTH, MAX_SHIPPED_TEXT}
-use Rattle.dvi_layout.specs.Fonts.{Slots, font_in}
+use Rattle.tfm_core.specs.Slots.{Slots, font_in}
 
 -- The widths of the characters of a font, if there is one.
 abbrev pub slot_font_widths : Option LoadedFont → Option (ℤ → Option ℤ)
@@ -31,11 +29,6 @@ slot_widths fonts (negsuc n) c = None
 pub record IsShippable (fonts : Slots) (b : BoxNode) : Type 0 where
   pub glyphs : EachLeaf (HasWidth (slot_widths fonts)) b.list
   pub depth : box_depth b ≤ MAX_DEPTH
-
--- The page of a box with these counts. Its reference point is `offsets.h` to the right of the origin, and its height plus `offsets.v` below it (TeX:
--- The Program, part 32, §640 and §641).
-abbrev pub page_with : (counts : List ℤ) → Offsets → BoxNode → ShippedPage
-page_with counts offsets b = page_at counts offsets.h (b.height +ℤ offsets.v) b
 
 -- A page that was written: it has ten counts that fit four bytes each, is not huge, and its box may be shipped.
 pub record IsRightPage (fonts : Slots) (page : ShippedPage) : Type 0 where

@@ -6,9 +6,9 @@ use Rattle.dvi_ops.specs.Forest.{nests}
 use Rattle.dvi_ops.specs.Instruction.{Instruction, Post, PostPost, Postamble}
 use Rattle.dvi_ops.specs.Layout.{after_preamble, after_all, bytes_of, define, preamble, scaled_points, sheet_from, padding_after}
 use Rattle.node_core.specs.Loads.{Load, heavier}
-use Rattle.ship_core.specs.Marks.{ShippedPage}
-use Rattle.ship_core.specs.Pages.{reach_down, reach_right}
-use Rattle.dvi_layout.specs.Fonts.{Slots}
+use Rattle.page_core.specs.Marks.{ShippedPage}
+use Rattle.page_core.specs.Pages.{reach_down, reach_right}
+use Rattle.tfm_core.specs.Slots.{Slots}
 use Rattle.dvi_layout.specs.Sheets.{written_body, definitions_of, in_rising_order, sheet_of}
 use Rattle.dvi_layout.specs.Layout.{slots_after, slots_after_all, sheets_of, greatest, load_on, front}
 

@@ -2,8 +2,8 @@
 
 ghost use Rattle.std.specs.Prelude.{◌≡◌, ◌<◌, ◌≤◌, ◌+◌, ◌++◌, [], ◌∷◌, length};
 
-use node_core::limits::FONT_SLOTS;
 use std::marker::Model;
+use tfm_core::FONT_SLOTS;
 
 /// The slots of the fonts that are defined, in the order of their definitions: at most `FONT_SLOTS` of them. They are bytes of the writer itself, so
 /// `DviWriter::new` takes no memory.
@@ -15,7 +15,7 @@ pub struct DefinedSlots {
 
 impl Model for DefinedSlots {
     ghost use Rattle.std.specs.Prelude.{◌≤◌, ℕ, List, take};
-    ghost use Rattle.node_core.specs.declared.limits.TheConstants.{FONT_SLOTS};
+    ghost use Rattle.tfm_core.specs.declared.slots.TheConstants.{FONT_SLOTS};
 
     ghost Value = { List ℕ };
 

@@ -14,11 +14,10 @@ ghost use Rattle.dvi_layout.specs.Sheets.{definition_of, definitions_of, font_of
 ghost use Rattle.dvi_ops.specs.Forest.{Forest, flat, nests};
 ghost use Rattle.std.specs.Prelude.{filter};
 
-use crate::fonts::{Fonts, LoadedFont};
 use dvi_ops::{BodyOp, FontDefinition, Op, Units, opcodes, spell, spell_body};
-use node_core::limits::FONT_SLOTS;
 use ship_core::pushed_after;
 use std::alloc::{AllocError, Global};
+use tfm_core::{FONT_SLOTS, Fonts, LoadedFont};
 
 /// The units of a file: a scaled point.
 pub const SCALED_POINTS: Units = Units {

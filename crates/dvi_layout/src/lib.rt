@@ -4,12 +4,12 @@
 
 mod defined;
 mod fault;
-pub mod fonts;
 mod layout;
 mod page;
 pub mod progress;
 
 pub use fault::WriteFault;
-pub use fonts::{Fonts, LoadedFont};
-pub use page::{AdmittedPage, Offsets, PageLoad};
+pub use page::{AdmittedPage, PageLoad};
+pub use page_core::Offsets;
 pub use progress::{NextPage, Progress};
+pub use tfm_core::{Fonts, LoadedFont};

@@ -4,7 +4,7 @@ ghost use Rattle.std.specs.Prelude.{◌≡◌, ◌+ℤ◌, true, false, map, if�
 ghost use Rattle.dvi_ops.specs.Forest.{flat};
 ghost use Rattle.dvi_ops.specs.View.{body_view};
 ghost use Rattle.scaled_core.specs.Dimensions.{fits};
-ghost use Rattle.ship_core.specs.Marks.{is_huge};
+ghost use Rattle.page_core.specs.Marks.{is_huge};
 ghost use Rattle.dvi_layout.specs.Admitted.{shipped_page};
 ghost use Rattle.dvi_layout.specs.Sheets.{written_body};
 
@@ -12,31 +12,13 @@ use crate::fault::WriteFault;
 use dvi_ops::BodyOp;
 use move_core::reuse;
 use node_core::BoxNode;
+use page_core::PagePoint;
 use scaled_core::Dimen;
-use ship_core::{PagePoint, ShipFault, plan_with_room};
+use ship_core::{ShipFault, plan_with_room};
 use std::alloc::Global;
 
 /// The greatest capacity for instructions of a page at the start. A page of a book has fewer instructions.
 const MAX_ROOM: u64 = 16_384;
-
-/// The distance by which a page is moved to the right and down, in scaled points (TeX: The Program, part 32, §617: hoffset and voffset).
-#[derive(Clone, Copy, Debug, PartialEq, Eq)]
-pub struct Offsets {
-    pub h: Dimen,
-    pub v: Dimen,
-}
-
-impl Offsets {
-    /// The reference point of a box on its page: the box's height below the origin, and then moved by the offsets.
-    pub fn point_of(self, box_node: &BoxNode) -> PagePoint
-        ensures { result ≡ record { h = self.h; v = box_node.now.height +ℤ self.v } }
-    {
-        PagePoint {
-            h: self.h.get(),
-            v: box_node.height.get() + self.v.get(),
-        }
-    }
-}
 
 /// The number of nodes of the box of a page, and the number of bytes in the texts of its specials.
 #[derive(Clone, Copy, Debug, PartialEq, Eq)]

@@ -10,8 +10,8 @@ ghost use Rattle.dvi_ops.specs.Layout.{bytes_of, define};
 ghost use Rattle.dvi_ops.specs.Spelling.{HasSpelling};
 ghost use Rattle.dvi_ops.specs.View.{body_view, view};
 ghost use Rattle.node_core.specs.Nodes.{box_count, box_text};
-ghost use Rattle.ship_core.specs.Marks.{is_huge};
-ghost use Rattle.ship_core.specs.Pages.{page_at, reach_down, reach_right};
+ghost use Rattle.page_core.specs.Marks.{is_huge};
+ghost use Rattle.page_core.specs.Pages.{page_at, reach_down, reach_right};
 ghost use Rattle.dvi_layout.specs.Admitted.{shipped_page};
 ghost use Rattle.dvi_layout.specs.Sheets.{definitions_of};
 ghost use Rattle.dvi_layout.specs.SoFar.{closing_so_far, last_bytes, next_bytes, nothing_so_far, opening, stop_so_far, with_next};
@@ -19,7 +19,6 @@ ghost use Rattle.dvi_layout.specs.Limits.{HasRoom, limit_of};
 
 use crate::defined::DefinedSlots;
 use crate::fault::WriteFault;
-use crate::fonts::Fonts;
 use crate::layout::{
     SCALED_POINTS, append_all, append_definitions, append_padding, append_page, fresh_slots,
     in_rising_order,
@@ -31,6 +30,7 @@ use node_core::limits::{MAX_PAGES, MAX_SHIPPED_NODES, MAX_SHIPPED_TEXT};
 use scaled_core::Dimen;
 use std::alloc::{AllocError, Global};
 use std::marker::Model;
+use tfm_core::Fonts;
 
 /// The numbers that the writer keeps of the pages that it has sent.
 #[derive(Drop)]

@@ -3,43 +3,13 @@ use Rattle.std.proofs.Common.{◌≡◌, ◌+◌, ◌++◌, [], ◌∷◌, List,
 use Rattle.std.proofs.lemmas.List.{map-append}
 use Rattle.std.proofs.lemmas.Grind.{flat_map-append}
 use Rattle.std.specs.Ordering.{int_eq}
-use Rattle.std.specs.List.{flat_map, AllByRecursion}
+use Rattle.std.specs.List.{flat_map}
 use Rattle.dvi_ops.specs.Instruction.{Definition, BodyLeaf, Instruction, Do, Push, Pop, Bop, Eop}
 use Rattle.dvi_ops.specs.Body.{Meaning, Acts, start}
 use Rattle.dvi_ops.specs.Tokens.{Token, says, written, bop_place, places, pointer_of, pointers}
 use Rattle.dvi_ops.specs.Fonts.{definitions_in, definitions, selection_of, selections, defined, FontsAreRight, known_after}
 use Rattle.dvi_ops.specs.Forest.{Forest, Empty, Then, Group, flat, meaning}
 use Rattle.dvi_ops.specs.File.{FilePart, Idle, Defines, Shows, MarkedPage, page_then, pages_of, instructions}
-
--- A fact that holds of all items of two lists holds of all items of both together.
-pub all_append : {X : Type 0} (P : X → Type 0) (xs ys : List X) → AllByRecursion P xs → AllByRecursion P ys → AllByRecursion P (xs ++ ys)
-all_append P [] ys p q = q
-all_append P (x ∷ xs) ys (here, p) q = (here, all_append P xs ys p q)
-
-pub all_front : {X : Type 0} (P : X → Type 0) (xs ys : List X) → AllByRecursion P (xs ++ ys) → AllByRecursion P xs
-all_front P [] ys p = tt
-all_front P (x ∷ xs) ys (here, p) = (here, all_front P xs ys p)
-
-pub all_back : {X : Type 0} (P : X → Type 0) (xs ys : List X) → AllByRecursion P (xs ++ ys) → AllByRecursion P ys
-all_back P [] ys p = p
-all_back P (x ∷ xs) ys (here, p) = all_back P xs ys p
-
--- From a fact of all items: a weaker one, the conjunction of two, and the fact of all images.
-pub all_weaker : {X : Type 0} (P Q : X → Type 0) (xs : List X) → ((x : X) → P x → Q x) → AllByRecursion P xs → AllByRecursion Q xs
-all_weaker P Q [] from p = tt
-all_weaker P Q (x ∷ xs) from (here, p) = (from x here, all_weaker P Q xs from p)
-
-pub all_both : {X : Type 0} (P Q : X → Type 0) (xs : List X) → AllByRecursion P xs → AllByRecursion Q xs → AllByRecursion (λ x. P x × Q x) xs
-all_both P Q [] p q = tt
-all_both P Q (x ∷ xs) (here, p) (here', q) = ((here, here'), all_both P Q xs p q)
-
-pub all_map : {X Y : Type 0} (P : Y → Type 0) (f : X → Y) (xs : List X) → AllByRecursion (λ x. P (f x)) xs → AllByRecursion P (map f xs)
-all_map P f [] p = tt
-all_map P f (x ∷ xs) (here, p) = (here, all_map P f xs p)
-
-pub all_unmap : {X Y : Type 0} (P : Y → Type 0) (f : X → Y) (xs : List X) → AllByRecursion P (map f xs) → AllByRecursion (λ x. P (f x)) xs
-all_unmap P f [] p = tt
-all_unmap P f (x ∷ xs) (here, p) = (here, all_unmap P f xs p)
 
 -- The instructions, the bytes and what is collected from each instruction, for two lists.
 pub says-append : (a b : List Token) → says (a ++ b) ≡ says a ++ says b

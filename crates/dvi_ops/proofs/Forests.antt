@@ -1,7 +1,8 @@
 -- The pass with a stack gives the meaning of the forest, and a list is the list of at most one forest.
 use Rattle.std.proofs.Common.{◌≡◌, ◌++◌, [], ◌∷◌, List, Some, None, refl, sym, ◌∙◌, ap, append_assoc, append-nil, subst, max, arith}
 use Rattle.dvi_ops.specs.Instruction.{BodyLeaf, Instruction, Do, Push, Pop, Eop}
-use Rattle.dvi_ops.specs.Body.{Mark, Position, DviState, Meaning, Acts, only}
+use Rattle.dvi_ops.specs.Body.{Position, DviState, Meaning, Acts, only}
+use Rattle.scaled_core.specs.Mark.{Mark}
 use Rattle.dvi_ops.specs.Forest.{Forest, Empty, Then, Group, flat, ahead, and_then, restored, meaning, nests, beside}
 use Rattle.dvi_ops.specs.Walk.{walk}
 

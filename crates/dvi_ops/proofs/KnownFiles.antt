@@ -5,7 +5,8 @@ use Rattle.std.specs.Ordering.{int_eq}
 use Rattle.std.specs.List.{AllByRecursion}
 use Rattle.dvi_ops.specs.Instruction.{Across, Downward, By, Definition, SetChar, Move, FontNum}
 use Rattle.dvi_ops.specs.Spelling.{operand, signed_size, code_size, char_spelling, font_spelling, leaf_spelling, spelling, NumberFits}
-use Rattle.dvi_ops.specs.Body.{Mark, Glyph, DviState, Widths, acts, kept, start}
+use Rattle.dvi_ops.specs.Body.{DviState, Widths, acts, kept, start}
+use Rattle.scaled_core.specs.Mark.{Mark, Glyph}
 use Rattle.dvi_ops.specs.Forest.{Forest, Empty, Then, Group, meaning}
 use Rattle.dvi_ops.specs.Fonts.{WidthsByName, defined}
 use Rattle.dvi_ops.specs.File.{IsFile}

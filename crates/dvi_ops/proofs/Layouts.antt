@@ -6,13 +6,15 @@ use Rattle.std.specs.Ordering.{int_eq}
 use Rattle.std.specs.List.{flat_map, AllByRecursion}
 use Rattle.dvi_ops.specs.Instruction.{Definition, FontNum, FontDef, Instruction, Do, Bop, Eop}
 use Rattle.dvi_ops.specs.Spelling.{operand, spelling, NumberFits}
-use Rattle.dvi_ops.specs.Body.{Mark, Meaning, Acts, acts, kept}
+use Rattle.dvi_ops.specs.Body.{Meaning, Acts, acts, kept}
+use Rattle.scaled_core.specs.Mark.{Mark}
 use Rattle.dvi_ops.specs.Forest.{flat}
 use Rattle.dvi_ops.specs.Tokens.{Token, says, written, places, pointers}
 use Rattle.dvi_ops.specs.Fonts.{WidthsByName, AgreesWith, definitions, selections, defined, FontsAreRight, known_after, widths_in}
 use Rattle.dvi_ops.specs.File.{FilePart, Defines, Shows, instructions, MarkedPage, page_then, pages_of, push_depth_of}
 use Rattle.dvi_ops.specs.Layout.{bytes_of, preamble, define, Sheet, WriterKnowledge, after_preamble, sheet_from, after, Table, table_widths, IsWritable, IsTabled, IsGood}
-use Rattle.dvi_ops.proofs.Appends.{all_append, all_weaker, all_map, pointers-page, pointers-append, definitions-append, selections-append, instructions-append, places-append, length-places, known_after-append, fonts_append, pages_joined, pointers-flat}
+use Rattle.scaled_core.proofs.EachOf.{all_append, all_weaker, all_map}
+use Rattle.dvi_ops.proofs.Appends.{pointers-page, pointers-append, definitions-append, selections-append, instructions-append, places-append, length-places, known_after-append, fonts_append, pages_joined, pointers-flat}
 
 -- An instruction with its written bytes.
 abbrev pub wrote : Instruction → Token

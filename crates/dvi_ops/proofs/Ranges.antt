@@ -1,9 +1,10 @@
 -- The meaning with h and v in signed 32 bits, compared with the meaning without a range.
 use Rattle.std.proofs.Common.{◌≡◌, ◌++◌, ◌&&◌, if◌then◌else◌, List, ℤ, Bool, true, false, Some, None, refl, sym, ◌∙◌, ap, subst}
 use Rattle.std.specs.List.{AllByRecursion}
-use Rattle.dvi_ops.specs.Body.{Mark, DviState, Meaning, Acts, in_range, kept_in, kept}
+use Rattle.dvi_ops.specs.Body.{DviState, Meaning, Acts, in_range, kept_in, kept}
+use Rattle.scaled_core.specs.Mark.{Mark}
 use Rattle.dvi_ops.specs.Forest.{Forest, Empty, Then, Group, ahead, and_then, restored, meaning, points_then, points, IsPoint}
-use Rattle.dvi_ops.proofs.Appends.{all_append, all_front, all_back}
+use Rattle.scaled_core.proofs.EachOf.{all_append, all_front, all_back}
 
 kept_at_point : (marks : List Mark) (s : DviState) → IsPoint (s.place.h, s.place.v) → kept_in (Some (marks, s)) ≡ Some (marks, s)
 kept_at_point marks s (h, v) = rw (h, v) refl

@@ -2,11 +2,13 @@
 use Rattle.std.proofs.Common.{◌≡◌, ◌++◌, ◌&&◌, if◌then◌else◌, [], ◌∷◌, List, ℤ, Bool, true, false, Option, Some, None, refl, ◌∙◌, ap, ap₂, subst}
 use Rattle.std.specs.List.{flat_map, AllByRecursion}
 use Rattle.dvi_ops.specs.Instruction.{SetChar, PutChar, FontNum, BodyLeaf, Do, Pop, Eop}
-use Rattle.dvi_ops.specs.Body.{Mark, Position, DviState, Widths, Meaning, start, glyph, glyph_of, put_glyph, set_glyph, right, acts, in_range, kept_in, kept}
+use Rattle.dvi_ops.specs.Body.{Position, DviState, Widths, Meaning, start, glyph, glyph_of, put_glyph, set_glyph, right, acts, in_range, kept_in, kept}
+use Rattle.scaled_core.specs.Mark.{Mark}
 use Rattle.dvi_ops.specs.Forest.{Forest, Empty, Then, Group, flat, ahead, and_then, restored, meaning}
 use Rattle.dvi_ops.specs.Fonts.{selection_of, selections}
 use Rattle.dvi_ops.specs.File.{FilePart, Idle, Defines, Shows, instructions, page_then, pages_of}
-use Rattle.dvi_ops.proofs.Appends.{all_front, all_back, selections-append}
+use Rattle.scaled_core.proofs.EachOf.{all_front, all_back}
+use Rattle.dvi_ops.proofs.Appends.{selections-append}
 
 -- Two tables have the same widths of a font.
 abbrev pub SameWidths : Widths → Widths → ℤ → Type 0

@@ -11,7 +11,8 @@ use Rattle.dvi_ops.specs.Tokens.{IsSpelled, says, pointers}
 use Rattle.dvi_ops.specs.Fonts.{WidthsByName, definitions, selections, defined, FontsAreRight, font, widths_in, width_in, widths_of}
 use Rattle.dvi_ops.specs.File.{FilePart, instructions, MarkedPage, push_depth_of, IsIdle, Frame, IsFile}
 use Rattle.dvi_ops.specs.Layout.{bytes_of, preamble, define, Sheet, WriterKnowledge, after_preamble, sheet_from, after, sheets_from, after_all, front_of, whole_of, stop_of, ending_of, padding_after, Table, table_widths, IsWritable, IsTabled, IsGood, AreGood, IsClosing}
-use Rattle.dvi_ops.proofs.Appends.{all_weaker, all_both, all_map, fonts_append}
+use Rattle.scaled_core.proofs.EachOf.{all_weaker, all_both, all_map}
+use Rattle.dvi_ops.proofs.Appends.{fonts_append}
 use Rattle.dvi_ops.proofs.Layouts.{wrote, says-wrote, written-wrote, bytes_of-append, length-bytes_of-append, definitions-define, defined_right, place_fits, Knows, knows_first, knows_next, page_with}
 use Rattle.dvi_ops.proofs.Frames.{Facts, facts_at}
 use Rattle.dvi_ops.proofs.Spelled.{written_is_spelled}

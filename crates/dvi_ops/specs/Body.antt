@@ -1,6 +1,7 @@
 -- What an instruction in the body of a page does: the marks that it makes, and the place and the font after it (DVItype, 14 and 15).
-use Rattle.std.specs.Prelude.{◌+ℤ◌, ◌^◌, ◌&&◌, if◌then◌else◌, [], ◌∷◌, List, ℕ, ℤ, pos, negsuc, Bool, nat_lt, int_lt, Option, Some, None}
+use Rattle.std.specs.Prelude.{◌+ℤ◌, ◌^◌, ◌&&◌, if◌then◌else◌, [], ◌∷◌, List, ℤ, pos, negsuc, Bool, nat_lt, int_lt, Option, Some, None}
 use Rattle.dvi_ops.specs.Instruction.{Axis, Across, Downward, MoveRegister, First, Second, Movement, By, Set, Again, BodyLeaf, SetChar, PutChar, SetRule, PutRule, Nop, Move, FontNum, FontDef, Xxx}
+use Rattle.scaled_core.specs.Mark.{Mark, Glyph, Rule, Special}
 
 -- The values of the two registers of a direction: w and x, or y and z (DVItype, 14).
 pub record Pair : Type 0 where
@@ -22,13 +23,6 @@ pub record Position : Type 0 where
 pub record DviState : Type 0 where
   pub place : Position
   pub font : Option ℤ
-
--- A mark on a page: a glyph at (h, v), a rule with its bottom left corner at (h, v), or a special, which is a text at (h, v) (DVItype, 15 and 16; the
--- meaning of a special's text is left out).
-pub data Mark : Type 0 where
-  Glyph : (font code h v : ℤ) → Mark
-  Rule : (h v height width : ℤ) → Mark
-  Special : (h v : ℤ) (text : List ℕ) → Mark
 
 -- The width of a character, from the font's number and the code, where that font is known and has the character.
 abbrev pub Widths : Type 0

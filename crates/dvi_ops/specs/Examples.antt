@@ -1,7 +1,7 @@
 -- Pages and files with known meanings, which laws compare with the definitions (own).
 use Rattle.std.specs.Prelude.{◌≡◌, [], ◌∷◌, ◌++◌, List, take, drop, replicate, codes, ℕ, ℤ, pos, Option, Some}
 use Rattle.dvi_ops.specs.Instruction.{Across, Downward, First, By, Set, Again, SetRule, PutRule, Move, Xxx}
-use Rattle.dvi_ops.specs.Body.{Mark, Glyph, Rule, Special}
+use Rattle.scaled_core.specs.Mark.{Mark, Glyph, Rule, Special}
 use Rattle.dvi_ops.specs.Forest.{Forest, Empty, Then, Group}
 use Rattle.dvi_ops.specs.Fonts.{WidthsByName}
 use Rattle.dvi_ops.specs.File.{MarkedPage}

@@ -3,7 +3,8 @@ use Rattle.std.specs.Prelude.{◌≡◌, ◌≤◌, ◌<ℤ◌, ◌%◌, ◌++�
 use Rattle.std.specs.List.{flat_map, AllByRecursion}
 use Rattle.dvi_ops.specs.Instruction.{Definition, Units, Postamble, Nop, FontDef, Instruction, Do, Bop, Eop, Pre, Post, PostPost}
 use Rattle.dvi_ops.specs.Table.{Spells}
-use Rattle.dvi_ops.specs.Body.{Mark, Meaning, Acts, acts, kept, start}
+use Rattle.dvi_ops.specs.Body.{Meaning, Acts, acts, kept, start}
+use Rattle.scaled_core.specs.Mark.{Mark}
 use Rattle.dvi_ops.specs.Forest.{Forest, flat, meaning, nests}
 use Rattle.dvi_ops.specs.Tokens.{Token, IsSpelled, says, written, places, pointers}
 use Rattle.dvi_ops.specs.Fonts.{WidthsByName, FontsAreRight, definitions, selections, font, widths_of}

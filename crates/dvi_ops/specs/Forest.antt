@@ -1,7 +1,8 @@
 -- The body of a page as a forest: instructions, and groups between push and pop (DVItype, 14 and 15).
 use Rattle.std.specs.Prelude.{◌++◌, [], ◌∷◌, ◌+◌, max, List, ℕ, ℤ, IsTrue, Option, Some, None}
 use Rattle.dvi_ops.specs.Instruction.{BodyLeaf, Instruction, Do, Push, Pop}
-use Rattle.dvi_ops.specs.Body.{Mark, Position, DviState, Meaning, Acts, only, in_range}
+use Rattle.dvi_ops.specs.Body.{Position, DviState, Meaning, Acts, only, in_range}
+use Rattle.scaled_core.specs.Mark.{Mark}
 
 -- An empty body; an instruction and the rest; or a group and the rest.
 pub data Forest : Type 0 where

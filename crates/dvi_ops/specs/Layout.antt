@@ -4,7 +4,8 @@ use Rattle.std.specs.Prelude.{◌≡◌, ◌≤◌, ◌+◌, ◌-◌, ◌%◌, �
 use Rattle.std.specs.List.{flat_map, AllByRecursion}
 use Rattle.dvi_ops.specs.Instruction.{Definition, Units, Postamble, FontDef, Instruction, Do, Bop, Eop, Pre, Post, PostPost}
 use Rattle.dvi_ops.specs.Spelling.{spelling, HasSpelling, NumberFits, NumbersFit}
-use Rattle.dvi_ops.specs.Body.{Mark, DviState, Widths, acts, kept, start}
+use Rattle.dvi_ops.specs.Body.{DviState, Widths, acts, kept, start}
+use Rattle.scaled_core.specs.Mark.{Mark}
 use Rattle.dvi_ops.specs.Forest.{Forest, flat, meaning, nests}
 use Rattle.dvi_ops.specs.Fonts.{WidthsByName, IsFontSize, definitions, selections, defined, known_after, widths_in, width_in}
 use Rattle.dvi_ops.specs.File.{MarkedPage}

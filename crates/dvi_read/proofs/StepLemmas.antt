@@ -4,7 +4,8 @@ use Rattle.std.specs.Prelude.{◌⊎◌, IsSome}
 use Rattle.std.specs.List.{AllByRecursion}
 use Rattle.dvi_scan.specs.declared.fault.DviCause.{DviCause}
 use Rattle.dvi_scan.specs.declared.fault.DviCause.TheVariants.{Glyph, Range}
-use Rattle.dvi_ops.specs.Body.{Mark, Position, DviState, Meaning, Widths, acts, glyph, glyph_of, in_range, kept, kept_in, put_glyph, set_glyph}
+use Rattle.dvi_ops.specs.Body.{Position, DviState, Meaning, Widths, acts, glyph, glyph_of, in_range, kept, kept_in, put_glyph, set_glyph}
+use Rattle.scaled_core.specs.Mark.{Mark}
 use Rattle.dvi_ops.specs.File.{MarkedPage}
 use Rattle.dvi_ops.specs.Fonts.{WidthsByName, IsRightAfter, definitions_in, font, selection_of, widths_of, width_in as width_of_font}
 use Rattle.dvi_ops.specs.Tokens.{bop_place}

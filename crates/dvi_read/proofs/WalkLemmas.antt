@@ -19,7 +19,7 @@ use Rattle.dvi_ops.specs.File.{MarkedPage}
 use Rattle.dvi_ops.specs.Fonts.{WidthsByName, IsFontSize, definitions, widths_in, selection_of, widths_of}
 use Rattle.dvi_ops.specs.Instruction.{Definition, FontNum, Instruction, Do, Push, Pop, Eop, Postamble}
 use Rattle.dvi_ops.specs.Tokens.{says}
-use Rattle.dvi_ops.proofs.Appends.{all_append, all_weaker}
+use Rattle.scaled_core.proofs.EachOf.{all_append, all_weaker}
 use Rattle.dvi_scan.specs.Pass.{PassStateView, Between, Inside}
 use Rattle.dvi_scan.specs.Passed.{IsPassed}
 use Rattle.dvi_scan.specs.Reached.{AreNumbersOf, HasWidths, IsReached, IsRightAt, Left, ReadSoFar, all_left, before_pages, has_number}

@@ -4,11 +4,13 @@ use Rattle.std.specs.Prelude.{◌⊎◌, IsSome}
 use Rattle.std.specs.List.{AllByRecursion}
 use Rattle.std.specs.Ordering.{int_eq}
 use Rattle.std.proofs.lemmas.Bool.Decides.{Decides-int_eq}
-use Rattle.dvi_ops.specs.Body.{Mark, Special, Position, DviState, Meaning, Widths, acts, glyph, glyph_of, kept, kept_in, place_after, put_glyph, right, rule_at, set_glyph, start}
+use Rattle.dvi_ops.specs.Body.{Position, DviState, Meaning, Widths, acts, glyph, glyph_of, kept, kept_in, place_after, put_glyph, right, rule_at, set_glyph, start}
+use Rattle.scaled_core.specs.Mark.{Mark, Special}
 use Rattle.dvi_ops.specs.File.{MarkedPage}
 use Rattle.dvi_ops.specs.Fonts.{WidthsByName, AgreesWith, FontsAreRight, IsRightAfter, defined, definitions_in, definitions, widths_in, known_after, selection_of, selections, width_in, widths_of}
 use Rattle.dvi_ops.specs.Instruction.{Definition, BodyLeaf, SetChar, PutChar, SetRule, PutRule, Nop, Move, FontNum, FontDef, Xxx, Instruction, Do, Push, Pop, Bop, Eop, Pre, Post, PostPost}
-use Rattle.dvi_ops.proofs.Appends.{all_append, all_back, all_front, all_weaker, fonts_back}
+use Rattle.scaled_core.proofs.EachOf.{all_append, all_back, all_front, all_weaker}
+use Rattle.dvi_ops.proofs.Appends.{fonts_back}
 use Rattle.dvi_ops.proofs.SameMeaning.{SameWidths}
 use Rattle.dvi_scan.specs.Known.{IsAmong}
 use Rattle.dvi_scan.specs.Pass.{PassStateView, Between, Inside, with_marks, then_pass, passes, execute}

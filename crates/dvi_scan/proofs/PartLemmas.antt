@@ -3,7 +3,8 @@ use Rattle.std.proofs.Common.{◌≡◌, ◌≤◌, ◌<◌, ◌+◌, ◌++◌, 
 use Rattle.std.proofs.lemmas.Bool.{lt-ltb, ltb-true}
 use Rattle.std.specs.List.{AllByRecursion, flat_map}
 use Rattle.dvi_ops.specs.Instruction.{BodyLeaf, Nop, FontDef, Instruction, Do, Push, Pop, Bop, Eop}
-use Rattle.dvi_ops.specs.Body.{Mark, Position, DviState, Meaning, Acts, start}
+use Rattle.dvi_ops.specs.Body.{Position, DviState, Meaning, Acts, start}
+use Rattle.scaled_core.specs.Mark.{Mark}
 use Rattle.dvi_ops.specs.Forest.{Forest, Empty, Then, Group, flat, meaning, nests, and_then, ahead, restored}
 use Rattle.dvi_ops.specs.File.{FilePart, Idle, Defines, Shows, instructions, MarkedPage, page_then, pages_of, push_depth_of}
 use Rattle.dvi_scan.specs.Pass.{PassStateView, Between, Inside, with_marks, execute, then_pass, passes}

@@ -9,7 +9,8 @@ use Rattle.dvi_ops.specs.Table.{Spells, signed}
 use Rattle.dvi_ops.specs.Tokens.{Token, IsSpelled, says, written, places, pointers}
 use Rattle.dvi_ops.specs.File.{AreUnits, Frame, IsFile, MarkedPage, instructions}
 use Rattle.dvi_ops.specs.Fonts.{WidthsByName, FontsAreRight, defined, definitions, widths_in, selections, width_in, widths_of}
-use Rattle.dvi_ops.proofs.Appends.{all_both, all_weaker, fonts_front, length-places, length-pages}
+use Rattle.scaled_core.proofs.EachOf.{all_both, all_weaker}
+use Rattle.dvi_ops.proofs.Appends.{fonts_front, length-places, length-pages}
 use Rattle.dvi_ops.proofs.SameMeaning.{SameWidths, same_pages}
 use Rattle.dvi_scan.specs.Chain.{Links}
 use Rattle.dvi_scan.proofs.ChainLemmas.{says_front}

@@ -9,7 +9,8 @@ use Rattle.dvi_ops.specs.Body.{Acts, acts, kept}
 use Rattle.dvi_ops.specs.Tokens.{Token, IsSpelled, says, written, bop_place, places}
 use Rattle.dvi_ops.specs.Fonts.{WidthsByName, FontsAreRight, IsRightAfter, defined, definitions_in, definitions, widths_in, known_after, selection_of, selections, widths_of}
 use Rattle.dvi_ops.specs.File.{MarkedPage, AreUnits}
-use Rattle.dvi_ops.proofs.Appends.{all_append, all_front, all_back, all_weaker, says-append, written-append, places-append, fonts_append, fonts_front, fonts_back, definitions-append, selections-append}
+use Rattle.scaled_core.proofs.EachOf.{all_append, all_front, all_back, all_weaker}
+use Rattle.dvi_ops.proofs.Appends.{says-append, written-append, places-append, fonts_append, fonts_front, fonts_back, definitions-append, selections-append}
 use Rattle.dvi_ops.proofs.Frames.{begins, not_empty, one_list}
 use Rattle.dvi_scan.specs.Known.{HasSame}
 use Rattle.dvi_scan.specs.Pass.{PassStateView, Between, execute, then_pass, passes}

@@ -10,7 +10,7 @@ use Rattle.dvi_ops.specs.Fonts.{WidthsByName}
 use Rattle.dvi_ops.specs.Instruction.{Instruction, Bop, Postamble}
 use Rattle.dvi_ops.specs.Table.{Spells}
 use Rattle.dvi_ops.specs.Tokens.{Token, IsSpelled, bop_place, places, written}
-use Rattle.dvi_ops.proofs.Appends.{all_append}
+use Rattle.scaled_core.proofs.EachOf.{all_append}
 use Rattle.dvi_ops.proofs.Frames.{not_empty}
 use Rattle.dvi_scan.specs.Reached.{IsIn, IsReached, Left, ReadSoFar, all_left, after_bop, after_bops}
 use Rattle.dvi_scan.proofs.LeftLemmas.{bops_met}

@@ -4,7 +4,8 @@ use Rattle.std.specs.Option.{option_map}
 use Rattle.std.proofs.lemmas.Bool.{lt-ltb, le-ltb}
 use Rattle.std.proofs.lemmas.List.{map-append, reverse-append, length-reverse, length-map}
 use Rattle.dvi_ops.specs.Instruction.{BodyLeaf, Nop, FontDef, Instruction, Do, Push, Pop, Bop, Eop}
-use Rattle.dvi_ops.specs.Body.{Mark, Position, DviState, Meaning, Acts, acts, in_range, kept, kept_in, only}
+use Rattle.dvi_ops.specs.Body.{Position, DviState, Meaning, Acts, acts, in_range, kept, kept_in, only}
+use Rattle.scaled_core.specs.Mark.{Mark}
 use Rattle.dvi_ops.specs.File.{MarkedPage}
 use Rattle.dvi_ops.specs.View.{definition, view}
 use Rattle.dvi_ops.specs.declared.op.Op.{Op}

@@ -1,7 +1,8 @@
 -- The pass needs at most one width.
 use Rattle.std.proofs.Common.{◌≡◌, ℕ, ℤ, Option, Some, None, refl, ap}
 use Rattle.dvi_ops.specs.Instruction.{SetChar, PutChar, SetRule, PutRule, Nop, Move, FontNum, FontDef, Xxx, Instruction, Do, Push, Pop, Bop, Eop, Pre, Post, PostPost}
-use Rattle.dvi_ops.specs.Body.{Mark, Position, Widths, acts, glyph, glyph_of, kept, kept_in, put_glyph, set_glyph}
+use Rattle.dvi_ops.specs.Body.{Position, Widths, acts, glyph, glyph_of, kept, kept_in, put_glyph, set_glyph}
+use Rattle.scaled_core.specs.Mark.{Mark}
 use Rattle.dvi_scan.specs.Drawing.{always}
 use Rattle.dvi_scan.specs.Pass.{PassStateView, Between, Inside, with_marks, execute}
 use Rattle.dvi_scan.specs.Execution.{IsAsked}

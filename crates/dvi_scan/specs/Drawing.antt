@@ -1,7 +1,8 @@
 -- One instruction of a body in an open page, where the width of its character is known (DVItype, 15). Public clauses reach `always` alone; the rest
 -- is for private calls.
 use Rattle.std.specs.Prelude.{◌≡◌, ◌&&◌, if◌then◌else◌, [], ◌∷◌, List, map, reverse, ℤ, Option, Some, None, Result, Ok, Err, IsSome}
-use Rattle.dvi_ops.specs.Body.{Mark, Position, DviState, Meaning, Widths, in_range, kept_in}
+use Rattle.dvi_ops.specs.Body.{Position, DviState, Meaning, Widths, in_range, kept_in}
+use Rattle.scaled_core.specs.Mark.{Mark}
 use Rattle.dvi_ops.specs.File.{MarkedPage}
 use Rattle.dvi_scan.specs.declared.fault.DviCause.TheVariants.{Glyph, Range}
 use Rattle.dvi_scan.specs.Pass.{with_marks}

@@ -1,7 +1,8 @@
 -- One instruction in the state of the pass (DVItype, 15), and the rule that it breaks (own).
 use Rattle.std.specs.Prelude.{◌≡◌, ◌≢◌, ◌<◌, ◌≤◌, [], ◌∷◌, List, length, map, reverse, ℕ, ℤ, Option, Some, None, Result, Ok, Err, IsSome}
 use Rattle.dvi_ops.specs.Instruction.{SetChar, PutChar, Nop, FontDef, Instruction, Do, Push, Pop, Bop, Eop}
-use Rattle.dvi_ops.specs.Body.{Acts, Mark, DviState, Widths, kept, kept_in}
+use Rattle.dvi_ops.specs.Body.{Acts, DviState, Widths, kept, kept_in}
+use Rattle.scaled_core.specs.Mark.{Mark}
 use Rattle.dvi_ops.specs.File.{MarkedPage}
 use Rattle.dvi_scan.specs.declared.fault.DviCause.{DviCause}
 use Rattle.dvi_scan.specs.declared.fault.DviCause.TheVariants.{Opcode, Stack, Glyph, Range}

@@ -1,7 +1,8 @@
 -- The pass over the instructions between preamble and postamble, as DVItype does it: pages, and a stack of places inside a page (DVItype, 15).
 use Rattle.std.specs.Prelude.{◌++◌, [], ◌∷◌, List, length, ℕ, ℤ, nat_lt, if◌then◌else◌, Option, Some, None}
 use Rattle.dvi_ops.specs.Instruction.{Nop, FontDef, Instruction, Do, Push, Pop, Bop, Eop}
-use Rattle.dvi_ops.specs.Body.{Mark, Position, DviState, Meaning, Acts, start}
+use Rattle.dvi_ops.specs.Body.{Position, DviState, Meaning, Acts, start}
+use Rattle.scaled_core.specs.Mark.{Mark}
 use Rattle.dvi_ops.specs.File.{MarkedPage}
 
 -- The state of the pass: between pages; or inside a page with its counts, its marks so far, the places that pushes have saved (the last one first)

@@ -1,6 +1,7 @@
 -- What the values of the code represent (own).
 use Rattle.std.specs.Prelude.{[], ◌∷◌, List, map, Option, Some, None}
-use Rattle.dvi_ops.specs.Body.{Mark, Glyph, Rule, Special, Position, DviState}
+use Rattle.dvi_ops.specs.Body.{Position, DviState}
+use Rattle.scaled_core.specs.Mark.{Mark, Glyph, Rule, Special}
 use Rattle.dvi_ops.specs.File.{MarkedPage}
 use Rattle.dvi_scan.specs.declared.page.Mark.{Mark as PassMark}
 use Rattle.dvi_scan.specs.declared.page.Mark.TheVariants as marks

@@ -1,7 +1,8 @@
 //! The effect of an instruction of a body in an open page: the place and the font after it, and the mark that it makes (DVItype, 14 and 15).
 
 ghost use Rattle.std.specs.Prelude.{◌≡◌, [], List, Some, option_map};
-ghost use Rattle.dvi_ops.specs.Body.{Position as Spot, Special, Widths, acts, glyph as seen_glyph, kept_in, only, place_after, rule_at};
+ghost use Rattle.dvi_ops.specs.Body.{Position as Spot, Widths, acts, glyph as seen_glyph, kept_in, only, place_after, rule_at};
+ghost use Rattle.scaled_core.specs.Mark.{Special};
 ghost use Rattle.dvi_ops.specs.File.{MarkedPage};
 ghost use Rattle.dvi_ops.specs.Instruction.{Across, Downward, By, PutChar, PutRule, SetChar, SetRule, Xxx};
 ghost use Rattle.dvi_scan.specs.Drawing.{Draws, leads, always, reached};

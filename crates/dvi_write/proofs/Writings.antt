@@ -3,13 +3,13 @@ use Rattle.std.proofs.Common.{◌≡◌, ◌≢◌, ℕ, ◌+◌, ◌<◌, ◌^�
 use Rattle.std.specs.Prelude.{Bool, true, false, if◌then◌else◌, ◌⊎◌, Option, Some, None, Result, Ok, Err, OnOk, OnErr}
 use Rattle.std.proofs.Math.Seq.{take-append-add}
 use Rattle.std.proofs.lemmas.List.{nil_from_length}
-use Rattle.dvi_ops.proofs.Appends.{all_append}
+use Rattle.scaled_core.proofs.EachOf.{all_append}
 use Rattle.dvi_device.specs.Written.{written_then, GrowsByFront}
 use Rattle.dvi_device.proofs.Tellings.{grown-grown}
-use Rattle.ship_core.specs.Marks.{ShippedPage, is_huge}
+use Rattle.page_core.specs.Marks.{ShippedPage, is_huge}
 use Rattle.dvi_layout.specs.declared.fault.WriteFault.{WriteFault}
 use Rattle.dvi_layout.specs.declared.fault.WriteFault.TheVariants.{Device, HugePage, JobOver, OutOfMemory}
-use Rattle.dvi_layout.specs.Fonts.{Slots}
+use Rattle.tfm_core.specs.Slots.{Slots}
 use Rattle.dvi_layout.specs.MoreFonts.{Extends}
 use Rattle.dvi_layout.specs.Layout.{front, whole}
 use Rattle.dvi_layout.specs.Shippable.{IsRightPage}

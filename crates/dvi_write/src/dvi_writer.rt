@@ -41,14 +41,15 @@ impl<D: Device> DviWriter<D> {
     ghost use Rattle.std.specs.Prelude.{◌≡◌, ◌≢◌, ◌<◌, ◌+◌, ◌^◌, ◌++◌, ◌⊎◌, ◌∷◌, [], true, false, ℕ, List, Option, Some, None, length, IfOk, IfErr, OnOk, OnErr, Err, Result, nat_eq};
     ghost use Rattle.dvi_device.specs.Written.{written_then, GrowsByFront};
     ghost use Rattle.dvi_ops.specs.Fonts.{WidthsByName};
-    ghost use Rattle.ship_core.specs.Marks.{ShippedPage};
+    ghost use Rattle.page_core.specs.Marks.{ShippedPage};
     ghost use Rattle.dvi_layout.specs.declared.fault.WriteFault.{WriteFault};
-    ghost use Rattle.dvi_layout.specs.Fonts.{Slots};
+    ghost use Rattle.tfm_core.specs.Slots.{Slots};
     ghost use Rattle.dvi_layout.specs.SoFar.{next_bytes, last_bytes, with_next};
     ghost use Rattle.dvi_layout.specs.Layout.{front, whole};
     ghost use Rattle.dvi_layout.specs.Limits.{HasRoom};
     ghost use Rattle.dvi_layout.specs.Closing.{IsClosedFor};
-    ghost use Rattle.dvi_layout.specs.Shippable.{GivesFonts, IsFileOfPages, IsRightPage, IsShippable, page_with};
+    ghost use Rattle.dvi_layout.specs.Shippable.{GivesFonts, IsFileOfPages, IsRightPage, IsShippable};
+    ghost use Rattle.page_core.specs.Pages.{page_with};
     ghost use Rattle.dvi_write.specs.Writing.{EndsWith, HasWritten, MayFail, RefusesPage, refusal_of};
 
     /// A writer to a device. It takes no memory, and sends nothing. What the device reported before is named in the clauses, so that callers need not

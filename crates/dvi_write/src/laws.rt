@@ -1,8 +1,8 @@
 //! A law about what was written.
 
 ghost use Rattle.std.specs.Prelude.{ℕ, List, Option};
-ghost use Rattle.ship_core.specs.Marks.{ShippedPage};
-ghost use Rattle.dvi_layout.specs.Fonts.{Slots};
+ghost use Rattle.page_core.specs.Marks.{ShippedPage};
+ghost use Rattle.tfm_core.specs.Slots.{Slots};
 ghost use Rattle.dvi_layout.specs.MoreFonts.{Extends};
 ghost use Rattle.dvi_write.specs.Writing.{HasWritten, Writing};
 

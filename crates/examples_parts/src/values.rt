@@ -1,7 +1,7 @@
 //! The values that the examples are run on.
 
 ghost use Rattle.std.specs.Prelude.{IfOk};
-ghost use Rattle.dvi_layout.specs.Fonts.{Slots};
+ghost use Rattle.tfm_core.specs.Slots.{Slots};
 ghost use Rattle.dvi_layout.specs.Shippable.{IsShippable};
 
 use node_core::{BoxNode, Glue, Kind, Node, NodeList, Params, Rule, RuleSize, Setting};

@@ -11,12 +11,12 @@ use Rattle.dvi_ops.proofs.Layouts.{length-bytes_of-append}
 use Rattle.dvi_ops.proofs.Shortest.{postamble_length, ending_length}
 use Rattle.node_core.specs.Nodes.{box_count, box_text}
 use Rattle.node_core.specs.declared.limits.TheConstants.{MAX_PAGES, MAX_SHIPPED_NODES, MAX_SHIPPED_TEXT}
-use Rattle.ship_core.specs.Marks.{ShippedPage, is_huge}
+use Rattle.page_core.specs.Marks.{ShippedPage, is_huge}
 use Rattle.tfm_core.specs.NamedBytes.{NamedBytes}
 use Rattle.dvi_layout.specs.declared.fault.WriteFault.{WriteFault}
 use Rattle.dvi_layout.specs.declared.fault.WriteFault.TheVariants.{JobOver, TooManyPages, TooMuchShipped, TooMuchSpecial, HugePage}
-use Rattle.dvi_layout.specs.declared.fonts.LoadedFont.{LoadedFont}
-use Rattle.dvi_layout.specs.Fonts.{Slots, IsDefinable, AreDefinable}
+use Rattle.tfm_core.specs.declared.slots.LoadedFont.{LoadedFont}
+use Rattle.tfm_core.specs.Slots.{Slots, IsDefinable, AreDefinable}
 use Rattle.dvi_layout.specs.Sheets.{definitions_of, in_rising_order}
 use Rattle.dvi_layout.specs.Layout.{front, whole}
 use Rattle.dvi_layout.specs.Shippable.{IsRightPage}

@@ -5,7 +5,7 @@ use Rattle.job_commands.specs.declared.replies.Refusal.TheVariants.{OutOfMemory,
 use Rattle.job_commands.specs.declared.replies.Summary.{Summary}
 use Rattle.dvi_device.specs.Written.{written_then, GrowsByFront, IsFrontOf}
 use Rattle.dvi_ops.specs.Fonts.{WidthsByName}
-use Rattle.dvi_layout.specs.Fonts.{Slots}
+use Rattle.tfm_core.specs.Slots.{Slots}
 use Rattle.dvi_layout.specs.Layout.{whole}
 use Rattle.dvi_layout.specs.SoFar.{ProgressView}
 use Rattle.dvi_layout.specs.Shippable.{GivesFonts, IsFileOfPages}

@@ -10,18 +10,18 @@ use Rattle.tfm_core.specs.declared.font.GlyphSize.{GlyphSize}
 use Rattle.node_core.specs.declared.tree.Glyph as glyph_type
 use Rattle.node_core.specs.declared.tree.BoxNode.{BoxNode}
 use Rattle.node_core.specs.Items.{Leaf, glyph, font_kern, kern, glue, penalty, rule, special}
-use Rattle.dvi_ops.proofs.Appends.{all_append, all_weaker}
-use Rattle.dvi_layout.specs.declared.fonts.LoadedFont.{LoadedFont}
+use Rattle.scaled_core.proofs.EachOf.{all_append, all_weaker, each_set, each_copy, each_held}
+use Rattle.tfm_core.specs.declared.slots.LoadedFont.{LoadedFont}
 use Rattle.job_commands.specs.declared.command.Command.{Command}
 use Rattle.job_commands.specs.declared.command.Command.TheVariants.{LoadFont, UseFont, Open, Paragraph, End, Text, Character, Rule, Kern, Glue, Penalty, Append, Unbox, LastBox, Split, Measure, Void, Set, Count, Special, Ship}
 use Rattle.job_commands.specs.declared.replies.Refusal.{Refusal}
 use Rattle.job_commands.specs.Reply.{Reply}
-use Rattle.dvi_layout.specs.Fonts.{Slots, font_in}
+use Rattle.tfm_core.specs.Slots.{Slots, font_in}
 use Rattle.job_machine.specs.FontSlots.{font_of_slot, with_font, glyph_by}
 use Rattle.job_state.specs.Sized.{IsSizedLeaf, IsSoundBox, HasSizedGlyphs}
-use Rattle.dvi_layout.proofs.Leaves.{each_leaf}
+use Rattle.node_core.proofs.Leaves.{each_leaf}
 use Rattle.job_machine.proofs.KeptRest.{KeepsRest, end_keeps, append_keeps, unbox_keeps}
-use Rattle.ship_core.specs.Marks.{ShippedPage}
+use Rattle.page_core.specs.Marks.{ShippedPage}
 use Rattle.job_machine.specs.State.{State, font_for, held_in}
 use Rattle.job_machine.specs.Checks.{checks, first_refusal}
 use Rattle.job_machine.specs.NextPages.{shipped_pages}
@@ -29,7 +29,6 @@ use Rattle.job_machine.specs.Effects.{after, new_pages}
 use Rattle.job_machine.specs.Machine.{Machine, first_machine, state_by}
 use Rattle.job_machine.specs.Runs.{StepsTo, Replies, LacksMemory, LosesDevice, Run}
 use Rattle.job_core.specs.GlyphWidths.{HasFileWidth, IsMeasured, IsMeasuredPage}
-use Rattle.dvi_layout.proofs.EachOf.{each_set, each_copy, each_held}
 use Rattle.job_state.proofs.SizedGlyphs.{sized_first, sized_after, sized_held, stays_sized}
 use Rattle.job_state.proofs.LoadedFonts.{read_again, widths_in}
 

@@ -8,8 +8,8 @@ use Rattle.job_commands.specs.declared.replies.Answer.{Answer}
 use Rattle.job_commands.specs.declared.replies.Refusal.{Refusal}
 use Rattle.job_commands.specs.declared.replies.Refusal.TheVariants.{OutOfMemory, Device, JobOver}
 use Rattle.job_commands.specs.Reply.{Reply}
-use Rattle.ship_core.specs.Marks.{ShippedPage}
-use Rattle.dvi_layout.specs.Fonts.{Slots}
+use Rattle.page_core.specs.Marks.{ShippedPage}
+use Rattle.tfm_core.specs.Slots.{Slots}
 use Rattle.dvi_device.specs.Written.{written_then, GrowsByFront}
 use Rattle.dvi_device.proofs.Tellings.{grown-grown}
 use Rattle.dvi_layout.specs.Layout.{front}

@@ -3,7 +3,7 @@ use Rattle.std.proofs.Common.{◌≡◌, ℕ, List, [], Option, Some, None, refl
 use Rattle.std.specs.Prelude.{IfSome}
 use Rattle.tfm_core.specs.NamedBytes.{NamedBytes}
 use Rattle.dvi_device.specs.Written.{written_then}
-use Rattle.dvi_layout.specs.Fonts.{Slots}
+use Rattle.tfm_core.specs.Slots.{Slots}
 use Rattle.dvi_layout.specs.Layout.{front}
 use Rattle.dvi_layout.specs.SoFar.{ProgressView}
 use Rattle.dvi_write.specs.Writing.{Writing, HasWritten}

@@ -7,10 +7,10 @@ use Rattle.tfm_core.specs.NamedBytes.{NamedBytes}
 use Rattle.node_core.specs.declared.tree.BoxNode.{BoxNode}
 use Rattle.node_core.specs.Items.{Leaf, glyph, font_kern, kern, glue, penalty, rule, special}
 use Rattle.ship_core.specs.Shown.{HasWidth}
-use Rattle.dvi_layout.specs.declared.fonts.LoadedFont.{LoadedFont}
-use Rattle.dvi_layout.specs.Fonts.{Slots, font_in}
+use Rattle.tfm_core.specs.declared.slots.LoadedFont.{LoadedFont}
+use Rattle.tfm_core.specs.Slots.{Slots, font_in}
 use Rattle.dvi_layout.specs.Shippable.{slot_widths, IsShippable}
-use Rattle.dvi_layout.proofs.Leaves.{each_leaf}
+use Rattle.node_core.proofs.Leaves.{each_leaf}
 use Rattle.job_machine.specs.FontSlots.{glyph_by}
 use Rattle.job_state.specs.Loaded.{AreLoaded}
 use Rattle.job_state.specs.Sized.{IsSizedLeaf, IsSoundBox}

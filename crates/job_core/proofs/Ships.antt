@@ -12,14 +12,15 @@ use Rattle.job_commands.specs.declared.replies.Refusal.TheVariants.{JobOver, Voi
 use Rattle.node_core.specs.declared.limits.TheConstants.{MAX_PAGES, MAX_SHIPPED_NODES, MAX_SHIPPED_TEXT}
 use Rattle.job_commands.specs.Reply.{Reply}
 use Rattle.dvi_device.specs.Written.{written_then, GrowsByFront}
-use Rattle.ship_core.specs.Marks.{ShippedPage, is_huge}
-use Rattle.dvi_layout.specs.declared.page.Offsets.{Offsets}
+use Rattle.page_core.specs.Marks.{ShippedPage, is_huge}
+use Rattle.page_core.specs.declared.offsets.Offsets.{Offsets}
 use Rattle.dvi_layout.specs.declared.fault.WriteFault.{WriteFault}
 use Rattle.dvi_layout.specs.declared.fault.WriteFault.TheVariants as faults
-use Rattle.dvi_layout.specs.Fonts.{Slots}
+use Rattle.tfm_core.specs.Slots.{Slots}
 use Rattle.dvi_layout.specs.Layout.{front}
 use Rattle.dvi_layout.specs.SoFar.{ProgressView, with_next}
-use Rattle.dvi_layout.specs.Shippable.{IsShippable, page_with}
+use Rattle.dvi_layout.specs.Shippable.{IsShippable}
+use Rattle.page_core.specs.Pages.{page_with}
 use Rattle.dvi_write.specs.Writing.{Writing, HasWritten, EndsWith, refusal_of}
 use Rattle.job_machine.specs.State.{State, held_in, shipped_with}
 use Rattle.job_machine.specs.Checks.{checks, first_refusal}

@@ -3,9 +3,9 @@ use Rattle.std.specs.Prelude.{◌≡◌, ℤ, pos, Option, Some}
 use Rattle.tfm_core.specs.FileWidths.{file_widths}
 use Rattle.node_core.specs.declared.tree.Glyph.{Glyph}
 use Rattle.node_core.specs.Items.{Leaf, IfGlyph, EachLeaf}
-use Rattle.dvi_layout.specs.declared.fonts.LoadedFont.{LoadedFont}
-use Rattle.dvi_layout.specs.Fonts.{font_in}
-use Rattle.ship_core.specs.Marks.{ShippedPage}
+use Rattle.tfm_core.specs.declared.slots.LoadedFont.{LoadedFont}
+use Rattle.tfm_core.specs.Slots.{font_in}
+use Rattle.page_core.specs.Marks.{ShippedPage}
 use Rattle.job_machine.specs.State.{State}
 
 -- The slot of a glyph has a font, for whose name and size the font files give widths; and the glyph has the width of its character.

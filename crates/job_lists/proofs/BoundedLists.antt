@@ -7,7 +7,7 @@ use Rattle.std.proofs.lemmas.List.{length-take}
 use Rattle.job_commands.specs.declared.replies.Refusal.{Refusal}
 use Rattle.job_commands.specs.declared.replies.Refusal.TheVariants.{DimensionTooLarge, ListTooLong}
 use Rattle.node_core.specs.declared.limits.TheConstants.{MAX_ITEMS, MAX_OPEN_LISTS}
-use Rattle.dvi_layout.proofs.EachOf.{each_at, each_set, each_taken}
+use Rattle.scaled_core.proofs.EachOf.{each_at, each_set, each_taken}
 use Rattle.node_core.proofs.NodeLemmas.{nodes_of-items_of}
 use Rattle.node_core.specs.Items.{Items}
 use Rattle.node_core.specs.Nodes.{items_of, nodes_of}

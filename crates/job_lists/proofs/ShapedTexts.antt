@@ -12,7 +12,7 @@ use Rattle.job_commands.specs.declared.replies.Refusal.{Refusal}
 use Rattle.job_commands.specs.declared.replies.Refusal.TheVariants.{ListTooLong}
 use Rattle.job_commands.specs.declared.replies.Answer.TheVariants.{Shaped}
 use Rattle.shape_core.specs.Texts.{text_items, text_missing}
-use Rattle.dvi_layout.specs.declared.fonts.LoadedFont.{LoadedFont}
+use Rattle.tfm_core.specs.declared.slots.LoadedFont.{LoadedFont}
 use Rattle.job_machine.specs.FontSlots.{CharacterItems, unshaped, text_items_in}
 use Rattle.job_machine.specs.Answers.{shaped_answer}
 use Rattle.job_machine.specs.declared.OpenList.{OpenList}

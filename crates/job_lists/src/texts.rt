@@ -7,12 +7,12 @@ ghost use Rattle.job_machine.specs.Checks.{room_checks, first_refusal};
 ghost use Rattle.job_machine.specs.Answers.{shaped_answer};
 ghost use Rattle.job_machine.specs.Machine.{reply_by, state_by};
 
-use dvi_layout::LoadedFont;
 use job_commands::{Answer, Refusal, Reply};
 use node_core::Node;
 use node_core::limits::MAX_ITEMS;
 use shape_core::{Missing, shape_character, shape_text};
 use std::alloc::AllocError;
+use tfm_core::LoadedFont;
 
 /// The reply to characters whose items were appended after the first `before` ones. Where the list is then longer than `MAX_ITEMS`, it is cut back.
 fn keep_shaped(items: &mut Vec<Node>, before: usize, missing: Missing) -> Reply

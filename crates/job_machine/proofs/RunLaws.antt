@@ -4,7 +4,7 @@ use Rattle.std.specs.Prelude.{is_none, nat_le, nat_lt}
 use Rattle.node_core.specs.declared.limits.TheConstants.{MAX_PAGES, MAX_SHIPPED_NODES, MAX_SHIPPED_TEXT}
 use Rattle.node_core.specs.declared.tree.BoxNode.{BoxNode}
 use Rattle.tfm_core.specs.NamedBytes.{NamedBytes}
-use Rattle.ship_core.specs.Marks.{ShippedPage}
+use Rattle.page_core.specs.Marks.{ShippedPage}
 use Rattle.job_commands.specs.declared.command.Command.{Command}
 use Rattle.job_commands.specs.declared.command.Command.TheVariants.{LoadFont, UseFont, Open, Paragraph, End, Text, Character, Rule, Kern, Glue, Penalty, Append, Unbox, LastBox, Split, Measure, Void, Set, Count, Special, Ship}
 use Rattle.job_commands.specs.declared.replies.Refusal.{Refusal}

@@ -24,7 +24,7 @@ use Rattle.scaled_core.specs.Dimensions.{fits}
 use Rattle.node_core.specs.Classes.{shrinks_infinitely}
 use Rattle.vert_split.specs.Split.{split_numbers}
 use Rattle.tfm_core.specs.Fonts.{SizedFont}
-use Rattle.dvi_layout.specs.Fonts.{font_in}
+use Rattle.tfm_core.specs.Slots.{font_in}
 use Rattle.job_machine.specs.FontSlots.{current_font, CharacterItems, text_shaped, character_shaped}
 use Rattle.job_machine.specs.State.{State, innermost, outer, items_in, open_count, held_in, shipped_with, font_for}
 use Rattle.job_machine.specs.NextPages.{is_huge_in}

@@ -21,7 +21,7 @@ use Rattle.job_commands.specs.declared.command.Command.{Command}
 use Rattle.job_commands.specs.declared.command.Command.TheVariants.{LoadFont, UseFont, Open, Paragraph, End, Text, Character, Rule, Kern, Glue, Penalty, Append, Unbox, LastBox, Split, Measure, Void, Set, Count, Special, Ship}
 use Rattle.pack_core.specs.declared.pack.Packed as packs
 use Rattle.vert_split.specs.Split.{front_of, rest_of}
-use Rattle.ship_core.specs.Marks.{ShippedPage}
+use Rattle.page_core.specs.Marks.{ShippedPage}
 use Rattle.job_machine.specs.FontSlots.{with_font, text_shaped, character_shaped}
 use Rattle.job_machine.specs.State.{State, innermost, outer, with_innermost, items_in, held_in, shipped_with, font_for}
 use Rattle.job_machine.specs.NextPages.{shipped_pages}

@@ -10,8 +10,8 @@ use Rattle.shape_core.specs.Shaping.{shaped_items, shaped_missing}
 use Rattle.shape_core.specs.Texts.{text_items, text_missing}
 use Rattle.shape_core.specs.Spaces.{space_glue}
 use Rattle.node_core.specs.declared.tree.Node.{Node}
-use Rattle.dvi_layout.specs.declared.fonts.LoadedFont.{LoadedFont}
-use Rattle.dvi_layout.specs.Fonts.{Slots, font_in}
+use Rattle.tfm_core.specs.declared.slots.LoadedFont.{LoadedFont}
+use Rattle.tfm_core.specs.Slots.{Slots, font_in}
 use Rattle.job_commands.specs.declared.replies.Refusal.{Refusal}
 use Rattle.job_commands.specs.declared.replies.Refusal.TheVariants.{NoFont, BadTfm, DimensionTooLarge}
 

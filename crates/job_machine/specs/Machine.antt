@@ -4,7 +4,7 @@ use Rattle.job_commands.specs.declared.command.Command.{Command}
 use Rattle.job_commands.specs.declared.replies.Answer.{Answer}
 use Rattle.job_commands.specs.declared.replies.Refusal.{Refusal}
 use Rattle.job_commands.specs.Reply.{Reply}
-use Rattle.ship_core.specs.Marks.{ShippedPage}
+use Rattle.page_core.specs.Marks.{ShippedPage}
 use Rattle.tfm_core.specs.NamedBytes.{NamedBytes}
 use Rattle.job_machine.specs.State.{State, first_state}
 use Rattle.job_machine.specs.Checks.{first_refusal, checks}

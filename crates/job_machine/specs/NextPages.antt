@@ -2,9 +2,9 @@
 use Rattle.std.specs.Prelude.{◌∷◌, [], Bool, false, List, Option, Some, None}
 use Rattle.node_core.specs.declared.tree.BoxNode.{BoxNode}
 use Rattle.node_core.specs.declared.params.Params.{Params}
-use Rattle.ship_core.specs.Marks.{ShippedPage, is_huge}
-use Rattle.dvi_layout.specs.declared.page.Offsets.{Offsets}
-use Rattle.dvi_layout.specs.Shippable.{page_with}
+use Rattle.page_core.specs.Marks.{ShippedPage, is_huge}
+use Rattle.page_core.specs.declared.offsets.Offsets.{Offsets}
+use Rattle.page_core.specs.Pages.{page_with}
 use Rattle.job_machine.specs.State.{State}
 
 -- How far pages are moved: hoffset to the right and voffset down.

@@ -7,7 +7,7 @@ use Rattle.job_commands.specs.declared.replies.Refusal.TheVariants.{OutOfMemory,
 use Rattle.job_commands.specs.declared.replies.Summary.{Summary}
 use Rattle.job_commands.specs.Reply.{Reply}
 use Rattle.tfm_core.specs.NamedBytes.{file_named}
-use Rattle.dvi_layout.specs.Fonts.{font_in}
+use Rattle.tfm_core.specs.Slots.{font_in}
 use Rattle.node_core.specs.declared.params.Params.{Params}
 use Rattle.node_core.specs.declared.params.SplitParams.{SplitParams}
 use Rattle.node_core.specs.declared.tree.BoxNode.{BoxNode}

@@ -13,8 +13,8 @@ use Rattle.node_core.specs.declared.limits.TheConstants.{REGISTERS, COUNTS}
 use Rattle.job_commands.specs.declared.replies.Refusal.{Refusal}
 use Rattle.tfm_core.specs.NamedBytes.{NamedBytes, file_named}
 use Rattle.tfm_core.specs.Fonts.{SizedFont}
-use Rattle.dvi_layout.specs.Fonts.{Slots}
-use Rattle.node_core.specs.declared.limits.TheConstants.{FONT_SLOTS}
+use Rattle.tfm_core.specs.Slots.{Slots}
+use Rattle.tfm_core.specs.declared.slots.TheConstants.{FONT_SLOTS}
 use Rattle.job_machine.specs.FontSlots.{font_of_slot}
 
 -- What commands read and change: the font files; the fonts by slot, and the slot of the current one; the parameters; the open lists, the

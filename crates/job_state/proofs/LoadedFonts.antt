@@ -11,19 +11,19 @@ use Rattle.tfm_core.specs.Rules.{metric_file}
 use Rattle.tfm_core.specs.Fonts.{SizedFont, HasNumbers, chosen_size, fits_at, font_at, glyph_of}
 use Rattle.tfm_core.specs.FileWidths.{file_widths, widths_of_file, widths_by, width_at}
 use Rattle.tfm_core.proofs.ByteLemmas.{byte-glyph_of}
-use Rattle.dvi_layout.specs.declared.fonts.LoadedFont.{LoadedFont}
+use Rattle.tfm_core.specs.declared.slots.LoadedFont.{LoadedFont}
 use Rattle.job_commands.specs.declared.command.Command.{Command}
 use Rattle.job_commands.specs.declared.command.Command.TheVariants.{LoadFont, UseFont, Open, Paragraph, End, Text, Character, Rule, Kern, Glue, Penalty, Append, Unbox, LastBox, Split, Measure, Void, Set, Count, Special, Ship}
 use Rattle.job_commands.specs.declared.replies.Refusal.{Refusal}
 use Rattle.job_commands.specs.declared.replies.Refusal.TheVariants.{DimensionTooLarge}
-use Rattle.dvi_layout.specs.Fonts.{Slots, font_in}
+use Rattle.tfm_core.specs.Slots.{Slots, font_in}
 use Rattle.job_machine.specs.FontSlots.{sized_font, font_of_slot, with_font}
 use Rattle.job_machine.proofs.KeptRest.{KeepsRest, end_keeps, append_keeps, unbox_keeps}
 use Rattle.job_state.specs.Loaded.{IsLoaded, AreLoaded, GivesNumbersFor}
 use Rattle.job_machine.specs.State.{State, font_for}
 use Rattle.job_machine.specs.Checks.{checks, first_refusal}
 use Rattle.job_machine.specs.Effects.{after}
-use Rattle.dvi_layout.proofs.EachOf.{each_set, each_copy, each_held, held_within}
+use Rattle.scaled_core.proofs.EachOf.{each_set, each_copy, each_held, held_within}
 
 -- A metric file whose sizes fit gives the font of these sizes.
 given_by : (b : Bool) (font other : SizedFont) → cond b (Ok font) (Err DimensionTooLarge) ≡ Ok other → (b ≡ true) × (font ≡ other)

@@ -23,9 +23,8 @@ use Rattle.vert_core.specs.declared.paragraph.ParagraphFault.TheVariants.{Dimens
 use Rattle.vert_core.specs.Lines.{BrokenParagraph, boxed_line, line_box, line_begin, line_items, depth_before, penalty_after, penalty_nodes, brought_by, vertical_items, lines_fit}
 use Rattle.vert_core.specs.Finished.{final_glue, without_glue, finished}
 use Rattle.vert_core.specs.Setting.{ChosenLines, chosen_lines, lined, set_by, set_if_fit, set_or, list_setting, setting}
-use Rattle.dvi_ops.proofs.Appends.{all_append, all_weaker}
-use Rattle.dvi_layout.specs.Fonts.{Slots}
-use Rattle.dvi_layout.proofs.EachOf.{each_taken}
+use Rattle.scaled_core.proofs.EachOf.{all_append, all_weaker, each_taken}
+use Rattle.tfm_core.specs.Slots.{Slots}
 use Rattle.job_state.proofs.SplitParts.{each_dropped}
 use Rattle.job_state.specs.Sized.{HasSizes, IsSizedLeaf, IsSized, AreSized}
 

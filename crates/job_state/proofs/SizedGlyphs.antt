@@ -20,20 +20,19 @@ use Rattle.tfm_core.specs.Fonts.{SizedFont, glyph_of, step_of}
 use Rattle.shape_core.specs.Shaping.{IsGlyphOf}
 use Rattle.shape_core.specs.Spaces.{space_glue}
 use Rattle.shape_core.proofs.GlyphLemmas.{shaped_items-glyphs, text_items-glyphs}
-use Rattle.dvi_ops.proofs.Appends.{all_append, all_weaker}
+use Rattle.scaled_core.proofs.EachOf.{all_append, all_weaker, each_taken, each_set, each_at, each_copy, each_held}
 use Rattle.pack_core.specs.declared.pack.Packed as packs
 use Rattle.pack_core.specs.declared.pack.TooLarge.{TooLarge}
 use Rattle.job_machine.specs.declared.OpenList.{OpenList}
-use Rattle.dvi_layout.specs.declared.fonts.LoadedFont.{LoadedFont}
+use Rattle.tfm_core.specs.declared.slots.LoadedFont.{LoadedFont}
 use Rattle.job_commands.specs.declared.command.Command.{Command}
 use Rattle.job_commands.specs.declared.command.Command.TheVariants.{LoadFont, UseFont, Open, Paragraph, End, Text, Character, Rule, Kern, Glue, Penalty, Append, Unbox, LastBox, Split, Measure, Void, Set, Count, Special, Ship}
 use Rattle.job_commands.specs.declared.command.FontLoad.{FontLoad}
 use Rattle.job_commands.specs.declared.replies.Refusal.{Refusal}
 use Rattle.job_commands.specs.declared.replies.Refusal.TheVariants.{SlotTaken, NoOpenList, TooDeep, ListTooLong, JobOver}
-use Rattle.dvi_layout.specs.Fonts.{Slots, font_in}
+use Rattle.tfm_core.specs.Slots.{Slots, font_in}
 use Rattle.job_machine.specs.FontSlots.{with_font, glyph_by, text_items_in, character_in, text_shaped, character_shaped}
-use Rattle.dvi_layout.proofs.EachOf.{each_taken, each_set, each_at, each_copy, each_held}
-use Rattle.dvi_layout.proofs.Leaves.{each_leaf}
+use Rattle.node_core.proofs.Leaves.{each_leaf}
 use Rattle.job_machine.proofs.KeptRest.{KeepsRest, end_keeps, append_keeps, unbox_keeps}
 use Rattle.job_machine.proofs.PackedItems.{packed_items}
 use Rattle.job_state.proofs.SplitParts.{inner_nodes, rest_sound, front_sound}

@@ -14,9 +14,8 @@ use Rattle.pack_core.specs.Boxes.{vbox}
 use Rattle.vert_split.specs.Places.{is_box_or_rule}
 use Rattle.vert_split.specs.Split.{from_box_or_rule, is_special, specials_above, split_place, topped, left_of, items_after, packed_rest, front_of, rest_of}
 use Rattle.node_core.specs.declared.limits.TheConstants.{MAX_DEPTH}
-use Rattle.dvi_ops.proofs.Appends.{all_append}
-use Rattle.dvi_layout.specs.Fonts.{Slots}
-use Rattle.dvi_layout.proofs.EachOf.{each_taken}
+use Rattle.scaled_core.proofs.EachOf.{all_append, each_taken}
+use Rattle.tfm_core.specs.Slots.{Slots}
 use Rattle.job_state.specs.Sized.{HasSizes, IsSizedLeaf, IsSoundBox, IsSizedHeld}
 
 module _ {A : Type 0} (P : A → Type 0) where

@@ -5,7 +5,7 @@ use Rattle.node_core.specs.declared.tree.BoxNode.{BoxNode}
 use Rattle.node_core.specs.declared.params.Params.{Params}
 use Rattle.job_machine.specs.declared.OpenList.{OpenList}
 use Rattle.tfm_core.specs.NamedBytes.{NamedBytes}
-use Rattle.dvi_layout.specs.Fonts.{Slots}
+use Rattle.tfm_core.specs.Slots.{Slots}
 use Rattle.job_machine.specs.State.{State}
 
 -- The font files; the fonts by slot, and the slot of the current one; the parameters; the open lists, the outermost first; the registers by number;

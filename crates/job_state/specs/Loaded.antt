@@ -3,12 +3,12 @@ use Rattle.std.specs.Prelude.{◌≡◌, List, length, Some, Ok, IfOk, IfSome}
 use Rattle.std.specs.List.{AllByRecursion}
 use Rattle.tfm_core.specs.NamedBytes.{NamedBytes, IsFontName, file_named}
 use Rattle.tfm_core.specs.Fonts.{HasNumbers}
-use Rattle.dvi_layout.specs.declared.fonts.LoadedFont.{LoadedFont}
+use Rattle.tfm_core.specs.declared.slots.LoadedFont.{LoadedFont}
 use Rattle.job_commands.specs.declared.command.FontLoad.{FontLoad}
 use Rattle.job_commands.specs.declared.command.Command.{Command}
 use Rattle.job_commands.specs.declared.command.Command.TheVariants.{LoadFont}
-use Rattle.dvi_layout.specs.Fonts.{Slots}
-use Rattle.node_core.specs.declared.limits.TheConstants.{FONT_SLOTS}
+use Rattle.tfm_core.specs.Slots.{Slots}
+use Rattle.tfm_core.specs.declared.slots.TheConstants.{FONT_SLOTS}
 use Rattle.job_machine.specs.FontSlots.{font_of_slot}
 use Rattle.job_machine.specs.State.{State, font_for}
 

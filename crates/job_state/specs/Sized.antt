@@ -8,7 +8,7 @@ use Rattle.node_core.specs.declared.tree.BoxNode.{BoxNode}
 use Rattle.node_core.specs.Items.{Leaf, IfGlyph, EachLeaf}
 use Rattle.node_core.specs.Nodes.{nodes_of, box_depth}
 use Rattle.job_machine.specs.declared.OpenList.{OpenList}
-use Rattle.dvi_layout.specs.Fonts.{Slots, font_in}
+use Rattle.tfm_core.specs.Slots.{Slots, font_in}
 use Rattle.job_machine.specs.FontSlots.{glyph_by}
 use Rattle.node_core.specs.declared.limits.TheConstants.{MAX_DEPTH}
 use Rattle.job_machine.specs.State.{State}

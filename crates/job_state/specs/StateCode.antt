@@ -9,8 +9,8 @@ use Rattle.node_core.specs.contracts.params.Params as params_code
 use Rattle.job_machine.specs.declared.OpenList.{OpenList}
 use Rattle.job_machine.specs.contracts.OpenList as open_list
 use Rattle.tfm_core.specs.NamedBytes.{NamedBytes}
-use Rattle.dvi_layout.specs.declared.fonts.LoadedFont.{LoadedFont}
-use Rattle.dvi_layout.specs.contracts.fonts.LoadedFont as loaded_font
+use Rattle.tfm_core.specs.declared.slots.LoadedFont.{LoadedFont}
+use Rattle.tfm_core.specs.contracts.slots.LoadedFont as loaded_font
 use Rattle.job_machine.specs.State.{State}
 use Rattle.job_state.specs.JobStateView.{JobStateView, state_of}
 

@@ -15,15 +15,15 @@ mod boxes;
 mod lists;
 
 use crate::registers::Registers;
-use dvi_layout::{Fonts, LoadedFont, Offsets};
 use job_commands::{Answer, Counting, FontLoad, Parameter, Refusal, Reply};
 use job_lists::fonts::read_font;
 use job_lists::nest::Nest;
 use node_core::Params;
 use node_core::limits::COUNTS;
+use page_core::Offsets;
 use std::alloc::{AllocError, Global};
 use std::marker::Model;
-use tfm_core::{FontFile, file_named};
+use tfm_core::{FontFile, Fonts, LoadedFont, file_named};
 
 /// The state of a job without the writer of its file: font files, fonts, parameters, open lists, registers and counts.
 ///

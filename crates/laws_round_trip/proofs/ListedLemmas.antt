@@ -11,7 +11,7 @@ use Rattle.boxglue_print.specs.Outputs.{IsListed}
 use Rattle.dvi_layout.specs.Shippable.{IsFileOfPages, read_page}
 use Rattle.boxglue_program.specs.Runs.{RanScript}
 use Rattle.laws_round_trip.specs.ReadBack.{ListsPages}
-use Rattle.ship_core.specs.Marks.{ShippedPage}
+use Rattle.page_core.specs.Marks.{ShippedPage}
 use Rattle.tfm_core.specs.FileWidths.{file_widths}
 use Rattle.tfm_core.specs.NamedBytes.{NamedBytes}
 

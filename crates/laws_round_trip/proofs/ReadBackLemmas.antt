@@ -9,7 +9,7 @@ use Rattle.job_core.specs.Jobs.{Represents, JobView}
 use Rattle.dvi_layout.specs.Shippable.{IsFileOfPages, read_page}
 use Rattle.job_core.specs.Shown.{FilesPages}
 use Rattle.job_machine.specs.Machine.{Machine}
-use Rattle.ship_core.specs.Marks.{ShippedPage}
+use Rattle.page_core.specs.Marks.{ShippedPage}
 use Rattle.laws_round_trip.specs.ReadBack.{IsReadBack}
 use Rattle.tfm_core.specs.FileWidths.{file_widths}
 use Rattle.tfm_core.specs.NamedBytes.{NamedBytes}

@@ -5,7 +5,7 @@ use Rattle.dvi_read.specs.Opened.{Opened, GivesPages, IsExact}
 use Rattle.dvi_read.specs.declared.fault.DviFault.{DviFault}
 use Rattle.dvi_layout.specs.Shippable.{read_page}
 use Rattle.job_machine.specs.Machine.{Machine}
-use Rattle.ship_core.specs.Marks.{ShippedPage}
+use Rattle.page_core.specs.Marks.{ShippedPage}
 
 -- A call that opens these bytes with the machine's font files and is exact gives the machine's pages, or memory is refused.
 abbrev pub IsReadBack : Machine → List ℕ → Type 0

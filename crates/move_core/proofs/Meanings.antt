@@ -1,7 +1,8 @@
 -- A body and what is written for it mean the same from every state, and pass through the same places.
 use Rattle.std.proofs.Common.{◌≡◌, ◌++◌, ◌∷◌, List, ℤ, Option, Some, None, Bool, refl, ap, ap₂, ◌+ℤ◌}
 use Rattle.dvi_ops.specs.Instruction.{Across, Downward, By, Set, Again, BodyLeaf, SetChar, PutChar, Move, Do}
-use Rattle.dvi_ops.specs.Body.{Mark, MoveRegisters, Position, DviState, Widths, Meaning, acts, only, glyph, glyph_of, set_glyph, put_glyph, held_after}
+use Rattle.dvi_ops.specs.Body.{MoveRegisters, Position, DviState, Widths, Meaning, acts, only, glyph, glyph_of, set_glyph, put_glyph, held_after}
+use Rattle.scaled_core.specs.Mark.{Mark}
 use Rattle.dvi_ops.specs.Forest.{Forest, Empty, Then, Group, ahead, and_then, restored, meaning, points, points_then}
 use Rattle.dvi_ops.specs.Plain.{NamesNoRegister}
 use Rattle.move_core.specs.Registers.{Known, written, choose, is_amount}

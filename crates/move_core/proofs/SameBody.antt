@@ -7,7 +7,7 @@ use Rattle.dvi_ops.specs.Body.{acts}
 use Rattle.dvi_ops.specs.Forest.{Forest, Empty, Then, Group, flat, meaning}
 use Rattle.dvi_ops.specs.Layout.{bytes_of, IsWritable}
 use Rattle.dvi_ops.specs.Plain.{NamesNoRegister}
-use Rattle.dvi_ops.proofs.Appends.{all_front, all_back}
+use Rattle.scaled_core.proofs.EachOf.{all_front, all_back}
 use Rattle.move_core.specs.Registers.{nothing_known}
 use Rattle.move_core.specs.Reused.{reused_from, pruned, reused}
 use Rattle.move_core.specs.SamePage.{IsPlainBody, AreBodies, shown, MeansTheSame, PassesThroughNoOther, NestsNoDeeper, HasNoHollow, unset, UsesStored, SetsAhead, still}

@@ -3,7 +3,8 @@ use Rattle.std.proofs.Common.{◌≡◌, ◌++◌, [], ◌∷◌, List, ℤ, Som
 use Rattle.std.specs.List.{flat_map, AllByRecursion}
 use Rattle.std.proofs.lemmas.List.Elements.{All-contains, All-weaker, All-contains_itself, All-from_recursion, recursion_from_All}
 use Rattle.dvi_ops.specs.Instruction.{Move, Instruction, Do, Definition}
-use Rattle.dvi_ops.specs.Body.{Mark, DviState, Widths, Meaning, acts, kept, start}
+use Rattle.dvi_ops.specs.Body.{DviState, Widths, Meaning, acts, kept, start}
+use Rattle.scaled_core.specs.Mark.{Mark}
 use Rattle.dvi_ops.specs.Forest.{Forest, flat, meaning, points, IsPoint}
 use Rattle.dvi_ops.specs.Fonts.{WidthsByName, definitions_in, definitions, selection_of, selections, defined, widths_in, known_after}
 use Rattle.dvi_ops.specs.Layout.{Sheet, Table, IsGood, define, table_widths}

@@ -6,7 +6,7 @@ use Rattle.dvi_ops.specs.Instruction.{Axis, Across, Downward, MoveRegister, Firs
 use Rattle.dvi_ops.specs.Spelling.{spelling, leaf_spelling}
 use Rattle.dvi_ops.specs.Layout.{bytes_of, IsWritable}
 use Rattle.dvi_ops.specs.Forest.{Forest, Empty, Then, Group, flat}
-use Rattle.dvi_ops.proofs.Appends.{all_append, all_front, all_back}
+use Rattle.scaled_core.proofs.EachOf.{all_append, all_front, all_back}
 use Rattle.move_core.specs.Registers.{RegisterPair, Known, written, other, set_in, choice, is_amount}
 use Rattle.move_core.specs.Reused.{has_move, comes_again, reused_from, grouped, pruned}
 use Rattle.move_core.specs.SamePage.{still_of, still}

@@ -3,7 +3,8 @@
 use Rattle.std.specs.Prelude.{◌≡◌, ◌≤◌, [], ◌∷◌, List, Option, Some, None, Bool, true, false, ◌&&◌, ◌||◌, ℤ, Contains}
 use Rattle.std.specs.List.{flat_map, AllByRecursion}
 use Rattle.dvi_ops.specs.Instruction.{Axis, First, Second, Movement, By, Set, Again, BodyLeaf, Move, Instruction, Do}
-use Rattle.dvi_ops.specs.Body.{Mark, DviState, Widths, Meaning, acts}
+use Rattle.dvi_ops.specs.Body.{DviState, Widths, Meaning, acts}
+use Rattle.scaled_core.specs.Mark.{Mark}
 use Rattle.dvi_ops.specs.Forest.{Forest, Empty, Then, Group, flat, meaning, nests, points}
 use Rattle.dvi_ops.specs.Plain.{NamesNoRegister}
 use Rattle.move_core.specs.Registers.{is_amount}

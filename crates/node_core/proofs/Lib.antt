@@ -1,2 +1,3 @@
--- Lemmas on lists of nodes.
+-- Lemmas on lists of nodes, and on their items.
 pub mod NodeLemmas
+pub mod Leaves

@@ -5,9 +5,6 @@ ghost use Rattle.std.specs.Prelude.{◌≡◌};
 /// The number of box registers.
 pub const REGISTERS: usize = 32_768;
 
-/// The number of font slots.
-pub const FONT_SLOTS: usize = 256;
-
 /// The number of counts of a page.
 pub const COUNTS: usize = 10;
 
@@ -35,7 +32,6 @@ pub const MAX_SHIPPED_TEXT: u64 = 1_048_576;
 /// The limits of a job are these numbers.
 pub fn limits_of_a_job()
     ensures registers { REGISTERS ≡ 32768 }
-    ensures slots { FONT_SLOTS ≡ 256 }
     ensures counts { COUNTS ≡ 10 }
     ensures open_lists { MAX_OPEN_LISTS ≡ 64 }
     ensures items { MAX_ITEMS ≡ 65536 }

@@ -4,7 +4,7 @@ use Rattle.std.specs.Int.{div_ceil}
 use Rattle.std.specs.List.{list_any}
 use Rattle.scaled_core.specs.Rounding.{rounded}
 use Rattle.dvi_ops.specs.Instruction.{Units}
-use Rattle.dvi_ops.specs.Body.{Mark, Glyph, Rule, Special}
+use Rattle.scaled_core.specs.Mark.{Mark, Glyph, Rule, Special}
 
 -- The number of pixels of a DVI unit, as a fraction: a unit is num / den times 10^-7 metres, enlarged by mag / 1000, and an inch, which is 254000
 -- times 10^-7 metres, has dpi pixels (DVItype, 17, and its conversion).

@@ -10,3 +10,4 @@ pub mod RoundingLaws
 pub mod BadnessLaws
 pub mod PointTexts
 pub mod Appending
+pub mod EachOf

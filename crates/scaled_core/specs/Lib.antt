@@ -2,6 +2,7 @@ pub mod Badness
 pub mod DimensionTexts
 pub mod Dimensions
 pub mod Fractions
+pub mod Mark
 pub mod ParsedTexts
 pub mod PrintedDimensions
 pub mod Rounding

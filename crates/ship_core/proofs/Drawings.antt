@@ -1,22 +1,21 @@
 -- The writer's drawing, as lists of instructions.
 use Rattle.std.proofs.Common.{◌≡◌, ℕ, zero, suc, List, [], ◌∷◌, ◌++◌, map, length, refl, append_assoc, ◌∙◌, ap, sym, arith}
-use Rattle.std.specs.Prelude.{ℤ, pos, negsuc, ◌+ℤ◌, ◌-ℤ◌, Bool, true, false, if◌then◌else◌, Option, Some, None, ◌==◌}
+use Rattle.std.specs.Prelude.{ℤ, pos, negsuc, ◌+ℤ◌, ◌-ℤ◌, Bool, true, false, if◌then◌else◌, Option, Some, None}
 use Rattle.std.specs.Option.{option_map}
 use Rattle.std.specs.Ordering.{int_eq}
 use Rattle.std.proofs.lemmas.List.{append-nil}
 use Rattle.dvi_ops.specs.Instruction.{Axis, Across, Downward, SetChar, FontNum, Xxx, Instruction, Do, Push, Pop}
 use Rattle.dvi_ops.specs.View.{body_view}
-use Rattle.node_core.specs.Items.{Items, none, leaf, box}
-use Rattle.node_core.specs.Nodes.{nodes_of}
 use Rattle.node_core.specs.declared.tree.Kind.{Kind}
-use Rattle.dvi_ops.specs.Body as body
+use Rattle.scaled_core.specs.Mark as body
 use Rattle.dvi_ops.specs.Forest.{Forest, Then, flat}
-use Rattle.ship_core.specs.Drawing.{Picture, stroke, group, grouped, moved_by, selected, ruled, after_rule, font_after, body_of_picture}
-use Rattle.ship_core.specs.declared.placing.MarkKind.{MarkKind}
-use Rattle.ship_core.specs.declared.placing.MarkKind.TheVariants as ink
+use Rattle.ship_core.specs.Drawing.{moved_by, selected, ruled, font_after, body_of_picture}
+use Rattle.page_core.specs.Pictures.{Picture, stroke, group, after_rule}
+use Rattle.page_core.specs.declared.placing.MarkKind.{MarkKind}
+use Rattle.page_core.specs.declared.placing.MarkKind.TheVariants as ink
 use Rattle.ship_core.specs.declared.drawing.Drawing.{Drawing}
-use Rattle.ship_core.specs.Placing.{mark_with, movement, selection, inked, h_after_mark, makes, leaves}
-use Rattle.ship_core.proofs.Places.{no_items}
+use Rattle.page_core.specs.Placing.{mark_with, h_after_mark}
+use Rattle.ship_core.specs.Inking.{movement, selection, inked, makes, leaves}
 
 pub flat-moved_by : (axis : Axis) (z : ℤ) (rest : Forest) → flat (moved_by axis z rest) ≡ movement axis z ++ flat rest
 flat-moved_by axis (pos zero) rest = refl
@@ -115,28 +114,9 @@ pub unselected_ops :
     (after moved : List Instruction) (current : Option ℤ) (height : ℤ) (i : MarkKind) → i ≡ ink.Rule height → after ≡ moved → after ≡ moved ++ chosen current i
 unselected_ops after moved current height i rule is = rw (rule, is, append-nil moved) refl
 
--- From one drawing, a picture makes the same instructions and leaves the same font as another picture from another drawing.
+-- What the drawing comes to as a sink: the instructions with those for a picture that follows, and the font after it.
 abbrev pub Draws : Kind → Drawing → Picture → Drawing → Picture → Type 0
 Draws kind from picture to rest = (makes kind from picture ≡ makes kind to rest) × (leaves from picture ≡ leaves to rest)
-
-pub then_draws :
-    (kind : Kind) (a b c : Drawing) (p q r : Picture) → Draws kind a p b q → Draws kind b q c r → Draws kind a p c r
-then_draws kind a b c p q r (first, font) (second, left) = (first ∙ second, font ∙ left)
-
-pub same_picture : (kind : Kind) (d : Drawing) (p q : Picture) → p ≡ q → Draws kind d p d q
-same_picture kind d p q is = (ap (makes kind d) is, ap (leaves d) is)
-
-pub same_drawing : (kind : Kind) (d e : Drawing) (p : Picture) → e ≡ d → Draws kind d p e p
-same_drawing kind d e p is = (sym (ap (λ (x : Drawing). makes kind x p) is), sym (ap (λ (x : Drawing). leaves x p) is))
-
--- A box without items is no group, and a box with items is one.
-pub grouped-none : (items : Items) (kind : Kind) (inner rest : Picture) → (length (nodes_of items) == 0) ≡ true → grouped items kind inner rest ≡ rest
-grouped-none items kind inner rest empty = ap (λ items. grouped items kind inner rest) (no_items items empty)
-
-pub grouped-some : (items : Items) (kind : Kind) (inner rest : Picture) → (length (nodes_of items) == 0) ≡ false → grouped items kind inner rest ≡ group kind inner rest
-grouped-some none kind inner rest full = absurd (cc)
-grouped-some (leaf x items) kind inner rest full = refl
-grouped-some (box shift frame some items) kind inner rest full = refl
 
 -- The drawing after a box in a group makes the same as the one before it, for the picture that follows, and leaves the same font.
 pub drawn_group :

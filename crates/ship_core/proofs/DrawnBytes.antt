@@ -1,5 +1,5 @@
 -- The greatest number of bytes that the body of a page takes.
-use Rattle.std.proofs.Common.{◌≡◌, ℕ, zero, suc, ◌+◌, ◌*◌, ◌<◌, ◌≤◌, List, [], ◌∷◌, ◌++◌, length, refl, arith, length-append}
+use Rattle.std.proofs.Common.{◌≡◌, ℕ, zero, suc, ◌+◌, ◌*◌, ◌<◌, ◌≤◌, [], ◌∷◌, ◌++◌, length, refl, arith, length-append}
 use Rattle.std.specs.Prelude.{ℤ, pos, negsuc, ◌+ℤ◌, ◌-ℤ◌, Bool, true, false, nat_lt, if◌then◌else◌, Option, Some, None}
 use Rattle.std.specs.List.{AllByRecursion}
 use Rattle.std.specs.Ordering.{int_eq}
@@ -9,16 +9,18 @@ use Rattle.node_core.specs.declared.tree.Kind.TheVariants.{Horizontal, Vertical}
 use Rattle.node_core.specs.declared.tree.BoxNode.{BoxNode}
 use Rattle.node_core.specs.Items.{Leaf, glyph, font_kern, kern, glue, penalty, rule, special, EachLeaf, items_count, items_text}
 use Rattle.dvi_ops.specs.Instruction.{Axis, Across, Downward, By, Move, SetChar, SetRule, PutRule, FontNum, Xxx, Do, Push, Pop}
-use Rattle.dvi_ops.specs.Body as body
-use Rattle.dvi_ops.specs.Body.{Mark, Widths}
+use Rattle.scaled_core.specs.Mark as body
+use Rattle.dvi_ops.specs.Body.{Widths}
+use Rattle.scaled_core.specs.Mark.{Mark}
 use Rattle.dvi_ops.specs.Forest.{Forest, Then, flat}
 use Rattle.dvi_ops.specs.Spelling.{operand, code_size, char_spelling, font_spelling, spelling, leaf_spelling}
 use Rattle.dvi_ops.specs.Layout.{bytes_of}
 use Rattle.dvi_ops.proofs.Layouts.{length-bytes_of-append}
 use Rattle.dvi_ops.proofs.Spelled.{operand_length}
 use Rattle.dvi_ops.proofs.Shortest.{brief_length, special_length, movement_length, one_byte}
-use Rattle.ship_core.specs.Marks.{ShippedPage, rule_below, rule_tall, rule_wide, marks_of_item, page_v}
-use Rattle.ship_core.specs.Drawing.{Picture, blank, stroke, group, width_in, moved_by, selected, ruled, after_rule, font_after, body_of_picture, picture_of_page, body_of}
+use Rattle.page_core.specs.Marks.{ShippedPage, rule_below, rule_tall, rule_wide, marks_of_item, page_v}
+use Rattle.ship_core.specs.Drawing.{moved_by, selected, ruled, font_after, body_of_picture, body_of}
+use Rattle.page_core.specs.Pictures.{Picture, blank, stroke, group, width_in, after_rule, picture_of_page}
 use Rattle.ship_core.specs.Shown.{HasWidth}
 use Rattle.ship_core.proofs.DrawnMarks.{EachStroke, IsByte}
 use Rattle.ship_core.proofs.Pictures.{parts, texts, each_rule, each_glyph, each_after, few_parts, few_texts}

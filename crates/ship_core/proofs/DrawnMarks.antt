@@ -10,13 +10,15 @@ use Rattle.scaled_core.specs.Dimensions.{Within, fits}
 use Rattle.node_core.specs.declared.tree.Kind.{Kind}
 use Rattle.node_core.specs.declared.tree.Kind.TheVariants.{Horizontal, Vertical}
 use Rattle.dvi_ops.specs.Instruction.{Axis, Across, Downward, By, Move, SetChar, SetRule, PutRule, FontNum, Xxx, Instruction, Do, Push, Pop}
-use Rattle.dvi_ops.specs.Body as body
-use Rattle.dvi_ops.specs.Body.{Mark, Position, DviState, MoveRegisters, Meaning, Widths, acts, kept, in_range}
+use Rattle.scaled_core.specs.Mark as body
+use Rattle.dvi_ops.specs.Body.{Position, DviState, MoveRegisters, Meaning, Widths, acts, kept, in_range}
+use Rattle.scaled_core.specs.Mark.{Mark}
 use Rattle.dvi_ops.specs.Forest.{Forest, Then, flat, meaning, nests, ahead, and_then, restored}
 use Rattle.dvi_ops.specs.Spelling.{NumberFits}
 use Rattle.dvi_ops.specs.Layout.{IsWritable}
-use Rattle.dvi_ops.proofs.Appends.{all_append}
-use Rattle.ship_core.specs.Drawing.{Picture, blank, stroke, group, moved_by, selected, ruled, after_rule, font_after, body_of_picture}
+use Rattle.scaled_core.proofs.EachOf.{all_append}
+use Rattle.ship_core.specs.Drawing.{moved_by, selected, ruled, font_after, body_of_picture}
+use Rattle.page_core.specs.Pictures.{Picture, blank, stroke, group, after_rule}
 use Rattle.ship_core.specs.Shown.{at}
 use Rattle.scaled_core.proofs.Fitting.{fits_within}
 

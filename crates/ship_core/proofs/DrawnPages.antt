@@ -9,18 +9,20 @@ use Rattle.node_core.specs.declared.tree.Kind.TheVariants.{Horizontal, Vertical}
 use Rattle.node_core.specs.declared.tree.BoxNode.{BoxNode}
 use Rattle.node_core.specs.Items.{Leaf, glyph, font_kern, kern, glue, penalty, rule, special, Items, none, leaf, box, EachLeaf, items_depth, text_size_in, items_text}
 use Rattle.dvi_ops.specs.Instruction.{Instruction}
-use Rattle.dvi_ops.specs.Body as body
-use Rattle.dvi_ops.specs.Body.{Mark, DviState, MoveRegisters, Widths, acts, kept}
+use Rattle.scaled_core.specs.Mark as body
+use Rattle.dvi_ops.specs.Body.{DviState, MoveRegisters, Widths, acts, kept}
+use Rattle.scaled_core.specs.Mark.{Mark}
 use Rattle.dvi_ops.specs.Forest.{flat, meaning, nests}
 use Rattle.dvi_ops.specs.Fonts.{definitions_in, definitions, selection_of, selections}
 use Rattle.dvi_ops.specs.Spelling.{HasSpelling}
 use Rattle.dvi_ops.specs.Layout.{IsWritable}
-use Rattle.dvi_ops.proofs.Appends.{all_append}
-use Rattle.ship_core.specs.Marks.{ShippedPage, rule_below, rule_tall, rule_wide, marks_of_item, marks_of_box, marks_of_page, page_v, numbers_after, is_huge}
-use Rattle.ship_core.specs.Drawing.{width_in, picture_of_page, body_of}
+use Rattle.scaled_core.proofs.EachOf.{all_append}
+use Rattle.page_core.specs.Marks.{ShippedPage, rule_below, rule_tall, rule_wide, marks_of_item, marks_of_box, marks_of_page, page_v, numbers_after, is_huge}
+use Rattle.ship_core.specs.Drawing.{body_of}
+use Rattle.page_core.specs.Pictures.{width_in, picture_of_page}
 use Rattle.dvi_ops.specs.Plain.{NamesNoRegister}
 use Rattle.ship_core.specs.Shown.{HasWidth, at}
-use Rattle.ship_core.proofs.Places.{first_of_three, second_of_three, items_fit}
+use Rattle.page_core.proofs.Places.{first_of_three, second_of_three, items_fit}
 use Rattle.ship_core.proofs.DrawnMarks.{EachStroke, IsDrawn, IsInked, IsShort, HoldsBetween, HoldsOfAll, every_stroke, all_within, drawn_marks, drawn_writable, each_drawn, all_drawn, nests-body_of_picture}
 use Rattle.ship_core.proofs.Pictures.{marks-picture, each_rule, each_glyph, each_after, strokes_drawn, few_groups}
 

@@ -1,7 +1,5 @@
 -- Lemmas about numbers that fit, the items of a list in order, and what is drawn for them.
 pub mod Drawings
-pub mod Walked
-pub mod Places
 pub mod DrawnMarks
 pub mod DrawnPages
 pub mod DrawnBytes

@@ -13,14 +13,15 @@ use Rattle.node_core.specs.declared.tree.Node.TheVariants.{Box}
 use Rattle.node_core.specs.declared.tree.BoxNode.{BoxNode}
 use Rattle.node_core.specs.Items.{Leaf, glyph, font_kern, kern, glue, penalty, rule, special, Items, none, leaf, box, EachLeaf, items_count, items_depth, text_size_in, items_text}
 use Rattle.node_core.specs.Nodes.{node_of, box_of}
-use Rattle.dvi_ops.specs.Body as body
-use Rattle.dvi_ops.specs.Body.{Mark, Widths}
-use Rattle.dvi_ops.proofs.Appends.{all_front, all_back}
+use Rattle.scaled_core.specs.Mark as body
+use Rattle.dvi_ops.specs.Body.{Widths}
+use Rattle.scaled_core.specs.Mark.{Mark}
+use Rattle.scaled_core.proofs.EachOf.{all_front, all_back}
 use Rattle.pack_core.specs.Items.{own_size}
-use Rattle.ship_core.specs.Marks.{right_at, rule_below, rule_tall, rule_wide, rule_mark, glyph_mark, marks_of_item, list_v, item_h, item_v, box_h, box_v, marks_after, numbers_at, numbers_after}
-use Rattle.ship_core.specs.Drawing.{Picture, blank, stroke, group, width_in, in_front, grouped, picture_after, after_rule}
+use Rattle.page_core.specs.Marks.{right_at, rule_below, rule_tall, rule_wide, rule_mark, glyph_mark, marks_of_item, list_v, item_h, item_v, box_h, box_v, marks_after, numbers_at, numbers_after}
+use Rattle.page_core.specs.Pictures.{Picture, blank, stroke, group, width_in, in_front, grouped, picture_after, after_rule}
 use Rattle.ship_core.specs.Shown.{HasWidth}
-use Rattle.ship_core.proofs.Places.{reach}
+use Rattle.page_core.proofs.Places.{reach}
 use Rattle.ship_core.proofs.DrawnMarks.{marks_in, groups, EachStroke, IsDrawn}
 
 -- The marks of the picture of a list are those of the list.

@@ -7,7 +7,7 @@ use Rattle.dvi_ops.specs.Body.{DviState, MoveRegisters, Widths, acts, kept}
 use Rattle.dvi_ops.specs.Forest.{flat, meaning, nests}
 use Rattle.dvi_ops.specs.Layout.{IsWritable}
 use Rattle.dvi_ops.specs.Plain.{NamesNoRegister}
-use Rattle.ship_core.specs.Marks.{ShippedPage, marks_of_page, is_huge}
+use Rattle.page_core.specs.Marks.{ShippedPage, marks_of_page, is_huge}
 use Rattle.ship_core.specs.Drawing.{body_of}
 
 -- The width of a glyph is that of the table, and its slot and its code are bytes.

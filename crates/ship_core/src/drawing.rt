@@ -1,18 +1,21 @@
 //! The instructions that draw marks.
 
-ghost use Rattle.std.specs.Prelude.{◌≡◌, ◌-ℤ◌, ◌++◌, [], ◌∷◌, pos, map, None, Some, Option, IfSome, IfOk, OnOk};
+ghost use Rattle.std.specs.Prelude.{◌≡◌, ◌-ℤ◌, ◌++◌, [], ◌∷◌, pos, map, None, Some, Option, IfOk, OnOk};
 ghost use Rattle.std.specs.Option.{option_map};
 ghost use Rattle.node_core.specs.declared.tree.Kind.{Kind};
 ghost use Rattle.dvi_ops.specs.Forest.{flat};
 ghost use Rattle.dvi_ops.specs.Instruction.{Across, Downward, Do, Push, Pop};
 ghost use Rattle.dvi_ops.specs.View.{body_view};
-ghost use Rattle.dvi_ops.specs.Body.{Special};
-ghost use Rattle.ship_core.specs.Drawing.{Picture, stroke, ruled, body_of_picture};
-ghost use Rattle.ship_core.specs.Placing.{IsMarkEnd, strokes_in, inked, makes, leaves, movement, selection};
+ghost use Rattle.scaled_core.specs.Mark.{Special};
+ghost use Rattle.ship_core.specs.Drawing.{ruled, body_of_picture};
+ghost use Rattle.page_core.specs.Pictures.{Picture, stroke};
+ghost use Rattle.page_core.specs.Placing.{IsMarkEnd, strokes_in};
+ghost use Rattle.ship_core.specs.Inking.{inked, makes, leaves, movement, selection};
 
-use crate::placing::{MarkKind, PagePosition, PlacedMark};
 use dvi_ops::BodyOp;
-use node_core::Kind;
+use node_core::{BoxNode, Kind};
+use page_core::MarkSink;
+use page_core::placing::{MarkKind, PagePosition, PlacedMark, Point};
 use scaled_core::Dimen;
 use std::alloc::{AllocError, Global};
 
@@ -160,22 +163,9 @@ impl<'a> Drawing<'a> {
         Ok(())
     }
 
-    /// Draws a mark of a list of that kind, if there is one.
-    #[inline(always)]
-    pub fn draw(&mut self, kind: Kind, mark: Option<PlacedMark>) -> Result<(), AllocError>
-        requires { IfSome mark (IsMarkEnd kind) }
-        ensures ops { OnOk result ((rest : Picture) → makes kind self.old (strokes_in mark rest) ≡ makes kind self.new rest) }
-        ensures font { OnOk result ((rest : Picture) → leaves self.old (strokes_in mark rest) ≡ leaves self.new rest) }
-    {
-        match mark {
-            None => Ok(()),
-            Some(mark) => self.draw_mark(kind, mark),
-        }
-    }
-
     /// Draws a special at a place. It leaves h and v there, since a special has no width.
     #[tactic(auto, using(crate::proofs::Drawings::movements))]
-    pub fn draw_special(&mut self, at: PagePosition, text: &'a [u8]) -> Result<(), AllocError>
+    fn append_special(&mut self, at: PagePosition, text: &'a [u8]) -> Result<(), AllocError>
         ensures ops { OnOk result ((kind : Kind) (rest : Picture) → makes kind self.old (stroke (Special at.h at.v text.now) (pos 0) rest) ≡ makes kind self.new rest) }
         ensures font { OnOk result ((rest : Picture) → leaves self.old (stroke (Special at.h at.v text.now) (pos 0) rest) ≡ leaves self.new rest) }
     {
@@ -185,7 +175,7 @@ impl<'a> Drawing<'a> {
     }
 
     /// Appends a push, and returns the place before it.
-    pub fn push(&mut self) -> Result<PagePosition, AllocError>
+    fn push(&mut self) -> Result<PagePosition, AllocError>
         ensures h { OnOk result (self.new.h ≡ self.old.h) }
         ensures v { OnOk result (self.new.v ≡ self.old.v) }
         ensures font { OnOk result (self.new.font ≡ self.old.font) }
@@ -193,14 +183,14 @@ impl<'a> Drawing<'a> {
         ensures place { IfOk result (λ before. before ≡ record { h = self.old.h; v = self.old.v }) }
     {
         push_op(&mut self.ops, BodyOp::Push)?;
-        Ok(PagePosition {
+        Ok(Point {
             h: self.h,
             v: self.v,
         })
     }
 
     /// Appends a pop for the push at the place `before`: h and v are there again. The selected font stays, since pop does not restore it.
-    pub fn pop(&mut self, before: PagePosition) -> Result<(), AllocError>
+    fn pop(&mut self, before: PagePosition) -> Result<(), AllocError>
         ensures h { OnOk result (self.new.h ≡ before.h) }
         ensures v { OnOk result (self.new.v ≡ before.v) }
         ensures font { OnOk result (self.new.font ≡ self.old.font) }
@@ -209,6 +199,44 @@ impl<'a> Drawing<'a> {
         push_op(&mut self.ops, BodyOp::Pop)?;
         self.h = before.h;
         self.v = before.v;
+        Ok(())
+    }
+}
+
+impl<'a> MarkSink<&'a BoxNode> for Drawing<'a> {
+    ghost use Rattle.std.specs.Prelude.{List, Option, ℤ};
+    ghost use Rattle.dvi_ops.specs.Instruction.{Instruction};
+    ghost use Rattle.ship_core.specs.Inking.{makes, leaves, IsOpened};
+
+    type Place = PagePosition;
+
+    type Fault = AllocError;
+
+    ghost Drawn = { List Instruction × Option ℤ };
+
+    ghost drawn_with = { λ kind drawing rest. (makes kind drawing rest, leaves drawing rest) };
+
+    ghost Opens = { IsOpened };
+
+    #[inline(always)]
+    fn draw(&mut self, kind: Kind, mark: Option<PlacedMark>) -> Result<(), AllocError> {
+        match mark {
+            None => Ok(()),
+            Some(mark) => self.draw_mark(kind, mark),
+        }
+    }
+
+    fn draw_special(&mut self, at: PagePosition, text: &'a [u8]) -> Result<(), AllocError> {
+        self.append_special(at, text)
+    }
+
+    /// No movement comes before the push: the first mark inside moves from there.
+    fn open_group(&mut self) -> Result<PagePosition, AllocError> {
+        self.push()
+    }
+
+    fn close_group(&mut self, place: PagePosition) -> Result<(), AllocError> {
+        self.pop(place)?;
         Ok(())
     }
 }

@@ -2,13 +2,10 @@
 #![tactic(auto)]
 
 mod drawing;
-mod item_walk;
 pub mod laws;
-mod list_drawing;
 pub mod page_plan;
-mod placing;
 mod pushes;
 
-pub use page_plan::{ShipFault, is_huge, plan, plan_with_room};
-pub use placing::PagePoint;
+pub use page_core::{PagePoint, is_huge};
+pub use page_plan::{ShipFault, plan, plan_with_room};
 pub use pushes::{push_depth, pushed_after};

@@ -1,21 +1,18 @@
 //! The plan of a page: its instructions, and whether its numbers fit.
 
-ghost use Rattle.std.specs.Prelude.{◌≡◌, ◌↔◌, ◌+ℤ◌, [], ℤ, List, ◌&&◌, true, false, map, is_none, IfOk, IfErr, OnOk, IfSome};
-ghost use Rattle.std.specs.List.{list_all};
+ghost use Rattle.std.specs.Prelude.{◌≡◌, ◌↔◌, ℤ, List, true, false, map, is_none, IfOk, IfErr, OnOk, IfSome};
 ghost use Rattle.dvi_ops.specs.Forest.{flat};
 ghost use Rattle.dvi_ops.specs.View.{body_view};
 ghost use Rattle.scaled_core.specs.Dimensions.{fits};
-ghost use Rattle.ship_core.specs.Marks.{numbers_after, is_huge};
-ghost use Rattle.ship_core.specs.Pages.{page_at};
+ghost use Rattle.page_core.specs.Marks.{is_huge};
+ghost use Rattle.page_core.specs.Pages.{page_at};
 ghost use Rattle.ship_core.specs.Drawing.{body_of};
 
 use crate::drawing::Drawing;
-use crate::item_walk::{ItemWalk, ListOrigin, begin_of};
-use crate::list_drawing::draw_list;
-use crate::placing::PagePoint;
 use dvi_ops::BodyOp;
-use node_core::{BoxNode, Node};
-use scaled_core::Dimen;
+use node_core::BoxNode;
+use page_core::huge::{ends_fit, is_huge};
+use page_core::{PagePoint, draw_list};
 use std::alloc::{AllocError, Global};
 use thiserror::Error;
 
@@ -30,54 +27,9 @@ pub enum ShipFault {
     OutOfMemory,
 }
 
-/// Whether the numbers of all items of a list fit, those of inner boxes included.
-fn all_fit(box_node: &BoxNode, begin: &ListOrigin) -> bool
-    ensures { result ≡ list_all fits (numbers_after box_node.now begin.now.h begin.now.v [] box_node.now.list) }
-{
-    let mut walk = ItemWalk::new(box_node, begin);
-    for node in box_node.list.as_slice() {
-        let Some(seen) = walk.step(box_node, begin, node) else {
-            return false;
-        };
-        if let Node::Box(_, inner) = node {
-            if !all_fit(inner, &begin_of(inner, seen.at.point())) {
-                return false;
-            }
-        }
-    }
-    true
-}
-
-/// Whether a number plus a size fits.
-#[tactic(auto, unfolding(scaled_core::specs::Dimensions::dimension_of))]
-fn end_fits(from: i32, size: Dimen) -> bool
-    ensures { result ≡ fits (from +ℤ size) }
-{
-    Dimen::try_new(i64::from(from) + i64::from(size.get())).is_some()
-}
-
-/// Whether the bottom and the right edge of a page fit, where its box has the reference point `at`.
-fn ends_fit(box_node: &BoxNode, at: PagePoint) -> bool
-    ensures { result ≡ (fits (at.v +ℤ box_node.now.depth) && fits (at.h +ℤ box_node.now.width)) }
-{
-    end_fits(at.v, box_node.depth) && end_fits(at.h, box_node.width)
-}
-
-/// Whether the page of a box with the reference point `at` is huge: its bottom, its right edge, or a place or a size of an item does not fit, items
-/// of inner boxes included. The reference point itself need not fit. It takes no memory.
-#[tactic(auto, unfolding(crate::specs::Marks::is_huge))]
-pub fn is_huge(box_node: &BoxNode, at: PagePoint) -> bool
-    ensures { (counts : List ℤ) → result ≡ is_huge (page_at counts at.h at.v box_node.now) }
-{
-    if !ends_fit(box_node, at) {
-        return true;
-    }
-    !all_fit(box_node, &begin_of(box_node, at))
-}
-
 /// The instructions that draw the page of a box with the reference point `at`: plain movements, font selections, characters, rules and specials, and
 /// each inner box with items between push and pop. The result is None exactly where the page is huge.
-#[tactic(auto, unfolding(crate::specs::Drawing::body_of, crate::specs::Marks::is_huge))]
+#[tactic(auto, unfolding(crate::specs::Drawing::body_of, page_core::specs::Marks::is_huge))]
 fn draw_page(
     alloc: Global,
     box_node: &BoxNode,
@@ -91,7 +43,7 @@ fn draw_page(
         return Ok(None);
     }
     let mut drawing = Drawing::new(alloc, room)?;
-    let fit = draw_list(&mut drawing, box_node, &begin_of(box_node, at))?;
+    let fit = draw_list(&mut drawing, box_node, at)?;
     if !fit {
         return Ok(None);
     }

@@ -1,7 +1,7 @@
 //! Files of many pages, by the writer alone and by a job.
 
 ghost use Rattle.std.specs.Prelude.{IfOk, None};
-ghost use Rattle.dvi_layout.specs.Fonts.{Slots};
+ghost use Rattle.tfm_core.specs.Slots.{Slots};
 ghost use Rattle.dvi_layout.specs.Shippable.{IsShippable};
 
 use dvi_write::{DviWriter, Fonts, Memory, Offsets, WriteFault, WrittenFile};

@@ -1,5 +1,6 @@
 pub mod FontView
 pub mod Fonts
+pub mod Slots
 pub mod MetricFile
 pub mod Program
 pub mod Rules

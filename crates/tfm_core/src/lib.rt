@@ -14,6 +14,7 @@ pub mod record;
 mod rules;
 pub mod scaling;
 mod sized_file;
+pub mod slots;
 pub mod tfm;
 
 pub use fault::{FontFault, TfmCause, TfmFault};
@@ -21,4 +22,5 @@ pub use font::{Font, GlyphSize, Space, Step};
 pub use font_file::{FontFile, FontName, file_named};
 pub use reading::FontReadFault;
 pub use scaling::{FontSize, scaled};
+pub use slots::{FONT_SLOTS, Fonts, LoadedFont};
 pub use tfm::Tfm;

@@ -2,7 +2,7 @@
 
 ghost use Rattle.std.specs.Prelude.{◌≡◌, ◌≢◌, ◌∷◌, [], None, Some, IfOk, IfErr, OnOk, OnErr};
 ghost use Rattle.job_commands.specs.declared.command.Command.TheVariants as commands;
-ghost use Rattle.dvi_layout.specs.Fonts.{font_in};
+ghost use Rattle.tfm_core.specs.Slots.{font_in};
 ghost use Rattle.job_state.specs.JobStateView.{before_shipping};
 ghost use Rattle.job_machine.specs.Checks.{checks, first_refusal, character_checks, item_checks, is_misplaced};
 ghost use Rattle.job_machine.specs.Effects.{with_items};
@@ -10,12 +10,12 @@ ghost use Rattle.job_machine.specs.Machine.{reply_by, reply_to, state_by, state_
 ghost use Rattle.job_machine.specs.Runs.{early_checks};
 
 use super::JobState;
-use dvi_layout::LoadedFont;
 use job_commands::{Answer, Characters, Refusal, Reply};
 use job_lists::texts::{append_character, append_text};
 use node_core::limits::{MAX_ITEMS, MAX_SPECIAL_TEXT};
 use node_core::{Kind, Node, NodeList, Rule, RuleSize, SpecialText};
 use std::alloc::AllocError;
+use tfm_core::LoadedFont;
 
 impl JobState {
     /// The current font and its slot, or why no character may be appended. Where the characters would go is checked before the font.

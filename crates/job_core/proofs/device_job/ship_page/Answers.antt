@@ -4,7 +4,7 @@ use Rattle.job_commands.specs.declared.replies.Answer.TheVariants.{Done}
 use Rattle.job_commands.specs.declared.command.Command.TheVariants.{Ship, Void}
 use Rattle.job_commands.specs.declared.replies.Refusal.{Refusal}
 use Rattle.dvi_layout.specs.declared.fault.WriteFault.{WriteFault}
-use Rattle.dvi_layout.specs.Shippable.{page_with}
+use Rattle.page_core.specs.Pages.{page_with}
 use Rattle.dvi_write.specs.Writing.{Writing}
 use Rattle.job_state.specs.JobStateView.{JobStateView, before_shipping}
 use Rattle.job_core.specs.Jobs.{KeepsTo}

@@ -1,5 +1,6 @@
 use Rattle.std.proofs.Common.{rules, ◌≡◌, ℤ, Option, Some, subst}
-use Rattle.dvi_ops.specs.Body.{Mark, glyph, put_glyph}
+use Rattle.dvi_ops.specs.Body.{glyph, put_glyph}
+use Rattle.scaled_core.specs.Mark.{Mark}
 use Rattle.dvi_scan.specs.Drawing.{Draws, always}
 use Rattle.dvi_scan.specs.View.{mark_of, placed, stated}
 use Rattle.dvi_scan.proofs.executing.OpenPage.put_char.Goals as goal

@@ -1,5 +1,5 @@
 use Rattle.std.proofs.Common.{List, Some, subst}
-use Rattle.dvi_ops.specs.Body.{Mark}
+use Rattle.scaled_core.specs.Mark.{Mark}
 use Rattle.dvi_scan.specs.Drawing.{Draws}
 use Rattle.dvi_scan.specs.View.{placed, stated}
 use Rattle.dvi_scan.proofs.executing.OpenPage.put_rule.Goals as goal

@@ -1,6 +1,7 @@
 use Rattle.std.proofs.Common.{rules, ◌≡◌, ℤ, Option, Some, subst}
 use Rattle.std.specs.Option.{option_map}
-use Rattle.dvi_ops.specs.Body.{Mark, glyph, place_after, set_glyph}
+use Rattle.dvi_ops.specs.Body.{glyph, place_after, set_glyph}
+use Rattle.scaled_core.specs.Mark.{Mark}
 use Rattle.dvi_ops.specs.Instruction.{Across, By}
 use Rattle.dvi_scan.specs.Drawing.{Draws, always, reached}
 use Rattle.dvi_scan.specs.View.{mark_of, placed, stated}

@@ -1,6 +1,7 @@
 use Rattle.std.proofs.Common.{rules, ◌≡◌, List, subst}
 use Rattle.std.specs.Option.{option_map}
-use Rattle.dvi_ops.specs.Body.{Mark, place_after}
+use Rattle.dvi_ops.specs.Body.{place_after}
+use Rattle.scaled_core.specs.Mark.{Mark}
 use Rattle.dvi_ops.specs.Instruction.{Across, By}
 use Rattle.dvi_scan.specs.Drawing.{Draws, leads, reached}
 use Rattle.dvi_scan.specs.View.{placed}

@@ -1,7 +1,8 @@
 use Rattle.std.proofs.Common.{rules, ◌≡◌, List, ℤ, Ok, Some, map, reverse, append-nil, refl, ◌∙◌, ap, sym, subst, to_z, of_z, w32}
 use Rattle.std.proofs.lemmas.Int.{ints}
 use Rattle.std.specs.Option.{option_map}
-use Rattle.dvi_ops.specs.Body.{Mark, acts, kept_in, only, place_after}
+use Rattle.dvi_ops.specs.Body.{acts, kept_in, only, place_after}
+use Rattle.scaled_core.specs.Mark.{Mark}
 use Rattle.dvi_ops.specs.Instruction.{Instruction, SetChar, PutChar, SetRule, PutRule, FontNum, Move, Across, Downward, By, Set, Again, First, Second, Xxx}
 use Rattle.dvi_ops.specs.View.{view}
 use Rattle.dvi_ops.specs.declared.op.Op.TheVariants as ops

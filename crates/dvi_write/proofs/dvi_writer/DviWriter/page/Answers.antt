@@ -1,5 +1,5 @@
 use Rattle.std.proofs.Common.{ap, ◌∙◌}
-use Rattle.dvi_layout.specs.Shippable.{page_with}
+use Rattle.page_core.specs.Pages.{page_with}
 use Rattle.dvi_write.specs.Writing.{Writing}
 use Rattle.dvi_write.proofs.Writings.{written_more, part_more}
 use Rattle.dvi_write.proofs.dvi_writer.DviWriter.page.Goals as goal

@@ -1,8 +1,8 @@
 use Rattle.std.proofs.Common.{◌≡◌, ap, sym, ◌∙◌, subst}
 use Rattle.std.proofs.lemmas.Result.{err_from_is_err_and}
-use Rattle.std.specs.Prelude.{None, false}
-use Rattle.ship_core.specs.declared.placing.PagePoint.{PagePoint}
-use Rattle.ship_core.specs.Pages.{page_at}
+use Rattle.std.specs.Prelude.{ℤ, None, false}
+use Rattle.page_core.specs.declared.placing.Point.{Point}
+use Rattle.page_core.specs.Pages.{page_at}
 use Rattle.dvi_layout.specs.Limits.{HasRoom, limit_of}
 use Rattle.dvi_layout.specs.Shippable.{IsRightPage}
 use Rattle.dvi_layout.proofs.Rooms.{few_text, room_next}
@@ -30,7 +30,7 @@ returns-clause-right g c =
     let limit = c.in_ok-load.ensures.ok c.args.counts.now c.point_of-at.result.h c.point_of-at.result.v in
     let right : IsRightPage c.args.fonts.now page =
     record { ten = c.counts_fit.ensures.ten; counts_fit = c.counts_fit.ensures.fits; small = c.in_ok-next.ensures.fits; text = few_text s page limit; sound = c.requires } in
-    subst (λ (at : PagePoint). IsRightPage c.args.fonts.now (page_at c.args.counts.now at.h at.v c.args.box_node.now)) c.point_of-at.ensures right
+    subst (λ (at : Point ℤ). IsRightPage c.args.fonts.now (page_at c.args.counts.now at.h at.v c.args.box_node.now)) c.point_of-at.ensures right
 
 pub returns-clause-may : goal.returns-clause-may
 returns-clause-may g c =
@@ -38,7 +38,7 @@ returns-clause-may g c =
     let running : w.over ≡ false = sym (ap (λ (w : Writing). w.over) c.self.view_is) ∙ c.if-self.false in
     let page = page_at c.args.counts.now c.point_of-at.result.h c.point_of-at.result.v c.args.box_node.now in
     let limit = ap (λ (w : Writing). limit_of w.so_far page) (sym c.self.view_is) ∙ c.in_ok-load.ensures.ok c.args.counts.now c.point_of-at.result.h c.point_of-at.result.v in
-    subst (λ (at : PagePoint). refusal_of w (page_at c.args.counts.now at.h at.v c.args.box_node.now) ≡ None) c.point_of-at.ensures (may_go w page running limit c.in_ok-next.ensures.fits)
+    subst (λ (at : Point ℤ). refusal_of w (page_at c.args.counts.now at.h at.v c.args.box_node.now) ≡ None) c.point_of-at.ensures (may_go w page running limit c.in_ok-next.ensures.fits)
 
 pub returns-in_err-next-clause-refused : goal.returns-in_err-next-clause-refused
 returns-in_err-next-clause-refused g c =
@@ -49,4 +49,4 @@ returns-in_err-next-clause-refused g c =
     let fault = c.in_err-next.field-0.0 in
     let passed = err_from_is_err_and c.from_residual-in_err-next.result c.from_residual-in_err-next.ensures.1 in
     rw (passed.1, passed.2)
-    (subst (λ (at : PagePoint). RefusesPage w (page_at c.args.counts.now at.h at.v c.args.box_node.now) fault) c.point_of-at.ensures (refused_by w page fault running limit c.in_err-next.ensures.err))
+    (subst (λ (at : Point ℤ). RefusesPage w (page_at c.args.counts.now at.h at.v c.args.box_node.now) fault) c.point_of-at.ensures (refused_by w page fault running limit c.in_err-next.ensures.err))

@@ -1,6 +1,6 @@
 use Rattle.std.proofs.Common.{ap, sym, subst, ◌∙◌, Err}
 use Rattle.dvi_layout.specs.declared.fault.WriteFault.{WriteFault}
-use Rattle.dvi_layout.specs.Fonts.{Slots}
+use Rattle.tfm_core.specs.Slots.{Slots}
 use Rattle.dvi_layout.specs.Closing.{IsClosedFor}
 use Rattle.dvi_layout.specs.Layout.{whole}
 use Rattle.dvi_layout.specs.Shippable.{GivesFonts, IsFileOfPages}

@@ -1,5 +1,5 @@
 use Rattle.std.proofs.Common.{◌≡◌, ◌∙◌, ◌-◌, List, length, Option, Some, None, ap, sym}
-use Rattle.dvi_layout.proofs.EachOf.{each_at}
+use Rattle.scaled_core.proofs.EachOf.{each_at}
 use Rattle.job_machine.specs.declared.OpenList.{OpenList}
 use Rattle.job_machine.specs.State.{innermost}
 use Rattle.job_machine.specs.Checks.{box_checks, first_refusal}

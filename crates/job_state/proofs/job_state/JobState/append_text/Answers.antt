@@ -2,7 +2,7 @@ use Rattle.std.proofs.Common.{◌≡◌, ◌∙◌, List, length, ap, sym, refl}
 use Rattle.std.specs.Option.{option_copied}
 use Rattle.job_commands.specs.declared.command.Command.TheVariants.{Text}
 use Rattle.job_commands.specs.declared.replies.Refusal.TheVariants.{JobOver}
-use Rattle.dvi_layout.specs.Fonts.{font_in}
+use Rattle.tfm_core.specs.Slots.{font_in}
 use Rattle.node_core.specs.Items.{Items}
 use Rattle.node_core.specs.Nodes.{nodes_of}
 use Rattle.job_machine.specs.declared.OpenList.{OpenList}

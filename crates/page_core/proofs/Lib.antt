@@ -1,0 +1,3 @@
+-- Lemmas about numbers that fit.
+pub mod Walked
+pub mod Places

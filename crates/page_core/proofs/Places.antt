@@ -1,0 +1,384 @@
+-- The items of a list in order: the state after the first ones.
+use Rattle.std.proofs.Common.{◌≡◌, ◌≢◌, ℕ, zero, suc, ◌+◌, ◌<◌, List, [], ◌∷◌, ◌++◌, length, take, drop, get_or, refl, ap, sym, ◌∙◌, add-one, drop-cons, ◌≤◌, arith}
+use Rattle.std.proofs.lemmas.List.{take_more, length-take-le}
+use Rattle.std.specs.Prelude.{ℤ, pos, ◌+ℤ◌, Bool, true, false, not, ◌&&◌, ◌==◌, Some, slice_get}
+use Rattle.std.specs.List.{list_all}
+use Rattle.std.proofs.lemmas.List.Folds.{list_all-append}
+use Rattle.std.proofs.lemmas.Bool.{eqb-true}
+use Rattle.node_core.specs.declared.tree.Kind.{Kind}
+use Rattle.node_core.specs.declared.tree.Setting.{Setting}
+use Rattle.node_core.specs.Items.{Items, none, leaf, box, items_depth}
+use Rattle.node_core.specs.Nodes.{max_nodes, items_of, nodes_of}
+use Rattle.node_core.proofs.NodeLemmas.{items_of-nodes_of}
+use Rattle.node_core.specs.declared.tree.Node.{Node}
+use Rattle.node_core.specs.declared.tree.Node.TheVariants as nodes
+use Rattle.node_core.specs.declared.tree.BoxNode.{BoxNode}
+use Rattle.scaled_core.specs.Dimensions.{fits}
+use Rattle.pack_core.specs.Places.{place}
+use Rattle.pack_core.specs.Cursors.{Reached, reached, one_more, place_at}
+use Rattle.pack_core.proofs.Walks.{one_more-reached, place-reached, reached-passed}
+use Rattle.page_core.specs.Marks.{ShippedPage, page_v, is_huge, right_at, down_at, list_v, item_h, item_v, box_h, box_v, numbers_at, numbers_after}
+use Rattle.scaled_core.specs.Mark as body
+use Rattle.page_core.specs.Pictures.{Picture, stroke, group, grouped, picture_after}
+use Rattle.page_core.specs.Placing.{Reaches, numbers_between, strokes_of, strokes_at, reference_h, reference_v}
+use Rattle.page_core.proofs.Walked.{reach_by}
+
+-- The items from place i on are the item there and those after it.
+pub left_at : (xs : List Node) (i : ℕ) (x : Node) → i < length xs → x ≡ get_or xs i x → drop i xs ≡ x ∷ drop (i + 1) xs
+left_at xs i x within is = rw (add-one, drop-cons xs i x) (ap (λ y. y ∷ drop (suc i) xs) (sym is))
+
+-- The items up to place i are those before it and the item there.
+pub taken_at : (xs : List Node) (i : ℕ) (x : Node) → i < length xs → x ≡ get_or xs i x → take i xs ++ x ∷ [] ≡ take (i + 1) xs
+taken_at xs i x within is = sym (take_more xs i x within ∙ ap (λ y. take i xs ++ y ∷ []) (sym is))
+
+-- The items inside an item at (h, v), before a picture: for a box its picture, as a group; and their numbers.
+abbrev pub inside : BoxNode → (h v : ℤ) → Node → Picture → Picture
+inside b h v (nodes.Box shift inner) rest =
+    grouped inner.list inner.kind
+    (picture_after inner (box_h b.kind h shift) (list_v inner.kind inner.height (box_v b.kind v shift inner.height)) [] inner.list) rest
+inside b h v (nodes.Special text) rest = stroke (body.Special h v text) (pos 0) rest
+inside b h v other rest = rest
+
+abbrev pub numbers_inside : BoxNode → (h v : ℤ) → Node → List ℤ
+numbers_inside b h v (nodes.Box shift inner) =
+    numbers_after inner (box_h b.kind h shift) (list_v inner.kind inner.height (box_v b.kind v shift inner.height)) [] inner.list
+numbers_inside b h v other = []
+
+-- The picture of an item and of the items after it, and their numbers, by cases on the item.
+pub picture-one :
+    (b : BoxNode) (h v : ℤ) (before rest : List Node) (x : Node)
+    → picture_after b h v before (items_of (x ∷ rest))
+    ≡ strokes_of b (item_h b h before) (item_v b v before) x
+    (inside b (item_h b h before) (item_v b v before) x (picture_after b h v (before ++ x ∷ []) (items_of rest)))
+picture-one b h v before rest (nodes.Glyph g) = refl
+picture-one b h v before rest (nodes.FontKern width) = refl
+picture-one b h v before rest (nodes.Kern width) = refl
+picture-one b h v before rest (nodes.Glue g) = refl
+picture-one b h v before rest (nodes.Penalty p) = refl
+picture-one b h v before rest (nodes.Special text) = refl
+picture-one b h v before rest (nodes.Rule sizes) = refl
+picture-one b h v before rest (nodes.Box shift inner) = refl
+
+pub numbers-one :
+    (b : BoxNode) (h v : ℤ) (before rest : List Node) (x : Node)
+    → numbers_after b h v before (items_of (x ∷ rest))
+    ≡ numbers_at b h v before x
+    ++ (numbers_inside b (item_h b h before) (item_v b v before) x ++ numbers_after b h v (before ++ x ∷ []) (items_of rest))
+numbers-one b h v before rest (nodes.Glyph g) = refl
+numbers-one b h v before rest (nodes.FontKern width) = refl
+numbers-one b h v before rest (nodes.Kern width) = refl
+numbers-one b h v before rest (nodes.Glue g) = refl
+numbers-one b h v before rest (nodes.Penalty p) = refl
+numbers-one b h v before rest (nodes.Special text) = refl
+numbers-one b h v before rest (nodes.Rule sizes) = refl
+numbers-one b h v before rest (nodes.Box shift inner) = refl
+
+-- The picture of the items that are left, and their numbers.
+abbrev pub picture_left : BoxNode → (h v : ℤ) → List Node → ℕ → Picture
+picture_left b h v xs i = picture_after b h v (take i xs) (items_of (drop i xs))
+
+abbrev pub numbers_left : BoxNode → (h v : ℤ) → List Node → ℕ → List ℤ
+numbers_left b h v xs i = numbers_after b h v (take i xs) (items_of (drop i xs))
+
+pub picture_more :
+    (b : BoxNode) (h v : ℤ) (xs : List Node) (i : ℕ) (x : Node) → i < length xs → x ≡ get_or xs i x
+    → picture_left b h v xs i
+    ≡ strokes_of b (item_h b h (take i xs)) (item_v b v (take i xs)) x
+    (inside b (item_h b h (take i xs)) (item_v b v (take i xs)) x (picture_left b h v xs (i + 1)))
+picture_more b h v xs i x within is =
+    ap (λ after. picture_after b h v (take i xs) (items_of after)) (left_at xs i x within is)
+    ∙ (picture-one b h v (take i xs) (drop (i + 1) xs) x
+    ∙ ap (λ before. strokes_of b (item_h b h (take i xs)) (item_v b v (take i xs)) x
+    (inside b (item_h b h (take i xs)) (item_v b v (take i xs)) x (picture_after b h v before (items_of (drop (i + 1) xs))))) (taken_at xs i x within is))
+
+pub numbers_more :
+    (b : BoxNode) (h v : ℤ) (xs : List Node) (i : ℕ) (x : Node) → i < length xs → x ≡ get_or xs i x
+    → numbers_left b h v xs i
+    ≡ numbers_at b h v (take i xs) x ++ (numbers_inside b (item_h b h (take i xs)) (item_v b v (take i xs)) x ++ numbers_left b h v xs (i + 1))
+numbers_more b h v xs i x within is =
+    ap (λ after. numbers_after b h v (take i xs) (items_of after)) (left_at xs i x within is)
+    ∙ (numbers-one b h v (take i xs) (drop (i + 1) xs) x
+    ∙ ap (λ before. numbers_at b h v (take i xs) x
+    ++ (numbers_inside b (item_h b h (take i xs)) (item_v b v (take i xs)) x ++ numbers_after b h v before (items_of (drop (i + 1) xs)))) (taken_at xs i x within is))
+
+-- Whether the numbers of the items that are left fit.
+pub fits_more :
+    (b : BoxNode) (h v : ℤ) (xs : List Node) (i : ℕ) (x : Node) → i < length xs → x ≡ get_or xs i x
+    → list_all fits (numbers_left b h v xs i)
+    ≡ (list_all fits (numbers_at b h v (take i xs) x)
+    && (list_all fits (numbers_inside b (item_h b h (take i xs)) (item_v b v (take i xs)) x) && list_all fits (numbers_left b h v xs (i + 1))))
+fits_more b h v xs i x within is =
+    let here = numbers_at b h v (take i xs) x in
+    let inner = numbers_inside b (item_h b h (take i xs)) (item_v b v (take i xs)) x in
+    let later = numbers_left b h v xs (i + 1) in
+    ap (list_all fits) (numbers_more b h v xs i x within is)
+    ∙ (list_all-append fits here (inner ++ later) ∙ ap (λ rest. list_all fits here && rest) (list_all-append fits inner later))
+
+-- The numbers and the marks of an item, from the state of a walk that has passed those before it.
+pub between-at :
+    (b : BoxNode) (h v : ℤ) (before : List Node) (x : Node)
+    → numbers_between b h v (place_at b.setting (reached b.kind b.setting before)) (place_at b.setting (one_more b.kind b.setting (reached b.kind b.setting before) x)) x
+    ≡ numbers_at b h v before x
+between-at b h v before x =
+    let next = place b.kind b.setting (before ++ x ∷ []) in
+    ap (λ there. numbers_between b h v (place_at b.setting (reached b.kind b.setting before)) there x)
+    (ap (place_at b.setting) (one_more-reached b.kind b.setting before x) ∙ place-reached b.kind b.setting (before ++ x ∷ []))
+    ∙ ap (λ here. numbers_between b h v here next x) (place-reached b.kind b.setting before)
+
+-- The place of a walk that has passed the items before an item.
+pub reached-place :
+    (b : BoxNode) (before : List Node) (from : Reached) → from ≡ reached b.kind b.setting before → place_at b.setting from ≡ place b.kind b.setting before
+reached-place b before from at = ap (place_at b.setting) at ∙ place-reached b.kind b.setting before
+
+-- The second part of a conjunction whose first part is true.
+pub rest_of_and : (a b c : Bool) → true ≡ a → (a && b) ≡ c → b ≡ c
+rest_of_and true b c first all = all
+rest_of_and false b c first all = cc
+
+pub last_of_three : (a b c : Bool) → not (a && (b && c)) ≡ false → c ≡ true
+last_of_three true true true all = refl
+last_of_three true true false all = cc
+last_of_three true false c all = cc
+last_of_three false b c all = cc
+
+pub first_of_three : (a b c : Bool) → not (a && (b && c)) ≡ false → a ≡ true
+first_of_three true b c all = refl
+first_of_three false b c all = cc
+
+pub second_of_three : (a b c : Bool) → not (a && (b && c)) ≡ false → b ≡ true
+second_of_three true true c all = refl
+second_of_three true false c all = cc
+second_of_three false b c all = cc
+
+-- Whether the numbers of an item fit, from the state of a walk that has passed those before it.
+pub item_fits :
+    (b : BoxNode) (h v : ℤ) (before : List Node) (x : Node) (from : Reached) (found : Bool) → from ≡ reached b.kind b.setting before
+    → found ≡ list_all fits (numbers_between b h v (place_at b.setting from) (place_at b.setting (one_more b.kind b.setting from x)) x)
+    → found ≡ list_all fits (numbers_at b h v before x)
+item_fits b h v before x from found at is =
+    is
+    ∙ (ap (λ (r : Reached). list_all fits (numbers_between b h v (place_at b.setting r) (place_at b.setting (one_more b.kind b.setting r x)) x)) at
+    ∙ ap (list_all fits) (between-at b h v before x))
+
+-- A walk before an item has passed fewer items than the greatest length of a list.
+pub few_passed :
+    (kind : Kind) (setting : Setting) (xs : List Node) (i : ℕ) (from : Reached) → from ≡ reached kind setting (take i xs) → i < length xs → length xs ≤ max_nodes
+    → from.passed < max_nodes
+few_passed kind setting xs i from at within short =
+    omega (arith, ap (λ (r : Reached). r.passed) at, reached-passed kind setting (take i xs), length-take-le i xs (omega (arith, within)), within, short)
+
+pub first_false : (a b : Bool) → false ≡ a → (a && b) ≡ false
+first_false false b is = refl
+first_false true b is = absurd (cc)
+
+pub second_false : (a b c : Bool) → false ≡ b → (a && (b && c)) ≡ false
+second_false false b c is = refl
+second_false true false c is = refl
+second_false true true c is = absurd (cc)
+
+-- A walk before all items.
+pub reached-none : (kind : Kind) (setting : Setting) → record { natural = pos 0; shares = pos 0; passed = 0 } ≡ reached kind setting []
+unfolding reached
+reached-none kind setting = refl
+
+-- The marks of an item and its reference point, from the state of such a walk.
+pub item_strokes :
+    (b : BoxNode) (h v : ℤ) (before : List Node) (x : Node) (from : Reached) (rest found : Picture) → from ≡ reached b.kind b.setting before
+    → found ≡ strokes_at b h v (place_at b.setting from) x rest → found ≡ strokes_of b (item_h b h before) (item_v b v before) x rest
+item_strokes b h v before x from rest found at is = is ∙ ap (λ here. strokes_at b h v here x rest) (reached-place b before from at)
+
+-- The item after a glyph or a rule is where h is after it.
+pub reach : (b : BoxNode) (h : ℤ) (before : List Node) (x : Node) → Reaches b.kind (item_h b h before) (item_h b h (before ++ x ∷ [])) x
+reach b h before x =
+    let from = reached b.kind b.setting before in
+    let next = ap (place_at b.setting) (one_more-reached b.kind b.setting before x) ∙ place-reached b.kind b.setting (before ++ x ∷ []) in
+    reach_by b.kind b.setting from h (item_h b h before) (item_h b h (before ++ x ∷ [])) x (sym (ap (right_at b.kind h) (place-reached b.kind b.setting before)))
+    (sym (ap (right_at b.kind h) next))
+
+-- The start of the list of an inner box, whose reference point comes from a walk that has passed the items before it.
+pub inner_begin :
+    (b inner : BoxNode) (h v : ℤ) (before : List Node) (x : Node) (shift : ℤ) (from : Reached) (at_h at_v begin_h begin_v : ℤ)
+    → from ≡ reached b.kind b.setting before → x ≡ nodes.Box shift inner
+    → at_h ≡ reference_h b.kind (right_at b.kind h (place_at b.setting from)) x
+    → at_v ≡ reference_v b.kind (down_at b.kind v (place_at b.setting from)) x
+    → begin_h ≡ at_h → begin_v ≡ list_v inner.kind inner.height at_v
+    → (begin_h ≡ box_h b.kind (item_h b h before) shift) × (begin_v ≡ list_v inner.kind inner.height (box_v b.kind (item_v b v before) shift inner.height))
+inner_begin b inner h v before x shift from at_h at_v begin_h begin_v at is right down first second =
+    let here = reached-place b before from at in (
+      first ∙ (right ∙ (ap (reference_h b.kind (right_at b.kind h (place_at b.setting from))) is ∙ ap (λ place. box_h b.kind (right_at b.kind h place) shift) here)),
+      second
+          ∙ ap (list_v inner.kind inner.height)
+          (down ∙ (ap (reference_v b.kind (down_at b.kind v (place_at b.setting from))) is ∙ ap (λ place. box_v b.kind (down_at b.kind v place) shift inner.height) here)),
+    )
+
+-- The numbers of the items of such a box, and its picture.
+pub inner_numbers :
+    (b inner : BoxNode) (h v shift begin_h begin_v : ℤ) (x : Node) → x ≡ nodes.Box shift inner
+    → (begin_h ≡ box_h b.kind h shift) × (begin_v ≡ list_v inner.kind inner.height (box_v b.kind v shift inner.height))
+    → numbers_inside b h v x ≡ numbers_after inner begin_h begin_v [] inner.list
+inner_numbers b inner h v shift begin_h begin_v x is (right, down) = rw (is, right, down) refl
+
+pub inner_picture :
+    (b inner : BoxNode) (h v shift begin_h begin_v : ℤ) (x : Node) (rest : Picture) → x ≡ nodes.Box shift inner
+    → (begin_h ≡ box_h b.kind h shift) × (begin_v ≡ list_v inner.kind inner.height (box_v b.kind v shift inner.height))
+    → inside b h v x rest ≡ grouped inner.list inner.kind (picture_after inner begin_h begin_v [] inner.list) rest
+inner_picture b inner h v shift begin_h begin_v x rest is (right, down) = rw (is, right, down) refl
+
+-- A list without items, and its numbers.
+pub no_items : (items : Items) → (length (nodes_of items) == 0) ≡ true → items ≡ none
+no_items none empty = refl
+no_items (leaf x items) empty = absurd (more (length (nodes_of items)) (eqb-true (length (nodes_of (leaf x items))) 0 empty))
+  where
+    more : (n : ℕ) → suc n ≡ 0 → ⊥
+    more n is = omega (arith, is)
+no_items (box shift frame some items) empty =
+    absurd (more (length (nodes_of items)) (eqb-true (length (nodes_of (box shift frame some items))) 0 empty))
+  where
+    more : (n : ℕ) → suc n ≡ 0 → ⊥
+    more n is = omega (arith, is)
+
+pub no_numbers : (b : BoxNode) (h v : ℤ) (items : Items) → (length (nodes_of items) == 0) ≡ true → list_all fits (numbers_after b h v [] items) ≡ true
+no_numbers b h v items empty = ap (λ items. list_all fits (numbers_after b h v [] items)) (no_items items empty)
+
+-- An item that is no box has no items.
+pub leaf_numbers : (b : BoxNode) (h v : ℤ) (x : Node) → ((shift : ℤ) (inner : BoxNode) → x ≢ nodes.Box shift inner) → numbers_inside b h v x ≡ []
+leaf_numbers b h v (nodes.Box shift inner) other = absurd (other shift inner refl)
+leaf_numbers b h v (nodes.Glyph g) other = refl
+leaf_numbers b h v (nodes.FontKern width) other = refl
+leaf_numbers b h v (nodes.Kern width) other = refl
+leaf_numbers b h v (nodes.Glue g) other = refl
+leaf_numbers b h v (nodes.Penalty p) other = refl
+leaf_numbers b h v (nodes.Special text) other = refl
+leaf_numbers b h v (nodes.Rule sizes) other = refl
+
+pub leaf_picture :
+    (b : BoxNode) (h v : ℤ) (x : Node) (rest : Picture) → ((shift : ℤ) (inner : BoxNode) → x ≢ nodes.Box shift inner) → ((text : List ℕ) → x ≢ nodes.Special text)
+    → inside b h v x rest ≡ rest
+leaf_picture b h v (nodes.Box shift inner) rest other no_text = absurd (other shift inner refl)
+leaf_picture b h v (nodes.Glyph g) rest other no_text = refl
+leaf_picture b h v (nodes.FontKern width) rest other no_text = refl
+leaf_picture b h v (nodes.Kern width) rest other no_text = refl
+leaf_picture b h v (nodes.Glue g) rest other no_text = refl
+leaf_picture b h v (nodes.Penalty p) rest other no_text = refl
+leaf_picture b h v (nodes.Special text) rest other no_text = absurd (no_text text refl)
+leaf_picture b h v (nodes.Rule sizes) rest other no_text = refl
+
+-- A special that a walk reaches after the items before it is at its place.
+pub special_picture :
+    (b : BoxNode) (h v : ℤ) (before : List Node) (x : Node) (text : List ℕ) (from : Reached) (at_h at_v : ℤ) (rest : Picture)
+    → from ≡ reached b.kind b.setting before → x ≡ nodes.Special text
+    → at_h ≡ reference_h b.kind (right_at b.kind h (place_at b.setting from)) x
+    → at_v ≡ reference_v b.kind (down_at b.kind v (place_at b.setting from)) x
+    → inside b (item_h b h before) (item_v b v before) x rest ≡ stroke (body.Special at_h at_v text) (pos 0) rest
+special_picture b h v before x text from at_h at_v rest at is right down =
+    let here = reached-place b before from at in
+    let across : at_h ≡ item_h b h before = right ∙ (ap (reference_h b.kind (right_at b.kind h (place_at b.setting from))) is ∙ ap (λ place. right_at b.kind h place) here) in
+    let below : at_v ≡ item_v b v before = down ∙ (ap (reference_v b.kind (down_at b.kind v (place_at b.setting from))) is ∙ ap (λ place. down_at b.kind v place) here) in
+    rw (is, across, below) refl
+
+-- A box in a list nests less deep than the list.
+tail_depth : (x : Node) (rest : List Node) → items_depth (items_of rest) ≤ items_depth (items_of (x ∷ rest))
+tail_depth (nodes.Box shift inner) rest = omega arith
+tail_depth (nodes.Glyph g) rest = omega arith
+tail_depth (nodes.FontKern width) rest = omega arith
+tail_depth (nodes.Kern width) rest = omega arith
+tail_depth (nodes.Glue g) rest = omega arith
+tail_depth (nodes.Penalty p) rest = omega arith
+tail_depth (nodes.Special text) rest = omega arith
+tail_depth (nodes.Rule sizes) rest = omega arith
+
+left_depth : (i : ℕ) (xs : List Node) → items_depth (items_of (drop i xs)) ≤ items_depth (items_of xs)
+left_depth zero xs = omega arith
+left_depth (suc i) [] = omega arith
+left_depth (suc i) (x ∷ xs) = omega (arith, left_depth i xs, tail_depth x xs)
+
+pub inner_depth :
+    (items : Items) (xs : List Node) (i : ℕ) (x : Node) (shift : ℤ) (inner : BoxNode) → i < length xs → x ≡ get_or xs i x → xs ≡ nodes_of items
+    → x ≡ nodes.Box shift inner → items_depth inner.list < items_depth items
+inner_depth items xs i x shift inner within at all is =
+    let left : drop i xs ≡ nodes.Box shift inner ∷ drop (i + 1) xs = left_at xs i x within at ∙ ap (λ y. y ∷ drop (i + 1) xs) is in
+    let whole : items_of xs ≡ items = ap items_of all ∙ items_of-nodes_of items in
+    omega (arith, left_depth i xs, ap (λ nodes. items_depth (items_of nodes)) left, ap items_depth whole)
+
+-- A page whose bottom or right edge does not fit is huge; another page is huge where the numbers of its items do not fit.
+pub ends_huge : (page : ShippedPage) → (fits (page.v +ℤ page.box_node.depth) && fits (page.h +ℤ page.box_node.width)) ≡ false → is_huge page ≡ true
+unfolding is_huge
+ends_huge page over =
+    by_tests (fits (page.v +ℤ page.box_node.depth)) (fits (page.h +ℤ page.box_node.width))
+    (list_all fits (numbers_after page.box_node page.h (page_v page) [] page.box_node.list)) over
+  where
+    by_tests : (a b c : Bool) → (a && b) ≡ false → not (a && (b && c)) ≡ true
+    by_tests true true c over = absurd (cc)
+    by_tests true false c over = refl
+    by_tests false b c over = refl
+
+pub items_huge :
+    (page : ShippedPage) (fit : Bool) → (fits (page.v +ℤ page.box_node.depth) && fits (page.h +ℤ page.box_node.width)) ≡ true
+    → fit ≡ list_all fits (numbers_after page.box_node page.h (page_v page) [] page.box_node.list) → is_huge page ≡ not fit
+unfolding is_huge
+items_huge page fit within is =
+    by_tests (fits (page.v +ℤ page.box_node.depth)) (fits (page.h +ℤ page.box_node.width))
+    (list_all fits (numbers_after page.box_node page.h (page_v page) [] page.box_node.list)) within
+    ∙ ap not (sym is)
+  where
+    by_tests : (a b c : Bool) → (a && b) ≡ true → not (a && (b && c)) ≡ not c
+    by_tests true true c within = refl
+    by_tests true false c within = absurd (cc)
+    by_tests false b c within = absurd (cc)
+
+-- The numbers of the items of a page that is not huge fit.
+pub items_fit : (page : ShippedPage) → is_huge page ≡ false → list_all fits (numbers_after page.box_node page.h (page_v page) [] page.box_node.list) ≡ true
+unfolding is_huge
+items_fit page small = last_of_three _ _ _ small
+
+-- A box without items is no group, and a box with items is one.
+pub grouped-none : (items : Items) (kind : Kind) (inner rest : Picture) → (length (nodes_of items) == 0) ≡ true → grouped items kind inner rest ≡ rest
+grouped-none items kind inner rest empty = ap (λ items. grouped items kind inner rest) (no_items items empty)
+
+pub grouped-some : (items : Items) (kind : Kind) (inner rest : Picture) → (length (nodes_of items) == 0) ≡ false → grouped items kind inner rest ≡ group kind inner rest
+grouped-some none kind inner rest full = absurd (cc)
+grouped-some (leaf x items) kind inner rest full = refl
+grouped-some (box shift frame some items) kind inner rest full = refl
+
+-- The item at an index, read from the list.
+pub item_at : (xs : List Node) (i : ℕ) (x : Node) → i < length xs → x ≡ get_or xs i x → slice_get xs i ≡ Some x
+item_at [] i x within at = absurd (omega (arith, within))
+item_at (y ∷ xs) zero x within at = ap Some (sym at)
+item_at (y ∷ xs) (suc i) x within at = item_at xs i x (omega (arith, within)) at
+
+pub item_is : (xs : List Node) (i : ℕ) (x y : Node) → i < length xs → x ≡ get_or xs i x → slice_get xs i ≡ Some y → x ≡ y
+item_is xs i x y within at is = same (sym (item_at xs i x within at) ∙ is)
+  where
+    same : Some x ≡ Some y → x ≡ y
+    same e = cc
+
+-- The picture that is left after the group of an item: for a box what follows it, for another item its own picture.
+abbrev pub past_box : Node → (own later : Picture) → Picture
+past_box (nodes.Box shift inner) own later = later
+past_box (nodes.Glyph g) own later = own
+past_box (nodes.FontKern width) own later = own
+past_box (nodes.Kern width) own later = own
+past_box (nodes.Glue g) own later = own
+past_box (nodes.Penalty p) own later = own
+past_box (nodes.Special text) own later = own
+past_box (nodes.Rule sizes) own later = own
+
+pub past_leaf : (x : Node) (own later : Picture) → ((shift : ℤ) (inner : BoxNode) → x ≢ nodes.Box shift inner) → past_box x own later ≡ own
+past_leaf (nodes.Box shift inner) own later other = absurd (other shift inner refl)
+past_leaf (nodes.Glyph g) own later other = refl
+past_leaf (nodes.FontKern width) own later other = refl
+past_leaf (nodes.Kern width) own later other = refl
+past_leaf (nodes.Glue g) own later other = refl
+past_leaf (nodes.Penalty p) own later other = refl
+past_leaf (nodes.Special text) own later other = refl
+past_leaf (nodes.Rule sizes) own later other = refl
+
+pub past_other : (b : BoxNode) (h v : ℤ) (x : Node) (later : Picture) → ((text : List ℕ) → x ≢ nodes.Special text) → past_box x (inside b h v x later) later ≡ later
+past_other b h v (nodes.Box shift inner) later no_text = refl
+past_other b h v (nodes.Glyph g) later no_text = refl
+past_other b h v (nodes.FontKern width) later no_text = refl
+past_other b h v (nodes.Kern width) later no_text = refl
+past_other b h v (nodes.Glue g) later no_text = refl
+past_other b h v (nodes.Penalty p) later no_text = refl
+past_other b h v (nodes.Special text) later no_text = absurd (no_text text refl)
+past_other b h v (nodes.Rule sizes) later no_text = refl

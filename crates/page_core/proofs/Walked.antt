@@ -1,0 +1,206 @@
+-- The items of a box between two places of its list.
+use Rattle.std.proofs.Common.{◌≡◌, ◌∙◌, ◌+◌, ℕ, List, [], ◌∷◌, refl, ap, ap₂, sym, subst, arith}
+use Rattle.std.specs.Prelude.{ℤ, pos, ◌+ℤ◌, Bool, true, false, ◌&&◌, if◌then◌else◌, Option, Some, None}
+use Rattle.std.specs.List.{list_all}
+use Rattle.std.proofs.lemmas.Int.{ints}
+use Rattle.node_core.specs.declared.tree.Kind.{Kind}
+use Rattle.node_core.specs.declared.tree.Kind.TheVariants.{Horizontal, Vertical}
+use Rattle.node_core.specs.declared.tree.Node.{Node}
+use Rattle.node_core.specs.declared.tree.Glyph.{Glyph}
+use Rattle.node_core.specs.declared.tree.Rule.{Rule}
+use Rattle.node_core.specs.declared.tree.Node.TheVariants as nodes
+use Rattle.node_core.specs.declared.tree.BoxNode.{BoxNode}
+use Rattle.node_core.specs.declared.tree.Setting.{Setting}
+use Rattle.node_core.specs.declared.tree.Setting.TheVariants as settings
+use Rattle.pack_core.specs.Items.{advance, own_size}
+use Rattle.scaled_core.specs.Dimensions.{fits}
+use Rattle.pack_core.specs.Places.{share, set_by}
+use Rattle.pack_core.specs.Cursors.{Reached, one_more, moved_on, place_at}
+use Rattle.page_core.specs.declared.placing.Point.{Point}
+use Rattle.page_core.specs.Marks.{right_at, down_at, rule_below, rule_tall, rule_wide, box_h, box_v, points_and_sizes}
+use Rattle.page_core.specs.Pictures.{Picture}
+use Rattle.page_core.specs.declared.placing.PlacedItem.{PlacedItem}
+use Rattle.std.specs.Option.{IfSome, OnSome}
+use Rattle.page_core.specs.Placing.{strokes_of, fitting_point, point_in, numbers_between, strokes_at, is_rigid, Reaches}
+
+-- A point is at its numbers.
+pub point-is : (h v : ℤ) (p : Point ℤ) → fitting_point h v ≡ Some p → (p.h ≡ h) × (p.v ≡ v)
+point-is h v p is = by_test (fits h && fits v) is
+  where
+    by_test : (b : Bool) → (if b then Some (record { h = h; v = v }) else None) ≡ Some p → (p.h ≡ h) × (p.v ≡ v)
+    by_test true is = (cc, cc)
+    by_test false is = absurd (cc)
+
+-- Where there is no point, one of the numbers does not fit.
+no_point : (h v : ℤ) → fitting_point h v ≡ None → (fits h && fits v) ≡ false
+no_point h v is = by_test (record { h = h; v = v }) (fits h && fits v) is
+  where
+    by_test : (p : Point ℤ) (b : Bool) → (if b then Some p else None) ≡ None → b ≡ false
+    by_test p true is = absurd (cc)
+    by_test p false is = refl
+
+third_and : (a b c d e : Bool) → (c && d) ≡ false → (a && (b && (c && (d && e)))) ≡ false
+third_and false b c d e none = refl
+third_and true false c d e none = refl
+third_and true true false d e none = refl
+third_and true true true false e none = refl
+third_and true true true true e none = absurd (cc)
+
+third_fits : (a b c d : ℤ) (rest : List ℤ) → (fits c && fits d) ≡ false → list_all fits (a ∷ b ∷ c ∷ d ∷ rest) ≡ false
+third_fits a b c d rest none = third_and (fits a) (fits b) (fits c) (fits d) (list_all fits rest) none
+
+-- An item whose next place does not fit.
+pub between-none : (b : BoxNode) (h v place next : ℤ) (x : Node) → point_in b h v next ≡ None → list_all fits (numbers_between b h v place next x) ≡ false
+between-none b h v place next x is = by_node x
+  where
+    x0 : ℤ
+    x0 = right_at b.kind h place
+
+    y0 : ℤ
+    y0 = down_at b.kind v place
+
+    x1 : ℤ
+    x1 = right_at b.kind h next
+
+    y1 : ℤ
+    y1 = down_at b.kind v next
+
+    by_node : (x : Node) → list_all fits (points_and_sizes b x0 y0 x1 y1 x) ≡ false
+    by_node (nodes.Glyph g) = third_fits x0 y0 x1 y1 [] (no_point x1 y1 is)
+    by_node (nodes.FontKern w) = third_fits x0 y0 x1 y1 [] (no_point x1 y1 is)
+    by_node (nodes.Kern w) = third_fits x0 y0 x1 y1 [] (no_point x1 y1 is)
+    by_node (nodes.Glue g) = third_fits x0 y0 x1 y1 [] (no_point x1 y1 is)
+    by_node (nodes.Penalty p) = third_fits x0 y0 x1 y1 [] (no_point x1 y1 is)
+    by_node (nodes.Special text) = third_fits x0 y0 x1 y1 [] (no_point x1 y1 is)
+    by_node (nodes.Rule r) = third_fits x0 y0 x1 y1 ((y0 +ℤ rule_below b.kind b r) ∷ rule_tall b.kind b r ∷ rule_wide b.kind b r ∷ []) (no_point x1 y1 is)
+    by_node (nodes.Box shift inner) = third_fits x0 y0 x1 y1 (box_h b.kind x0 shift ∷ box_v b.kind y0 shift inner.height ∷ []) (no_point x1 y1 is)
+
+-- An item whose two places fit.
+pub between-points :
+    (b : BoxNode) (h v place next : ℤ) (at after : Point ℤ) (x : Node) → point_in b h v place ≡ Some at → point_in b h v next ≡ Some after
+    → numbers_between b h v place next x ≡ points_and_sizes b at.h at.v after.h after.v x
+between-points b h v place next at after x here there =
+    let p = point-is (right_at b.kind h place) (down_at b.kind v place) at here in
+    let q = point-is (right_at b.kind h next) (down_at b.kind v next) after there in
+    cc (p.0, p.1, q.0, q.1)
+
+pub strokes-point :
+    (b : BoxNode) (h v place : ℤ) (at : Point ℤ) (x : Node) (rest : Picture) → point_in b h v place ≡ Some at
+    → strokes_at b h v place x rest ≡ strokes_of b at.h at.v x rest
+strokes-point b h v place at x rest here = let p = point-is (right_at b.kind h place) (down_at b.kind v place) at here in cc (p.0, p.1)
+
+-- A glyph or a rule is independent of the glue setting.
+share_glyph : (setting : Setting) (g : Glyph) → share setting (nodes.Glyph g) ≡ pos 0
+share_glyph settings.Natural g = refl
+share_glyph (settings.Stretch order ratio) g = refl
+share_glyph (settings.Shrink order ratio) g = refl
+
+share_rule : (setting : Setting) (r : Rule) → share setting (nodes.Rule r) ≡ pos 0
+share_rule settings.Natural r = refl
+share_rule (settings.Stretch order ratio) r = refl
+share_rule (settings.Shrink order ratio) r = refl
+
+no_share : (setting : Setting) (shares part : ℤ) → part ≡ pos 0 → set_by setting (shares +ℤ part) ≡ set_by setting shares
+no_share setting shares part none = ap (set_by setting) (omega (arith, ints, none))
+
+right_more :
+    (setting : Setting) (from : Reached) (h by part : ℤ) → part ≡ pos 0
+    → h +ℤ ((from.natural +ℤ by) +ℤ set_by setting (from.shares +ℤ part)) ≡ (h +ℤ (from.natural +ℤ set_by setting from.shares)) +ℤ by
+right_more setting from h by part none = omega (arith, ints, no_share setting from.shares part none)
+
+right_by :
+    (setting : Setting) (from : Reached) (h by part : ℤ) → part ≡ pos 0 → (x y : ℤ)
+    → x ≡ h +ℤ place_at setting from → y ≡ h +ℤ ((from.natural +ℤ by) +ℤ set_by setting (from.shares +ℤ part)) → y ≡ x +ℤ by
+right_by setting from h by part none x y here there = there ∙ (right_more setting from h by part none ∙ sym (ap (λ z. z +ℤ by) here))
+
+-- The item after it is therefore where h is after it.
+pub reach_by :
+    (kind : Kind) (setting : Setting) (from : Reached) (h at after : ℤ) (x : Node) → at ≡ right_at kind h (place_at setting from)
+    → after ≡ right_at kind h (place_at setting (one_more kind setting from x)) → Reaches kind at after x
+reach_by Horizontal setting from h at after (nodes.Glyph g) first next = right_by setting from h g.width (share setting (nodes.Glyph g)) (share_glyph setting g) at after first next
+reach_by Vertical setting from h at after (nodes.Glyph g) first next = next ∙ sym first
+reach_by kind setting from h at after (nodes.FontKern w) first next = tt
+reach_by kind setting from h at after (nodes.Kern w) first next = tt
+reach_by kind setting from h at after (nodes.Glue g) first next = tt
+reach_by kind setting from h at after (nodes.Penalty n) first next = tt
+reach_by kind setting from h at after (nodes.Special text) first next = tt
+reach_by Horizontal setting from h at after (nodes.Rule r) first next = right_by setting from h (own_size r.width) (share setting (nodes.Rule r)) (share_rule setting r) at after first next
+reach_by Vertical setting from h at after (nodes.Rule r) first next = next ∙ sym first
+reach_by kind setting from h at after (nodes.Box shift inner) first next = tt
+
+pub reaches :
+    (b : BoxNode) (h v : ℤ) (from : Reached) (at after : Point ℤ) (x : Node) → point_in b h v (place_at b.setting from) ≡ Some at
+    → point_in b h v (place_at b.setting (one_more b.kind b.setting from x)) ≡ Some after → Reaches b.kind at.h after.h x
+reaches b h v from at after x here there =
+    let p = point-is (right_at b.kind h (place_at b.setting from)) (down_at b.kind v (place_at b.setting from)) at here in
+    let next = place_at b.setting (one_more b.kind b.setting from x) in
+    let q = point-is (right_at b.kind h next) (down_at b.kind v next) after there in
+    reach_by b.kind b.setting from h at.h after.h x p.0 q.0
+
+-- An item other than glue is independent of the glue setting.
+share_rigid : (setting : Setting) (x : Node) → is_rigid x ≡ true → share setting x ≡ pos 0
+share_rigid setting (nodes.Glue g) is = absurd (cc)
+share_rigid settings.Natural (nodes.Glyph g) is = refl
+share_rigid settings.Natural (nodes.FontKern w) is = refl
+share_rigid settings.Natural (nodes.Kern w) is = refl
+share_rigid settings.Natural (nodes.Penalty n) is = refl
+share_rigid settings.Natural (nodes.Special text) is = refl
+share_rigid settings.Natural (nodes.Rule r) is = refl
+share_rigid settings.Natural (nodes.Box shift b) is = refl
+share_rigid (settings.Stretch order ratio) (nodes.Glyph g) is = refl
+share_rigid (settings.Stretch order ratio) (nodes.FontKern w) is = refl
+share_rigid (settings.Stretch order ratio) (nodes.Kern w) is = refl
+share_rigid (settings.Stretch order ratio) (nodes.Penalty n) is = refl
+share_rigid (settings.Stretch order ratio) (nodes.Special text) is = refl
+share_rigid (settings.Stretch order ratio) (nodes.Rule r) is = refl
+share_rigid (settings.Stretch order ratio) (nodes.Box shift b) is = refl
+share_rigid (settings.Shrink order ratio) (nodes.Glyph g) is = refl
+share_rigid (settings.Shrink order ratio) (nodes.FontKern w) is = refl
+share_rigid (settings.Shrink order ratio) (nodes.Kern w) is = refl
+share_rigid (settings.Shrink order ratio) (nodes.Penalty n) is = refl
+share_rigid (settings.Shrink order ratio) (nodes.Special text) is = refl
+share_rigid (settings.Shrink order ratio) (nodes.Rule r) is = refl
+share_rigid (settings.Shrink order ratio) (nodes.Box shift b) is = refl
+
+abbrev reaching : (natural shares : ℤ) (passed : ℕ) → Reached
+reaching natural shares passed = record { natural = natural; shares = shares; passed = passed }
+
+-- After such an item only the distance of the walk and the number of passed items change.
+pub rigid_more :
+    (kind : Kind) (setting : Setting) (from : Reached) (x : Node) (distance : ℤ) → is_rigid x ≡ true → distance ≡ advance kind x
+    → moved_on from distance ≡ one_more kind setting from x
+rigid_more kind setting from x distance rigid same =
+    ap₂ (λ (natural shares : ℤ). reaching natural shares (from.passed + 1)) (ap (λ (n : ℤ). from.natural +ℤ n) same) (omega (arith, ints, share_rigid setting x rigid))
+
+step_after :
+    (kind : Kind) (setting : Setting) (from : Reached) (h v x y by part : ℤ) → part ≡ pos 0
+    → x ≡ right_at kind h (place_at setting from) → y ≡ down_at kind v (place_at setting from)
+    → fitting_point (right_at kind x by) (down_at kind y by)
+    ≡ fitting_point (right_at kind h ((from.natural +ℤ by) +ℤ set_by setting (from.shares +ℤ part))) (down_at kind v ((from.natural +ℤ by) +ℤ set_by setting (from.shares +ℤ part)))
+step_after Horizontal setting from h v x y by part none across down =
+    let next = (from.natural +ℤ by) +ℤ set_by setting (from.shares +ℤ part) in
+    ap (λ z. fitting_point z y) (sym (right_by setting from h by part none x (h +ℤ next) across refl)) ∙ ap (λ z. fitting_point (h +ℤ next) z) down
+step_after Vertical setting from h v x y by part none across down =
+    let next = (from.natural +ℤ by) +ℤ set_by setting (from.shares +ℤ part) in
+    ap (λ z. fitting_point x z) (sym (right_by setting from v by part none y (v +ℤ next) down refl)) ∙ ap (λ z. fitting_point z (v +ℤ next)) across
+
+-- The position after an item that is independent of the setting is its own plus the advance of the item.
+pub rigid_after :
+    (b : BoxNode) (h v : ℤ) (from : Reached) (at : Point ℤ) (x : Node) → is_rigid x ≡ true → point_in b h v (place_at b.setting from) ≡ Some at
+    → fitting_point (right_at b.kind at.h (advance b.kind x)) (down_at b.kind at.v (advance b.kind x))
+    ≡ point_in b h v (place_at b.setting (one_more b.kind b.setting from x))
+rigid_after b h v from at x rigid here =
+    let p = point-is (right_at b.kind h (place_at b.setting from)) (down_at b.kind v (place_at b.setting from)) at here in
+    step_after b.kind b.setting from h v at.h at.v (advance b.kind x) (share b.setting x) (share_rigid b.setting x rigid) p.0 p.1
+
+-- The facts about an item that was found, stated in another way.
+pub found_so : (P Q : PlacedItem → Type 0) → ((s : PlacedItem) → P s → Q s) → (result : Option PlacedItem) → IfSome result P → IfSome result Q
+found_so P Q so None is = tt
+found_so P Q so (Some s) is = so s is
+
+-- The facts about a place that was found.
+pub told : (P : Point ℤ → Type 0) (found : Option (Point ℤ)) (at : Point ℤ) → found ≡ Some at → IfSome found P → P at
+told P found at is holds = subst (λ (f : Option (Point ℤ)). IfSome f P) is holds
+
+pub told_on : (P : Type 0) (found : Option (Point ℤ)) (at : Point ℤ) → found ≡ Some at → OnSome found P → P
+told_on P found at is holds = subst (λ (f : Option (Point ℤ)). OnSome f P) is holds

@@ -1,0 +1,194 @@
+//! The walk over the items of a box and of its inner boxes, which gives each mark to a sink and stops at the first number that does not fit.
+
+ghost use Rattle.std.specs.Prelude.{◌≡◌, ◌<◌, [], true, Some, is_some, IfOk, IfSome, OnSome};
+ghost use Rattle.std.specs.List.{list_all};
+ghost use Rattle.node_core.specs.Nodes.{max_nodes};
+ghost use Rattle.scaled_core.specs.Dimensions.{fits};
+ghost use Rattle.pack_core.specs.Cursors.{one_more, place_at};
+ghost use Rattle.page_core.specs.Marks.{right_at, down_at, list_v, numbers_after, points_and_sizes};
+ghost use Rattle.node_core.specs.declared.tree.Kind.{Kind};
+ghost use Rattle.page_core.specs.Pictures.{Picture, blank, grouped, picture_after};
+ghost use Rattle.node_core.specs.declared.tree.Node.TheVariants as nodes;
+ghost use Rattle.page_core.specs.Placing.{Reaches, point_in, numbers_between, strokes_at, strokes_of, reference_h, reference_v};
+
+use crate::item_walk::{ItemWalk, ListOrigin, begin_of};
+use crate::placing::{PagePoint, PagePosition, place_glyph, place_item};
+use crate::sink::{BoxRef, MarkSink};
+use node_core::{BoxNode, Glyph, Kind, Node};
+
+/// The glyph, if the item is a glyph in a horizontal list.
+#[inline(always)]
+fn glyph_across<'a>(kind: Kind, node: &'a Node) -> Option<&'a Glyph>
+    ensures { IfSome result (λ glyph. (kind ≡ Kind.Horizontal) × (node.now ≡ nodes.Glyph glyph.now)) }
+{
+    match (kind, node) {
+        (Kind::Horizontal, Node::Glyph(glyph)) => Some(glyph),
+        _ => None,
+    }
+}
+
+/// Draws a glyph of a horizontal list, and moves past it. It returns the position of the glyph; None exactly where one of its numbers does not fit.
+#[inline(always)]
+fn draw_glyph<B: BoxRef, S: MarkSink<B>>(
+    sink: &mut S,
+    walk: &mut ItemWalk,
+    box_node: &BoxNode,
+    begin: &ListOrigin,
+    at: PagePosition,
+    glyph: &Glyph,
+) -> Result<Option<PagePosition>, S::Fault>
+    requires kind { box_node.now.kind ≡ Kind.Horizontal }
+    requires items_bounded { walk.old.cursor.passed < max_nodes }
+    requires at { point_in box_node.now begin.now.h begin.now.v (place_at box_node.now.setting walk.old.cursor) ≡ Some at }
+    ensures cursor { IfOk result (λ drawn. OnSome drawn (walk.new.cursor ≡ one_more box_node.now.kind box_node.now.setting walk.old.cursor (nodes.Glyph glyph.now))) }
+    ensures here { IfOk result (λ drawn. OnSome drawn (walk.new.here ≡ point_in box_node.now begin.now.h begin.now.v
+        (place_at box_node.now.setting (one_more box_node.now.kind box_node.now.setting walk.old.cursor (nodes.Glyph glyph.now))))) }
+    ensures fits { IfOk result (λ drawn. is_some drawn ≡ list_all fits (numbers_between box_node.now begin.now.h begin.now.v (place_at box_node.now.setting walk.old.cursor)
+        (place_at box_node.now.setting (one_more box_node.now.kind box_node.now.setting walk.old.cursor (nodes.Glyph glyph.now))) (nodes.Glyph glyph.now))) }
+    ensures mark { IfOk result (λ drawn. OnSome drawn ((rest : Picture) → S.drawn_with box_node.now.kind sink.old
+        (strokes_of box_node.now at.h at.v (nodes.Glyph glyph.now) rest) ≡ S.drawn_with box_node.now.kind sink.new rest)) }
+    ensures place { IfOk result (λ drawn. IfSome drawn (λ place. place ≡ at)) }
+{
+    walk.go_past_glyph(box_node, begin, &at, glyph);
+    let Some(next) = walk.here else {
+        return Ok(None);
+    };
+    at.numbers_fit();
+    next.numbers_fit();
+    sink.draw(box_node.kind, place_glyph(box_node, at, next, *glyph))?;
+    Ok(Some(at))
+}
+
+/// Draws an item at the position `at` in the list of a box, where the next item is at `next`. It returns the reference point of the item; None
+/// exactly where one of its numbers does not fit. Specials and the items of an inner box are left to the caller.
+#[inline(always)]
+fn draw_at<B: BoxRef, S: MarkSink<B>>(
+    sink: &mut S,
+    box_node: &BoxNode,
+    at: PagePosition,
+    next: PagePosition,
+    node: &Node,
+) -> Result<Option<PagePosition>, S::Fault>
+    requires { Reaches box_node.now.kind at.h next.h node.now }
+    ensures fits { IfOk result (λ drawn. is_some drawn ≡ list_all fits (points_and_sizes box_node.now at.h at.v next.h next.v node.now)) }
+    ensures mark { IfOk result (λ drawn. OnSome drawn ((rest : Picture) → S.drawn_with box_node.now.kind sink.old
+        (strokes_of box_node.now at.h at.v node.now rest) ≡ S.drawn_with box_node.now.kind sink.new rest)) }
+    ensures h { IfOk result (λ drawn. IfSome drawn (λ place. place.h ≡ reference_h box_node.now.kind at.h node.now)) }
+    ensures v { IfOk result (λ drawn. IfSome drawn (λ place. place.v ≡ reference_v box_node.now.kind at.v node.now)) }
+{
+    let Some(placed) = place_item(box_node, at, next, node) else {
+        return Ok(None);
+    };
+    sink.draw(box_node.kind, placed.mark)?;
+    Ok(Some(placed.at))
+}
+
+/// Draws the next item of a list, and moves past it. It returns the reference point of the item; None exactly where one of its numbers does not fit.
+/// Specials and the items of an inner box are left to the caller. A glyph in a line has a path of its own, since most items are such glyphs.
+#[inline(always)]
+fn draw_item<B: BoxRef, S: MarkSink<B>>(
+    sink: &mut S,
+    walk: &mut ItemWalk,
+    box_node: &BoxNode,
+    begin: &ListOrigin,
+    node: &Node,
+) -> Result<Option<PagePosition>, S::Fault>
+    requires items_bounded { walk.old.cursor.passed < max_nodes }
+    requires here { walk.old.here ≡ point_in box_node.now begin.now.h begin.now.v (place_at box_node.now.setting walk.old.cursor) }
+    ensures cursor { IfOk result (λ drawn. OnSome drawn (walk.new.cursor ≡ one_more box_node.now.kind box_node.now.setting walk.old.cursor node.now)) }
+    ensures here { IfOk result (λ drawn. OnSome drawn (walk.new.here ≡ point_in box_node.now begin.now.h begin.now.v (place_at box_node.now.setting walk.new.cursor))) }
+    ensures fits { IfOk result (λ drawn. is_some drawn ≡ list_all fits (numbers_between box_node.now begin.now.h begin.now.v (place_at box_node.now.setting walk.old.cursor)
+        (place_at box_node.now.setting (one_more box_node.now.kind box_node.now.setting walk.old.cursor node.now)) node.now)) }
+    ensures mark { IfOk result (λ drawn. OnSome drawn ((rest : Picture) → S.drawn_with box_node.now.kind sink.old
+        (strokes_at box_node.now begin.now.h begin.now.v (place_at box_node.now.setting walk.old.cursor) node.now rest) ≡ S.drawn_with box_node.now.kind sink.new rest)) }
+    ensures h { IfOk result (λ drawn. IfSome drawn (λ place. place.h
+        ≡ reference_h box_node.now.kind (right_at box_node.now.kind begin.now.h (place_at box_node.now.setting walk.old.cursor)) node.now)) }
+    ensures v { IfOk result (λ drawn. IfSome drawn (λ place. place.v
+        ≡ reference_v box_node.now.kind (down_at box_node.now.kind begin.now.v (place_at box_node.now.setting walk.old.cursor)) node.now)) }
+{
+    let Some(at) = walk.here else {
+        return Ok(None);
+    };
+    if let Some(glyph) = glyph_across(box_node.kind, node) {
+        return draw_glyph(sink, walk, box_node, begin, at, glyph);
+    }
+    walk.go_past(box_node, begin, &at, node);
+    let Some(next) = walk.here else {
+        return Ok(None);
+    };
+    draw_at(sink, box_node, at, next, node)
+}
+
+/// Gives the marks of an inner box with the reference point `at` to a sink, as a group. A box without items makes no group.
+#[cycle(draw_items)]
+fn draw_group<B: BoxRef, S: MarkSink<B>>(
+    sink: &mut S,
+    tree: B,
+    at: PagePoint,
+) -> Result<bool, S::Fault>
+    ensures fits { IfOk result (λ fit. fit ≡ list_all fits (numbers_after (B.box_node tree) at.h
+        (list_v (B.box_node tree).kind (B.box_node tree).height at.v) [] (B.box_node tree).list)) }
+    ensures marks { IfOk result (λ fit. fit ≡ true → (kind : Kind) (rest : Picture) → S.drawn_with kind sink.old
+        (grouped (B.box_node tree).list (B.box_node tree).kind
+        (picture_after (B.box_node tree) at.h (list_v (B.box_node tree).kind (B.box_node tree).height at.v) [] (B.box_node tree).list) rest)
+        ≡ S.drawn_with kind sink.new rest) }
+{
+    let box_node = tree.as_box();
+    if box_node.list.is_empty() {
+        return Ok(true);
+    }
+    let begin = begin_of(box_node, at);
+    let place = sink.open_group()?;
+    let fit = draw_items(sink, tree, &begin)?;
+    if fit {
+        sink.close_group(place)?;
+    }
+    Ok(fit)
+}
+
+/// Gives the marks of a list that begins at `begin` to a sink, as `draw_list`.
+#[cycle(draw_items)]
+fn draw_items<B: BoxRef, S: MarkSink<B>>(
+    sink: &mut S,
+    tree: B,
+    begin: &ListOrigin,
+) -> Result<bool, S::Fault>
+    ensures fits { IfOk result (λ fit. fit ≡ list_all fits (numbers_after (B.box_node tree) begin.now.h begin.now.v [] (B.box_node tree).list)) }
+    ensures marks { IfOk result (λ fit. fit ≡ true → S.drawn_with (B.box_node tree).kind sink.old
+        (picture_after (B.box_node tree) begin.now.h begin.now.v [] (B.box_node tree).list) ≡ S.drawn_with (B.box_node tree).kind sink.new blank) }
+{
+    let box_node = tree.as_box();
+    let mut walk = ItemWalk::new(box_node, begin);
+    let items = box_node.list.as_slice();
+    for index in 0..items.len() {
+        let Some(at) = draw_item(sink, &mut walk, box_node, begin, &items[index])? else {
+            return Ok(false);
+        };
+        if let Some(inner) = tree.inner(index) {
+            if !draw_group(sink, inner, at.point())? {
+                return Ok(false);
+            }
+        }
+        if let Some(text) = tree.text(index) {
+            sink.draw_special(at, text)?;
+        }
+    }
+    Ok(true)
+}
+
+/// Gives the marks of a box with the reference point `at` to a sink, in order. Each inner box with items is a group. It returns whether the numbers of
+/// all items fit, those of inner boxes included. Where one does not fit, the walk stops there, and what the sink was given is of no use.
+pub fn draw_list<B: BoxRef, S: MarkSink<B>>(
+    sink: &mut S,
+    tree: B,
+    at: PagePoint,
+) -> Result<bool, S::Fault>
+    ensures fits { IfOk result (λ fit. fit ≡ list_all fits (numbers_after (B.box_node tree) at.h
+        (list_v (B.box_node tree).kind (B.box_node tree).height at.v) [] (B.box_node tree).list)) }
+    ensures marks { IfOk result (λ fit. fit ≡ true → S.drawn_with (B.box_node tree).kind sink.old
+        (picture_after (B.box_node tree) at.h (list_v (B.box_node tree).kind (B.box_node tree).height at.v) [] (B.box_node tree).list)
+        ≡ S.drawn_with (B.box_node tree).kind sink.new blank) }
+{
+    let begin = begin_of(tree.as_box(), at);
+    draw_items(sink, tree, &begin)
+}

@@ -1,0 +1,50 @@
+-- The instructions for the marks of a box, item by item (own; private calls alone, no public clause speaks of it).
+use Rattle.std.specs.Prelude.{◌≡◌, ◌++◌, [], ◌∷◌, ℤ, pos, negsuc, zero, suc, if◌then◌else◌, List, map, Option, Some, None}
+use Rattle.std.specs.Ordering.{int_eq}
+use Rattle.std.specs.Option.{option_map}
+use Rattle.node_core.specs.declared.tree.Kind.{Kind}
+use Rattle.dvi_ops.specs.Instruction.{Axis, Move, By, FontNum, SetChar, Instruction, Do, Push}
+use Rattle.dvi_ops.specs.Forest.{flat}
+use Rattle.dvi_ops.specs.View.{body_view}
+use Rattle.page_core.specs.declared.placing.MarkKind.{MarkKind}
+use Rattle.page_core.specs.declared.placing.MarkKind.TheVariants as ink
+use Rattle.ship_core.specs.declared.drawing.Drawing.{Drawing}
+use Rattle.ship_core.specs.Drawing.{ruled, font_after, body_of_picture}
+use Rattle.page_core.specs.Pictures.{Picture}
+use Rattle.page_core.specs.declared.placing.Point.{Point}
+
+-- An instruction, unless its amount is 0.
+abbrev pub unless_zero : ℤ → Instruction → List Instruction
+unless_zero (pos zero) i = []
+unless_zero (pos (suc n)) i = i ∷ []
+unless_zero (negsuc n) i = i ∷ []
+
+-- A movement by an amount, unless it is 0.
+abbrev pub movement : Axis → ℤ → List Instruction
+movement axis z = unless_zero z (Do (Move axis (By z)))
+
+-- The selection of a font, unless it is the current one.
+abbrev pub selection : Option ℤ → ℤ → List Instruction
+selection None font = Do (FontNum font) ∷ []
+selection (Some current) font = if int_eq font current then [] else Do (FontNum font) ∷ []
+
+-- The instruction for ink of that width.
+abbrev pub inked : Kind → (width : ℤ) → MarkKind → List Instruction
+inked kind width (ink.Rule height) = Do (ruled kind height width) ∷ []
+inked kind width (ink.Glyph slot code) = Do (SetChar (pos code)) ∷ []
+
+-- The instructions so far, and those for the picture that follows.
+abbrev pub makes : Kind → Drawing → Picture → List Instruction
+makes kind d rest = map body_view d.ops.items ++ flat (body_of_picture kind d.h d.v (option_map pos d.font) rest)
+
+-- The font after the picture that follows.
+abbrev pub leaves : Drawing → Picture → Option ℤ
+leaves d rest = font_after (option_map pos d.font) rest
+
+-- The second drawing is the first one after a push, which returned the place: the same place and font, and one instruction more.
+pub record IsOpened (outer inside : Drawing) (at : Point ℤ) : Type 0 where
+  pub ops : map body_view inside.ops.items ≡ map body_view outer.ops.items ++ Push ∷ []
+  pub h : inside.h ≡ outer.h
+  pub v : inside.v ≡ outer.v
+  pub font : inside.font ≡ outer.font
+  pub place : at ≡ record { h = outer.h; v = outer.v }
