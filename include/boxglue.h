@@ -79,6 +79,9 @@ struct boxglue_dvi_font {
     int32_t number;
     /* The size at which it is used, in DVI units: 1 to 2^27 - 1. A DVI unit of boxglue's own files is a scaled point, 1/65536 of a point. */
     int32_t size;
+    /* Its design size in DVI units, and the check sum of its metric file, as the DVI file gives them. They are not compared with a metric file. */
+    int32_t design_size;
+    uint32_t check_sum;
     /* Where its name begins in the text, and how many bytes the name has, 0 to 255. */
     size_t name_start;
     size_t name_size;
@@ -88,6 +91,44 @@ struct boxglue_dvi_font {
 struct boxglue_font_sizes {
     size_t fonts;
     size_t text;
+};
+
+/* A page of a DVI file: its ten counts, and its marks, which stand one after the other among all marks. */
+struct boxglue_page {
+    int32_t counts[10];
+    size_t first_mark;
+    size_t marks;
+};
+
+enum boxglue_mark_kind { BOXGLUE_GLYPH = 1, BOXGLUE_RULE = 2, BOXGLUE_SPECIAL = 3 };
+
+/* A mark of a page, in DVI units. What its kind does not have is 0. */
+struct boxglue_mark {
+    /* One of enum boxglue_mark_kind. */
+    uint32_t kind;
+    /* Of a glyph: the number of its font, as in struct boxglue_dvi_font, and its character. */
+    int32_t font;
+    int32_t code;
+    /* The place: h grows to the right and v downward. That of a rule is its lower left corner. */
+    int32_t h;
+    int32_t v;
+    /* Of a rule: its height and its width, both above 0. Of a glyph: the width that the metric file of its font gives, and no height. */
+    int32_t height;
+    int32_t width;
+    /* Of a special: the size of its text in bytes, and where it begins in the DVI file that was passed. */
+    uint32_t text_size;
+    uint64_t text_start;
+};
+
+/* The sizes of the outputs of boxglue_marks: the number of pages, of marks, and of bytes of the text. A DVI unit is num / den times 10^-7 metres, enlarged by
+ * mag / 1000. */
+struct boxglue_mark_sizes {
+    size_t pages;
+    size_t marks;
+    size_t text;
+    int32_t num;
+    int32_t den;
+    int32_t mag;
 };
 
 /* Runs a script with these fonts.
@@ -139,6 +180,21 @@ uint32_t boxglue_fonts(const uint8_t *dvi, size_t dvi_size,
                        struct boxglue_dvi_font *fonts, size_t font_room,
                        uint8_t *text, size_t text_room,
                        struct boxglue_font_sizes *sizes);
+
+/* Reads the marks of all pages of a DVI file.
+ *
+ * pages takes the pages, and marks their marks, in the order of a listing.
+ * text takes the line of a refusal. Then there are no pages and no marks, and the units are 0.
+ * *sizes takes the numbers of all three and the units. The rest of each buffer is as it was.
+ * Rooms of dvi_size / 46 pages, dvi_size marks and 64 bytes always suffice, so one call is enough.
+ *
+ * Returns 0, 1, 2, 3 or 4. At 4 *sizes says what the buffers need. At 2 and 3 *sizes is as it was. */
+uint32_t boxglue_marks(const uint8_t *dvi, size_t dvi_size,
+                       const struct boxglue_font *fonts, size_t font_count,
+                       struct boxglue_page *pages, size_t page_room,
+                       struct boxglue_mark *marks, size_t mark_room,
+                       uint8_t *text, size_t text_room,
+                       struct boxglue_mark_sizes *sizes);
 
 /* Returns the version of the library, as BOXGLUE_VERSION counts it. A program compares the two. */
 uint32_t boxglue_version(void);

@@ -4,16 +4,18 @@
  *     library_calls [--refuse] list DVI [NAME=TFM ..]
  *     library_calls [--refuse] paint PAGE DPI WIDTH HEIGHT DVI [NAME=TFM ..]
  *     library_calls [--refuse] fonts DVI
+ *     library_calls [--refuse] marks DVI [NAME=TFM ..]
  *     library_calls [--refuse] job MOST SCRIPT [NAME=TFM ..]
  *     library_calls random COUNT SCRIPT DVI NAME=TFM
  *     library_calls pieces COUNT SCRIPT NAME=TFM
  *     library_calls handles
  *     library_calls version
  *
- * It prints a line with the status and the sizes of both outputs, and then the outputs. `job` runs the script on a job, in pieces of at most MOST lines.
+ * It prints a line with the status and the sizes of both outputs, and then the outputs. `marks` prints the status and the units instead, and then a listing. `job` runs the script on a job, in pieces of at most MOST lines.
  * With --refuse each growth of memory is refused in turn instead, and the ways in which the calls ended are counted.
  * Where something is wrong, a line on standard error says so, and the status of the program is 1. */
 #include "job_calls.h"
+#include "mark_calls.h"
 #include "random_inputs.h"
 #include "random_pieces.h"
 #include "whole_calls.h"
@@ -28,12 +30,13 @@ static void print_outputs(uint32_t status, const uint8_t *first, size_t first_si
     fwrite(second, 1, second_size, stdout);
 }
 
-/* Prints the fonts of a DVI file, a line each: number, size, name. */
+/* Prints the fonts of a DVI file, a line each: number, size, name, design size, check sum. */
 static void print_fonts(const struct result *result) {
     const struct boxglue_dvi_font *fonts = (const struct boxglue_dvi_font *)result->outputs[0].bytes;
     size_t count = result->sizes[0] / sizeof *fonts;
     printf("%u %zu %zu\n", result->status, count, result->sizes[1]);
-    for (size_t at = 0; at < count; at++) printf("%d %d %.*s\n", fonts[at].number, fonts[at].size, (int)fonts[at].name_size, result->outputs[1].bytes + fonts[at].name_start);
+    for (size_t at = 0; at < count; at++)
+        printf("%d %d %.*s %d %u\n", fonts[at].number, fonts[at].size, (int)fonts[at].name_size, result->outputs[1].bytes + fonts[at].name_start, fonts[at].design_size, fonts[at].check_sum);
     if (!count) fwrite(result->outputs[1].bytes, 1, result->sizes[1], stdout);
 }
 
@@ -68,6 +71,14 @@ static void run_random_pieces(char **words, int count) {
     struct input script = read_file(words[1]);
     struct boxglue_font font = read_fonts(words + 2, 1).all[0];
     try_pieces(&script, &font, number(words[0]));
+}
+
+static void run_marks(char **words, int count, int refuses) {
+    REQUIRE(count >= 1, "marks needs DVI");
+    struct input dvi = read_file(words[0]);
+    struct fonts fonts = read_fonts(words + 1, count - 1);
+    if (refuses) refuse_mark_growths(&dvi, &fonts);
+    else print_marks(&dvi, &fonts);
 }
 
 static void run_job(char **words, int count, int refuses) {
@@ -107,6 +118,7 @@ int main(int count, char **words) {
     if (!strcmp(words[0], "random")) return run_random(words + 1, count - 1), 0;
     if (!strcmp(words[0], "pieces")) return run_random_pieces(words + 1, count - 1), 0;
     if (!strcmp(words[0], "job")) return run_job(words + 1, count - 1, refuses), 0;
+    if (!strcmp(words[0], "marks")) return run_marks(words + 1, count - 1, refuses), 0;
     if (!strcmp(words[0], "handles")) return require_handles(), 0;
     int call = RUN;
     while (strcmp(words[0], CALLS[call])) REQUIRE(++call <= FONTS, "no call %s", words[0]);

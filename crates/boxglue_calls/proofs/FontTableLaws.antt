@@ -1,23 +1,26 @@
 -- The rows of fonts one after the other, and what a fault says of a file.
-use Rattle.std.proofs.Common.{◌≡◌, ◌≢◌, ◌<◌, ◌+◌, ◌-◌, ◌++◌, [], ◌∷◌, List, ℕ, Bool, false, get_or, length, map, take, inl, inr, Result, Ok, Err, IfOk, ap, ap₂, subst, ◌∙◌, sym, refl, arith, length-append, append-nil}
+use Rattle.std.proofs.Common.{◌≡◌, ◌≢◌, ◌<◌, ◌+◌, ◌-◌, ◌++◌, [], ◌∷◌, List, ℕ, Bool, false, get_or, length, map, take, drop, inl, inr, Result, Ok, Err, IfOk, ap, ap₂, subst, subst₂, ◌∙◌, sym, refl, arith, length-append, append-nil}
 use Rattle.std.proofs.lemmas.Grind.{flat_map-append}
-use Rattle.std.proofs.lemmas.List.{map_more}
+use Rattle.std.proofs.lemmas.List.{length-drop, length-take-le, map_more}
 use Rattle.dvi_fonts.specs.Closing.{Closes, ClosesTo, IsClosingFault}
 use Rattle.dvi_fonts.proofs.ClosingLemmas.{broken_closing}
 use Rattle.dvi_scan.specs.declared.fault.FrameFault.{FrameFault}
 use Rattle.dvi_scan.specs.declared.fault.FrameFault.TheVariants as frames
 use Rattle.dvi_ops.proofs.Appends.{fonts_back}
 use Rattle.dvi_ops.specs.Fonts.{known_after}
-use Rattle.dvi_ops.specs.Instruction.{Definition, Postamble}
+use Rattle.dvi_ops.specs.Instruction.{Definition, Post, Postamble}
 use Rattle.dvi_ops.specs.Tokens.{says}
 use Rattle.dvi_ops.specs.View.{definition, postamble}
 use Rattle.dvi_ops.specs.declared.op.FontDefinition.{FontDefinition}
 use Rattle.dvi_scan.proofs.KnownLemmas.{fonts_fewer, same_self}
+use Rattle.dvi_scan.proofs.EndLemmas.{one_end}
 use Rattle.dvi_scan.proofs.PassedLemmas.{file_passed}
+use Rattle.dvi_scan.proofs.PlaceLemmas.{same_front}
+use Rattle.dvi_scan.specs.Passed.{IsFramed}
 use Rattle.boxglue_print.specs.Faults.{fault_line}
-use Rattle.dvi_read.proofs.FaultLemmas.{after_within, no_fault}
+use Rattle.dvi_read.proofs.FaultLemmas.{after_within, no_fault, no_front_fault}
 use Rattle.dvi_read.specs.Opened.{IsNoFile}
-use Rattle.dvi_read.specs.Opening.{StartsAt}
+use Rattle.dvi_read.specs.Opening.{BeforeThePages, StartsAt}
 use Rattle.dvi_read.specs.OpeningParts.{HasFront}
 use Rattle.dvi_read.specs.declared.before_pages.BeforePages.{BeforePages}
 use Rattle.dvi_read.specs.Faults.{of_frame}
@@ -108,15 +111,60 @@ tail_fault files bytes post after last stop chain from new (frames.Bad bad) faul
 
 -- A fault that is none of memory.
 pub no_file : (files : List NamedBytes) (bytes : List ℕ) (fault : DviFault) → fault ≢ OutOfMemory → BreaksFonts bytes fault → IsNoFile files bytes
-no_file files bytes fault other (inl broken) pages f = no_fault files bytes fault pages other (broken files) f
+no_file files bytes fault other (inl broken) pages f = no_fault files bytes fault pages other (BeforeThePages broken) f
 no_file files bytes fault other (inr (post, after, last, stop, chain, from, new, frame, starts, broken, is)) pages f =
     tail_fault files bytes post after last stop chain from new frame fault other starts broken is pages f
+
+-- The place after post is unique.
+one_after : (bytes : List ℕ) (post after other last last' : ℕ) (stop stop' : Postamble) (chain chain' : List ℕ) → IsFramed bytes post after last stop chain → IsFramed bytes post other last' stop' chain' → after ≡ other
+one_after bytes post after other last last' stop stop' chain chain' one two =
+    let whole = length-drop post bytes in
+    let low = one.low in
+    let low' = two.low in
+    let high = one.high in
+    let high' = two.high in
+    let padded = one.ends.closed.trailed.padded in
+    let padded' = two.ends.closed.trailed.padded in
+    let same = same_front (Post stop) (Post stop') (after - post) (other - post) (drop post bytes) one.spelled two.spelled in
+    let sizes : after - post ≡ other - post =
+    sym (length-take-le (after - post) (drop post bytes) (omega arith)) ∙ (ap (λ (x : List ℕ). length x) same.1 ∙ length-take-le (other - post) (drop post bytes) (omega arith)) in omega arith
+
+-- A fault that is none of memory, where the end of the file defines fonts.
+no_tail_fault : (bytes : List ℕ) (post after last : ℕ) (stop : Postamble) (chain : List ℕ) (from : ℕ) (new : List Definition) (frame : FrameFault) (fault : DviFault) → fault ≢ OutOfMemory
+    → StartsAt bytes post after last stop chain from → IsClosingFault bytes after (last - 5) [] new frame → fault ≡ of_frame frame → (fonts : List Definition) → DefinesFonts bytes fonts → ⊥
+no_tail_fault bytes post after last stop chain from new frames.OutOfMemory fault other starts broken is fonts defines = other is
+no_tail_fault bytes post after last stop chain from new (frames.Bad bad) fault other starts broken is fonts defines =
+    let framed = starts.chained.framed in
+    let theirs = defines.starts.chained.framed in
+    let (lasts, posts, stops) = one_end bytes defines.post defines.last post last defines.stop stop theirs.ends framed.ends in
+    let here : IsFramed bytes post defines.after defines.last defines.stop defines.chain = subst (λ (n : ℕ). IsFramed bytes n defines.after defines.last defines.stop defines.chain) posts theirs in
+    let afters = one_after bytes post defines.after after defines.last last defines.stop stop defines.chain chain here framed in
+    let (tail, closes, all) = defines.closes in
+    let same : Closes bytes after (last - 5) [] tail = subst₂ (λ (n m : ℕ). Closes bytes n (m - 5) [] tail) afters lasts closes in
+    broken_closing bytes after (last - 5) [] new [] bad tail (after_within [] bytes post after last stop chain framed) (same_self []) broken same
+
+no_definitions : (bytes : List ℕ) (fault : DviFault) → fault ≢ OutOfMemory → BreaksFonts bytes fault → (fonts : List Definition) → DefinesFonts bytes fonts → ⊥
+no_definitions bytes fault other (inl broken) fonts defines =
+    no_front_fault bytes fault defines.post defines.after defines.last defines.stop defines.chain defines.from other broken defines.starts
+no_definitions bytes fault other (inr (post, after, last, stop, chain, from, new, frame, starts, broken, is)) fonts defines =
+    no_tail_fault bytes post after last stop chain from new frame fault other starts broken is fonts defines
 
 -- The table of a file that is refused.
 pub refuses : (bytes : List ℕ) (rows : List DviFont) (text : List ℕ) (accepted : Bool) (fault : DviFault) → fault ≢ OutOfMemory → text ≡ fault_line fault → accepted ≡ false → rows ≡ []
     → BreaksFonts bytes fault → IsFontTable bytes rows text accepted
 refuses bytes rows text accepted fault other text_is accepted_is rows_is broken =
-    inr (record { fault = fault; other = other; broken = broken; none = λ files. no_file files bytes fault other broken; text_is = text_is }, rows_is, accepted_is)
+    inr (
+      record {
+        fault = fault;
+        other = other;
+        broken = broken;
+        undefined = no_definitions bytes fault other broken;
+        none = λ files. no_file files bytes fault other broken;
+        text_is = text_is;
+      },
+      rows_is,
+      accepted_is,
+    )
 
 -- A table that is handed over.
 pub handed_fonts : (bytes : List ℕ) (old new : List DviFont) (text_old text_new : List ℕ) (sizes : FontSizes) (done status : ℕ) (rows put : List DviFont) (text sent : List ℕ) (accepted : Bool)

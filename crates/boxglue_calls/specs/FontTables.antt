@@ -1,12 +1,13 @@
 -- The fonts that a DVI file defines after its pages (own).
 use Rattle.std.specs.Prelude.{◌≡◌, ◌≢◌, ◌⊎◌, ◌+◌, ◌-◌, ℕ, Bool, true, false, List, [], ◌∷◌, length}
+use Rattle.std.specs.Int.{cast_unsigned, w32}
 use Rattle.std.specs.List.{flat_map}
 use Rattle.dvi_fonts.specs.Closing.{ClosesTo, IsClosingFault}
 use Rattle.dvi_scan.specs.declared.fault.FrameFault.{FrameFault}
 use Rattle.dvi_ops.specs.Instruction.{Definition, Postamble}
 use Rattle.boxglue_print.specs.Faults.{fault_line}
 use Rattle.dvi_read.specs.Opened.{IsNoFile}
-use Rattle.dvi_read.specs.Opening.{IsDviFault, StartsAt}
+use Rattle.dvi_read.specs.Opening.{IsFrontFault, StartsAt}
 use Rattle.dvi_read.specs.Faults.{of_frame}
 use Rattle.dvi_read.specs.declared.fault.DviFault.{DviFault}
 use Rattle.dvi_read.specs.declared.fault.DviFault.TheVariants.{OutOfMemory}
@@ -30,13 +31,21 @@ pub record DefinesFonts (bytes : List ℕ) (fonts : List Definition) : Type 0 wh
 -- A rule is broken at the place that the fault names, before the pages or after post; or memory is refused there.
 abbrev pub BreaksFonts : List ℕ → DviFault → Type 0
 BreaksFonts bytes fault =
-    ((files : List NamedBytes) → IsDviFault files bytes fault)
+    IsFrontFault bytes fault
     ⊎ ((post : ℕ) × (after : ℕ) × (last : ℕ) × (stop : Postamble) × (chain : List ℕ) × (from : ℕ) × (new : List Definition) × (frame : FrameFault)
     × StartsAt bytes post after last stop chain from × IsClosingFault bytes after (last - 5) [] new frame × (fault ≡ of_frame frame))
 
--- The row of a font whose name begins at this place of the names.
+-- The row of a font whose name begins at this place of the names. Its check sum is a number without a sign, of the same four bytes.
 abbrev pub row_at : ℕ → Definition → DviFont
-row_at start font = record { number = font.number; size = font.size; name_start = start; name_size = length font.name }
+row_at start font =
+    record {
+      number = font.number;
+      size = font.size;
+      design_size = font.design_size;
+      check_sum = cast_unsigned w32 font.check_sum;
+      name_start = start;
+      name_size = length font.name;
+    }
 
 -- The rows of fonts, the first name of which begins at this place.
 abbrev pub rows_from : ℕ → List Definition → List DviFont
@@ -47,11 +56,12 @@ rows_from start (font ∷ rest) = row_at start font ∷ rows_from (start + lengt
 abbrev pub names_of : List Definition → List ℕ
 names_of fonts = flat_map (λ font. font.name) fonts
 
--- The bytes are no DVI file, whatever the font files, and the text is the line of a refusal that names a rule which they break.
+-- The bytes have no such end and are no DVI file, whatever the font files. The text is the line of a refusal that names a rule which they break.
 pub record RefusesFonts (bytes text : List ℕ) : Type 0 where
   pub fault : DviFault
   pub other : fault ≢ OutOfMemory
   pub broken : BreaksFonts bytes fault
+  pub undefined : (fonts : List Definition) → DefinesFonts bytes fonts → ⊥
   pub none : (files : List NamedBytes) → IsNoFile files bytes
   pub text_is : text ≡ fault_line fault
 

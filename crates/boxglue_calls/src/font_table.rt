@@ -21,6 +21,10 @@ pub struct DviFont {
     pub number: i32,
     /// The size at which it is used, in DVI units: 1 to 2^27 - 1.
     pub size: i32,
+    /// Its design size in DVI units, as the file gives it.
+    pub design_size: i32,
+    /// The check sum of its metric file, as the file gives it: four bytes, the highest first.
+    pub check_sum: u32,
     /// Where its name begins among the names.
     pub name_start: usize,
     /// How many bytes its name has.
@@ -66,6 +70,8 @@ fn push_row(
     fonts.push(DviFont {
         number: font.number,
         size: font.size,
+        design_size: font.design_size,
+        check_sum: font.check_sum.cast_unsigned(),
         name_start: text.len(),
         name_size: font.name.len(),
     })?;

@@ -24,7 +24,7 @@ pub use ahead::Lines;
 pub use before_pages::{BeforePages, find_front};
 pub use dvi_scan::{Mark, Page};
 pub use fault::{DviFault, StepFault};
-pub use opening::Dvi;
+pub use opening::{Dvi, ReadDvi, read_dvi};
 pub use part::PART;
 pub use read_fonts::{CharCode, ReadFonts, width_asked, width_of};
 pub use selecting::select;

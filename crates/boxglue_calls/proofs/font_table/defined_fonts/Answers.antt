@@ -1,11 +1,15 @@
 -- What is read of the end of a file.
-use Rattle.std.proofs.Common.{map}
+use Rattle.std.proofs.Common.{inl, map}
 use Rattle.dvi_scan.proofs.ErrLemmas.{handed_on}
 use Rattle.dvi_ops.specs.View.{definition}
 use Rattle.dvi_read.specs.Faults.{of_frame}
 use Rattle.boxglue_calls.specs.FontTables.{BreaksFonts}
 use Rattle.boxglue_calls.proofs.FontTableLaws.{breaks, defines}
 use Rattle.boxglue_calls.proofs.font_table.defined_fonts.Goals as goal
+
+pub returns-in_err-ending-clause-bad : goal.returns-in_err-ending-clause-bad
+returns-in_err-ending-clause-bad c =
+    handed_on (BreaksFonts c.args.dvi.now) c.from_residual.result c.in_err-ending.field-0.0 c.from_residual.ensures.1 (inl c.in_err-ending.ensures.bad)
 
 pub returns-in_err-read_trailing_definitions-clause-bad : goal.returns-in_err-read_trailing_definitions-clause-bad
 returns-in_err-read_trailing_definitions-clause-bad c =
