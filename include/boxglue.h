@@ -4,13 +4,19 @@
  * Between two calls they keep nothing but what a struct boxglue_job holds, which goes to one call at a time.
  * docs/LIBRARY.md shows how to link a program, and has callers in C, Python and Rust.
  *
+ * A size is a number of bytes, a count one of structs, and a room how many bytes or structs a buffer takes.
+ *
  * Rules for all calls; the library checks none of them:
  *
  * - The caller owns all memory that it passes. The library reads its inputs and writes its outputs during the call, and keeps no pointer to them after it.
- *   What it allocates by malloc, realloc and free during a call it frees before the call returns. The memory of a job alone stays allocated between calls.
- * - No pointer is null, not even where its length is 0. Use the address of any byte or struct then. Pointers to structs are aligned as C aligns them.
+ *   What it allocates during a call it frees before the call returns. The memory of a job alone stays allocated between calls.
+ * - It allocates by malloc, realloc and free of the program. The three come from one allocator, and malloc and realloc align a block to each power of two up to 16
+ *   that divides its size, as to 8 for 24 bytes. Those of a C library do, and what a program puts in their place, such as a pool or a heap that counts, has to.
+ * - A pointer that has a size, a count or a room beside it may be null where that is 0, in C and C++ through this header. No other pointer is null: not those
+ *   without one, as to the sizes of the outputs or to a job; not those within a struct boxglue_font, where any address of a byte serves for an empty file; and none
+ *   in a call of the library's symbols from another language. Pointers to structs are aligned as C aligns them.
  * - No output overlaps another output or an input. Inputs may overlap each other. The struct boxglue_job of a call is an output.
- * - Each length is below 2^63 bytes.
+ * - Each input and each output is below 2^63 bytes.
  * - The stack has room. Boxes 200 deep, the deepest there are, ran with 256 KiB left, and most calls need far less.
  * - No call comes from a signal handler, or from the child of a process with threads after fork.
  *
@@ -27,8 +33,10 @@
 extern "C" {
 #endif
 
-/* What boxglue_version returns for the library that this header describes, 1.0.0: 10,000 times the first number, 100 times the second, and the third. */
-#define BOXGLUE_VERSION 10000
+/* What boxglue_version returns for the library that this header describes, 1.1.0: 10,000 times the first number, 100 times the second, and the third.
+ * From 1.1.0 on, the second number rises where calls, statuses and structs are added; none of those that are there changes before the first number does. So a program
+ * runs with each library that has its first number and is not older than its header. */
+#define BOXGLUE_VERSION 10100
 
 enum boxglue_status {
     /* All was accepted. The outputs are written. */
@@ -59,7 +67,7 @@ enum boxglue_status {
 };
 
 /* A font that the caller hands in: the name by which scripts and DVI files mean it, 1 to 255 bytes, and the bytes of its metric file (TFM).
- * Where several have one name, the first one counts. */
+ * Where several have one name, the first one counts. Neither pointer is null, not even where its size is 0. */
 struct boxglue_font {
     const uint8_t *name;
     size_t name_size;
@@ -199,10 +207,17 @@ uint32_t boxglue_marks(const uint8_t *dvi, size_t dvi_size,
 /* Returns the version of the library, as BOXGLUE_VERSION counts it. A program compares the two. */
 uint32_t boxglue_version(void);
 
+/* In a library that was built without proofs this is a text, "UNPROVED, with run-time checks". Else its address is null, so `if (boxglue_unproved)` asks for it.
+ * In such a library a fault of its own ends the program by a trap. */
+#if defined(__GNUC__) || defined(__clang__)
+extern const char boxglue_unproved[] __attribute__((weak));
+#endif
+
 /* A handle of a job that is kept between calls: struct boxglue_job job = {0};
  *
  * The library alone reads and writes `at`, which is null where there is no job. Memory of the job stays allocated from boxglue_job_new to boxglue_job_free.
- * A handle goes to one call at a time, is never copied, and may move from one thread to another between two calls. */
+ * A handle goes to one call at a time, and is never copied. It may move from one thread to another between two calls, where a lock, the start or the join of a
+ * thread, or an atomic operation in the order memory_order_seq_cst puts the first call before the second. So any thread may free the job. */
 struct boxglue_job {
     void *at;
 };
@@ -252,8 +267,287 @@ uint32_t boxglue_job_take(struct boxglue_job *job,
  * At 10 the line is lost, and whether the job has ended is known by the next call of it: JobOver. */
 uint32_t boxglue_job_finish(struct boxglue_job *job);
 
+/* What the reply to a line is. docs/COMMANDS.md, section 3, has the answers of each command, and docs/FORMATS.md their numbers. */
+enum boxglue_reply_kind {
+    /* The command was done, and has nothing to report. */
+    BOXGLUE_REPLY_OK = 0,
+    /* The command, or the end of the job, was refused: refusal, and for BadTfm cause. */
+    BOXGLUE_REPLY_REFUSED = 1,
+    /* The piece or the script was refused for this line, and nothing of it was run: refusal, which is 2, and cause. */
+    BOXGLUE_REPLY_BAD_LINE = 2,
+    /* box, badness. */
+    BOXGLUE_REPLY_PACKED = 3,
+    /* box_kind, box. */
+    BOXGLUE_REPLY_MEASURED = 4,
+    /* The register that was measured is void. */
+    BOXGLUE_REPLY_MEASURED_VOID = 5,
+    /* count items were added for a text, missing. */
+    BOXGLUE_REPLY_SHAPED = 6,
+    /* count items were added. */
+    BOXGLUE_REPLY_ADDED = 7,
+    /* count lines, pass, overhang, demerits. */
+    BOXGLUE_REPLY_PARAGRAPH = 8,
+    /* box, which is the front, badness; has_rest, rest. */
+    BOXGLUE_REPLY_SPLIT = 9,
+    /* The register whose box was to be split is void. */
+    BOXGLUE_REPLY_SPLIT_VOID = 10,
+    /* count pages were shipped so far. */
+    BOXGLUE_REPLY_SHIPPED = 11,
+    /* The job was ended: count pages, bytes. line is 0, as it is in a refusal of the end. */
+    BOXGLUE_REPLY_END = 12
+};
+
+/* The sizes of a box, in scaled points: 65,536 of them are a point. */
+struct boxglue_box_sizes {
+    int32_t width;
+    int32_t height;
+    int32_t depth;
+};
+
+/* The reply to a line of a script, or to the end of a job. What its kind does not have is 0. */
+struct boxglue_reply {
+    /* The number of the line, from 1. */
+    uint64_t line;
+    /* One of enum boxglue_reply_kind. */
+    uint32_t kind;
+    /* The number of the refusal (docs/COMMANDS.md, section 2); 0 where nothing was refused. */
+    uint32_t refusal;
+    /* Why a metric file was refused, 1 to 6 (docs/FORMATS.md, section 9), or a line is bad, 1 to 7 (section 2), in the order of these sections. */
+    uint32_t cause;
+    /* 0 for an hbox, 1 for a vbox. */
+    uint32_t box_kind;
+    struct boxglue_box_sizes box;
+    struct boxglue_box_sizes rest;
+    /* 1 where a split left a rest, else 0. */
+    uint32_t has_rest;
+    /* 0 to 10000, or 1000000 for an overfull box. */
+    uint32_t badness;
+    /* The pass that broke the paragraph, 1 to 3; 0 for an empty one. */
+    uint32_t pass;
+    /* How many characters of the text the font does not have. UINT32_MAX stands for more, too. */
+    uint32_t missing;
+    uint64_t count;
+    uint64_t bytes;
+    /* By how much lines are overfull, in scaled points. */
+    int64_t overhang;
+    int64_t demerits;
+};
+
+/* The sizes of the outputs of boxglue_run_replies: the number of replies, and the number of bytes of the DVI file. */
+struct boxglue_reply_sizes {
+    size_t replies;
+    size_t dvi;
+};
+
+/* Runs a piece of a script as boxglue_job_commands does, and hands over the replies at once, as numbers. No answer is kept, and none can be lost; answers that are
+ * kept already stay.
+ *
+ * replies takes a reply for each line with a command, in order, or the one reply of a piece with a bad line; *count takes their number. The rest of the buffer is as it
+ * was. The room is tested before a line is run: as many as the piece has line feeds, and one, always suffice.
+ *
+ * Returns 0, 1, 2, 4, 7 or 8. At 7 the kind of a reply is refused, and its refusal is 1, OutOfMemory. At 4 nothing was run, and *count says what the buffer needs.
+ * At 2 nothing was run. At 2 and 8 *count is as it was. */
+uint32_t boxglue_job_run(struct boxglue_job *job,
+                         const uint8_t *script, size_t script_size,
+                         struct boxglue_reply *replies, size_t reply_room,
+                         size_t *count);
+
+/* Ends the job as boxglue_job_finish does, with one reply. No answer is kept; those that are kept already stay.
+ *
+ * Returns 0, 1, 7 or 8. At 8 *reply is as it was. */
+uint32_t boxglue_job_end(struct boxglue_job *job, struct boxglue_reply *reply);
+
+/* Runs a script with these fonts as boxglue_run does, with its replies as numbers.
+ *
+ * replies takes a reply for each line with a command, in order, and then that of the end; or the one reply of a script with a bad line.
+ * dvi takes the bytes of the DVI file, as in boxglue_run. *sizes takes the numbers of both. The rest of each buffer is as it was.
+ *
+ * Returns 0, 1, 2, 3, 4 or 7, as boxglue_run. At 4 *sizes says what both buffers need, and nothing is written to them: the script was run, and a second call runs it
+ * again. At 2 and 3 *sizes is as it was. */
+uint32_t boxglue_run_replies(const uint8_t *script, size_t script_size,
+                             const struct boxglue_font *fonts, size_t font_count,
+                             struct boxglue_reply *replies, size_t reply_room,
+                             uint8_t *dvi, size_t dvi_room,
+                             struct boxglue_reply_sizes *sizes);
+
 /* Frees all memory of the job, whether it was finished or not. The handle is null then, and may get another job. A handle without a job stays as it is. */
 void boxglue_job_free(struct boxglue_job *job);
+
+/* What is below is for C and C++ alone, and not in the library: texts of the statuses, and calls by the names above.
+ *
+ * A call passes an address of its own where a size, a count or a room is 0, so that the pointer beside it may be null. (boxglue_run)(..) in parentheses calls the
+ * library itself, and so does each call where BOXGLUE_NO_INLINE is defined before this header. */
+#ifndef BOXGLUE_NO_INLINE
+
+/* A status in a few words, as for a message. */
+static inline const char *boxglue_status_text(uint32_t status) {
+    switch (status) {
+    case BOXGLUE_ACCEPTED: return "accepted";
+    case BOXGLUE_REFUSED: return "refused: the text says why";
+    case BOXGLUE_OUT_OF_MEMORY: return "out of memory";
+    case BOXGLUE_BAD_FONT_NAME: return "the name of a font has not 1 to 255 bytes";
+    case BOXGLUE_BUFFER_TOO_SMALL: return "a buffer is too small: the sizes say what is needed";
+    case BOXGLUE_NO_SUCH_PAGE: return "the DVI file has no page of this number";
+    case BOXGLUE_OUT_OF_RANGE: return "a number is out of its range";
+    case BOXGLUE_REFUSED_MEMORY: return "refused: there was no memory for a command, or for the end of the job";
+    case BOXGLUE_NO_JOB: return "the handle has no job";
+    case BOXGLUE_JOB_EXISTS: return "the handle has a job already";
+    case BOXGLUE_ANSWERS_LOST: return "the commands were run, and there was no memory for their answers";
+    default: return "no status of boxglue";
+    }
+}
+
+static inline const uint8_t *boxglue_bytes_at(const uint8_t *at, size_t size) {
+    static uint8_t none;
+    return size ? at : &none;
+}
+
+static inline uint8_t *boxglue_room_at(uint8_t *at, size_t size) {
+    static uint8_t none;
+    return size ? at : &none;
+}
+
+static inline const struct boxglue_font *boxglue_fonts_at(const struct boxglue_font *at, size_t size) {
+    static struct boxglue_font none;
+    return size ? at : &none;
+}
+
+static inline struct boxglue_dvi_font *boxglue_dvi_fonts_at(struct boxglue_dvi_font *at, size_t size) {
+    static struct boxglue_dvi_font none;
+    return size ? at : &none;
+}
+
+static inline struct boxglue_page *boxglue_pages_at(struct boxglue_page *at, size_t size) {
+    static struct boxglue_page none;
+    return size ? at : &none;
+}
+
+static inline struct boxglue_mark *boxglue_marks_at(struct boxglue_mark *at, size_t size) {
+    static struct boxglue_mark none;
+    return size ? at : &none;
+}
+
+static inline struct boxglue_reply *boxglue_replies_at(struct boxglue_reply *at, size_t size) {
+    static struct boxglue_reply none;
+    return size ? at : &none;
+}
+
+static inline uint32_t boxglue_run_or_null(const uint8_t *script, size_t script_size,
+                                           const struct boxglue_font *fonts, size_t font_count,
+                                           uint8_t *answers, size_t answers_room,
+                                           uint8_t *dvi, size_t dvi_room,
+                                           struct boxglue_lengths *lengths) {
+    return boxglue_run(boxglue_bytes_at(script, script_size), script_size,
+                       boxglue_fonts_at(fonts, font_count), font_count,
+                       boxglue_room_at(answers, answers_room), answers_room,
+                       boxglue_room_at(dvi, dvi_room), dvi_room,
+                       lengths);
+}
+
+static inline uint32_t boxglue_list_or_null(const uint8_t *dvi, size_t dvi_size,
+                                            const struct boxglue_font *fonts, size_t font_count,
+                                            uint8_t *text, size_t text_room,
+                                            size_t *size) {
+    return boxglue_list(boxglue_bytes_at(dvi, dvi_size), dvi_size,
+                        boxglue_fonts_at(fonts, font_count), font_count,
+                        boxglue_room_at(text, text_room), text_room,
+                        size);
+}
+
+static inline uint32_t boxglue_paint_or_null(const uint8_t *dvi, size_t dvi_size,
+                                             const struct boxglue_font *fonts, size_t font_count,
+                                             uint32_t page, uint32_t dpi, uint32_t width, uint32_t height,
+                                             uint8_t *text, size_t text_room,
+                                             size_t *size) {
+    return boxglue_paint(boxglue_bytes_at(dvi, dvi_size), dvi_size,
+                         boxglue_fonts_at(fonts, font_count), font_count,
+                         page, dpi, width, height,
+                         boxglue_room_at(text, text_room), text_room,
+                         size);
+}
+
+static inline uint32_t boxglue_fonts_or_null(const uint8_t *dvi, size_t dvi_size,
+                                             struct boxglue_dvi_font *fonts, size_t font_room,
+                                             uint8_t *text, size_t text_room,
+                                             struct boxglue_font_sizes *sizes) {
+    return boxglue_fonts(boxglue_bytes_at(dvi, dvi_size), dvi_size,
+                         boxglue_dvi_fonts_at(fonts, font_room), font_room,
+                         boxglue_room_at(text, text_room), text_room,
+                         sizes);
+}
+
+static inline uint32_t boxglue_marks_or_null(const uint8_t *dvi, size_t dvi_size,
+                                             const struct boxglue_font *fonts, size_t font_count,
+                                             struct boxglue_page *pages, size_t page_room,
+                                             struct boxglue_mark *marks, size_t mark_room,
+                                             uint8_t *text, size_t text_room,
+                                             struct boxglue_mark_sizes *sizes) {
+    return boxglue_marks(boxglue_bytes_at(dvi, dvi_size), dvi_size,
+                         boxglue_fonts_at(fonts, font_count), font_count,
+                         boxglue_pages_at(pages, page_room), page_room,
+                         boxglue_marks_at(marks, mark_room), mark_room,
+                         boxglue_room_at(text, text_room), text_room,
+                         sizes);
+}
+
+static inline uint32_t boxglue_job_new_or_null(struct boxglue_job *job,
+                                               const struct boxglue_font *fonts, size_t font_count) {
+    return boxglue_job_new(job, boxglue_fonts_at(fonts, font_count), font_count);
+}
+
+static inline uint32_t boxglue_job_commands_or_null(struct boxglue_job *job,
+                                                    const uint8_t *script, size_t script_size) {
+    return boxglue_job_commands(job, boxglue_bytes_at(script, script_size), script_size);
+}
+
+static inline uint32_t boxglue_job_answers_or_null(struct boxglue_job *job,
+                                                   uint8_t *text, size_t text_room,
+                                                   size_t *size) {
+    return boxglue_job_answers(job, boxglue_room_at(text, text_room), text_room,
+                               size);
+}
+
+static inline uint32_t boxglue_job_take_or_null(struct boxglue_job *job,
+                                                uint8_t *dvi, size_t dvi_room,
+                                                size_t *size) {
+    return boxglue_job_take(job, boxglue_room_at(dvi, dvi_room), dvi_room,
+                            size);
+}
+
+static inline uint32_t boxglue_job_run_or_null(struct boxglue_job *job,
+                                               const uint8_t *script, size_t script_size,
+                                               struct boxglue_reply *replies, size_t reply_room,
+                                               size_t *count) {
+    return boxglue_job_run(job, boxglue_bytes_at(script, script_size), script_size,
+                           boxglue_replies_at(replies, reply_room), reply_room,
+                           count);
+}
+
+static inline uint32_t boxglue_run_replies_or_null(const uint8_t *script, size_t script_size,
+                                                   const struct boxglue_font *fonts, size_t font_count,
+                                                   struct boxglue_reply *replies, size_t reply_room,
+                                                   uint8_t *dvi, size_t dvi_room,
+                                                   struct boxglue_reply_sizes *sizes) {
+    return boxglue_run_replies(boxglue_bytes_at(script, script_size), script_size,
+                               boxglue_fonts_at(fonts, font_count), font_count,
+                               boxglue_replies_at(replies, reply_room), reply_room,
+                               boxglue_room_at(dvi, dvi_room), dvi_room,
+                               sizes);
+}
+
+#define boxglue_run boxglue_run_or_null
+#define boxglue_list boxglue_list_or_null
+#define boxglue_paint boxglue_paint_or_null
+#define boxglue_fonts boxglue_fonts_or_null
+#define boxglue_marks boxglue_marks_or_null
+#define boxglue_job_new boxglue_job_new_or_null
+#define boxglue_job_commands boxglue_job_commands_or_null
+#define boxglue_job_answers boxglue_job_answers_or_null
+#define boxglue_job_take boxglue_job_take_or_null
+#define boxglue_job_run boxglue_job_run_or_null
+#define boxglue_run_replies boxglue_run_replies_or_null
+
+#endif
 
 #ifdef __cplusplus
 }

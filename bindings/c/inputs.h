@@ -4,7 +4,7 @@
 
 #include "boxglue.h"
 
-enum { MARGIN = 64, MOST_FONTS = 16 };
+enum { MARGIN = 64, MOST_FONTS = 512 };
 
 /* Bytes of a file, or of this program. */
 struct input {

@@ -6,11 +6,12 @@
 
 enum { STATUS_COUNT = BOXGLUE_ANSWERS_LOST + 1 };
 
-/* A script with its fonts, and how many lines a piece of it has at most, 1 or more. */
+/* A script with its fonts, how many lines a piece of it has at most, 0 for one piece of all lines, and whether it is run by the calls whose replies are numbers. */
 struct pieces {
     struct input script;
     struct fonts fonts;
     size_t most;
+    int as_replies;
 };
 
 /* What came of all calls on a job: how many of them returned each status, the answers, the bytes of the file, and how many growths of memory there were. */
@@ -40,6 +41,9 @@ uint32_t whole_status(const struct job_result *result);
 
 /* Refuses each growth of the calls in turn, and prints how they end. */
 void refuse_job_growths(const struct pieces *pieces);
+
+/* Frees jobs after each line of a script, finished and not, with all answers and bytes waiting. Fails where a block of one is not freed. */
+void free_after_each_line(const struct pieces *pieces);
 
 /* Fails where a call on a handle without a job, or with one already, does something. */
 void require_handles(void);

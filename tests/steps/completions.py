@@ -2,9 +2,10 @@
 The help is that of the built program; without one it is that of tests/program, which the program has to print."""
 import os
 import re
-import shutil
 import subprocess
 from functools import partial
+
+from steps.outcome import lacks
 
 TITLE = "completions/ and the manual page: the words of the program's help"
 TRIES = False
@@ -72,15 +73,17 @@ def of_zsh(folder):
     return {use: {*re.findall(r"--[a-z][a-z-]*", block)} for use, block in found.items()}
 
 
+def by_fish(folder):
+    """The words that fish completes."""
+    def asked(line):
+        ran = subprocess.run(["fish", "--no-config", "-c", FISH, f"{folder}/boxglue.fish", line], stdin=subprocess.DEVNULL, capture_output=True, text=True, timeout=LIMIT)
+        return {it.split("\t")[0] for it in ran.stdout.splitlines()}
+    return {"": {it for it in asked("boxglue --") if it.startswith("-")}, **{use: asked(f"boxglue {use} --") for use in asked("boxglue ")}}
+
+
 def of_fish(folder):
-    """The words that fish completes; without fish those of its file."""
-    path = f"{folder}/boxglue.fish"
-    if shutil.which("fish"):
-        def asked(line):
-            ran = subprocess.run(["fish", "--no-config", "-c", FISH, path, line], stdin=subprocess.DEVNULL, capture_output=True, text=True, timeout=LIMIT)
-            return {it.split("\t")[0] for it in ran.stdout.splitlines()}
-        return {"": {it for it in asked("boxglue --") if it.startswith("-")}, **{use: asked(f"boxglue {use} --") for use in asked("boxglue ")}}
-    lines = [it for it in read(path).splitlines() if it.startswith("complete ")]
+    """The words of the file for fish."""
+    lines = [it for it in read(f"{folder}/boxglue.fish").splitlines() if it.startswith("complete ")]
     named = {use for line in lines for use in re.findall(r" -a (\w+)", line)}
 
     def options(use):
@@ -122,4 +125,5 @@ def cases(programs, root):
     """A case for each shell, and one for the manual page."""
     for name, found in (("bash", of_bash), ("zsh", of_zsh), ("fish", of_fish), ("the manual page", of_manual)):
         yield name, partial(outcome, found, programs, root)
+    yield "fish, by its own completion", lambda: lacks("fish") or outcome(by_fish, programs, root)
     yield "paths in bash", partial(paths_of_bash, root)

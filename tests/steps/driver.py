@@ -8,30 +8,33 @@ from collections import Counter
 from concurrent.futures import ThreadPoolExecutor
 from dataclasses import dataclass
 
-from steps import trying
+from steps import library_build, outside_tools, trying, unproved
 from steps.outcome import Skipped
 from steps.part import all_parts
 from steps.progress import Progress
 
 ABOUT = """Runs all tests of boxglue, without proofs: nothing is proved by it. It needs the kit's `rt`, and no network.
 
-Without --program it builds by `rt try`, up to three builds at a time where memory allows: the #[test] functions of each crate that has
-some, the rows of rows_scripts, and those cases of tests/program that can run in one build. What can only run a built program is skipped.
+Without words it builds by `rt try`, up to three builds at a time where memory allows: the #[test] functions of each crate that has
+some, the rows of rows_scripts, and those cases of tests/program that can run in one build. What can only run a built program runs over one that
+tools/unproved.py builds without proofs, and so do the parts library_.. over the library for C, which need a C compiler too.
 
-With --program it builds nothing: all that is data runs over these programs, and the crates' own tests are left out. `rt run` in
+With --program it builds no program: all that is data runs over these programs, and the crates' own tests are left out. `rt run` in
 crates/boxglue makes out/boxglue; `rt ci` makes out/boxglue and out/boxglue.by-rattle.
 
-With --library the parts library_.. call the library for C, whose archive `rt lib` in crates/boxglue_c makes as out/libboxglue_c.a. They compare it with the
-first --program, and need a C compiler. Without --library they are skipped.
+With --library the parts library_.. run over this archive, which `rt lib` in crates/boxglue_c makes as out/libboxglue_c.a; else over one that is built
+without proofs. They compare it with the first --program.
 
-The parts `claims`, `definitions`, `header`, `known_devices`, `known_files`, `known_growths`, `library` and `names` run no program. `definitions` checks that docs/DEFINITIONS.md is fresh:
+With --gate, which needs those three, a case is skipped only where a tool is missing that docs/GATE.md lists: every other skip is a failure.
+
+The parts `claims`, `definitions`, `header`, `known_devices`, `known_files`, `known_growths`, `library`, `names` and `outside_tools` run no program. `definitions` checks that docs/DEFINITIONS.md is fresh:
 where it is not, run tests/definitions.
 
 A line is printed for each part: ok, FAILED or skipped, its seconds, how many of its cases passed; and a line at least every ten seconds.
 The last line is `N passed, M failed, K skipped`. The status is 0 where nothing failed, 1 where something did, 2 where the words are wrong."""
 NOTHING_PROVED = "Nothing is proved by these tests: only `rt ci` proves."
 LANES, ROOM = 3, 1_500_000_000
-NEEDED = {"boxglue": "a built program: --program", "rows_scripts": "a built program: --rows", "library": "an archive: --library"}
+NEEDED = {"boxglue": "a built program: --program", "rows_scripts": "a built program: --rows", "library": "a C compiler and rt on the path"}
 
 
 @dataclass
@@ -44,12 +47,13 @@ class Result:
 
 def words_of(given):
     """Reads the command line."""
-    usage = "tests/run [NAME ..] [--program PATH ..] [--rows PATH ..] [--library ARCHIVE], tests/run --list"
+    usage = "tests/run [NAME ..] [--program PATH ..] [--rows PATH ..] [--library ARCHIVE] [--gate], tests/run --list"
     parser = argparse.ArgumentParser(usage=usage, description=ABOUT, formatter_class=argparse.RawDescriptionHelpFormatter)
     parser.add_argument("names", metavar="NAME", nargs="*", help="run these parts alone (--list names them)")
     parser.add_argument("--program", metavar="PATH", nargs="+", default=[], help="run over these builds of boxglue, in place of building")
     parser.add_argument("--rows", metavar="PATH", nargs="+", default=[], help="run rows_scripts over these builds of it, in place of building")
-    parser.add_argument("--library", metavar="ARCHIVE", help="run the tests of the library for C over this archive")
+    parser.add_argument("--library", metavar="ARCHIVE", help="run the tests of the library for C over this archive, in place of building it without proofs")
+    parser.add_argument("--gate", action="store_true", help="let no case be skipped but for a missing tool that docs/GATE.md lists")
     parser.add_argument("--list", action="store_true", help="print the names of the parts, and what each tests")
     return parser, parser.parse_intermixed_args(given)
 
@@ -98,17 +102,32 @@ def pairs_of(part, programs, root):
     return [("its cases", lambda: why)] if why else pairs
 
 
-def run_part(part, built, root, progress):
-    """Runs a part, and prints its results."""
-    began = time.monotonic()
-    programs = built.get(part.program, [])
-    if part.program == "library" and programs:
-        programs = programs + built["boxglue"]
-    pairs = pairs_of(part, programs, root)
-    if not programs and (part.needs_program or any(built.values())):
+def programs_of(part, built, root, progress):
+    """The programs over which a part runs. What it needs and was not given is built without proofs: the library, and the program where no program was given."""
+    given, is_given = built.get(part.program, []), any(built.values())
+    progress.step(part.name, "waits for what it runs")
+    if part.program == "library" and not library_build.lacking():
+        return [*(given or [unproved.built(root, "library")]), *(built["boxglue"] or [unproved.built(root, "program")])]
+    if part.program == "boxglue" and part.needs_program and not is_given:
+        return [unproved.built(root, "program")]
+    return given
+
+
+def run_part(part, built, in_gate, root, progress):
+    """Runs a part, and prints its results. In the gate a case that is skipped for want of anything but a listed tool has failed."""
+    began, why = time.monotonic(), None
+    try:
+        programs = programs_of(part, built, root, progress)
+    except unproved.Unbuilt as error:
+        programs, why = [], str(error)
+    pairs = [("what it runs", lambda: why)] if why else pairs_of(part, programs, root)
+    if not programs and not why and (part.needs_program or any(built.values())):
         result = Result(0, [], [(name, f"it needs {NEEDED[part.program]}") for name, _ in pairs])
     else:
         result = run_cases(part, pairs, bool(programs) or not part.tries, progress)
+    if in_gate:
+        wrong = outside_tools.others(result.skipped, root)
+        result = Result(result.passed, result.failed + wrong, [it for it in result.skipped if it not in wrong])
     progress.end(part.name)
     for line in lines_of(part, len(pairs), result, time.monotonic() - began):
         progress.say(line)
@@ -126,10 +145,10 @@ def lines_of(part, count, result, seconds):
             yield f"    {what}: {', '.join(names[:6])}{f' and {len(names) - 6} more' if len(names) > 6 else ''}: {why[:600]}"
 
 
-def run_all(parts, built, root):
+def run_all(parts, built, in_gate, root):
     """Runs parts side by side."""
     with Progress(len(parts)) as progress, ThreadPoolExecutor(lanes()) as pool:
-        futures = [pool.submit(run_part, it, built, root, progress) for it in parts]
+        futures = [pool.submit(run_part, it, built, in_gate, root, progress) for it in parts]
         try:
             return [it.result() for it in futures]
         except BaseException:
@@ -156,6 +175,8 @@ def main(root, given):
     if words.list:
         print("".join(f"{it.name:16}{it.title}\n" for it in sorted(parts, key=lambda it: it.name)), end="")
         return 0
+    if words.gate and not (words.program and words.rows and words.library):
+        parser.error("--gate needs --program, --rows and --library")
     built = {"boxglue": [*map(os.path.abspath, words.program)], "rows_scripts": [*map(os.path.abspath, words.rows)]}
     absent = [f"program {it}" for paths in built.values() for it in paths if not os.access(it, os.X_OK) or os.path.isdir(it)]
     if words.library:
@@ -165,7 +186,9 @@ def main(root, given):
         print("".join(f"FAILED: no {it}\n" for it in absent) + f"0 passed, {len(absent)} failed, 0 skipped", flush=True)
         return 1
     signal.signal(signal.SIGTERM, lambda number, _: sys.exit(128 + number))
-    results = run_all(parts, built, root)
+    results = run_all(parts, built, words.gate, root)
     passed, failed, skipped = (sum(it) for it in zip(*((it.passed, len(it.failed), len(it.skipped)) for it in results)))
+    if words.gate:
+        print(outside_tools.note([case for it in results for case in it.skipped], root))
     print(f"{NOTHING_PROVED}\n{passed} passed, {failed} failed, {skipped} skipped", flush=True)
     return 1 if failed else 0

@@ -1,7 +1,15 @@
-"""include/boxglue.h: the functions, structs, statuses and the version that it declares are those of the exports.
+"""include/boxglue.h: the functions, structs, statuses and the version that it declares are those of the exports, and each function that has a pointer with a size has
+a call that takes a null pointer where the size is 0.
 Only texts are compared: names, the order and the width of parameters and fields. No program is run."""
+import os
 import re
+import shutil
+import tempfile
+import subprocess
+import sys
 from functools import partial
+
+from tools import version as tools_version
 
 TITLE = "include/boxglue.h declares what boxglue_c exports"
 TRIES = False
@@ -9,8 +17,13 @@ HEADER = "include/boxglue.h"
 EXPORTS = "crates/boxglue_c/src/lib.rt"
 CALLS = "crates/boxglue_calls/src"
 JOBS = "crates/boxglue_jobs/src"
-TYPES = {"u8": "uint8_t", "u32": "uint32_t", "u64": "uint64_t", "i32": "int32_t", "usize": "size_t", "": "void", "*mut u8": "void *", "JobHandle": "struct boxglue_job",
-         "DviPage": "struct boxglue_page", "DviMark": "struct boxglue_mark"}
+STATUSES_OF_PYTHON = "bindings/python/boxglue/_status.py"
+RUST = "bindings/rust/boxglue-sys/src/lib.rs"
+PYTHON = "bindings/python/boxglue/_library.py"
+CALLS_OF_C = "#ifndef BOXGLUE_NO_INLINE"
+TYPES = {"u8": "uint8_t", "u32": "uint32_t", "u64": "uint64_t", "i32": "int32_t", "i64": "int64_t", "usize": "size_t", "": "void", "*mut u8": "void *",
+         "JobHandle": "struct boxglue_job", "DviPage": "struct boxglue_page", "DviMark": "struct boxglue_mark", "ReplyRow": "struct boxglue_reply"}
+NAMES = {"box_sizes": "box"}  # what Rust does not take as a name
 
 
 def read(root, path):
@@ -33,7 +46,7 @@ def c_type(name):
 def slice_of(name, item, mutable):
     """The pointer and the length that C passes for a slice. A length is named after one item: `fonts` and `font_count`."""
     kind = c_type(item)
-    one = name.removesuffix("s") if kind.startswith("struct") else name
+    one = re.sub("ies$|s$", lambda end: "y" if end[0] == "ies" else "", name) if kind.startswith("struct") else name
     suffix = "room" if mutable else "size" if item == "u8" else "count"
     return [f"{'' if mutable else 'const '}{kind} *{name}", f"size_t {one}_{suffix}"]
 
@@ -47,7 +60,7 @@ def c_fields(name, kind):
         return [f"{c_type(array[1])} {name}[{array[2]}]"]
     borrowed = re.fullmatch(r"&(?:'a )?(mut )?(?:\[(.*)\]|(.*))", kind)
     if not borrowed:
-        return [f"{c_type(kind)} {name}".replace("* ", "*")]
+        return [f"{c_type(kind)} {NAMES.get(name, name)}".replace("* ", "*")]
     mutable, item, one = borrowed.groups()
     return slice_of(name, item, mutable) if item else [f"{'' if mutable else 'const '}{c_type(one)} *{name}"]
 
@@ -64,17 +77,48 @@ def exports(root):
         yield f"{c_type(result)} {name}({', '.join(c_list(parameters)) or 'void'});"
 
 
+def functions_of(text):
+    """The functions that are declared before the calls for C."""
+    return re.findall(r"\w+ boxglue_\w+\([^)]*\);", text.partition(CALLS_OF_C)[0])
+
+
 def functions(root):
     """What is wrong with the functions."""
-    text = declared(root)
-    found = re.findall(r"\w+ boxglue_\w+\([^)]*\);", text)
+    found = functions_of(declared(root))
     wanted = list(exports(root))
     return None if wanted and found == wanted else f"the header declares {found}, and the exports are {wanted}"
 
 
+def address_call(kind, name, size):
+    """What gives an address for a pointer of a type that may be null where its size is 0."""
+    plain = kind.removeprefix("const ").removeprefix("struct boxglue_")
+    many = {"uint8_t": "bytes" if plain != kind else "room"}.get(plain) or re.sub(r"ys$", "ies", f"{plain}s")
+    return f"boxglue_{many}_at({name}, {size})"
+
+
+def words_of(parameters):
+    """The words with which a call passes its parameters on."""
+    pairs = [re.fullmatch(r"(.*?) ?\*?(\w+)", it).groups() for it in parameters.split(", ")]
+    following = [name for _, name in pairs[1:]] + [""]
+    return [address_call(kind, name, size) if re.search(r"_(size|count|room)$", size) else name for (kind, name), size in zip(pairs, following)]
+
+
+def null_calls(root):
+    """What is wrong with the calls that take null pointers."""
+    before, _, after = declared(root).partition(CALLS_OF_C)
+    wanted = []
+    for name, parameters in re.findall(r"uint32_t (boxglue_\w+)\(([^)]*)\);", before):
+        passed = ", ".join(words_of(parameters))
+        if "_at(" in passed:
+            wanted.append((name, f"static inline uint32_t {name}_or_null({parameters}) {{ return {name}({passed}); }}"))
+    missing = [call for name, call in wanted if call not in after or f"#define {name} {name}_or_null " not in f"{after} "]
+    return f"the header has not {missing}" if missing or not wanted else None
+
+
 def structs(root):
     """What is wrong with the structs."""
-    sources = "".join(read(root, it) for it in (f"{CALLS}/runs.rt", f"{CALLS}/given.rt", f"{CALLS}/font_table.rt", f"{CALLS}/mark_table.rt", f"{JOBS}/handle.rt"))
+    sources = "".join(read(root, f"{CALLS}/{it}.rt") for it in ("runs", "given", "font_table", "mark_table"))
+    sources += "".join(read(root, f"{JOBS}/{it}.rt") for it in ("handle", "rows", "whole"))
     wanted = {}
     for name, fields in re.findall(r"#\[repr\(C\)\]\s+(?:#\[derive\([^)]*\)\]\s+)?pub struct (\w+)(?:<'a>)? \{(.*?)\n\}", sources, flags=re.S):
         plain = re.sub(r"///.*|(pub )?ghost .*", "", fields).replace("pub ", "")
@@ -83,23 +127,131 @@ def structs(root):
     return None if wanted and found == wanted else f"the header has {found}, and the calls have {wanted}"
 
 
-def statuses(root):
-    """What is wrong with the statuses."""
-    found = re.findall(r"BOXGLUE_(\w+) = (\d+)", re.search(r"enum boxglue_status \{([^}]*)\}", declared(root))[1])
-    wanted = re.findall(r"pub const (\w+): u32 = (\d+);", read(root, f"{CALLS}/status.rt") + read(root, f"{JOBS}/status.rt"))
+def numbers(root, enum, prefix, *sources):
+    """What is wrong with the numbers of an enum."""
+    found = re.findall(rf"{prefix}(\w+) = (\d+)", re.search(rf"enum {enum} {{(.*?)}}", declared(root))[1])
+    wanted = re.findall(r"pub const (\w+): u32 = (\d+);", "".join(read(root, it) for it in sources))
     return None if wanted and found == wanted else f"the header has {found}, and the calls have {wanted}"
 
 
+def statuses(root):
+    """What is wrong with the statuses."""
+    return numbers(root, "boxglue_status", "BOXGLUE_", f"{CALLS}/status.rt", f"{JOBS}/status.rt")
+
+
+def reply_kinds(root):
+    """What is wrong with the kinds of replies."""
+    return numbers(root, "boxglue_reply_kind", "BOXGLUE_REPLY_", f"{JOBS}/reply_kind.rt")
+
+
+def status_texts(root):
+    """What is wrong with the texts of the statuses: C and Python have the same ones."""
+    found = re.findall(r'case BOXGLUE_(\w+): return ("[^"]+");', declared(root))
+    wanted = re.findall(r'Status\.(\w+): ("[^"]+"),', read(root, STATUSES_OF_PYTHON))
+    names = re.findall(r"BOXGLUE_(\w+) = \d+", re.search(r"enum boxglue_status \{([^}]*)\}", declared(root))[1])
+    if [name for name, _ in found] != names:
+        return f"the header has texts of {[name for name, _ in found]}, and the statuses {names}"
+    return None if found == wanted else f"the header has {found}, and Python has {wanted}"
+
+
+def c_of_rust(text):
+    """What C writes for parameters or fields of Rust. A name that is a word of Rust has an underscore after it there."""
+    made = []
+    for name, kind in re.findall(r"(\w+): ([^,]+)", re.sub(r"///.*|\bpub ", "", text)):
+        pointer, length = re.fullmatch(r"\*(const|mut) (\S+)\s*", kind), re.fullmatch(r"\[(\w+); (\d+)\]\s*", kind)
+        item = (pointer[2] if pointer else length[1] if length else kind).strip()
+        plain = {"core::ffi::c_void": "void", "i64": "int64_t"}.get(item) or TYPES.get(item) or f"struct {item}"
+        made.append(f"{'const ' if pointer and pointer[1] == 'const' else ''}{plain} {'*' if pointer else ''}{name.rstrip('_')}{f'[{length[2]}]' if length else ''}")
+    return made
+
+
+def rust(root):
+    """What is wrong with the declarations of bindings/rust."""
+    text = read(root, RUST)
+    found = [f"{c_type(result)} {name}({', '.join(c_of_rust(given)) or 'void'});" for name, given, result in re.findall(r"pub fn (\w+)\(([^)]*)\)(?: -> (\w+))?;", text)]
+    if found != functions_of(declared(root)):
+        return f"Rust declares {found}, and the header {functions_of(declared(root))}"
+    found = {f"struct {name}": c_of_rust(fields) for name, fields in re.findall(r"pub struct (\w+) \{(.*?)\n\}", text, flags=re.S)}
+    wanted = {name: [it.strip() for it in fields.split(";") if it.strip()] for name, fields in re.findall(r"(struct boxglue_\w+) \{([^}]*)\};", declared(root))}
+    if found != wanted:
+        return f"Rust has {found}, and the header {wanted}"
+    found, wanted = re.findall(r"pub const (BOXGLUE_\w+): u32 = (\d+);", text), re.findall(r"(BOXGLUE_\w+) = (\d+)", declared(root))
+    return None if found == wanted else f"Rust has {found}, and the header {wanted}"
+
+
+def python(root):
+    """What is wrong with the names of the calls of bindings/python."""
+    found = re.findall(r'^    "(\w+)": \[', read(root, PYTHON).partition("_CALLS = {")[2].partition("\n}")[0], flags=re.M)
+    wanted = [it.removeprefix("boxglue_") for it in re.findall(r" (boxglue_\w+)\(", " ".join(functions_of(declared(root))))]
+    return None if found and not {*found} - {*wanted} else f"Python calls {found}, and the header declares {wanted}"
+
+
+# What prints the structs and the calls of the binding for Python as C declares them. It loads no library.
+PRINT_PYTHON = """
+import ctypes
+from boxglue import _library as it
+NAMES = {"Font": "font", "DviFontRow": "dvi_font", "FontSizes": "font_sizes", "PageRow": "page", "MarkRow": "mark", "MarkSizes": "mark_sizes", "BoxSizes": "box_sizes",
+         "ReplyRow": "reply", "ReplySizes": "reply_sizes", "JobHandle": "job", "c_int": "int32_t", "c_uint": "uint32_t", "c_long": "int64_t", "c_ulong": "size_t",
+         "c_char": "uint8_t", "c_char_p": "const uint8_t *", "c_void_p": "void *"}
+def text(kind):
+    if hasattr(kind, "_length_"):
+        return f"{text(kind._type_)}[{kind._length_}]"
+    if hasattr(kind, "contents"):
+        return f"{text(kind._type_)} *"
+    name = NAMES[kind.__name__]
+    return f"struct boxglue_{name}" if issubclass(kind, ctypes.Structure) else name
+for kind in ctypes.Structure.__subclasses__():
+    if kind.__module__ == it.__name__:
+        print(text(kind), *(f"{text(field)} {name}" for name, field in kind._fields_), sep=";")
+for name, kinds in it._CALLS.items():
+    print(f"boxglue_{name}", *map(text, kinds), sep=";")
+"""
+
+
+NAME = r"(\w+)(\[\d+\])?$"
+
+
+def plain_type(declaration):
+    """The type of a parameter or a field as Python knows it: pointers to constant structs are pointers, and size_t has the 64 bits of uint64_t."""
+    name = re.search(NAME, declaration)
+    kind = declaration[:name.start()].strip().replace("uint64_t", "size_t") + (name[2] or "")
+    return kind.replace("const struct", "struct")
+
+
+def python_layouts(root):
+    """What is wrong with the structs and the calls of the binding for Python."""
+    env = {"PYTHONPATH": f"{root}/bindings/python", "PYTHONDONTWRITEBYTECODE": "1"}
+    ran = subprocess.run([sys.executable, "-c", PRINT_PYTHON], env=env, capture_output=True, text=True, timeout=60, check=True)
+    text, wrong = declared(root).partition(CALLS_OF_C)[0], []
+    fields = {name: body.split(";")[:-1] for name, body in re.findall(r"(struct boxglue_\w+) \{([^}]*)\};", text)}
+    calls = {name: [] if body == "void" else body.split(",") for name, body in re.findall(r"\w+ (boxglue_\w+)\(([^)]*)\);", text)}
+    for name, *found in (line.split(";") for line in ran.stdout.splitlines()):
+        if name in fields:
+            wanted = [f"{plain_type(it)} {re.search(NAME, it)[1]}" for it in fields[name]]
+        else:
+            wanted = [plain_type(it) for it in calls.get(name, ["nothing"])]
+        if found != wanted:
+            wrong.append(f"{name} is {found} in Python and {wanted} in the header")
+    return "; ".join(wrong) or None
+
+
 def version(root):
-    """What is wrong with the version."""
-    first, second, third = (int(it) for it in re.search(r'"boxglue (\d+)\.(\d+)\.(\d+) ', read(root, "crates/boxglue_words/src/task.rt")).groups())
-    wanted = 10000 * first + 100 * second + third
-    header = int(re.search(r"#define BOXGLUE_VERSION (\d+)", declared(root))[1])
-    call = int(re.search(r"\{\n    ([\d_]+)\n\}", read(root, f"{CALLS}/edition.rt"))[1].replace("_", ""))
-    return None if header == call == wanted else f"the program's version is {wanted}, that of the header {header}, and that of the calls {call}"
+    """What is wrong with the version: the places that have another one than the header."""
+    return "; ".join(tools_version.wrong(root)) or None
+
+
+def new_version(root):
+    """What is wrong with a new version that is written into copies of all places."""
+    with tempfile.TemporaryDirectory(prefix="boxglue-version-") as room:
+        for path in {path for path, _ in tools_version.PLACES}:
+            os.makedirs(os.path.dirname(f"{room}/{path}"), exist_ok=True)
+            shutil.copy(f"{root}/{path}", f"{room}/{path}")
+        tools_version.write(room, "1.23.4")
+        wrong = tools_version.wrong(room)
+        return "; ".join(wrong) or (None if (tools_version.number(room), tools_version.dotted(room)) == (12304, "1.23.4") else "the header has another version")
 
 
 def cases(_programs, root):
     """A case for each kind of declaration."""
-    for check in (functions, structs, statuses, version):
+    for check in (functions, null_calls, structs, statuses, reply_kinds, status_texts, python_layouts, rust, python, version, new_version):
         yield check.__name__, partial(check, root)

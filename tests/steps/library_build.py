@@ -98,5 +98,5 @@ def python_words(root, archive, words):
 
 def lacking():
     """Why nothing can be built here, or None."""
-    missing = [name for name, found in (("a C compiler", compiler()), ("rt", shutil.which("rt"))) if not found]
-    return Skipped(f"there is not {' and '.join(missing)} on the path") if missing else None
+    missing = [name for name, found in (("C compiler", compiler()), ("rt", shutil.which("rt"))) if not found]
+    return Skipped(f"no {' and no '.join(missing)}") if missing else None

@@ -1,14 +1,13 @@
 """Callers of the library for C: those of docs/LIBRARY.md, in C, Python and Rust, compile and give the page of one rule; the tests of the binding for Python pass;
-and the client of examples/markdown makes a page."""
+the client of examples/markdown makes a page; and through the header a pointer with the size 0 may be null, in C and C++."""
 import os
 import re
-import shutil
 import subprocess
 import tempfile
 from functools import partial
 
-from steps.library_build import build_shared, built, compile_c, heap_archive, lacking, python_words
-from steps.outcome import Skipped
+from steps.library_build import build_shared, built, compile_c, heap_archive, lacking, python_words, run_build
+from steps.outcome import lacks, without
 from steps.plain_font import metric_file
 from steps.texts import last_lines
 
@@ -18,11 +17,33 @@ NEEDS_PROGRAM = True
 LIMIT = 120
 SECTION = "## 7. From C"
 FILE_SIZE = 116
+# The compilers of the tests of the header, and the warnings that a program may ask for.
+LANGUAGES = {"C99": ["cc", "-std=c99"], "C11": ["cc", "-std=c11"], "C++98": ["c++", "-x", "c++", "-std=c++98", "-Wno-long-long"], "C++17": ["c++", "-x", "c++", "-std=c++17"]}
+WARNINGS = "-Wall -Wextra -Wpedantic -Wconversion -Wshadow -Wcast-qual -Wcast-align -Wundef -Werror".split()
+SYMBOLS = "run list paint fonts marks run_replies job_run job_new job_commands job_answers job_take".split()
+# The empty script is answered by "end: pages 0 bytes 0", and the empty file by "refused 20 BadDvi 0 Trailer".
+NULL_CALLS = b"""run 4 86 116: a buffer is too small: the sizes say what is needed
+run_replies 4 5 116: a buffer is too small: the sizes say what is needed
+run 4 21 0: a buffer is too small: the sizes say what is needed
+run_replies 4 1 0: a buffer is too small: the sizes say what is needed
+list 4 28 0: a buffer is too small: the sizes say what is needed
+list by a pointer 4 28 0: a buffer is too small: the sizes say what is needed
+paint 4 28 0: a buffer is too small: the sizes say what is needed
+fonts 4 0 28: a buffer is too small: the sizes say what is needed
+marks 4 0 28: a buffer is too small: the sizes say what is needed
+new 0 0 0: accepted
+commands 0 0 0: accepted
+job_run 0 0 0: accepted
+answers 0 0 0: accepted
+finish 0 0 0: accepted
+take 0 0 0: accepted
+"""
 WANTED = b"1: ok\n2: ok\n3: packed 1.0pt 1.0pt 0.0pt badness 0\n4: shipped 1\nend: pages 1 bytes 116\n"
 
 
 def block(root, language, number):
-    """The block of docs/LIBRARY.md in a language with this number, from 0: the first one runs a whole script, and the second keeps a job."""
+    """The block of docs/LIBRARY.md in a language with this number, from 0. In C the first one runs a whole script, the second keeps a job, and the third takes replies
+    as numbers; in Python the last one keeps a job."""
     with open(f"{root}/docs/LIBRARY.md", encoding="utf-8") as it:
         section = it.read().partition(f"{SECTION}\n")[2].split("\n## ")[0]
     return re.findall(rf"^```{language}\n(.*?)^```$", section, flags=re.M | re.S)[number]
@@ -47,9 +68,18 @@ def file_wrong(folder):
     return None if size == FILE_SIZE else f"page.dvi has {size} bytes"
 
 
-def caller_in_c(number, root, archive, folder):
+def compiled_in_c(number, root, archive, folder, wanted=WANTED):
+    """Runs a caller in C, and says what is wrong, or returns None."""
     write(f"{folder}/caller.c", block(root, "c", number))
-    return compile_c(root, archive, [f"{folder}/caller.c"], f"{folder}/caller", []) or run_wrong([f"{folder}/caller"], folder=folder) or file_wrong(folder)
+    return compile_c(root, archive, [f"{folder}/caller.c"], f"{folder}/caller", []) or run_wrong([f"{folder}/caller"], folder=folder, wanted=wanted)
+
+
+def caller_in_c(number, root, archive, folder):
+    return compiled_in_c(number, root, archive, folder) or file_wrong(folder)
+
+
+def replies_in_c(root, archive, folder):
+    return compiled_in_c(2, root, archive, folder, b"line 3: 65536 sp wide\n")
 
 
 def caller_in_python(number, root, archive, folder):
@@ -58,19 +88,54 @@ def caller_in_python(number, root, archive, folder):
     return run_wrong(words, env, folder=folder) or (file_wrong(folder) if number else None)
 
 
+def typed_in_python(root, archive, folder):
+    write(f"{folder}/caller.py", block(root, "python", 1))
+    words, env = python_words(root, archive, [f"{folder}/caller.py"])
+    return run_wrong(words, env, b"65536 2.0pt\n0 Rule(h=0, v=131072, height=131072, width=65536)\n", folder)
+
+
 def caller_in_rust(root, archive, folder):
-    if not shutil.which("rustc"):
-        return Skipped("there is no rustc on the path")
-    write(f"{folder}/caller.rs", block(root, "rs", 0))
-    shutil.copy(archive, f"{folder}/libboxglue_c.a")  # the name by which rustc finds it
-    paths = [f"-Lnative={it}" for it in (folder, os.path.dirname(heap_archive()))]
-    words = ["rustc", "--edition", "2021", "-O", *paths, "-lstatic=boxglue_c", "-lstatic=libc_c", "-o", f"{folder}/caller", f"{folder}/caller.rs"]
-    return run_wrong(words, wanted=None) or run_wrong([f"{folder}/caller"])
+    if lacks("cargo"):
+        return lacks("cargo")
+    write(f"{folder}/Cargo.toml", f'[package]\nname = "caller"\nversion = "0.1.0"\nedition = "2021"\n[dependencies]\nboxglue = {{ path = "{root}/bindings/rust/boxglue" }}\n')
+    os.mkdir(f"{folder}/src")
+    write(f"{folder}/src/main.rs", block(root, "rs", 0))
+    env = {**os.environ, "BOXGLUE_LIB_DIR": folder, "CARGO_TARGET_DIR": f"{folder}/target"}
+    words = ["cargo", "run", "--quiet", "--offline", "--manifest-path", f"{folder}/Cargo.toml"]
+    return run_build([f"{root}/bindings/build", "--static", archive, f"{folder}/libboxglue.a"]) or run_wrong(words, env)
 
 
-def binding(root, archive, folder):
-    words, env = python_words(root, archive, ["-m", "unittest", "-q", "test_boxglue"])
+def null_pointers(language, root, archive, folder):
+    """Calls with null pointers, by symbols of the library that refuse them."""
+    compiler, *flags = LANGUAGES[language]
+    if lacks(compiler):
+        return lacks(compiler)
+    steps = f"{root}/tests/steps"
+    wraps = [f"-Wl,--wrap=boxglue_{it}" for it in SYMBOLS]
+    return (run_build([compiler, *flags, *WARNINGS, f"-I{root}/include", "-c", f"{steps}/null_pointers.c", "-o", f"{folder}/calls.o"])
+            or run_build(["cc", "-std=c11", *WARNINGS, f"-I{root}/include", "-c", f"{steps}/null_symbols.c", "-o", f"{folder}/symbols.o"])
+            or run_build([compiler, "-o", f"{folder}/calls", f"{folder}/calls.o", f"{folder}/symbols.o", archive, heap_archive(), *wraps])
+            or run_wrong([f"{folder}/calls"], wanted=NULL_CALLS))
+
+
+def binding(tests, root, archive, folder):
+    """Runs tests of the binding."""
+    words, env = python_words(root, archive, ["-m", "unittest", "discover", "-q", "-s", f"{root}/bindings/python/tests", "-t", f"{root}/bindings/python", "-p", tests])
     return run_wrong(words, env, wanted=b"", folder=folder)
+
+
+def types_of_binding(root, archive, folder):
+    """The types of the binding, which one of its tests checks where there is mypy."""
+    return lacks("mypy") or binding("test_types.py", root, archive, folder)
+
+
+def marks_in_numpy(root, archive, folder):
+    """Runs the tests of marks by a Python that has numpy: this one, or the system's."""
+    words, env = python_words(root, archive, ["-m", "unittest", "-q", "tests.test_marks"])
+    for python in (words[0], "/usr/bin/python3"):
+        if not run_wrong([python, "-c", "import numpy"], wanted=None):
+            return run_wrong([python, *words[1:]], env, b"", f"{root}/bindings/python")
+    return without("numpy")
 
 
 def client(root, archive, folder):
@@ -92,6 +157,10 @@ def outcome(call, root, archive=None, *_programs):
 
 def cases(programs, root):
     """The callers."""
-    calls = {"LIBRARY.md in C": partial(caller_in_c, 0), "LIBRARY.md in C, a job": partial(caller_in_c, 1), "LIBRARY.md in Python": partial(caller_in_python, 0),
-             "LIBRARY.md in Python, a job": partial(caller_in_python, 1), "LIBRARY.md in Rust": caller_in_rust, "test_boxglue.py": binding, "examples/markdown": client}
+    calls = {"LIBRARY.md in C": partial(caller_in_c, 0), "LIBRARY.md in C, a job": partial(caller_in_c, 1), "LIBRARY.md in C, replies": replies_in_c,
+             "LIBRARY.md in Python": partial(caller_in_python, 0), "LIBRARY.md in Python, replies and marks": typed_in_python, "LIBRARY.md in Python, a job": partial(caller_in_python, 2),
+             "LIBRARY.md in Rust": caller_in_rust, "tests of bindings/python": partial(binding, "test_*.py"), "types of bindings/python": types_of_binding,
+             "marks of bindings/python in numpy": marks_in_numpy,
+             "examples/markdown": client}
+    calls |= {f"null pointers in {it}": partial(null_pointers, it) for it in LANGUAGES}
     return [(name, partial(outcome, call, root, *programs)) for name, call in calls.items()]

@@ -2,7 +2,7 @@
 Each growth of a call is refused in turn: the buffers are as they were at status 2, a refused command is in the answers at 7, the device failed at 1, and all that
 was taken is freed. Random bytes as scripts, DVI files and metric files give a status.
 On a kept job the same: a call with status 2 is made again and the rest is as without it, at 10 answers alone are lost, and all is freed with the job. Random pieces
-give what one run of those gives that are not bad."""
+give what one run of those gives that are not bad. Jobs are freed after each line of a script, and no block of one is left: a heap that counts says so."""
 import re
 import tempfile
 from functools import partial
@@ -22,6 +22,7 @@ STRINGS = 1000
 COUNTED = re.compile(r"growths (\d+): nothing done (\d+), a command refused (\d+), the device failed (\d+), no difference (\d+)\n")
 COUNTED_JOB = re.compile(r"growths (\d+): made again (\d+), a command refused (\d+), the device failed (\d+), answers lost (\d+), no difference (\d+)\n")
 PIECES = re.compile(r"pieces %d: accepted \d+, some refused \d+, bad \d+; jobs \d+, with a file [1-9]\d*\n" % STRINGS)
+FREED = re.compile(r"freed (\d+) jobs of up to (\d+) blocks\n")
 TRIED = re.compile(r"(?:(?:script|dvi|tfm) %d:(?: status \d+ \d+)+\n){3}" % STRINGS)
 
 
@@ -60,7 +61,7 @@ def growths_wrong(root, archive, name):
     with tempfile.TemporaryDirectory(prefix="boxglue-library-") as path:
         given = given_of(root, name)
         room = Room(path, given)
-        calls = [("run", "script", *room.fonts)]
+        calls = [("run", "script", *room.fonts), ("run_replies", "script", *room.fonts)]
         if write_dvi(root, archive, room):
             calls += [("list", "out.dvi", *room.fonts), ("paint", *ONE_SHEET, "out.dvi", *room.fonts), ("fonts", "out.dvi")]
         for words in calls:
@@ -74,7 +75,22 @@ def job_growths_wrong(root, archive, name):
     """Refuses each growth of the calls on a job that runs a script in pieces."""
     with tempfile.TemporaryDirectory(prefix="boxglue-library-") as path:
         room = Room(path, given_of(root, name))
-        return count_wrong(run_calls(root, archive, room, ["--refuse", "job", str(LINES), "script", *room.fonts]), COUNTED_JOB)
+        for call in ("job", "job_replies"):
+            wrong = count_wrong(run_calls(root, archive, room, ["--refuse", call, str(LINES), "script", *room.fonts]), COUNTED_JOB)
+            if wrong:
+                return f"{call}: {wrong}"
+        return None
+
+
+def frees_wrong(root, archive, name):
+    """Frees jobs after each line of a script, with and without an end."""
+    with tempfile.TemporaryDirectory(prefix="boxglue-library-") as path:
+        given = given_of(root, name)
+        room = Room(path, given)
+        output = run_calls(root, archive, room, ["frees", "script", *room.fonts]).decode()
+    found = FREED.fullmatch(output)
+    jobs = 2 * (given.script.count(b"\n") + 1)
+    return None if found and int(found[1]) == jobs and int(found[2]) > 1 else f"the program printed {output[:200]!r}, and {jobs} jobs are wanted"
 
 
 def handles_wrong(root, archive):
@@ -107,8 +123,9 @@ def outcome(call, root, programs):
 
 
 def cases(programs, root):
-    """The scripts whose growths are refused, at once and in pieces; random bytes; random pieces; and handles."""
+    """The scripts whose growths are refused, at once and in pieces, and whose jobs are freed; random bytes; random pieces; and handles."""
     calls = {name: partial(lambda name, *words: growths_wrong(*words, name), name) for name in SCRIPTS}
     calls |= {f"job of {name}": partial(lambda name, *words: job_growths_wrong(*words, name), name) for name in SCRIPTS}
+    calls |= {f"freed after each line of {name}": partial(lambda name, *words: frees_wrong(*words, name), name) for name in SCRIPTS}
     calls |= {"random bytes": random_wrong, "random pieces": pieces_wrong, "handles": handles_wrong}
     return [(name, partial(outcome, call, root, programs)) for name, call in calls.items()]

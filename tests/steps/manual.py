@@ -2,13 +2,12 @@
 its lines for many scripts at once run 200 of them."""
 import os
 import re
-import shutil
 import subprocess
 import tempfile
 from functools import partial
 
 from steps.dvi_writer import Page, down, dvi_file, set_rule
-from steps.outcome import Skipped
+from steps.outcome import lacks
 from steps.plain_font import metric_file
 
 TITLE = "the manual page: refusals, usual mistakes, and lines for many scripts at once"
@@ -104,8 +103,8 @@ def wrong_file(room):
 
 def many(programs, root, tool, before):
     """The lines of the page with xargs, or with make and a Makefile, run all scripts. Then they run some, one of which is refused."""
-    if not shutil.which(tool):
-        return Skipped(f"there is no {tool}")
+    if lacks(tool):
+        return lacks(tool)
     page = read(f"{root}/docs/boxglue.1")
     line = blocks(page, before).removeprefix("$ ")
     for program in programs:

@@ -17,6 +17,9 @@ def fonts_of(words):
 
 def pieces_of(script, most):
     """The pieces of a script, as bindings/c/job_calls.c cuts it."""
+    if not most:
+        yield script
+        return
     lines, number = script.splitlines(keepends=True), 0
     while lines:
         count = (7 * number + 3) % (most + 1)
@@ -34,19 +37,21 @@ def run_pieces(boxglue, script, fonts, most):
             dvi.append(job.take())
         answers.append(job.finish())
         dvi.append(job.take())
-    return boxglue.Run("".join(it.answers for it in answers), b"".join(dvi), all(it.accepted for it in answers))
+    return int(not all(it.accepted for it in answers)), "".join(it.answers for it in answers), b"".join(dvi)
 
 
 def answer(boxglue, call, words):
     """The status, the text and the bytes of a call."""
     sheet = {name: int(words.pop(0)) for name in SHEET} if call == "paint" else {}
-    most = int(words.pop(0)) if call == "job" else None
+    most = int(words.pop(0)) if call == "job" else 0
     data, fonts = data_of(words[0]), fonts_of(words[1:])
     if call in ("run", "job"):
-        ran = run_pieces(boxglue, data, fonts, most) if most else boxglue.run(data, fonts)
+        if call == "job":
+            return run_pieces(boxglue, data, fonts, most)
+        ran = boxglue.run(data, fonts)
         return int(not ran.accepted), ran.answers, ran.dvi
     if call == "fonts":
-        return 0, "".join(f"{it.number} {it.size} {it.name}\n" for it in boxglue.fonts(data)), b""
+        return 0, "".join(f"{it.number} {it.size} {it.name} {it.design_size} {it.check_sum}\n" for it in boxglue.fonts(data)), b""
     return 0, boxglue.listing(data, fonts) if call == "list" else boxglue.paint(data, fonts, **sheet).pbm, b""
 
 

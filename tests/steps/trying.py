@@ -1,4 +1,4 @@
-"""Runs `rt try`, which builds a crate without proofs and runs it, or its tests."""
+"""Runs what builds without proofs: `rt try`, which runs a crate or its tests too, and tools/unproved.py."""
 import subprocess
 import threading
 
@@ -9,10 +9,10 @@ _running = set()
 _lock = threading.Lock()
 
 
-def rt_try(root, crate, words, given=b""):
-    """Runs `rt try` in the folder of a crate. Returns its status, standard output and standard error."""
+def run_tried(words, folder, given=b""):
+    """Runs a command that builds. Returns its status, standard output and standard error."""
     pipes = dict.fromkeys(("stdin", "stdout", "stderr"), subprocess.PIPE)
-    with subprocess.Popen(["rt", "try", *words], cwd=f"{root}/crates/{crate}", **pipes) as started:
+    with subprocess.Popen(words, cwd=folder, **pipes) as started:
         with _lock:
             _running.add(started)
         try:
@@ -20,11 +20,16 @@ def rt_try(root, crate, words, given=b""):
         except subprocess.TimeoutExpired:
             started.terminate()
             output, errors = started.communicate()
-            errors += f"rt try was stopped after {LIMIT} seconds\n".encode()
+            errors += f"{words[0]} was stopped after {LIMIT} seconds\n".encode()
         finally:
             with _lock:
                 _running.discard(started)
     return started.returncode, output, errors
+
+
+def rt_try(root, crate, words, given=b""):
+    """Runs `rt try` in the folder of a crate. Returns its status, standard output and standard error."""
+    return run_tried(["rt", "try", *words], f"{root}/crates/{crate}", given)
 
 
 def end_all():

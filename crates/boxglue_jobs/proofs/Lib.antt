@@ -1,7 +1,12 @@
+pub mod Crossing
 pub mod HandedBytes
 pub mod Handles
 pub mod KeptLaws
 pub mod KeptMoves
 pub mod LineNumbers
+pub mod NodesCrossing
 pub mod PieceLaws
+pub mod RoomLaws
+pub mod RowLaws
 pub mod Values
+pub mod WholeLaws

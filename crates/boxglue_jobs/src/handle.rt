@@ -25,6 +25,9 @@ impl Model for JobHandle {
     ghost also_owns = { λ h. held the_row h.at h.value };
 }
 
+// A job holds plain data and blocks of the heap, which any thread may give back.
+unsafe impl Send for JobHandle {}
+
 impl JobHandle {
     ghost use Rattle.std.specs.Prelude.{◌≡◌, Option, Some, None, IfSome};
 

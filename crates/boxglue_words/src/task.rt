@@ -3,7 +3,7 @@
 use crate::fonts::NamedPath;
 
 /// The line that `--version` prints: the program, its version, and the logic of the kit that proves it. No other place in the code has them.
-pub const VERSION_LINE: &str = "boxglue 1.0.0 (rattle logic dac8208d650f15bf)\n";
+pub const VERSION_LINE: &str = "boxglue 1.1.0 (rattle logic dac8208d650f15bf)\n";
 
 /// How a page is painted: its number, counted from 1; the pixels per inch; and the width and height of the bitmap in pixels.
 #[derive(Clone, Copy, Debug, PartialEq, Eq)]

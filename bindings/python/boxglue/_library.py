@@ -1,0 +1,190 @@
+"""The shared object: how it is found, its structs and calls, and how bytes go in and come out."""
+from __future__ import annotations
+
+import ctypes
+import functools
+import mmap
+import os
+from ctypes import POINTER, Structure, byref, c_char, c_char_p, c_int32, c_int64, c_size_t, c_uint32, c_uint64, c_void_p
+from typing import Any, Callable, Iterable, Mapping, Tuple, Type, Union
+
+from ._status import BoxglueError, Status, fail
+
+# Anything that is like bytes, as bytearray, memoryview or mmap; Python before 3.12 has no name for all of them.
+Data = Union[bytes, bytearray, memoryview]
+Text = Union[str, Data]
+Fonts = Union[Mapping[str, Data], Mapping[bytes, Data], Iterable[Tuple[Text, Data]]]
+
+# The sizes of the first buffers. Where an output needs more, the call is made again with what it needs.
+TEXT_ROOM, DVI_ROOM, FONT_ROOM = 1 << 14, 1 << 16, 64
+# Tables from this size on are mapped: what a call does not write takes no memory.
+_MAPPED = 1 << 18
+
+
+class Font(Structure):
+    _fields_ = [("name", c_char_p), ("name_size", c_size_t), ("bytes", c_char_p), ("bytes_size", c_size_t)]
+
+
+class DviFontRow(Structure):
+    _fields_ = [("number", c_int32), ("size", c_int32), ("design_size", c_int32), ("check_sum", c_uint32), ("name_start", c_size_t), ("name_size", c_size_t)]
+
+
+class FontSizes(Structure):
+    _fields_ = [("fonts", c_size_t), ("text", c_size_t)]
+
+
+class PageRow(Structure):
+    _fields_ = [("counts", c_int32 * 10), ("first_mark", c_size_t), ("marks", c_size_t)]
+
+
+class MarkRow(Structure):
+    _fields_ = [*((name, c_uint32 if name == "kind" else c_int32) for name in ("kind", "font", "code", "h", "v", "height", "width")),
+                ("text_size", c_uint32), ("text_start", c_uint64)]
+
+
+class MarkSizes(Structure):
+    _fields_ = [("pages", c_size_t), ("marks", c_size_t), ("text", c_size_t), ("num", c_int32), ("den", c_int32), ("mag", c_int32)]
+
+
+class BoxSizes(Structure):
+    _fields_ = [("width", c_int32), ("height", c_int32), ("depth", c_int32)]
+
+
+class ReplyRow(Structure):
+    _fields_ = [("line", c_uint64), ("kind", c_uint32), ("refusal", c_uint32), ("cause", c_uint32), ("box_kind", c_uint32), ("box", BoxSizes), ("rest", BoxSizes),
+                ("has_rest", c_uint32), ("badness", c_uint32), ("pass", c_uint32), ("missing", c_uint32), ("count", c_uint64), ("bytes", c_uint64),
+                ("overhang", c_int64), ("demerits", c_int64)]
+
+
+class ReplySizes(Structure):
+    _fields_ = [("replies", c_size_t), ("dvi", c_size_t)]
+
+
+class JobHandle(Structure):
+    _fields_ = [("at", c_void_p)]
+
+
+_INPUT, _OUTPUT, _SIZE = [c_char_p, c_size_t], [POINTER(c_char), c_size_t], [POINTER(c_size_t)]
+_GIVEN, _REPLIES = [POINTER(Font), c_size_t], [POINTER(ReplyRow), c_size_t]
+_CALLS = {
+    "version": [],
+    "run_replies": [*_INPUT, *_GIVEN, *_REPLIES, *_OUTPUT, POINTER(ReplySizes)],
+    "list": [*_INPUT, *_GIVEN, *_OUTPUT, *_SIZE],
+    "paint": [*_INPUT, *_GIVEN, *[c_uint32] * 4, *_OUTPUT, *_SIZE],
+    "fonts": [*_INPUT, POINTER(DviFontRow), c_size_t, *_OUTPUT, POINTER(FontSizes)],
+    "marks": [*_INPUT, *_GIVEN, POINTER(PageRow), c_size_t, POINTER(MarkRow), c_size_t, *_OUTPUT, POINTER(MarkSizes)],
+    "job_new": [POINTER(JobHandle), *_GIVEN],
+    "job_run": [POINTER(JobHandle), *_INPUT, *_REPLIES, *_SIZE],
+    "job_take": [POINTER(JobHandle), *_OUTPUT, *_SIZE],
+    "job_end": [POINTER(JobHandle), POINTER(ReplyRow)],
+    "job_free": [POINTER(JobHandle)],
+}
+
+
+def library_path() -> str:
+    """Where the shared object is."""
+    here = os.path.dirname(os.path.abspath(__file__))
+    named = os.environ.get("BOXGLUE_LIBRARY")
+    for path in (named, f"{here}/libboxglue.so", f"{here}/../../../crates/boxglue_c/out/libboxglue.so"):
+        if path and (os.path.exists(path) or path == named):
+            return os.path.abspath(path)
+    raise BoxglueError("there is no libboxglue.so: make it with bindings/build, or name it in BOXGLUE_LIBRARY")
+
+
+def shown_version(number: int) -> str:
+    """A version as texts show it."""
+    return f"{number // 10_000}.{number // 100 % 100}.{number % 100}"
+
+
+@functools.lru_cache(None)
+def library() -> Any:
+    """The library, with the types of its calls."""
+    path = library_path()
+    try:
+        found = ctypes.CDLL(path)
+        found.boxglue_version.argtypes, found.boxglue_version.restype = [], c_uint32
+        number = found.boxglue_version()
+    except (OSError, AttributeError) as error:
+        raise BoxglueError(f"{path} is no library of boxglue: {error}") from error
+    if number // 10_000 != 1:
+        raise BoxglueError(f"{path} has version {shown_version(number)}, and this package is for 1.x")
+    # After the version, so that an older library is named as one.
+    for name, types in _CALLS.items():
+        try:
+            call = getattr(found, f"boxglue_{name}")
+        except AttributeError:
+            raise BoxglueError(f"{path} has version {shown_version(number)}, and lacks boxglue_{name}: it is older than this package") from None
+        call.argtypes, call.restype = types, None if name == "job_free" else c_uint32
+    return found
+
+
+def version() -> str:
+    """The version of the library that is loaded, such as "1.1.0"."""
+    return shown_version(library().boxglue_version())
+
+
+def proved() -> bool:
+    """Whether the library that is loaded was proved. One that was not (`./install --unproved`) has run-time checks, and a fault of its own ends the process."""
+    return not hasattr(library(), "boxglue_unproved")
+
+
+def data_of(given: Data, what: str) -> bytes:
+    """The bytes of what is like bytes. Nothing else is taken: bytes(7) would be seven zeros, and the name of a file is not the file."""
+    try:
+        return given if isinstance(given, bytes) else memoryview(given).tobytes()
+    except TypeError:
+        raise TypeError(f"{what} must be bytes, not {type(given).__name__}") from None
+
+
+def text_of(given: Text, what: str) -> bytes:
+    """The bytes of a text, a `str` as UTF-8."""
+    return given.encode("utf-8", "surrogateescape") if isinstance(given, str) else data_of(given, what)
+
+
+def sized(data: bytes) -> Tuple[bytes, int]:
+    """Bytes as a call takes them."""
+    return data, len(data)
+
+
+def new_buffer(room: int) -> Any:
+    """A buffer. No pointer may be null, so that it has at least a byte."""
+    return (c_char * max(room, 1))()
+
+
+def new_table(row: Type[Any], room: int) -> Any:
+    """A table of rows, at least one."""
+    count = max(room, 1)
+    size = count * ctypes.sizeof(row)
+    if size < _MAPPED:
+        return (row * count)()
+    try:
+        return (row * count).from_buffer(mmap.mmap(-1, size))
+    except OSError as error:
+        raise MemoryError(f"{size} bytes for a table") from error
+
+
+def given_fonts(given: Fonts) -> Tuple[Any, int]:
+    """Fonts as a call takes them. The array keeps the bytes."""
+    if isinstance(given, (str, bytes, bytearray, memoryview)):
+        raise TypeError(f"fonts must be a mapping or pairs, not {type(given).__name__}")
+    pairs = list(given.items() if isinstance(given, Mapping) else given)
+    array = (Font * max(len(pairs), 1))()
+    for at, (name, metrics) in enumerate(pairs):
+        array[at] = Font(*sized(text_of(name, "the name of a font")), *sized(data_of(metrics, "a metric file")))
+    if not pairs:
+        array[0] = Font(b"", 0, b"", 0)
+    return array, len(pairs)
+
+
+def one_output(call: Callable[..., int], room: int) -> Tuple[int, bytes]:
+    """The status and the output of a call with one buffer, which is made again where the buffer is too small."""
+    size = c_size_t()
+    while True:
+        buffer = new_buffer(room)
+        status = call(buffer, room, byref(size))
+        if status != Status.BUFFER_TOO_SMALL:
+            break
+        room = size.value
+    if status > Status.REFUSED:
+        fail(status)
+    return status, ctypes.string_at(buffer, size.value)

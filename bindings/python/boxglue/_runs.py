@@ -1,0 +1,82 @@
+"""Runs of scripts."""
+from __future__ import annotations
+
+import ctypes
+import functools
+from ctypes import byref
+from dataclasses import dataclass
+from typing import List, TypeVar
+
+from ._fonts import FontFolder, names_in_script
+from ._library import DVI_ROOM, Fonts, ReplyRow, ReplySizes, Text, given_fonts, library, new_buffer, new_table, sized, text_of
+from ._replies import Replies
+from ._status import Refused, Status, fail
+
+HAS_RUN = Status.ACCEPTED, Status.REFUSED, Status.REFUSED_MEMORY
+
+
+class _Answered:
+    """What has replies."""
+    replies: Replies
+    accepted: bool
+
+    @functools.cached_property
+    def answers(self) -> str:
+        """The replies as texts, a line each (docs/FORMATS.md, section 3). They are made when they are asked for."""
+        return self.replies.answers
+
+    @property
+    def refusals(self) -> List[Refused]:
+        """The refusals among the replies, in order."""
+        return self.replies.refusals
+
+    def check(self: _Given) -> _Given:
+        """Returns this, or raises the first refusal."""
+        if not self.accepted:
+            raise self.refusals[0]
+        return self
+
+
+_Given = TypeVar("_Given", bound=_Answered)
+
+
+@dataclass(frozen=True)
+class Run(_Answered):
+    """A run: the replies to its commands, the last one that to its end, the bytes of the DVI file, and whether nothing was refused.
+
+    There are no bytes where no page was shipped. Where the end was refused they are no whole file. A script with a bad line has one reply, and no bytes.
+    """
+    replies: Replies
+    dvi: bytes
+    accepted: bool
+
+
+@dataclass(frozen=True)
+class Answers(_Answered):
+    """The replies to the commands of a piece, or to the end of a job; and whether nothing was refused."""
+    replies: Replies
+    accepted: bool
+
+
+def run(script: Text, fonts: Fonts = ()) -> Run:
+    """Runs a script with these fonts.
+
+    A refused command is among the replies, and `accepted` is false then; `run(..).check()` raises it. Raises OutOfMemory or BadFontName.
+    """
+    text, sizes = text_of(script, "a script"), ReplySizes()
+    given = given_fonts(fonts.choose(names_in_script(text)) if isinstance(fonts, FontFolder) else fonts)
+    rooms = text.count(b"\n") + 2, max(DVI_ROOM, 2 * len(text))
+    while True:
+        rows, dvi = new_table(ReplyRow, rooms[0]), new_buffer(rooms[1])
+        status = library().boxglue_run_replies(*sized(text), *given, rows, rooms[0], dvi, rooms[1], byref(sizes))
+        if status != Status.BUFFER_TOO_SMALL:
+            break
+        rooms = sizes.replies, sizes.dvi
+    if status not in HAS_RUN:
+        fail(status)
+    return Run(replies_of(rows, sizes.replies), ctypes.string_at(dvi, sizes.dvi), status == Status.ACCEPTED)
+
+
+def replies_of(rows: ctypes.Array[ReplyRow], count: int) -> Replies:
+    """The first rows of a table."""
+    return Replies(ctypes.string_at(rows, count * ctypes.sizeof(ReplyRow)))

@@ -1,0 +1,43 @@
+"""Tests of DVI files that are listed, painted and asked for their fonts."""
+import unittest
+
+import boxglue
+
+from .samples import RULE, TEXT, plain
+
+
+class Pages(unittest.TestCase):
+    def setUp(self):
+        self.dvi = boxglue.run(RULE).dvi
+
+    def test_listing(self):
+        self.assertEqual(boxglue.listing(self.dvi), "page 1 counts 0 0 0 0 0 0 0 0 0 0\nrule 0 65536 65536 65536\n")
+
+    def test_bad_file(self):
+        for call in (boxglue.listing, boxglue.paint, boxglue.fonts):
+            with self.assertRaises(boxglue.Refused) as caught:
+                call(self.dvi[:74])
+            self.assertEqual((caught.exception.name, caught.exception.number, caught.exception.detail), ("BadDvi", 20, "74 Trailer"))
+
+    def test_missing_metrics(self):
+        dvi = boxglue.run(TEXT, plain()).dvi
+        for call in (boxglue.listing, boxglue.paint):
+            with self.assertRaises(boxglue.Refused) as caught:
+                call(dvi)
+            self.assertEqual(caught.exception.name, "NoFont")
+
+    def test_bitmap(self):
+        bitmap = boxglue.paint(self.dvi, width=4, height=3)
+        self.assertEqual((bitmap.pbm, bitmap.rows), ("P1\n4 3\n1100\n1100\n0000\n", ["1100", "1100", "0000"]))
+        self.assertEqual(len(boxglue.paint(self.dvi).rows), 1100)
+
+    def test_missing_page(self):
+        self.assertRaises(boxglue.NoSuchPage, boxglue.paint, self.dvi, page=2)
+
+    def test_numbers_out_of_range(self):
+        for words in ({"page": 0}, {"page": -1}, {"page": (1 << 32) + 1}, {"dpi": 10_001}, {"dpi": -1}, {"width": 0}, {"width": 10_001}, {"height": (1 << 32) + 1}):
+            self.assertRaises(boxglue.OutOfRange, boxglue.paint, self.dvi, **words)
+
+
+if __name__ == "__main__":
+    unittest.main()

@@ -1,0 +1,60 @@
+"""Tests of how the library is found, of its version, and of the texts of its statuses."""
+import os
+import types
+import unittest
+from unittest import mock
+
+import boxglue
+from boxglue import _library
+
+
+class Versions(unittest.TestCase):
+    """What is said of a library that is not the one of this package: a stand-in with its version, and without any other call."""
+
+    def message(self, number):
+        version = lambda: number
+        with mock.patch("ctypes.CDLL", lambda _: types.SimpleNamespace(boxglue_version=version)), self.assertRaises(boxglue.BoxglueError) as caught:
+            _library.library.__wrapped__()
+        return str(caught.exception)
+
+    def test_other_version(self):
+        self.assertIn("has version 2.3.4, and this package is for 1.x", self.message(20304))
+
+    def test_older_version(self):
+        self.assertRegex(self.message(10000), r"has version 1\.0\.0, and lacks boxglue_\w+: it is older than this package")
+
+    def test_other_library(self):
+        with mock.patch("ctypes.CDLL", lambda _: types.SimpleNamespace()):
+            self.assertRaisesRegex(boxglue.BoxglueError, "is no library of boxglue", _library.library.__wrapped__)
+        with mock.patch.dict(os.environ, BOXGLUE_LIBRARY=__file__):
+            self.assertRaisesRegex(boxglue.BoxglueError, "is no library of boxglue", _library.library.__wrapped__)
+
+    def test_place(self):
+        """A file that BOXGLUE_LIBRARY names is the library, or there is none."""
+        with mock.patch.dict(os.environ, BOXGLUE_LIBRARY="no such file"):
+            self.assertEqual(_library.library_path(), os.path.abspath("no such file"))
+        with mock.patch.dict(os.environ), mock.patch("os.path.exists", lambda _: False):
+            os.environ.pop("BOXGLUE_LIBRARY", None)
+            self.assertRaisesRegex(boxglue.BoxglueError, "there is no libboxglue.so", _library.library_path)
+
+
+class Proofs(unittest.TestCase):
+    def test_proved(self):
+        """A library that was built without proofs has a symbol that says so."""
+        with open(_library.library_path(), "rb") as it:
+            self.assertEqual(boxglue.proved(), b"boxglue_unproved" not in it.read())
+
+
+class Texts(unittest.TestCase):
+    def test_statuses(self):
+        self.assertEqual([int(it) for it in boxglue.Status], [*range(11)])
+        self.assertEqual(boxglue.Status(2).text, "out of memory")
+        self.assertEqual(len({it.text for it in boxglue.Status}), 11)
+
+    def test_errors_have_them(self):
+        with self.assertRaisesRegex(boxglue.BadFontName, boxglue.Status.BAD_FONT_NAME.text):
+            boxglue.run("", {"": b""})
+
+
+if __name__ == "__main__":
+    unittest.main()

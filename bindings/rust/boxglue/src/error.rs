@@ -1,0 +1,110 @@
+//! What stops a call.
+
+use boxglue_sys as sys;
+use std::fmt;
+
+/// A refusal: of a command, a script, the end of a job, or a DVI file.
+#[derive(Clone, Debug, PartialEq, Eq)]
+pub struct Refusal {
+    /// The line of the command that was refused; none where no command was.
+    pub line: Option<u64>,
+    /// Its number (docs/COMMANDS.md, section 2), such as 4.
+    pub number: u32,
+    /// Its name, such as "NoFont".
+    pub name: String,
+    /// What follows the name, such as "74 Trailer" after "BadDvi".
+    pub detail: String,
+}
+
+impl Refusal {
+    /// The refusal of an answer, if it is one: "7: refused 4 NoFont", "end: refused 17 ListsOpen" or "refused 20 BadDvi 74 Trailer".
+    fn of(answer: &str) -> Option<Refusal> {
+        let (line, rest) = answer.split_once(": ").unwrap_or(("", answer));
+        let mut words = rest.strip_prefix("refused ")?.splitn(3, ' ');
+        let number = words.next()?.parse().ok()?;
+        let name = words.next()?.to_string();
+        Some(Refusal { line: line.parse().ok(), number, name, detail: words.next().unwrap_or_default().to_string() })
+    }
+
+    /// The refusals among answers.
+    pub(crate) fn all(answers: &str) -> impl Iterator<Item = Refusal> + '_ {
+        answers.lines().filter_map(Refusal::of)
+    }
+}
+
+impl fmt::Display for Refusal {
+    fn fmt(&self, out: &mut fmt::Formatter<'_>) -> fmt::Result {
+        if let Some(line) = self.line {
+            write!(out, "line {line}: ")?;
+        }
+        write!(out, "refused {} {}", self.number, self.name)?;
+        if !self.detail.is_empty() {
+            write!(out, " {}", self.detail)?;
+        }
+        Ok(())
+    }
+}
+
+impl std::error::Error for Refusal {}
+
+/// What stops a call. A refused command of a script does not: it is among the answers.
+#[derive(Clone, Debug, PartialEq, Eq)]
+#[non_exhaustive]
+pub enum Error {
+    /// A DVI file was refused, or an answer that was checked is a refusal.
+    Refused(Refusal),
+    /// Memory was refused, and nothing was done.
+    OutOfMemory,
+    /// The name of a font has not 1 to 255 bytes.
+    BadFontName,
+    /// The DVI file is good and has no page of this number.
+    NoSuchPage,
+    /// The number of a page, of pixels an inch, or of a bitmap's pixels is out of its range.
+    OutOfRange,
+    /// The commands were run, or the job was finished, and memory was refused for the text of the answers.
+    AnswersLost,
+    /// A status that this version does not know.
+    Other(u32),
+}
+
+impl Error {
+    /// The error of a status.
+    pub(crate) fn of(status: u32) -> Error {
+        match status {
+            sys::BOXGLUE_OUT_OF_MEMORY => Error::OutOfMemory,
+            sys::BOXGLUE_BAD_FONT_NAME => Error::BadFontName,
+            sys::BOXGLUE_NO_SUCH_PAGE => Error::NoSuchPage,
+            sys::BOXGLUE_OUT_OF_RANGE => Error::OutOfRange,
+            sys::BOXGLUE_ANSWERS_LOST => Error::AnswersLost,
+            other => Error::Other(other),
+        }
+    }
+
+    /// The error of the first refusal among lines.
+    pub(crate) fn refused(lines: &str) -> Error {
+        Refusal::all(lines).next().map_or(Error::Other(sys::BOXGLUE_REFUSED), Error::Refused)
+    }
+}
+
+impl fmt::Display for Error {
+    fn fmt(&self, out: &mut fmt::Formatter<'_>) -> fmt::Result {
+        match self {
+            Error::Refused(refusal) => refusal.fmt(out),
+            Error::OutOfMemory => out.write_str("memory was refused, and nothing was done"),
+            Error::BadFontName => out.write_str("the name of a font has not 1 to 255 bytes"),
+            Error::NoSuchPage => out.write_str("the DVI file has no page of this number"),
+            Error::OutOfRange => out.write_str("a number is out of its range"),
+            Error::AnswersLost => out.write_str("memory was refused for the text of the answers"),
+            Error::Other(status) => write!(out, "status {status}"),
+        }
+    }
+}
+
+impl std::error::Error for Error {
+    fn source(&self) -> Option<&(dyn std::error::Error + 'static)> {
+        match self {
+            Error::Refused(refusal) => Some(refusal),
+            _ => None,
+        }
+    }
+}

@@ -1,0 +1,230 @@
+//! Boxglue from Rust: scripts are run, and DVI files are listed and painted.
+//!
+//! ```
+//! let ran = boxglue::run("hbox into 0\nrule 1pt 1pt 0pt\nend\nship 0\n", &[])?.check()?;
+//! assert_eq!(ran.answers.lines().last(), Some("end: pages 1 bytes 116"));
+//! assert_eq!(ran.dvi.len(), 116); // for std::fs::write
+//! # Ok::<(), boxglue::Error>(())
+//! ```
+//!
+//! A [`Job`] is kept between calls, and takes a script piece by piece. [`run_replies`] and [`Job::run`] give answers as numbers in place of texts, and [`marks`]
+//! the marks of a DVI file.
+//!
+//! Scripts and answers are those of docs/FORMATS.md of boxglue, and the commands those of docs/COMMANDS.md. A font has the name by which scripts and DVI
+//! files mean it, and the bytes of its metric file (TFM); of several with one name the first counts. Calls may run in several threads at once.
+#![warn(missing_docs)]
+
+mod buffers;
+mod error;
+mod job;
+mod marks;
+mod replies;
+
+pub use error::{Error, Refusal};
+pub use job::{Answers, Job};
+pub use marks::{marks, Mark, Marks, Page, Units};
+pub use replies::{run_replies, Answer, BoxKind, BoxSizes, RepliedRun, Reply};
+
+use boxglue_sys as sys;
+use buffers::{buffer, given, one_text, text, DVI_ROOM, FONT_ROOM, TEXT_ROOM};
+
+/// Whether the library that this crate was built with was proved. One that was not has run-time checks, and a fault of its own ends the program.
+pub const IS_PROVED: bool = sys::IS_PROVED;
+
+/// A font: the name by which scripts and DVI files mean it, 1 to 255 bytes, and the bytes of its metric file (TFM).
+#[derive(Clone, Copy, Debug)]
+pub struct Font<'a> {
+    /// The name.
+    pub name: &'a [u8],
+    /// The bytes of the metric file.
+    pub metrics: &'a [u8],
+}
+
+impl<'a> Font<'a> {
+    /// A font of this name.
+    pub fn new(name: &'a (impl AsRef<[u8]> + ?Sized), metrics: &'a [u8]) -> Font<'a> {
+        Font { name: name.as_ref(), metrics }
+    }
+}
+
+/// A run of a script.
+#[derive(Clone, Debug, PartialEq, Eq)]
+pub struct Run {
+    /// The answers to the commands, a line each.
+    pub answers: String,
+    /// The bytes of the DVI file; none where no page was shipped. Where the end was refused they are no whole file.
+    pub dvi: Vec<u8>,
+    /// Whether nothing was refused.
+    pub accepted: bool,
+}
+
+impl Run {
+    /// The refusals among the answers, in order.
+    pub fn refusals(&self) -> impl Iterator<Item = Refusal> + '_ {
+        Refusal::all(&self.answers)
+    }
+
+    /// This run, or the first refusal as an error.
+    pub fn check(self) -> Result<Run, Error> {
+        if self.accepted {
+            Ok(self)
+        } else {
+            Err(Error::refused(&self.answers))
+        }
+    }
+}
+
+/// Runs a script with these fonts. A refused command is among the answers, and [`Run::check`] makes it an error.
+///
+/// # Errors
+///
+/// [`Error::OutOfMemory`] and [`Error::BadFontName`].
+///
+/// ```
+/// let ran = boxglue::run("ship 3\n", &[])?;
+/// assert_eq!((ran.answers.as_str(), ran.accepted), ("1: refused 21 VoidBox\nend: pages 0 bytes 0\n", false));
+/// # Ok::<(), boxglue::Error>(())
+/// ```
+pub fn run(script: impl AsRef<[u8]>, fonts: &[Font<'_>]) -> Result<Run, Error> {
+    let (script, fonts) = (script.as_ref(), given(fonts));
+    let mut sizes = sys::boxglue_lengths { answers: TEXT_ROOM, dvi: DVI_ROOM };
+    loop {
+        let (mut answers, mut dvi) = (buffer(sizes.answers, 0)?, buffer(sizes.dvi, 0)?);
+        // SAFETY: each pointer is that of a slice with its length, none of which overlap, and no slice has a null pointer.
+        let status = unsafe {
+            sys::boxglue_run(
+                script.as_ptr(),
+                script.len(),
+                fonts.as_ptr(),
+                fonts.len(),
+                answers.as_mut_ptr(),
+                answers.len(),
+                dvi.as_mut_ptr(),
+                dvi.len(),
+                &mut sizes,
+            )
+        };
+        match status {
+            sys::BOXGLUE_BUFFER_TOO_SMALL => {}
+            sys::BOXGLUE_ACCEPTED | sys::BOXGLUE_REFUSED | sys::BOXGLUE_REFUSED_MEMORY => {
+                answers.truncate(sizes.answers);
+                dvi.truncate(sizes.dvi);
+                return Ok(Run { answers: text(answers), dvi, accepted: status == sys::BOXGLUE_ACCEPTED });
+            }
+            other => return Err(Error::of(other)),
+        }
+    }
+}
+
+/// The listing of the marks of all pages of a DVI file.
+///
+/// # Errors
+///
+/// [`Error::Refused`], [`Error::OutOfMemory`] and [`Error::BadFontName`].
+///
+/// ```
+/// let ran = boxglue::run("hbox into 0\nrule 1pt 1pt 0pt\nend\nship 0\n", &[])?;
+/// assert_eq!(boxglue::listing(&ran.dvi, &[])?, "page 1 counts 0 0 0 0 0 0 0 0 0 0\nrule 0 65536 65536 65536\n");
+/// # Ok::<(), boxglue::Error>(())
+/// ```
+pub fn listing(dvi: &[u8], fonts: &[Font<'_>]) -> Result<String, Error> {
+    let fonts = given(fonts);
+    // SAFETY: as for `run`.
+    one_text(DVI_ROOM, |at, room, size| unsafe { sys::boxglue_list(dvi.as_ptr(), dvi.len(), fonts.as_ptr(), fonts.len(), at, room, size) })
+}
+
+/// Which page is painted, and how.
+#[derive(Clone, Copy, Debug, PartialEq, Eq)]
+pub struct PaintOptions {
+    /// The number of the page, from 1.
+    pub page: u32,
+    /// Pixels an inch, 1 to 10,000.
+    pub dpi: u32,
+    /// The width of the bitmap in pixels, 1 to 10,000.
+    pub width: u32,
+    /// The height of the bitmap in pixels, 1 to 10,000.
+    pub height: u32,
+}
+
+/// The rules of a page of a DVI file as a bitmap, in plain PBM.
+///
+/// # Errors
+///
+/// [`Error::Refused`], [`Error::NoSuchPage`], [`Error::OutOfRange`], [`Error::OutOfMemory`] and [`Error::BadFontName`].
+///
+/// ```
+/// use boxglue::{paint, Error, PaintOptions};
+///
+/// let ran = boxglue::run("hbox into 0\nrule 1in 1in 0pt\nend\nship 0\n", &[])?;
+/// let sheet = PaintOptions { page: 1, dpi: 1, width: 2, height: 2 };
+/// assert_eq!(paint(&ran.dvi, &[], sheet)?, "P1\n2 2\n00\n10\n");
+/// assert_eq!(paint(&ran.dvi, &[], PaintOptions { page: 2, ..sheet }), Err(Error::NoSuchPage));
+/// # Ok::<(), Error>(())
+/// ```
+pub fn paint(dvi: &[u8], fonts: &[Font<'_>], sheet: PaintOptions) -> Result<String, Error> {
+    let (fonts, PaintOptions { page, dpi, width, height }) = (given(fonts), sheet);
+    // SAFETY: as for `run`.
+    one_text(DVI_ROOM, |at, room, size| unsafe {
+        sys::boxglue_paint(dvi.as_ptr(), dvi.len(), fonts.as_ptr(), fonts.len(), page, dpi, width, height, at, room, size)
+    })
+}
+
+/// A font that a DVI file defines.
+#[derive(Clone, Debug, PartialEq, Eq)]
+pub struct DviFont {
+    /// The number by which pages select it.
+    pub number: i32,
+    /// Its name, 0 to 255 bytes.
+    pub name: Vec<u8>,
+    /// Its size in DVI units, which are scaled points in boxglue's own files.
+    pub size: i32,
+    /// Its design size in DVI units.
+    pub design_size: i32,
+    /// The check sum of its metric file, as the writer of the file saw it.
+    pub check_sum: u32,
+}
+
+/// The fonts that a DVI file defines after its pages, in the order of the file: their names are those that the other calls need. No page is read.
+///
+/// # Errors
+///
+/// [`Error::Refused`] and [`Error::OutOfMemory`].
+///
+/// ```
+/// let ran = boxglue::run("hbox into 0\nrule 1pt 1pt 0pt\nend\nship 0\n", &[])?;
+/// assert!(boxglue::fonts(&ran.dvi)?.is_empty());
+/// assert!(matches!(boxglue::fonts(b"no DVI file"), Err(boxglue::Error::Refused(it)) if it.name == "BadDvi"));
+/// # Ok::<(), boxglue::Error>(())
+/// ```
+pub fn fonts(dvi: &[u8]) -> Result<Vec<DviFont>, Error> {
+    let mut sizes = sys::boxglue_font_sizes { fonts: FONT_ROOM, text: TEXT_ROOM };
+    loop {
+        let (mut rows, mut names) = (buffer(sizes.fonts, sys::boxglue_dvi_font::default())?, buffer(sizes.text, 0)?);
+        // SAFETY: as for `run`.
+        let status = unsafe { sys::boxglue_fonts(dvi.as_ptr(), dvi.len(), rows.as_mut_ptr(), rows.len(), names.as_mut_ptr(), names.len(), &mut sizes) };
+        names.truncate(sizes.text.min(names.len()));
+        match status {
+            sys::BOXGLUE_BUFFER_TOO_SMALL => {}
+            sys::BOXGLUE_ACCEPTED => {
+                let name = |it: &sys::boxglue_dvi_font| names[it.name_start..it.name_start + it.name_size].to_vec();
+                return Ok(rows[..sizes.fonts]
+                    .iter()
+                    .map(|it| DviFont { number: it.number, name: name(it), size: it.size, design_size: it.design_size, check_sum: it.check_sum })
+                    .collect());
+            }
+            sys::BOXGLUE_REFUSED => return Err(Error::refused(&text(names))),
+            other => return Err(Error::of(other)),
+        }
+    }
+}
+
+/// The version of the library, such as "1.1.0".
+///
+/// ```
+/// assert_eq!(boxglue::version().split('.').next(), Some("1"));
+/// ```
+pub fn version() -> String {
+    // SAFETY: the call takes nothing.
+    let number = unsafe { sys::boxglue_version() };
+    format!("{}.{}.{}", number / 10_000, number / 100 % 100, number % 100)
+}

@@ -1,0 +1,82 @@
+//! The calls, on pages of one rule and on inputs that are refused.
+use boxglue::{fonts, listing, run, Error, Font, Job, Refusal};
+
+const RULE: &str = "hbox into 0\nrule 1pt 1pt 0pt\nend\nship 0\n";
+
+#[test]
+fn a_page_of_a_rule() {
+    let ran = run(RULE, &[]).unwrap().check().unwrap();
+    assert_eq!((ran.answers.lines().last(), ran.dvi.len()), (Some("end: pages 1 bytes 116"), 116));
+    assert_eq!(listing(&ran.dvi, &[]).unwrap(), "page 1 counts 0 0 0 0 0 0 0 0 0 0\nrule 0 65536 65536 65536\n");
+}
+
+#[test]
+fn a_file_that_is_cut() {
+    let ran = run(RULE, &[]).unwrap();
+    let refusal = Refusal { line: None, number: 20, name: "BadDvi".into(), detail: "74 Trailer".into() };
+    assert_eq!(listing(&ran.dvi[..74], &[]), Err(Error::Refused(refusal.clone())));
+    assert_eq!(fonts(&ran.dvi[..74]), Err(Error::Refused(refusal)));
+}
+
+#[test]
+fn refused_commands() {
+    let ran = run("ship 3\nend\n", &[]).unwrap();
+    let found: Vec<_> = ran.refusals().map(|it| it.to_string()).collect();
+    assert_eq!(found, ["line 1: refused 21 VoidBox", "line 2: refused 7 NoOpenList"]);
+    assert_eq!(ran.check().unwrap_err().to_string(), "line 1: refused 21 VoidBox");
+}
+
+#[test]
+fn a_bad_script() {
+    let error = run("kern 12px\n", &[]).unwrap().check().unwrap_err();
+    assert_eq!(error.to_string(), "refused 2 BadScript 1 Dimension");
+}
+
+#[test]
+fn empty_inputs_and_bad_names() {
+    assert_eq!(run("", &[]).unwrap().answers, "end: pages 0 bytes 0\n");
+    assert_eq!(run("", &[Font::new("", b"")]), Err(Error::BadFontName));
+}
+
+#[test]
+fn fonts_of_a_file() {
+    let script = "font 0 none at 5pt\nuse 0\nhbox into 0\nend\nship 0\n";
+    let ran = run(script, &[Font::new("none", b"no metrics")]).unwrap();
+    assert_eq!(ran.refusals().map(|it| it.name).collect::<Vec<_>>(), ["BadTfm", "NoFont"]);
+}
+
+#[test]
+fn buffers_grow() {
+    let ran = run(RULE.repeat(5_000), &[]).unwrap();
+    assert_eq!((ran.answers.lines().count(), ran.accepted), (20_001, true));
+    assert_eq!(listing(&ran.dvi, &[]).unwrap().lines().count(), 10_000);
+}
+
+#[test]
+fn a_job_in_pieces_is_one_run() {
+    let mut job = Job::new(&[]).unwrap();
+    let (mut answers, mut dvi) = (String::new(), Vec::new());
+    for line in RULE.lines() {
+        answers += &job.commands(line).unwrap().check().unwrap().text;
+        dvi.extend(job.take().unwrap());
+    }
+    assert_eq!(job.commands("kern 12px\n").unwrap().text, "refused 2 BadScript 5 Dimension\n");
+    answers += &job.finish().unwrap().text;
+    dvi.extend(job.take().unwrap());
+    let whole = run(RULE, &[]).unwrap();
+    assert_eq!((answers, dvi), (whole.answers, whole.dvi));
+}
+
+#[test]
+fn a_job_moves_between_threads() {
+    let mut job = Job::new(&[]).unwrap();
+    for piece in RULE.lines().map(|it| format!("{it}\n")) {
+        job = std::thread::spawn(move || {
+            job.commands(piece).unwrap().check().unwrap();
+            job
+        })
+        .join()
+        .unwrap();
+    }
+    assert_eq!(job.finish().unwrap().text, "end: pages 1 bytes 116\n");
+}

@@ -1,0 +1,17 @@
+//! Runs a script in the font `plain`: page SCRIPT METRICS OUT. It prints the answers, and writes the DVI file to OUT.
+
+use boxglue::{run, Font};
+use std::error::Error;
+use std::{env, fs};
+
+fn main() -> Result<(), Box<dyn Error>> {
+    let words: Vec<String> = env::args().collect();
+    let [_, script, metrics, out] = words.as_slice() else {
+        return Err("usage: page SCRIPT METRICS OUT".into());
+    };
+    let (script, metrics) = (fs::read(script)?, fs::read(metrics)?);
+    let ran = run(script, &[Font::new("plain", &metrics)])?;
+    print!("{}", ran.answers);
+    fs::write(out, ran.check()?.dvi)?;
+    Ok(())
+}
