@@ -19,7 +19,8 @@ STATUSES_OF_PYTHON = "bindings/python/boxglue/_status.py"
 RUST = "bindings/rust/boxglue-sys/src/lib.rs"
 PYTHON = "bindings/python/boxglue/_library.py"
 CALLS_OF_C = "#ifndef BOXGLUE_NO_INLINE"
-TYPES = {"u8": "uint8_t", "u32": "uint32_t", "u64": "uint64_t", "i32": "int32_t", "usize": "size_t", "": "void", "*mut u8": "void *", "JobHandle": "struct boxglue_job"}
+TYPES = {"u8": "uint8_t", "u32": "uint32_t", "u64": "uint64_t", "i32": "int32_t", "i64": "int64_t", "usize": "size_t", "": "void", "*mut u8": "void *", "JobHandle": "struct boxglue_job", "ReplyRow": "struct boxglue_reply"}
+NAMES = {"box_sizes": "box"}  # what Rust does not take as a name
 
 
 def read(root, path):
@@ -42,7 +43,7 @@ def c_type(name):
 def slice_of(name, item, mutable):
     """The pointer and the length that C passes for a slice. A length is named after one item: `fonts` and `font_count`."""
     kind = c_type(item)
-    one = name.removesuffix("s") if kind.startswith("struct") else name
+    one = re.sub("ies$|s$", lambda end: "y" if end[0] == "ies" else "", name) if kind.startswith("struct") else name
     suffix = "room" if mutable else "size" if item == "u8" else "count"
     return [f"{'' if mutable else 'const '}{kind} *{name}", f"size_t {one}_{suffix}"]
 
@@ -53,7 +54,7 @@ def c_fields(name, kind):
         return []
     borrowed = re.fullmatch(r"&(?:'a )?(mut )?(?:\[(.*)\]|(.*))", kind)
     if not borrowed:
-        return [f"{c_type(kind)} {name}".replace("* ", "*")]
+        return [f"{c_type(kind)} {NAMES.get(name, name)}".replace("* ", "*")]
     mutable, item, one = borrowed.groups()
     return slice_of(name, item, mutable) if item else [f"{'' if mutable else 'const '}{c_type(one)} *{name}"]
 
@@ -110,7 +111,7 @@ def null_calls(root):
 
 def structs(root):
     """What is wrong with the structs."""
-    sources = "".join(read(root, it) for it in (f"{CALLS}/runs.rt", f"{CALLS}/given.rt", f"{CALLS}/font_table.rt", f"{JOBS}/handle.rt"))
+    sources = "".join(read(root, it) for it in (f"{CALLS}/runs.rt", f"{CALLS}/given.rt", f"{CALLS}/font_table.rt", f"{JOBS}/handle.rt", f"{JOBS}/rows.rt", f"{JOBS}/whole.rt"))
     wanted = {}
     for name, fields in re.findall(r"#\[repr\(C\)\]\s+(?:#\[derive\([^)]*\)\]\s+)?pub struct (\w+)(?:<'a>)? \{(.*?)\n\}", sources, flags=re.S):
         plain = re.sub(r"///.*|(pub )?ghost .*", "", fields).replace("pub ", "")
@@ -119,11 +120,21 @@ def structs(root):
     return None if wanted and found == wanted else f"the header has {found}, and the calls have {wanted}"
 
 
+def numbers(root, enum, prefix, *sources):
+    """What is wrong with the numbers of an enum."""
+    found = re.findall(rf"{prefix}(\w+) = (\d+)", re.search(rf"enum {enum} {{(.*?)}}", declared(root))[1])
+    wanted = re.findall(r"pub const (\w+): u32 = (\d+);", "".join(read(root, it) for it in sources))
+    return None if wanted and found == wanted else f"the header has {found}, and the calls have {wanted}"
+
+
 def statuses(root):
     """What is wrong with the statuses."""
-    found = re.findall(r"BOXGLUE_(\w+) = (\d+)", declared(root))
-    wanted = re.findall(r"pub const (\w+): u32 = (\d+);", read(root, f"{CALLS}/status.rt") + read(root, f"{JOBS}/status.rt"))
-    return None if wanted and found == wanted else f"the header has {found}, and the calls have {wanted}"
+    return numbers(root, "boxglue_status", "BOXGLUE_", f"{CALLS}/status.rt", f"{JOBS}/status.rt")
+
+
+def reply_kinds(root):
+    """What is wrong with the kinds of replies."""
+    return numbers(root, "boxglue_reply_kind", "BOXGLUE_REPLY_", f"{JOBS}/reply_kind.rt")
 
 
 def status_texts(root):
@@ -186,5 +197,5 @@ def new_version(root):
 
 def cases(_programs, root):
     """A case for each kind of declaration."""
-    for check in (functions, null_calls, structs, statuses, status_texts, rust, python, version, new_version):
+    for check in (functions, null_calls, structs, statuses, reply_kinds, status_texts, rust, python, version, new_version):
         yield check.__name__, partial(check, root)

@@ -1,3 +1,4 @@
 pub mod FontTableLaws
 pub mod PageLaws
 pub mod RunLaws
+pub mod StatusLaws

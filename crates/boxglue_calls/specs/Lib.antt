@@ -2,4 +2,5 @@ pub mod Buffers
 pub mod Fonts
 pub mod FontTables
 pub mod Pages
+pub mod RunStatus
 pub mod Runs

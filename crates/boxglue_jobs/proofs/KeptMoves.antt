@@ -1,6 +1,5 @@
 -- What is kept after a piece, and after the end (own).
-use Rattle.std.proofs.Common.{◌≡◌, ◌≢◌, ◌<◌, ◌^◌, ℕ, Bool, true, List, length, Result, Err, OnOk, IfOk, IfErr, IfSome, is_ok, sym, ap, ◌∙◌, subst}
-use Rattle.std.specs.List.{list_all}
+use Rattle.std.proofs.Common.{◌≡◌, ◌≢◌, ◌<◌, ◌⊎◌, ◌^◌, ◌∷◌, ℕ, true, List, [], length, Result, Err, OnOk, IfOk, IfErr, IfSome, inl, inr, refl, sym, ap, ◌∙◌, subst}
 use Rattle.job_commands.specs.declared.command.Command.{Command}
 use Rattle.job_commands.specs.declared.replies.Refusal.{Refusal}
 use Rattle.job_commands.specs.declared.replies.Refusal.TheVariants as refusals
@@ -13,24 +12,29 @@ use Rattle.job_core.specs.Jobs.{JobView, Represents, RunsTo, FinishesTo, before_
 use Rattle.job_core.specs.Shown.{FilesPages}
 use Rattle.job_core.specs.Closing.{ClosesFile}
 use Rattle.boxglue_script.specs.declared.script.Line.{Line}
-use Rattle.boxglue_script.specs.Script.{IsScript}
+use Rattle.boxglue_script.specs.declared.cause.Cause.{Cause}
+use Rattle.boxglue_script.specs.Script.{IsFirstBad, IsScript}
 use Rattle.boxglue_program.specs.Runs.{commands_of, line_numbers}
 use Rattle.boxglue_program.specs.Texts.{answer_lines, end_line}
 use Rattle.boxglue_jobs.specs.Jobs.{KeptState}
 use Rattle.boxglue_jobs.specs.Numbers.{number_after, numbered, line_count}
-use Rattle.boxglue_jobs.specs.Pieces.{Answers, RunsPiece, FinishesKept}
+use Rattle.boxglue_calls.specs.Buffers.{Holds}
+use Rattle.boxglue_calls.specs.RunStatus.{replies_status, reply_status}
+use Rattle.boxglue_jobs.specs.Pieces.{Answers, EndsJob, FinishesKept, RunsLines, RunsPiece}
+use Rattle.boxglue_jobs.specs.Replies.{RepliesTo, RepliesToPiece}
+use Rattle.boxglue_jobs.specs.Rows.{bad_row, reply_rows}
+use Rattle.boxglue_jobs.specs.declared.rows.ReplyRow.{ReplyRow}
 use Rattle.boxglue_jobs.proofs.PieceLaws.{commands_numbered, length_numbered}
 
 -- What a job has sent has grown.
 abbrev Grows : JobView → JobView → Type 0
 Grows old new = (more : List ℕ) × (new.bytes_written ≡ written_then old.bytes_written more)
 
--- Numbered lines that were run are a piece that was run.
-pub ran_piece : (old new : KeptState) (job : JobView) (script : List ℕ) (lines counted : List Line) (replies : List Reply) (fine : Bool) (status : ℕ)
+-- Numbered lines that were run.
+abbrev pub ran_lines : (old new : KeptState) (job : JobView) (script : List ℕ) (lines counted : List Line) (replies : List Reply)
     → counted ≡ numbered old.lines lines → IsScript script lines → RunsTo old.job (commands_of counted) replies job → (old.job.state.over ≡ true → job ≡ old.job) → Grows old.job job → length replies ≡ length counted
-    → new.job ≡ job → new.lines ≡ number_after old.lines (line_count script) → new.taken ≡ old.taken
-    → Answers old.answers new.answers (answer_lines (line_numbers counted) replies) fine status → fine ≡ list_all is_ok replies → RunsPiece old script new status
-ran_piece old new job script lines counted replies fine status is piece ran idle grows each job_is lines_is taken_is answered fine_is = record {
+    → new.job ≡ job → new.lines ≡ number_after old.lines (line_count script) → new.taken ≡ old.taken → RunsLines old script new
+ran_lines old new job script lines counted replies is piece ran idle grows each job_is lines_is taken_is = record {
   lines = lines;
   replies = replies;
   piece = piece;
@@ -39,14 +43,36 @@ ran_piece old new job script lines counted replies fine status is piece ran idle
   idle = λ over. job_is ∙ idle over;
   grows = subst (λ (j : JobView). Grows old.job j) (sym job_is) grows;
   each = each ∙ ap length is ∙ length_numbered old.lines lines;
-  answered = subst (λ (b : Bool). Answers old.answers new.answers (answer_lines (line_numbers (numbered old.lines lines)) replies) b status) fine_is
-      (subst (λ (ls : List Line). Answers old.answers new.answers (answer_lines (line_numbers ls) replies) fine status) is answered);
   counted = lines_is;
   taken = taken_is;
 }
 
--- A job that was finished, and whose end was answered.
-pub finished_kept : (old new : KeptState) (job : JobView) (end : Result Summary Refusal) (fine : Bool) (status : ℕ)
+-- Numbered lines that were run and answered are a piece that was run.
+pub ran_piece : (old new : KeptState) (job : JobView) (script : List ℕ) (lines counted : List Line) (replies : List Reply) (done status : ℕ)
+    → counted ≡ numbered old.lines lines → IsScript script lines → RunsTo old.job (commands_of counted) replies job → (old.job.state.over ≡ true → job ≡ old.job) → Grows old.job job → length replies ≡ length counted
+    → new.job ≡ job → new.lines ≡ number_after old.lines (line_count script) → new.taken ≡ old.taken
+    → Answers old.answers new.answers (answer_lines (line_numbers counted) replies) done status → done ≡ replies_status replies → RunsPiece old script new status
+ran_piece old new job script lines counted replies done status is piece ran idle grows each job_is lines_is taken_is answered done_is = record {
+  run = ran_lines old new job script lines counted replies is piece ran idle grows each job_is lines_is taken_is;
+  answered = subst (λ (n : ℕ). Answers old.answers new.answers (answer_lines (line_numbers (numbered old.lines lines)) replies) n status) done_is
+      (subst (λ (ls : List Line). Answers old.answers new.answers (answer_lines (line_numbers ls) replies) done status) is answered);
+}
+
+-- Numbered lines that were run, and whose rows were written, are a piece that was run.
+pub replied_piece : (old new : KeptState) (job : JobView) (script : List ℕ) (lines counted : List Line) (replies : List Reply) (rows_old rows_new : List ReplyRow) (status : ℕ)
+    → counted ≡ numbered old.lines lines → IsScript script lines → RunsTo old.job (commands_of counted) replies job → (old.job.state.over ≡ true → job ≡ old.job) → Grows old.job job → length replies ≡ length counted
+    → new.job ≡ job → new.lines ≡ number_after old.lines (line_count script) → new.taken ≡ old.taken
+    → Holds rows_old rows_new (reply_rows (line_numbers counted) replies) → status ≡ replies_status replies → new.answers ≡ old.answers → RepliesToPiece old script rows_old rows_new (length lines) new status
+replied_piece old new job script lines counted replies rows_old rows_new status is piece ran idle grows each job_is lines_is taken_is written status_is answers_are = record {
+  run = ran_lines old new job script lines counted replies is piece ran idle grows each job_is lines_is taken_is;
+  written = subst (λ (ls : List Line). Holds rows_old rows_new (reply_rows (line_numbers ls) replies)) is written;
+  count_is = refl;
+  status_is = status_is;
+  answers = answers_are;
+}
+
+-- A job that was finished, or whose end was refused.
+abbrev pub ended_job : (old new : KeptState) (job : JobView) (end : Result Summary Refusal)
     → FinishesTo old.job end job → IfErr end (λ refusal. refusal ≢ refusals.Device → job ≡ old.job) → (old.job.state.over ≡ true → job ≡ old.job) → FilesPages old.job end job → ClosesFile old.job end job
     → ((m : Machine) → Represents old.job m → OnOk end (IfSome job.bytes_written (λ bytes. bytes ≡ whole m.state.fonts m.pages)))
     → IfOk end (λ summary. (m : Machine) → Represents old.job m → IfSome job.bytes_written (λ bytes. summary.bytes ≡ length bytes))
@@ -54,8 +80,8 @@ pub finished_kept : (old new : KeptState) (job : JobView) (end : Result Summary 
     → IfOk end (λ summary. summary.bytes < 2 ^ 31)
     → (end ≡ Err refusals.Device → (m : Machine) → Represents old.job m → GrowsByFront (before_writing old.job.bytes_written) job.bytes_written (whole m.state.fonts m.pages))
     → Grows old.job job
-    → new.job ≡ job → new.lines ≡ old.lines → new.taken ≡ old.taken → Answers old.answers new.answers (end_line end) fine status → fine ≡ is_ok end → FinishesKept old new status
-finished_kept old new job end fine status finished same idle dvi closed file size count small part grows job_is lines_is taken_is answered fine_is = record {
+    → new.job ≡ job → new.lines ≡ old.lines → new.taken ≡ old.taken → EndsJob old new
+ended_job old new job end finished same idle dvi closed file size count small part grows job_is lines_is taken_is = record {
   end = end;
   finished = subst (λ (j : JobView). FinishesTo old.job end j) (sym job_is) finished;
   same = subst (λ (j : JobView). IfErr end (λ refusal. refusal ≢ refusals.Device → j ≡ old.job)) (sym job_is) same;
@@ -69,7 +95,42 @@ finished_kept old new job end fine status finished same idle dvi closed file siz
   part = subst (λ (j : JobView). end ≡ Err refusals.Device → (m : Machine) → Represents old.job m → GrowsByFront (before_writing old.job.bytes_written) j.bytes_written (whole m.state.fonts m.pages))
       (sym job_is) part;
   grows = subst (λ (j : JobView). Grows old.job j) (sym job_is) grows;
-  answered = subst (λ (b : Bool). Answers old.answers new.answers (end_line end) b status) fine_is answered;
   lines = lines_is;
   taken = taken_is;
 }
+
+-- The end was answered.
+pub finished_kept : (old new : KeptState) (ended : EndsJob old new) (done status : ℕ) → Answers old.answers new.answers (end_line ended.end) done status → done ≡ reply_status ended.end
+    → FinishesKept old new status
+finished_kept old new ended done status answered done_is = record {
+  ended = ended;
+  answered = subst (λ (n : ℕ). Answers old.answers new.answers (end_line ended.end) n status) done_is answered;
+}
+
+-- A piece is bad: its row is written, or there is no room for it.
+pub replied_bad : (script : List ℕ) (rows_old rows_new : List ReplyRow) (count_old : ℕ) (old : KeptState) (number at : ℕ) (cause : Cause) (status : ℕ) → IsFirstBad script number cause
+    → at ≡ number_after old.lines number
+    → (Holds rows_old rows_new (bad_row at cause ∷ []) × (status ≡ 1)) ⊎ ((length rows_old < 1) × (rows_new ≡ rows_old) × (status ≡ 4))
+    → RepliesTo script rows_old rows_new count_old 1 old old status
+replied_bad script rows_old rows_new count_old old number at cause status bad is (inl (written, status_is)) = inr (inl (record {
+  number = number;
+  cause = cause;
+  bad = bad;
+  written = subst (λ (n : ℕ). Holds rows_old rows_new (bad_row n cause ∷ [])) is written;
+  count_is = refl;
+  same = refl;
+  status_is = status_is;
+}))
+replied_bad script rows_old rows_new count_old old number at cause status bad is (inr (small, rows, status_is)) = inr (inr (inl (record {
+  needs = inr (number, cause, bad, refl);
+  small = small;
+  rows = rows;
+  same = refl;
+  status_is = status_is;
+})))
+
+-- There is no room for the rows of a piece.
+pub lacks_rows : (script : List ℕ) (rows : List ReplyRow) (count_old count : ℕ) (old : KeptState) (lines : List Line) → IsScript script lines → count ≡ length lines → length rows < count
+    → RepliesTo script rows rows count_old count old old 4
+lacks_rows script rows count_old count old lines piece is small =
+    inr (inr (inl (record { needs = inl (lines, piece, is); small = small; rows = refl; same = refl; status_is = refl })))
