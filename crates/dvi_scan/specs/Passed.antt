@@ -12,8 +12,8 @@ use Rattle.dvi_scan.specs.Chain.{Links}
 use Rattle.dvi_scan.specs.Pass.{Between, passes}
 use Rattle.dvi_scan.specs.Reached.{HasWidths, IsDefined}
 
--- The places that the end of a file names: of post, of the first byte after post, and of the end of post_post's beginning; with the postamble and the
--- places of the pages, the last one first.
+-- What is found at the end of a file before its pages are read: the place of post, the place after it, and that of the version in post_post; the
+-- postamble; and the places of the pages, the last one first.
 pub record Framing : Type 0 where
   pub post : ℕ
   pub after : ℕ
