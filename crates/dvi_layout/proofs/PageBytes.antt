@@ -18,7 +18,6 @@ use Rattle.tfm_core.specs.declared.slots.LoadedFont.{LoadedFont}
 use Rattle.tfm_core.specs.Slots.{Slots, font_in}
 use Rattle.page_core.specs.Marks.{ShippedPage}
 use Rattle.dvi_layout.specs.Sheets.{written_body, definition_of, definition_by, definitions_of, fresh_slots, sheet_of}
-use Rattle.page_core.specs.Pages.{page_of_box}
 use Rattle.ship_core.specs.Shown.{HasWidth}
 use Rattle.dvi_layout.proofs.WrittenBodies.{written_bytes}
 
@@ -104,7 +103,3 @@ sheet_bytes widths fonts slots page last short ten sized =
       length-eop,
       written_bytes widths page sized,
     )
-
-pub page_bytes : (widths : Widths) (fonts : Slots) (slots : List ℕ) (b : BoxNode) (last : ℤ) → HasShortNames fonts → EachLeaf (HasWidth widths) b.list
-    → length (bytes_of (sheet_from last (sheet_of fonts slots (page_of_box b)))) ≤ 46 + 19 * box_count b + box_text b + 271 * length (fresh_slots fonts slots (flat (written_body (page_of_box b))))
-page_bytes widths fonts slots b last short sized = sheet_bytes widths fonts slots (page_of_box b) last short refl sized

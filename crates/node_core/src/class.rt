@@ -1,7 +1,7 @@
 //! The class of an item: what matters about it when lists are broken and packed.
 
 ghost use Rattle.std.specs.Prelude.{◌≡◌};
-ghost use Rattle.node_core.specs.Classes.{class_of, is_discardable, precedes_break, is_box_or_rule, is_sizeless, shrinks_infinitely};
+ghost use Rattle.node_core.specs.Classes.{class_of, is_discardable, precedes_break, is_box_or_rule, shrinks_infinitely};
 
 use crate::tree::{Kind, Node, Order};
 
@@ -50,16 +50,6 @@ impl ItemClass {
     {
         match self {
             ItemClass::BoxOrRule => true,
-            _ => false,
-        }
-    }
-
-    /// Whether items of the class have no size and do not affect the depth of the item before them: penalties and specials.
-    pub fn is_sizeless(self) -> bool
-        ensures { result ≡ is_sizeless self }
-    {
-        match self {
-            ItemClass::Penalty | ItemClass::Special => true,
             _ => false,
         }
     }

@@ -48,11 +48,3 @@ pub fn vbox_below(depth_limit: Dimen, glue: &Glue, nodes: &[Node]) -> Option<She
     let width = greatest_breadth(nodes);
     vertical_shell(Target::Natural, depth_limit, width, false, &totals)
 }
-
-/// Whether `vpack` would succeed for some glue and these nodes below it, at their natural height: whether each of their numbers fits.
-pub fn vbox_fits_below(depth_limit: Dimen, glue: &Glue, nodes: &[Node]) -> bool
-    requires { length nodes.now ≤ max_nodes }
-    ensures { result ≡ list_all fits (vbox_numbers Target.Natural depth_limit (Node.Glue glue.now ∷ nodes.now)) }
-{
-    vbox_below(depth_limit, glue, nodes).is_some()
-}

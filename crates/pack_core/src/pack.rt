@@ -83,14 +83,6 @@ pub fn vpack(list: NodeList, target: Target, depth_limit: Dimen) -> Result<Packe
     boxed_list(list, shell)
 }
 
-/// Whether `vpack` would succeed for these nodes: whether each of their numbers fits.
-#[tactic(auto, using(crate::proofs::Steps::steps))]
-pub fn vbox_fits(target: Target, depth_limit: Dimen, nodes: &[Node]) -> bool
-    ensures { result ≡ list_all fits (vbox_numbers target depth_limit nodes.now) }
-{
-    vbox_shell(target, depth_limit, nodes).is_some()
-}
-
 /// Packs a vertical list into a vtop: the vbox with its baseline at that of its first item, if it is a rule or a box, and otherwise at its top (TeX:
 /// The Program, part 47, §1087). `TooLarge` is returned exactly when one of its numbers does not fit, with the list unchanged. Does not allocate.
 #[tactic(auto, using(crate::proofs::Packing::packing))]

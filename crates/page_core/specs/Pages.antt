@@ -1,5 +1,5 @@
 -- The page that a box makes, and its edges (TeX: The Program, part 32, §640 and §641).
-use Rattle.std.specs.Prelude.{◌+ℤ◌, ℤ, pos, List, replicate}
+use Rattle.std.specs.Prelude.{◌+ℤ◌, ℤ, List}
 use Rattle.node_core.specs.declared.tree.BoxNode.{BoxNode}
 use Rattle.page_core.specs.Marks.{ShippedPage}
 use Rattle.page_core.specs.declared.offsets.Offsets.{Offsets}
@@ -12,11 +12,6 @@ page_at counts h v b = record { counts = counts; box_node = b; h = h; v = v }
 -- The Program, part 32, §640 and §641).
 abbrev pub page_with : (counts : List ℤ) → Offsets → BoxNode → ShippedPage
 page_with counts offsets b = page_at counts offsets.h (b.height +ℤ offsets.v) b
-
--- The page that a box makes by itself: all counts are 0, and the reference point is the box's height below the origin (own; the place: TeX: The
--- Program, part 32, §640).
-abbrev pub page_of_box : BoxNode → ShippedPage
-page_of_box b = page_at (replicate 10 (pos 0)) (pos 0) b.height b
 
 -- The bottom of a page, below the origin: the bottom of its box (TeX: The Program, part 32, §641).
 abbrev pub reach_down : ShippedPage → ℤ

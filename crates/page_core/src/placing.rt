@@ -25,18 +25,6 @@ pub type PagePoint = Point<i32>;
 /// A point that fits.
 pub type PagePosition = Point<Dimen>;
 
-impl Point<i32> {
-    /// The reference point of a box on its page: the box's height below the origin.
-    pub fn of_box(box_node: &BoxNode) -> PagePoint
-        ensures { result ≡ record { h = pos 0; v = box_node.now.height } }
-    {
-        Point {
-            h: 0,
-            v: box_node.height.get(),
-        }
-    }
-}
-
 impl Point<Dimen> {
     /// The point of the page at a position.
     pub fn point(self) -> PagePoint

@@ -5,7 +5,12 @@ use Rattle.dvi_ops.specs.Instruction.{Instruction, Do, Push, Pop, Bop, Eop, Pre,
 use Rattle.dvi_ops.specs.Forest.{Forest, Empty, Then, Group, flat, nests}
 use Rattle.dvi_ops.specs.View.{body_view}
 use Rattle.dvi_ops.specs.declared.body_op.BodyOp.{BodyOp}
-use Rattle.ship_core.specs.Pushes.{pushed_after, max_pushed}
+use Rattle.ship_core.specs.Pushes.{pushed_after}
+
+-- The greatest number of pushes that are open at once among these instructions, where `pushed` are open before them.
+abbrev pub max_pushed : (pushed : ℕ) → List Instruction → ℕ
+max_pushed pushed [] = pushed
+max_pushed pushed (i ∷ rest) = max pushed (max_pushed (pushed_after pushed i) rest)
 
 -- At least as many are open as before.
 pushed_before : (pushed : ℕ) (is : List Instruction) → pushed ≤ max_pushed pushed is

@@ -8,4 +8,4 @@ mod pushes;
 
 pub use page_core::{PagePoint, is_huge};
 pub use page_plan::{ShipFault, plan, plan_with_room};
-pub use pushes::{push_depth, pushed_after};
+pub use pushes::pushed_after;

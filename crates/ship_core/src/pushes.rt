@@ -1,9 +1,8 @@
 //! The number of pushes that are open at once.
 
-ghost use Rattle.std.specs.Prelude.{◌≡◌, ◌<◌, map};
-ghost use Rattle.dvi_ops.specs.Forest.{Forest, flat, nests};
+ghost use Rattle.std.specs.Prelude.{◌≡◌, ◌<◌};
 ghost use Rattle.dvi_ops.specs.View.{body_view};
-ghost use Rattle.ship_core.specs.Pushes.{max_pushed, pushed_after};
+ghost use Rattle.ship_core.specs.Pushes.{pushed_after};
 
 use dvi_ops::BodyOp;
 
@@ -18,18 +17,4 @@ pub fn pushed_after(pushed: usize, op: &BodyOp<'_>) -> usize
         BodyOp::Pop => pushed.saturating_sub(1),
         _ => pushed,
     }
-}
-
-/// The greatest number of pushes that are open at once. In a body, it is the depth of its groups.
-pub fn push_depth(ops: &[BodyOp<'_>]) -> usize
-    ensures counted { result ≡ max_pushed 0 (map body_view ops.now) }
-    ensures value { (body : Forest) → map body_view ops.now ≡ flat body → result ≡ nests body }
-{
-    let mut pushed: usize = 0;
-    let mut deepest: usize = 0;
-    for op in ops {
-        pushed = pushed_after(pushed, op);
-        deepest = deepest.max(pushed);
-    }
-    deepest
 }

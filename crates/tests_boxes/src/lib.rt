@@ -12,6 +12,8 @@ mod nodes;
 #[cfg(test)]
 mod offsets;
 #[cfg(test)]
+mod plans;
+#[cfg(test)]
 mod reused_bodies;
 #[cfg(test)]
 mod scaled_values;

@@ -7,8 +7,7 @@ use Rattle.dvi_ops.specs.Instruction.{Instruction}
 use Rattle.dvi_ops.specs.View.{body_view}
 use Rattle.dvi_ops.specs.declared.body_op.BodyOp.{BodyOp}
 use Rattle.dvi_ops.specs.declared.body_op.BodyOp.TheVariants as ops
-use Rattle.ship_core.specs.Pushes.{max_pushed}
-use Rattle.ship_core.proofs.PushDepth.{seen_more, seen_all, depth-flat}
+use Rattle.ship_core.proofs.PushDepth.{max_pushed, seen_more, seen_all, depth-flat}
 use Rattle.dvi_layout.specs.Sheets.{selects}
 use Rattle.dvi_layout.proofs.FreshFonts.{marked_more, marked_same}
 use Rattle.dvi_layout.proofs.layout.pass_over.Goals as goal
