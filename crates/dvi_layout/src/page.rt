@@ -1,6 +1,6 @@
 //! A page that a file has room for: its reference point, its load, its edges, and its instructions as they are written.
 
-ghost use Rattle.std.specs.Prelude.{◌≡◌, ◌+ℤ◌, true, false, map, if◌then◌else◌, OnOk, IfOk, IfErr};
+ghost use Rattle.std.specs.Prelude.{◌≡◌, ◌≤◌, ◌+ℤ◌, true, false, map, if◌then◌else◌, OnOk, IfOk, IfErr};
 ghost use Rattle.dvi_ops.specs.Forest.{flat};
 ghost use Rattle.dvi_ops.specs.View.{body_view};
 ghost use Rattle.scaled_core.specs.Dimensions.{fits};
@@ -37,7 +37,10 @@ pub struct AdmittedPage<'a> {
 }
 
 /// The capacity for instructions of a page with that many nodes: an eighth more, for the groups and the movements of its lines.
-fn room_for(nodes: u64) -> usize {
+fn room_for(nodes: u64) -> usize
+    // More room than the bound could be refused where the page itself finds memory.
+    ensures { result ≤ 16384 }
+{
     nodes
         .saturating_add(nodes / 8)
         .saturating_add(16)

@@ -1,10 +1,28 @@
-//! A law that compares the definition with known bodies.
+//! Laws of the reused body: what it has in common with the given one, and what it is for known bodies.
 
-ghost use Rattle.std.specs.Prelude.{◌≡◌, length};
-ghost use Rattle.dvi_ops.specs.Forest.{flat};
-ghost use Rattle.dvi_ops.specs.Layout.{bytes_of};
+ghost use Rattle.std.specs.Prelude.{◌≡◌, ◌≤◌, length};
+ghost use Rattle.std.specs.List.{AllByRecursion};
+ghost use Rattle.dvi_ops.specs.Instruction.{Axis};
+ghost use Rattle.dvi_ops.specs.Forest.{Forest, flat};
+ghost use Rattle.dvi_ops.specs.Layout.{IsWritable, bytes_of};
+ghost use Rattle.dvi_ops.specs.Plain.{NamesNoRegister};
 ghost use Rattle.move_core.specs.Reused.{reused};
+ghost use Rattle.move_core.specs.SamePage.{HasNoHollow, MeansTheSame, NestsNoDeeper, PassesThroughNoOther, SetsAhead, UsesStored, still, unset};
 ghost use Rattle.move_core.specs.Examples.{apart_amounts, empty_groups, empty_groups_reused, fonts_in_nested_boxes, kerned_rules, kerned_rules_reused, nested, nested_reused, set_in_a_group, set_in_a_group_reused, three_amounts, three_amounts_reused, three_depths, three_depths_reused, two_directions};
+
+/// The reused body of every page body that names no register, also of one with font definitions and with numbers of fonts and characters above 255,
+/// which `reuse` does not take: it has the same marks, the same end and the same font, passes through no other place, nests no deeper and is never longer.
+pub fn reused_means_the_same()
+    ensures meaning { (body : Forest) → AllByRecursion NamesNoRegister (flat body) → MeansTheSame body (reused body) }
+    ensures points { (body : Forest) → AllByRecursion NamesNoRegister (flat body) → PassesThroughNoOther body (reused body) }
+    ensures nesting { (body : Forest) → NestsNoDeeper body (reused body) }
+    ensures bytes { (body : Forest) → length (bytes_of (flat (reused body))) ≤ length (bytes_of (flat body)) }
+    ensures order { (body : Forest) → still (flat (reused body)) ≡ still (flat body) }
+    ensures writable { (body : Forest) → AllByRecursion IsWritable (flat body) → AllByRecursion IsWritable (flat (reused body)) }
+    ensures full { (body : Forest) → HasNoHollow (reused body) }
+    ensures held { (body : Forest) (axis : Axis) → AllByRecursion NamesNoRegister (flat body) → UsesStored axis unset (reused body) }
+    ensures ahead { (body : Forest) (axis : Axis) → AllByRecursion NamesNoRegister (flat body) → SetsAhead axis unset (reused body) }
+{}
 
 /// What `reused` gives for known bodies.
 #[tactic(auto, unfolding(crate::specs::Reused::reused))]

@@ -15,6 +15,8 @@ use std::alloc::AllocError;
 
 /// Writes the movements of a page body with w, x, y and z where their amounts come again, and removes empty groups. Where memory is refused, the list
 /// is dropped.
+///
+/// The result is `reused` of the body; the law `reused_means_the_same` says the clauses below of every page body.
 pub fn reuse<'a>(ops: Vec<BodyOp<'a>>) -> Result<Vec<BodyOp<'a>>, AllocError>
     // The instructions are the body of a page, and none sets or reads w, x, y or z.
     requires { IsPlainBody (map body_view ops.items) }
