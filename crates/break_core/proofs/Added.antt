@@ -1,5 +1,6 @@
 -- The trials of several passes together.
-use Rattle.std.proofs.Common.{◌≡◌, ◌∙◌, ℕ, ◌+◌, ◌≤◌, Bool, true, false, ◌||◌, List, [], ◌∷◌, ◌++◌, ap, subst, arith}
+use Rattle.std.proofs.Common.{◌≡◌, ◌∙◌, ℕ, ◌+◌, ◌≤◌, Bool, true, ◌||◌, List, [], ◌∷◌, ◌++◌, ap, subst, arith, Result, Ok, Err}
+use Rattle.std.specs.Prelude.{OnErr}
 use Rattle.std.proofs.Math.Logic.{inl, inr}
 use Rattle.std.proofs.Math.Bool.{or-true}
 use Rattle.node_core.specs.declared.params.Params.{Params}
@@ -9,30 +10,27 @@ use Rattle.break_core.specs.declared.broken.Pass.TheVariants.{First, Second, Thi
 use Rattle.break_lines.specs.Legal.{is_forced}
 use Rattle.break_lines.specs.Facts.{Facts}
 use Rattle.break_lines.specs.Steady.{IsSteady}
+use Rattle.break_table.specs.Chosen.{AdmitsNone}
+use Rattle.break_core.specs.Passes.{problem_of, bound_of}
 use Rattle.break_core.specs.Filling.{IsGrown}
 use Rattle.break_core.specs.declared.pass_rules.StopRule.{StopRule}
-use Rattle.break_core.specs.declared.pass_rules.StopRule.TheVariants.{Overfull, Long}
+use Rattle.break_core.specs.declared.pass_rules.StopRule.TheVariants.{Overfull}
 use Rattle.break_core.specs.Leaving.{is_long}
-use Rattle.break_core.specs.Trials.{is_overfull, is_bounded, MayLeave, passes_run, places_up_to, AreBounded, HasNoTrials}
-use Rattle.break_core.specs.Active.{deactivates, stops, IsCounted, IsWithin, AreAdded}
-use Rattle.break_core.proofs.Long.{long_of}
+use Rattle.break_core.specs.Trials.{is_overfull, is_bounded, passes_run, places_up_to, AreBounded, AreBoundedByPasses, HasNoTrials}
+use Rattle.break_core.specs.Active.{deactivates, stops, IsCounted, IsWithin, AreAdded, AreAddedByPasses}
+use Rattle.break_core.proofs.Admitting.{before_first, before_second, before_third}
 
 -- The counted trials are within the bound of the definition of stops.
 pub within_pass :
     (facts : Facts) (params : Params) (pass : Pass) (ending : StopRule) (before now : ℕ → ℕ)
-    → (IsSteady facts → is_bounded pass ≡ true → ending ≡ Overfull) → (MayLeave facts params → is_bounded pass ≡ false → ending ≡ Long)
+    → (IsSteady facts → is_bounded pass ≡ true → ending ≡ Overfull)
     → IsCounted (stops facts params ending) facts.places before now → IsWithin facts params pass before now
-within_pass facts params pass ending before now short long counted a l (inl last) = omega (arith, counted.grown a, last)
-within_pass facts params pass ending before now short long counted a l (inr (earlier, within, inl forced)) =
+within_pass facts params pass ending before now short counted a l (inl last) = omega (arith, counted.grown a, last)
+within_pass facts params pass ending before now short counted a l (inr (earlier, within, inl forced)) =
     counted.stopped a l earlier within (ap (λ t. t || deactivates ending (is_overfull facts params a l) (is_long facts params a l)) forced)
-within_pass facts params pass ending before now short long counted a l (inr (earlier, within, inr (inl over))) =
+within_pass facts params pass ending before now short counted a l (inr (earlier, within, inr over)) =
     let test : deactivates ending (is_overfull facts params a l) (is_long facts params a l) ≡ true =
     ap (λ e. deactivates e (is_overfull facts params a l) (is_long facts params a l)) (short over.0 over.1) ∙ over.2 in
-    counted.stopped a l earlier within (ap (λ t. is_forced (facts.penalty l) || t) test ∙ or-true (is_forced (facts.penalty l)))
-within_pass facts params pass ending before now short long counted a l (inr (earlier, within, inr (inr left))) =
-    let test : deactivates ending (is_overfull facts params a l) (is_long facts params a l) ≡ true =
-    ap (λ e. deactivates e (is_overfull facts params a l) (is_long facts params a l)) (long left.0 left.1)
-    ∙ long_of facts params a l left.0.steady within left.2 in
     counted.stopped a l earlier within (ap (λ t. is_forced (facts.penalty l) || t) test ∙ or-true (is_forced (facts.penalty l)))
 
 pub grown_pass :
@@ -53,12 +51,6 @@ pub added_more :
     → AreAdded facts params passes before middle → IsWithin facts params pass middle now → AreAdded facts params (passes ++ pass ∷ []) before now
 added_more facts params passes pass before middle now is within a stop stops =
     omega (arith, is a stop stops, within a (stop pass) (stops pass), joined a stop passes (pass ∷ []))
-
--- A bound for some passes holds for more passes.
-pub added_longer :
-    (facts : Facts) (params : Params) (passes more : List Pass) (before now : ℕ → ℕ)
-    → AreAdded facts params passes before now → AreAdded facts params (passes ++ more) before now
-added_longer facts params passes more before now is a stop stops = omega (arith, is a stop stops, joined a stop passes more)
 
 -- If there were no trials before, the added trials are all trials.
 pub all_added :
@@ -81,14 +73,30 @@ pub third_added :
 third_added f h params before middle now same is within =
     added_more f params (passes_run params Second) Third before middle now is (subst (λ x. IsWithin x params Third middle now) same within)
 
--- The passes that were run are among all passes.
-pub all_from_first :
-    (f : Facts) (params : Params) (before now : ℕ → ℕ)
-    → AreAdded f params (passes_run params First) before now → AreAdded f params (passes_run params Third) before now
-all_from_first f params before now is =
-    added_longer f params (passes_run params Second) (Third ∷ []) before now (added_longer f params (passes_run params First) (Second ∷ []) before now is)
+-- What holds anyway holds at an error.
+pub on_error : {A B : Type 0} (P : Type 0) (result : Result A B) → P → OnErr result P
+on_error P (Ok value) is = tt
+on_error P (Err error) is = is
 
-pub all_from_second :
+-- A growth was refused in the first pass, in the second one, or in the last one.
+pub first_refused :
+    (f : Facts) (params : Params) (before now : ℕ → ℕ) → AreAdded f params (passes_run params First) before now → AreAddedByPasses f params before now
+first_refused f params before now is = record { last = First; earlier = before_first f params; added = is }
+
+pub second_refused :
     (f : Facts) (params : Params) (before now : ℕ → ℕ)
-    → AreAdded f params (passes_run params Second) before now → AreAdded f params (passes_run params Third) before now
-all_from_second f params before now is = added_longer f params (passes_run params Second) (Third ∷ []) before now is
+    → AdmitsNone (problem_of f params (bound_of params First)) → AreAdded f params (passes_run params Second) before now
+    → AreAddedByPasses f params before now
+second_refused f params before now first is = record { last = Second; earlier = before_second f params first; added = is }
+
+pub third_refused :
+    (f : Facts) (params : Params) (before now : ℕ → ℕ)
+    → AdmitsNone (problem_of f params (bound_of params First)) → AdmitsNone (problem_of f params (bound_of params Second))
+    → AreAdded f params (passes_run params Third) before now → AreAddedByPasses f params before now
+third_refused f params before now first second is = record { last = Third; earlier = before_third f params first second; added = is }
+
+-- If there were no trials before, the trials added by these passes are all trials.
+pub all_by_passes :
+    (facts : Facts) (params : Params) (before now : ℕ → ℕ) → HasNoTrials before → AreAddedByPasses facts params before now → AreBoundedByPasses facts params now
+all_by_passes facts params before now none is =
+    record { last = is.last; earlier = is.earlier; bounded = all_added facts params (passes_run params is.last) before now none is.added }

@@ -23,7 +23,7 @@ use Rattle.break_core.specs.declared.broken.Pass.{Pass}
 use Rattle.break_core.specs.declared.broken.Pass.TheVariants.{First, Second, Third}
 use Rattle.break_lines.specs.Facts.{Facts}
 use Rattle.break_core.specs.Passes.{problem_of, bound_of, IsBefore}
-use Rattle.break_core.specs.Filling.{AreEndsInParagraph, IsDecided}
+use Rattle.break_core.specs.Filling.{AreEndsInParagraph}
 use Rattle.break_core.specs.declared.pass_rules.StopRule.{StopRule}
 use Rattle.break_core.specs.declared.pass_rules.StopRule.TheVariants.{Never, Overfull, Long}
 use Rattle.break_core.specs.Active.{pruned, MayEnd}
@@ -99,28 +99,26 @@ answer_within facts params bound least is k s at =
     let places = places_in xs (length xs - 1 - k) s is.chosen.is_list.falls stands in
     (places.0, omega (arith, places.1, is.chosen.is_list.ends))
 
--- If the first pass admits no list, the second one decides, and otherwise the last one.
-pub second_decides :
-    (facts : Facts) (params : Params) (least : ChosenBreaks)
-    → AdmitsNone (problem_of facts params (bound_of params First)) → IsAnswer (problem_of facts params (bound_of params Second)) least
-    → IsDecided facts params Second least
-second_decides facts params least none is = record { answer = is; earlier = earlier }
-  where
-    earlier : (other : Pass) → IsBefore other Second → AdmitsNone (problem_of facts params (bound_of params other))
-    earlier First h = none
-    earlier Second h = absurd h
-    earlier Third h = absurd h
+-- No pass before the first one, the second one or the last one admits a list.
+pub before_first : (facts : Facts) (params : Params) (other : Pass) → IsBefore other First → AdmitsNone (problem_of facts params (bound_of params other))
+before_first facts params First h = absurd h
+before_first facts params Second h = absurd h
+before_first facts params Third h = absurd h
 
-pub third_decides :
-    (facts : Facts) (params : Params) (least : ChosenBreaks)
-    → AdmitsNone (problem_of facts params (bound_of params First)) → AdmitsNone (problem_of facts params (bound_of params Second))
-    → IsAnswer (problem_of facts params (bound_of params Third)) least → IsDecided facts params Third least
-third_decides facts params least first second is = record { answer = is; earlier = earlier }
-  where
-    earlier : (other : Pass) → IsBefore other Third → AdmitsNone (problem_of facts params (bound_of params other))
-    earlier First h = first
-    earlier Second h = second
-    earlier Third h = absurd h
+pub before_second :
+    (facts : Facts) (params : Params) → AdmitsNone (problem_of facts params (bound_of params First))
+    → (other : Pass) → IsBefore other Second → AdmitsNone (problem_of facts params (bound_of params other))
+before_second facts params none First h = none
+before_second facts params none Second h = absurd h
+before_second facts params none Third h = absurd h
+
+pub before_third :
+    (facts : Facts) (params : Params) → AdmitsNone (problem_of facts params (bound_of params First))
+    → AdmitsNone (problem_of facts params (bound_of params Second))
+    → (other : Pass) → IsBefore other Third → AdmitsNone (problem_of facts params (bound_of params other))
+before_third facts params first second First h = first
+before_third facts params first second Second h = second
+before_third facts params first second Third h = absurd h
 
 -- The result of a pass, which also holds for the same facts under another name.
 abbrev pub Found : Facts → Params → Bound → Option ChosenBreaks → Type 0

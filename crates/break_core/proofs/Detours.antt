@@ -23,8 +23,8 @@ use Rattle.break_lines.proofs.Widths.{overhang_is, overhang_less, overfull_each,
 use Rattle.break_lines.specs.Facts.{Facts}
 use Rattle.break_lines.specs.Divided.{IsDivided}
 use Rattle.break_core.specs.Passes.{problem_of}
-use Rattle.break_core.specs.Trials.{is_overfull, IsWidening, MayLeave}
-use Rattle.break_core.specs.Leaving.{first_over, is_long, without_long}
+use Rattle.break_core.specs.Trials.{is_overfull}
+use Rattle.break_core.specs.Leaving.{first_over, is_long, without_long, IsWidening, MayLeave}
 use Rattle.break_core.proofs.Overfull.{both_true, overfull_stays}
 
 -- The line in a pass that admits every line.

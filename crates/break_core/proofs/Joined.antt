@@ -14,7 +14,7 @@ use Rattle.break_lines.specs.Legal.{is_forced}
 use Rattle.break_lines.specs.Facts.{Facts}
 use Rattle.break_core.specs.Passes.{problem_of, bound_of, line_end_at, IsBefore, IsBroken}
 use Rattle.break_lines.specs.Steady.{IsSteady}
-use Rattle.break_core.specs.Trials.{is_overfull, is_bounded, IsLong, MayLeave, IsStop, places_up_to, AreBounded, AreSame}
+use Rattle.break_core.specs.Trials.{is_overfull, is_bounded, IsStop, places_up_to, AreBounded, AreSame}
 
 -- Only one path is chosen.
 one_path : (p : Problem) (q r : Path) → IsChosen p (places_of (ends_of q)) q → IsChosen p (places_of (ends_of r)) r → q ≡ r
@@ -75,22 +75,7 @@ up_to_overfull facts params passes trials bounded steady a b l before short over
     stop : (pass : Pass) → (is_bounded pass ≡ true) ⊎ (is_bounded pass ≡ false) → IsStop facts params pass a (if is_bounded pass then b else l)
     stop pass (inl is) =
         let same : b ≡ cond (is_bounded pass) b l = ap (λ t. cond t b l) (sym is) in
-        subst (λ n. IsStop facts params pass a n) same (inr (before, short, inr (inl (steady, is, over))))
+        subst (λ n. IsStop facts params pass a n) same (inr (before, short, inr (steady, is, over)))
     stop pass (inr is) =
         let same : l ≡ cond (is_bounded pass) b l = ap (λ t. cond t b l) (sym is) in
         subst (λ n. IsStop facts params pass a n) same (inr (earlier, within, inl forced))
-
-pub up_to_long :
-    (facts : Facts) (params : Params) (passes : List Pass) (trials : ℕ → ℕ) → AreBounded facts params passes trials → MayLeave facts params
-    → (a b l : ℕ) → a < b → b ≤ facts.places → is_overfull facts params a b ≡ true
-    → a < l → l ≤ facts.places → IsLong facts params a l → trials a ≤ places_up_to a (λ pass. if is_bounded pass then b else l) passes
-up_to_long facts params passes trials bounded may a b l before short over earlier within long =
-    bounded a (λ pass. if is_bounded pass then b else l) (λ pass. stop pass (cases_Bool (is_bounded pass)))
-  where
-    stop : (pass : Pass) → (is_bounded pass ≡ true) ⊎ (is_bounded pass ≡ false) → IsStop facts params pass a (if is_bounded pass then b else l)
-    stop pass (inl is) =
-        let same : b ≡ cond (is_bounded pass) b l = ap (λ t. cond t b l) (sym is) in
-        subst (λ n. IsStop facts params pass a n) same (inr (before, short, inr (inl (may.steady, is, over))))
-    stop pass (inr is) =
-        let same : l ≡ cond (is_bounded pass) b l = ap (λ t. cond t b l) (sym is) in
-        subst (λ n. IsStop facts params pass a n) same (inr (earlier, within, inr (inr (may, is, long))))

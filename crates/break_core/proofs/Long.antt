@@ -9,9 +9,9 @@ use Rattle.break_lines.specs.Sizes.{least_width}
 use Rattle.break_lines.specs.Facts.{Facts}
 use Rattle.break_lines.specs.Steady.{IsSteady}
 use Rattle.break_lines.proofs.Divided.{least_rises}
-use Rattle.break_core.specs.Trials.{is_overfull, IsLong}
+use Rattle.break_core.specs.Trials.{is_overfull}
 use Rattle.break_core.specs.Leaving.{first_over, is_long, over_before, is_more, kept_over}
-use Rattle.break_core.proofs.Detours.{first_is, long_means}
+use Rattle.break_core.proofs.Detours.{long_means}
 
 -- The first place stays the first.
 first_here : (facts : Facts) (params : Params) (a b : ℕ) → 0 < first_over facts params a b → first_over facts params a (suc b) ≡ first_over facts params a b
@@ -148,28 +148,3 @@ long_stays facts params a b l steady earlier later within is =
     let means = long_means facts params a b is in
     let rises = least_rises facts a b l steady earlier later within in
     long_when facts params a l (first_over facts params a b) (first_later facts params a b l means.0 later) means.0 (omega (arith, ints, rises, means.1))
-
--- A line is long if it passes over a place to which it is overfull, and has more overhang than there.
-pub long_of :
-    (facts : Facts) (params : Params) (a l : ℕ) → IsSteady facts → l ≤ facts.places → IsLong facts params a l → is_long facts params a l ≡ true
-long_of facts params a l steady within is = found (cases_Bool (nat_lt 0 (first_over facts params a is.by)))
-  where
-    m : ℕ
-    m = is.by
-
-    by : 0 < first_over facts params a (suc is.by) → is_long facts params a l ≡ true
-    by some =
-        let f = first_is facts params a (suc m) some in
-        let rises = least_rises facts a (first_over facts params a (suc m)) m steady f.later (omega (arith, f.before)) (omega (arith, is.before)) in
-        long_when facts params a l (first_over facts params a (suc m)) (first_later facts params a (suc m) l some (omega (arith, is.before))) some
-        (omega (arith, ints, rises, is.more))
-
-    found :
-        (nat_lt 0 (first_over facts params a is.by) ≡ true) ⊎ (nat_lt 0 (first_over facts params a is.by) ≡ false)
-        → is_long facts params a l ≡ true
-    found (inl some) =
-        let above : 0 < first_over facts params a m = grind arith in
-        by (omega (arith, above, first_here facts params a m above))
-    found (inr not_any) =
-        let none : first_over facts params a m ≡ 0 = grind arith in
-        by (omega (arith, is.later, first_new facts params a m none is.later is.over))

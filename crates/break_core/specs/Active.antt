@@ -6,6 +6,7 @@ use Rattle.break_table.specs.Problems.{Problem}
 use Rattle.break_table.specs.Tables.{Entry, IsTable, offer}
 use Rattle.break_table.specs.Live.{IsGroup}
 use Rattle.break_table.specs.Parts.{part}
+use Rattle.break_table.specs.Chosen.{AdmitsNone}
 use Rattle.break_lines.specs.declared.cost.Bound.{Bound}
 use Rattle.break_lines.specs.declared.cost.Bound.TheVariants.{Any, AtMost}
 use Rattle.break_core.specs.declared.broken.Pass.{Pass}
@@ -15,9 +16,9 @@ use Rattle.break_lines.specs.Steady.{IsSteady}
 use Rattle.break_core.specs.declared.pass_rules.StopRule.{StopRule}
 use Rattle.break_core.specs.declared.pass_rules.StopRule.TheVariants.{Never, Overfull, Long}
 use Rattle.break_core.specs.declared.active_list.Live.{Live}
-use Rattle.break_core.specs.Passes.{problem_of}
-use Rattle.break_core.specs.Trials.{is_overfull, MayLeave, IsStop, places_up_to}
-use Rattle.break_core.specs.Leaving.{is_long, over_before}
+use Rattle.break_core.specs.Passes.{problem_of, bound_of, IsBefore}
+use Rattle.break_core.specs.Trials.{is_overfull, IsStop, places_up_to, passes_run}
+use Rattle.break_core.specs.Leaving.{is_long, over_before, MayLeave}
 
 -- Whether the place where a line begins leaves the active list after the line, which is overfull or not, and long or not.
 abbrev pub deactivates : StopRule → (overfull long : Bool) → Bool
@@ -127,3 +128,9 @@ IsWithin facts params pass before now = (a l : ℕ) → IsStop facts params pass
 abbrev pub AreAdded : Facts → Params → List Pass → (before now : ℕ → ℕ) → Type 0
 AreAdded facts params passes before now =
     (a : ℕ) (stop : Pass → ℕ) → ((pass : Pass) → IsStop facts params pass a (stop pass)) → now a ≤ before a + places_up_to a stop passes
+
+-- In the passes up to some pass, before which no pass admits a list of breaks, no line was tried beyond these places, and no later pass was run.
+pub record AreAddedByPasses (facts : Facts) (params : Params) (before now : ℕ → ℕ) : Type 0 where
+  pub last : Pass
+  pub earlier : (pass : Pass) → IsBefore pass last → AdmitsNone (problem_of facts params (bound_of params pass))
+  pub added : AreAdded facts params (passes_run params last) before now

@@ -1,11 +1,13 @@
--- Lines that are left out of the last pass, by the values that are stored with each group (own; no public clause speaks of it).
-use Rattle.std.specs.Prelude.{ℕ, zero, suc, ℤ, Bool, false, ◌&&◌, nat_lt, int_lt, Option, Some, None, if◌then◌else◌}
+-- Lines that are left out of the last pass, and the values that are stored with each group for this (own; no public clause speaks of it).
+use Rattle.std.specs.Prelude.{◌<◌, ◌<ℤ◌, ◌≤ℤ◌, ℕ, zero, suc, ℤ, pos, Bool, false, ◌&&◌, nat_lt, int_lt, Option, Some, None, if◌then◌else◌}
 use Rattle.node_core.specs.declared.params.Params.{Params}
 use Rattle.break_table.specs.Problems.{Problem}
 use Rattle.break_table.specs.Parts.{part}
 use Rattle.break_lines.specs.declared.cost.Bound.TheVariants.{Any}
-use Rattle.break_lines.specs.Sizes.{least_width}
+use Rattle.break_lines.specs.Sizes.{line_size, least_width}
 use Rattle.break_lines.specs.Facts.{Facts}
+use Rattle.break_lines.specs.Steady.{IsSteady}
+use Rattle.break_lines.specs.Divided.{IsDivided}
 use Rattle.break_core.specs.Passes.{problem_of}
 use Rattle.break_core.specs.Trials.{is_overfull}
 
@@ -36,6 +38,18 @@ is_more (Some over) width = int_lt over width
 abbrev pub kept_over : Option ℤ → (overfull : Bool) → (width : ℤ) → Option ℤ
 kept_over None overfull width = if overfull then Some width else None
 kept_over (Some over) overfull width = Some over
+
+-- From the second line on no line is wider than the next one.
+abbrev pub IsWidening : Params → Type 0
+IsWidening params = 1 < params.first_lines → params.first_size ≤ℤ params.hsize
+
+-- Long lines can be left out: the paragraph is steady, and a line that is divided gets wider by less than the width of every line from the second one
+-- on.
+pub record MayLeave (facts : Facts) (params : Params) : Type 0 where
+  pub steady : IsSteady facts
+  pub widening : IsWidening params
+  pub some : pos 0 <ℤ line_size params 1
+  pub divided : IsDivided facts (line_size params 1)
 
 -- The last pass without these lines.
 abbrev pub without_long : Facts → Params → Problem

@@ -1,13 +1,13 @@
 //! Two breakers of paragraphs with the same result: `breaks`, which tries all pairs of places, and `active_breaks`, which tries few lines.
 
-ghost use Rattle.std.specs.Prelude.{◌≡◌, ◌<◌, ◌≤◌, length, None, IfOk, IfErr, OnOk};
+ghost use Rattle.std.specs.Prelude.{◌≡◌, ◌<◌, ◌≤◌, length, None, IfOk, IfErr, OnOk, OnErr};
 ghost use Rattle.std.specs.Option.{unwrap_or};
 ghost use Rattle.node_core.specs.Nodes.{max_nodes};
 ghost use Rattle.break_lines.specs.Facts.{facts_of, refusal};
 ghost use Rattle.break_core.specs.Passes.{IsBroken};
-ghost use Rattle.break_core.specs.Trials.{passes_run, AreBounded, HasNoTrials};
+ghost use Rattle.break_core.specs.Trials.{passes_run, AreBounded, AreBoundedByPasses, HasNoTrials};
 
-use crate::broken::{Breaks, Pass};
+use crate::broken::Breaks;
 use crate::passes::breaks_of;
 use break_lines::{BreakFault, ListMeter, Meter};
 use node_core::{Node, Params};
@@ -28,7 +28,7 @@ pub fn breaks(alloc: Global, nodes: &[Node], params: &Params) -> Result<Breaks, 
 }
 
 /// The breaks of a paragraph, given by a meter without trials: the same list that `breaks` chooses, but with few trials. The only error is that
-/// memory was refused, and the trials are few then too.
+/// memory was refused. Then too only passes were run before which no pass admits a list, and the trials in them are few.
 pub fn active_breaks<M: Meter>(
     alloc: Global,
     meter: &mut M,
@@ -38,7 +38,7 @@ pub fn active_breaks<M: Meter>(
     ensures broken { IfOk result (IsBroken (M.facts meter.old) params.now) }
     ensures facts { M.facts meter.new ≡ M.facts meter.old }
     ensures run { IfOk result (λ breaks. AreBounded (M.facts meter.old) params.now (passes_run params.now breaks.pass) (M.trials meter.new)) }
-    ensures trials { AreBounded (M.facts meter.old) params.now (passes_run params.now Pass.Third) (M.trials meter.new) }
+    ensures refused { OnErr result (AreBoundedByPasses (M.facts meter.old) params.now (M.trials meter.new)) }
     ensures tried { OnOk result (0 < M.trials meter.new 0) }
 {
     breaks_of(alloc, meter, params, true)

@@ -18,7 +18,7 @@ ghost use Rattle.break_lines.specs.LineItems.{BeginsBefore, kept, first_item_kep
 ghost use Rattle.break_core.specs.declared.broken.Pass.{Pass};
 ghost use Rattle.break_core.specs.declared.broken.Breaks.{Breaks};
 ghost use Rattle.break_core.specs.Passes.{problem_of, bound_of, IsBroken};
-ghost use Rattle.break_core.specs.Trials.{is_overfull, is_bounded, places_up_to, AreBounded, AreSame, IsLong, MayLeave};
+ghost use Rattle.break_core.specs.Trials.{is_overfull, is_bounded, places_up_to, AreBounded, AreSame};
 ghost use Rattle.break_core.specs.Examples.{rule, space, special, five_rules, kern_and_glue, glue_among_penalties, special_between_glue, special_alone};
 
 /// The sums over the items of a line are a difference of sums over the first items of the list: those before the end of the line, minus those before
@@ -98,12 +98,4 @@ pub fn trials_up_to_an_overfull_line()
     ensures { (facts : Facts) → (params : Params) → (passes : List Pass) → (trials : ℕ → ℕ) → AreBounded facts params passes trials → IsSteady facts →
         (a : ℕ) → (b : ℕ) → (l : ℕ) → a < b → b ≤ facts.places → is_overfull facts params a b ≡ true →
         a < l → l ≤ facts.places → is_forced (facts.penalty l) ≡ true → trials a ≤ places_up_to a (λ pass. if is_bounded pass then b else l) passes }
-{}
-
-/// If long lines can be left out and trials are bounded, no line is tried in the last pass that passes over a place to which it is long, and in the
-/// other passes none that passes over a place to which it is overfull.
-pub fn trials_up_to_a_long_line()
-    ensures { (facts : Facts) → (params : Params) → (passes : List Pass) → (trials : ℕ → ℕ) → AreBounded facts params passes trials → MayLeave facts params →
-        (a : ℕ) → (b : ℕ) → (l : ℕ) → a < b → b ≤ facts.places → is_overfull facts params a b ≡ true →
-        a < l → l ≤ facts.places → IsLong facts params a l → trials a ≤ places_up_to a (λ pass. if is_bounded pass then b else l) passes }
 {}

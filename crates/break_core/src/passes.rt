@@ -1,14 +1,15 @@
 //! The passes over a paragraph.
 
-ghost use Rattle.std.specs.Prelude.{◌≡◌, ◌+◌, ◌<◌, ◌≤◌, ℕ, true, false, map, List, IfOk, IfSome, OnOk, MatchOption};
+ghost use Rattle.std.specs.Prelude.{◌≡◌, ◌+◌, ◌<◌, ◌≤◌, ℕ, true, map, List, IfOk, IfSome, OnOk, OnErr, MatchOption};
 ghost use Rattle.break_table.specs.declared.state.BreakState.{BreakState};
 ghost use Rattle.break_table.specs.Chosen.{AdmitsNone, IsAnswer};
 ghost use Rattle.break_lines.specs.Facts.{Facts};
 ghost use Rattle.break_core.specs.Passes.{problem_of, bound_of, line_end_at, IsBroken};
 ghost use Rattle.break_lines.specs.Steady.{IsSteady};
-ghost use Rattle.break_core.specs.Trials.{is_bounded, IsWidening, MayLeave, first_run, passes_run, AreBounded, HasNoTrials};
+ghost use Rattle.break_core.specs.Leaving.{IsWidening, MayLeave};
+ghost use Rattle.break_core.specs.Trials.{is_bounded, first_run, passes_run, AreBounded, AreBoundedByPasses, HasNoTrials};
 ghost use Rattle.break_core.specs.Filling.{IsGrown, CountsMayGrow, AreEndsInParagraph, IsDecided};
-ghost use Rattle.break_core.specs.Active.{TrialsOnlyGrow, MayEnd, IsWithin, AreAdded};
+ghost use Rattle.break_core.specs.Active.{TrialsOnlyGrow, MayEnd, IsWithin, AreAdded, AreAddedByPasses};
 
 use crate::broken::{Breaks, LineEnd, Pass};
 use crate::filling::fill;
@@ -31,8 +32,7 @@ fn bound_of(params: &Params, pass: Pass) -> Bound
 
 /// Whether no line from the second one on is wider than the next one.
 fn is_widening(params: &Params) -> bool
-    ensures yes { result ≡ true → IsWidening params.now }
-    ensures no { IsWidening params.now → result ≡ true }
+    ensures { result ≡ true → IsWidening params.now }
 {
     if params.first_lines.get() < 2 {
         return true;
@@ -44,8 +44,7 @@ fn is_widening(params: &Params) -> bool
 /// the two lines have less overhang together than the long one, so the long one is in no chosen list.
 fn may_leave<M: Meter>(meter: &M, params: &Params) -> bool
     requires steady { IsSteady (M.facts meter.now) }
-    ensures yes { result ≡ true → MayLeave (M.facts meter.now) params.now }
-    ensures no { MayLeave (M.facts meter.now) params.now → result ≡ true }
+    ensures { result ≡ true → MayLeave (M.facts meter.now) params.now }
 {
     if !is_widening(params) {
         return false;
@@ -61,7 +60,6 @@ fn may_leave<M: Meter>(meter: &M, params: &Params) -> bool
 fn ending_in<M: Meter>(meter: &M, params: &Params, drops: bool, pass: Pass) -> StopRule
     ensures may { MayEnd result (M.facts meter.now) params.now (bound_of params.now pass) }
     ensures overfull { drops ≡ true → IsSteady (M.facts meter.now) → is_bounded pass ≡ true → result ≡ StopRule.Overfull }
-    ensures long { drops ≡ true → MayLeave (M.facts meter.now) params.now → is_bounded pass ≡ false → result ≡ StopRule.Long }
 {
     if !drops {
         return StopRule::Never;
@@ -144,7 +142,7 @@ fn decide<M: Meter>(
     ensures facts { M.facts meter.new ≡ M.facts meter.old }
     ensures run { drops ≡ true → IfOk result (λ decided.
         AreAdded (M.facts meter.old) params.now (passes_run params.now decided.0) (M.trials meter.old) (M.trials meter.new)) }
-    ensures trials { drops ≡ true → AreAdded (M.facts meter.old) params.now (passes_run params.now Pass.Third) (M.trials meter.old) (M.trials meter.new) }
+    ensures refused { drops ≡ true → OnErr result (AreAddedByPasses (M.facts meter.old) params.now (M.trials meter.old) (M.trials meter.new)) }
     ensures tried { OnOk result (M.trials meter.old 0 < M.trials meter.new 0) }
 {
     if let Some(least) = chosen_first(alloc, meter, params, drops)? {
@@ -190,7 +188,7 @@ pub(crate) fn breaks_of<M: Meter>(
     ensures broken { IfOk result (IsBroken (M.facts meter.old) params.now) }
     ensures facts { M.facts meter.new ≡ M.facts meter.old }
     ensures run { drops ≡ true → IfOk result (λ breaks. AreBounded (M.facts meter.old) params.now (passes_run params.now breaks.pass) (M.trials meter.new)) }
-    ensures trials { drops ≡ true → AreBounded (M.facts meter.old) params.now (passes_run params.now Pass.Third) (M.trials meter.new) }
+    ensures refused { drops ≡ true → OnErr result (AreBoundedByPasses (M.facts meter.old) params.now (M.trials meter.new)) }
     ensures tried { OnOk result (0 < M.trials meter.new 0) }
 {
     let (pass, least) = decide(alloc, meter, params, drops)?;

@@ -1,5 +1,5 @@
 -- Divided lists: the line from the start to the end, divided at each place, decides for all lines.
-use Rattle.std.proofs.Common.{◌≡◌, ◌∙◌, ℕ, zero, suc, ◌+◌, ◌-◌, ◌<◌, ◌≤◌, min, List, length, take, ap, sym, subst, arith, Some}
+use Rattle.std.proofs.Common.{◌≡◌, ◌∙◌, ℕ, zero, suc, ◌+◌, ◌-◌, ◌<◌, ◌≤◌, min, List, length, take, ap, subst, arith, Some}
 use Rattle.std.specs.Prelude.{ℤ, pos, ◌-ℤ◌, ◌<ℤ◌, ◌≤ℤ◌, slice_get}
 use Rattle.std.proofs.Math.Logic.{◌⊎◌, inl, inr}
 use Rattle.std.proofs.lemmas.Int.{ints}
@@ -154,15 +154,3 @@ less_of list marks amount a m b x y z is later before within here there end less
     subst (λ s. IsLess ((facts_of list).sums a m) ((facts_of list).sums m b) s amount) whole
     (subst (λ s. IsLess ((facts_of list).sums a m) s (line_between x z) amount) back
     (subst (λ s. IsLess s (line_between y z) (line_between x z) amount) front less))
-
-pub is_less_of :
-    (list : List Node) (marks : List MeasuredBreak) (amount : ℤ) (a m b : ℕ) (x y z : MeasuredBreak) → marks ≡ marks_of list → a < m → m < b → b < length marks
-    → slice_get marks a ≡ Some x → slice_get marks m ≡ Some y → slice_get marks b ≡ Some z
-    → AddsLess (facts_of list) amount a m b → IsLess (line_between x y) (line_between y z) (line_between x z) amount
-is_less_of list marks amount a m b x y z is later before within here there end less =
-    let front = line_at list marks a m x y is later (omega arith) here there in
-    let back = line_at list marks m b y z is before within there end in
-    let whole = line_at list marks a b x z is (omega arith) within here end in
-    subst (λ s. IsLess (line_between x y) (line_between y z) s amount) (sym whole)
-    (subst (λ s. IsLess (line_between x y) s ((facts_of list).sums a b) amount) (sym back)
-    (subst (λ s. IsLess s ((facts_of list).sums m b) ((facts_of list).sums a b) amount) (sym front) less))

@@ -17,8 +17,7 @@ fn is_less(front: &Sums, back: &Sums, whole: &Sums, amount: Dimen) -> bool
     requires front { IsSmallSums front.now }
     requires greater_bounded { IsSmallSums back.now }
     requires whole { IsSmallSums whole.now }
-    ensures yes { result ≡ true → IsLess front.now back.now whole.now amount }
-    ensures no { IsLess front.now back.now whole.now amount → result ≡ true }
+    ensures { result ≡ true → IsLess front.now back.now whole.now amount }
 {
     let parts = front.least_width() + back.least_width();
     if parts < whole.least_width() + i64::from(amount.get()) {
@@ -33,8 +32,7 @@ fn adds_less(from: &MeasuredBreak, place: &MeasuredBreak, to: &MeasuredBreak, am
     requires from { IsSmallMark from.now }
     requires place { IsSmallMark place.now }
     requires to { IsSmallMark to.now }
-    ensures yes { result ≡ true → IsLess (line_between from.now place.now) (line_between place.now to.now) (line_between from.now to.now) amount }
-    ensures no { IsLess (line_between from.now place.now) (line_between place.now to.now) (line_between from.now to.now) amount → result ≡ true }
+    ensures { result ≡ true → IsLess (line_between from.now place.now) (line_between place.now to.now) (line_between from.now to.now) amount }
 {
     is_less(
         &from.line_to(place),
@@ -49,8 +47,7 @@ fn adds_less(from: &MeasuredBreak, place: &MeasuredBreak, to: &MeasuredBreak, am
 pub fn is_divided(marks: &[MeasuredBreak], amount: Dimen) -> bool
     requires marks_bounded { AreSmallMarks marks.now }
     requires amount_positive { pos 0 <ℤ amount }
-    ensures yes { (list : List Node) → marks.now ≡ marks_of list → IsSteady (facts_of list) → result ≡ true → IsDivided (facts_of list) amount }
-    ensures no { (list : List Node) → marks.now ≡ marks_of list → IsDivided (facts_of list) amount → result ≡ true }
+    ensures { (list : List Node) → marks.now ≡ marks_of list → IsSteady (facts_of list) → result ≡ true → IsDivided (facts_of list) amount }
 {
     for next in 2..marks.len() {
         if !adds_less(&marks[0], &marks[next - 1], &marks[marks.len() - 1], amount) {

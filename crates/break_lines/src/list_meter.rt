@@ -123,13 +123,13 @@ impl<'a> Meter for ListMeter<'a> {
         self.steady
     }
 
-    fn divided(&self, amount: Dimen) -> bool {
-        is_divided(&self.marks, amount)
-    }
-
     fn try_line(&mut self, from: usize, to: usize) -> Sums {
         self.trials[from] += 1;
         self.marks[from].line_to(&self.marks[to])
+    }
+
+    fn divided(&self, amount: Dimen) -> bool {
+        is_divided(&self.marks, amount)
     }
 
     ghost has_places = { λ m. m.has_legal_places };

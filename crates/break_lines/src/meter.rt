@@ -55,14 +55,6 @@ pub trait Meter {
         ensures steady { result ≡ true → IsSteady (facts self.now) }
         ensures unsteady { IsSteady (facts self.now) → result ≡ true };
 
-    /// Whether every line gets wider by less than an amount when it is divided at a place that it passes over, with all lines shrunk as far as they
-    /// can.
-    fn divided(&self, amount: Dimen) -> bool
-        requires steady { IsSteady (facts self.now) }
-        requires amount_positive { pos 0 <ℤ amount }
-        ensures divided { result ≡ true → IsDivided (facts self.now) amount }
-        ensures undivided { IsDivided (facts self.now) amount → result ≡ true };
-
     /// The sums over the items of a line. Counts the trial.
     fn try_line(&mut self, from: usize, to: usize) -> Sums
         requires later { from < to }
@@ -73,6 +65,17 @@ pub trait Meter {
         ensures facts { facts self.new ≡ facts self.old }
         ensures counted { trials self.new from ≡ trials self.old from + 1 }
         ensures others { (other : ℕ) → other ≢ from → trials self.new other ≡ trials self.old other };
+
+    /// Whether it is known that every line of a steady paragraph gets wider by less than an amount when it is divided at a place that it passes over,
+    /// with all lines shrunk as far as they can. A meter that does not know returns false, as this default does; then `active_breaks` only tries more
+    /// lines.
+    fn divided(&self, _amount: Dimen) -> bool
+        requires steady { IsSteady (facts self.now) }
+        requires amount_positive { pos 0 <ℤ _amount }
+        ensures divided { result ≡ true → IsDivided (facts self.now) _amount }
+    {
+        false
+    }
 
     /// There is at least one legal place, the end.
     ghost has_places: { (m : Self) → 0 < (facts m).places };

@@ -1,5 +1,6 @@
 //! The number of lines that `active_breaks` tries, and `set_paragraph` by it.
 
+use crate::four_methods::FourMethods;
 use crate::items::points;
 use crate::paragraphs::{finished, glue, narrow, rule};
 use break_core::{ListMeter, Meter, Pass, active_breaks};
@@ -62,7 +63,18 @@ fn expect_counts(
     }
     assert_eq!(rt; meter.all_trials(), trials);
     assert!(rt; trials <= 335_872);
+    // The last pass is not run, so a meter with four methods is asked for the same lines.
+    assert_eq!(rt; trials_by_four_methods(rt, alloc, &nodes, &params), trials);
     expect_trials_of_paragraph(rt, alloc, words(rt, alloc, kerned), &params, trials);
+}
+
+/// The number of lines that `active_breaks` tries of a finished list by a meter with four methods.
+fn trials_by_four_methods(rt: &impl Abort, alloc: Global, nodes: &[Node], params: &Params) -> u128 {
+    assert!(rt; nodes.len() <= 131_072);
+    let mut meter = FourMethods::new(rt, alloc, nodes);
+    let found = active_breaks(alloc, &mut meter, params);
+    assert!(rt; found.is_ok());
+    meter.inner.all_trials()
 }
 
 /// Asserts how many lines were tried to set a paragraph of these items.
@@ -142,10 +154,10 @@ fn trials_of_each_place(rt: HostRuntime) {
     expect_trials(&rt, alloc, items, false, &[3, 0, 1, 0, 0]);
 }
 
-/// 8,192 words of 7pt with glue between them that cannot stretch.
-fn rigid_words(rt: &impl Abort, alloc: Global) -> Vec<Node> {
+/// Words of 7pt with glue between them that cannot stretch.
+fn rigid_words(rt: &impl Abort, alloc: Global, count: usize) -> Vec<Node> {
     let mut items = Vec::new(alloc);
-    for word in 0..8_192 {
+    for word in 0..count {
         if word > 0 {
             let between = items.push(glue(rt, 0, 0));
             between.ok().expect(rt, "there is memory");
@@ -162,7 +174,7 @@ fn last_pass_over_many_words(rt: HostRuntime) {
     // passes no line is good enough, and six are tried, all from the start. So there are 7 trials from each of 8,185 places, 6 to 1 from the next
     // ones, and 19 from the start.
     let params = narrow(&rt);
-    let nodes = finished(&rt, rigid_words(&rt, rt.alloc()), &params);
+    let nodes = finished(&rt, rigid_words(&rt, rt.alloc(), 8_192), &params);
     assert!(rt; nodes.len() <= 131_072);
     let mut meter = ListMeter::new(rt.alloc(), &nodes).expect(&rt, "not refused");
     let found = active_breaks(rt.alloc(), &mut meter, &params);
@@ -171,4 +183,21 @@ fn last_pass_over_many_words(rt: HostRuntime) {
     assert_eq!(rt; meter.trials(0), 19);
     assert_eq!(rt; meter.trials(8_185), 7);
     assert_eq!(rt; meter.all_trials(), 57_335);
+}
+
+#[test]
+fn last_pass_by_four_methods(rt: HostRuntime) {
+    // Of 500 words there are 7 trials from each of 493 places, 6 to 1 from the next ones, and 19 from the start. A meter with four methods does not
+    // tell that long lines may be left out, so in the last pass all 125,250 pairs of places are tried.
+    let params = narrow(&rt);
+    let nodes = finished(&rt, rigid_words(&rt, rt.alloc(), 500), &params);
+    assert!(rt; nodes.len() <= 131_072);
+    let mut meter = ListMeter::new(rt.alloc(), &nodes).expect(&rt, "not refused");
+    let found = active_breaks(rt.alloc(), &mut meter, &params);
+    assert!(rt; found.is_ok());
+    assert_eq!(rt; meter.all_trials(), 3_491);
+    assert_eq!(rt;
+        trials_by_four_methods(&rt, rt.alloc(), &nodes, &params),
+        125_262
+    );
 }

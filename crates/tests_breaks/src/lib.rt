@@ -8,6 +8,8 @@ mod costs;
 #[cfg(test)]
 mod counted_breaks;
 #[cfg(test)]
+mod four_methods;
+#[cfg(test)]
 mod items;
 #[cfg(test)]
 mod lists;

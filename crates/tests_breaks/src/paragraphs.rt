@@ -1,7 +1,12 @@
 //! The breaks of paragraphs, by both breakers.
 
+ghost use Rattle.break_core.specs.Trials.{HasNoTrials};
+
+use crate::four_methods::FourMethods;
 use crate::items::{Amounts, Item, node, points};
-use break_core::{BreakFault, Breaks, Fitness, LineEnd, ListMeter, Pass, active_breaks, breaks};
+use break_core::{
+    BreakFault, Breaks, Fitness, LineEnd, ListMeter, Meter, Pass, active_breaks, breaks,
+};
 use node_core::{Glue, IntParameter, Node, Order, Params, Rule, RuleSize};
 use scaled_core::Dimen;
 use std::alloc::Global;
@@ -55,7 +60,26 @@ fn expect_lines(rt: &impl Abort, lines: &[LineEnd], others: &[LineEnd]) {
     }
 }
 
-/// Asserts that `active_breaks` finds the same breaks of a finished list, and returns how many lines it tried.
+/// Asserts that `active_breaks` finds these breaks by a meter without trials.
+fn expect_by<M: Meter>(
+    rt: &impl Abort,
+    alloc: Global,
+    meter: &mut M,
+    params: &Params,
+    found: &Breaks,
+)
+    requires { HasNoTrials (M.trials meter.old) }
+{
+    let counted = active_breaks(alloc, meter, params);
+    let counted = counted.ok().expect(rt, "there is memory");
+    expect_lines(rt, &found.lines, &counted.lines);
+    assert!(rt; found.pass == counted.pass);
+    assert_eq!(rt; found.overhang, counted.overhang);
+    assert_eq!(rt; found.demerits, counted.demerits);
+}
+
+/// Asserts that `active_breaks` finds the same breaks of a finished list, by its meter and by a meter with four methods, and returns how many lines
+/// the former tried. The latter tries no fewer lines, and no more where the last pass is not run.
 pub(crate) fn expect_same(
     rt: &impl Abort,
     alloc: Global,
@@ -65,12 +89,12 @@ pub(crate) fn expect_same(
 ) -> u128 {
     assert!(rt; nodes.len() <= 131_072);
     let mut meter = ListMeter::new(alloc, nodes).expect(rt, "not refused");
-    let counted = active_breaks(alloc, &mut meter, params);
-    let counted = counted.ok().expect(rt, "there is memory");
-    expect_lines(rt, &found.lines, &counted.lines);
-    assert!(rt; found.pass == counted.pass);
-    assert_eq!(rt; found.overhang, counted.overhang);
-    assert_eq!(rt; found.demerits, counted.demerits);
+    expect_by(rt, alloc, &mut meter, params, found);
+    let mut four = FourMethods::new(rt, alloc, nodes);
+    expect_by(rt, alloc, &mut four, params, found);
+    let trials = four.inner.all_trials();
+    assert!(rt; trials >= meter.all_trials());
+    assert!(rt; trials == meter.all_trials() || found.pass == Pass::Third);
     meter.all_trials()
 }
 

@@ -1,4 +1,4 @@
-use Rattle.std.proofs.Common.{◌≡◌, ◌∙◌, length, refl, ap, sym}
+use Rattle.std.proofs.Common.{◌∙◌, length, refl, ap, sym}
 use Rattle.std.proofs.lemmas.Option.{same_Some, slice_get_read}
 use Rattle.break_table.specs.Tables.{extended}
 use Rattle.break_lines.specs.Costs.{line_after}

@@ -9,7 +9,7 @@ use Rattle.break_core.proofs.passes.chosen_in.Goals as goal
 pub returns-in_err-table-clause-trials : goal.returns-in_err-table-clause-trials
 returns-in_err-table-clause-trials g c = λ on.
     within_pass (g.M.Meter.facts c.args.meter.now) c.args.params.now c.args.pass c.ending_in.result (g.M.Meter.trials c.args.meter.now)
-    (g.M.Meter.trials c.fill.new.meter) (c.ending_in.ensures.overfull on) (c.ending_in.ensures.long on) c.in_err-table.ensures.trials
+    (g.M.Meter.trials c.fill.new.meter) (c.ending_in.ensures.overfull on) c.in_err-table.ensures.trials
 
 pub returns-clause-found : goal.returns-clause-found
 returns-clause-found g c =
@@ -28,4 +28,4 @@ returns-clause-found g c =
 pub returns-clause-trials : goal.returns-clause-trials
 returns-clause-trials g c = λ on.
     within_pass (g.M.Meter.facts c.args.meter.now) c.args.params.now c.args.pass c.ending_in.result (g.M.Meter.trials c.args.meter.now)
-    (g.M.Meter.trials c.fill.new.meter) (c.ending_in.ensures.overfull on) (c.ending_in.ensures.long on) c.in_ok-table.ensures.trials
+    (g.M.Meter.trials c.fill.new.meter) (c.ending_in.ensures.overfull on) c.in_ok-table.ensures.trials

@@ -1,5 +1,0 @@
-use Rattle.break_core.proofs.Joined.{up_to_long}
-use Rattle.break_core.proofs.laws.trials_up_to_a_long_line.Goals as goal
-
-pub returns : goal.returns
-returns c = up_to_long
