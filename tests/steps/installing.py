@@ -1,5 +1,6 @@
-"""The script `install`. Built programs are copied with --program; without it a stand-in for `rt` is on the path, which records its calls: nothing is proved.
+"""The script `install`. Built programs are copied with --program; without it a stand-in for `rt` is on the path, which records its calls and the crates: nothing is proved.
 So are stand-ins for what builds without proofs and what makes the library's files; library_packages.py has the real ones."""
+import fcntl
 import os
 import re
 import signal
@@ -7,6 +8,10 @@ import subprocess
 import tempfile
 import time
 from functools import partial
+
+from tools import machine
+from tools.progress import CRATE, LINE, READING, Progress
+from tools.side_by_side import MEMORY, jobs_that_fit
 
 TITLE = "install: what it puts in place, and the crates that it has proved"
 TRIES = False
@@ -17,14 +22,25 @@ MODES = {"bin/boxglue": 0o755, "share/man/man1/boxglue.1": 0o644, "share/bash-co
 LIBRARY = {"include/boxglue.h", "lib/libboxglue.so.VERSION", "lib/libboxglue.so.1", "lib/libboxglue.so", "lib/libboxglue.a", "lib/pkgconfig/boxglue.pc"}
 # Answers an empty script, as boxglue does.
 ANSWERS = "#!/bin/sh\necho end: pages 0 bytes 0\n"
-# Stands in for `rt`. `run` in the folder of the program leaves the program; a crate in the file `bad` is refused, and one in `slow` takes long.
+# Stands in for `rt`. `all check` takes each crate of crates.txt that has no library; one in the file `bad` is refused, and one in `slow` takes long.
+# While others are proved it does not end for a crate that is refused. `run` in the folder of the program leaves the program, and `lib` the archive.
 RT = """#!/bin/sh
-echo "$1 ${PWD##*/}" >> "$ROOM/calls"
-grep -qsx "${PWD##*/}" "$ROOM/slow" && exec sleep 50
-grep -qsx "${PWD##*/}" "$ROOM/bad" && echo the prover says why && exit 1
+echo "$* ${PWD##*/}" >> "$ROOM/calls"
 if [ "$1" = run ]; then mkdir -p out && cp "$ROOM/boxglue" out/boxglue; fi
 if [ "$1" = lib ]; then mkdir -p out && echo proved > out/libboxglue_c.a; fi
-exit 0
+[ "$1" = all ] || exit 0
+echo only=0 proved=0
+for crate in $(sed 's/[ :].*//' crates.txt); do
+  made=crates/$crate/out/rlib
+  [ -e $made/stamp ] || {
+    echo $crate >> "$ROOM/proofs"
+    grep -qsx $crate "$ROOM/slow" && sleep 50
+    grep -qsx $crate "$ROOM/bad" && { printf '== %s\nthe prover says why\n' $crate; [ $crate = boxglue ] || sleep 50; printf '== summary\n%s: failed (1)\n' $crate; exit 1; }
+    case $crate in boxglue*) ;; *) mkdir -p $made && cat crates/$crate/src/lib.rt > $made/stamp ;; esac
+  }
+  printf '== %s\nlogic=proved\n' $crate
+done
+printf '== summary\nall crates ok\n'
 """
 # Stand in for tools/unproved.py, bindings/build and bindings/wheel.
 SAYS = "UNPROVED, with run-time checks"
@@ -44,10 +60,10 @@ shutil.copy(sys.argv[1], sys.argv[2] + "/boxglue-1-py3-none-any.whl")
 print(sys.argv[2] + "/boxglue-1-py3-none-any.whl")
 """
 # A repository of four crates, and two that the program does not use.
-CRATES = "# NAME: what it uses\nboxglue: upper clap\nupper: left right\nother: left\nright: left itoa\nleft:\nboxglue_c staticlib: upper\n"
+CRATES = "# NAME: what it uses\nleft:\nother: left\nright: left itoa\nupper: left right\nboxglue: upper clap\nboxglue_c staticlib: upper\n"
+NAMES = ["left", "right", "upper", "boxglue"]
 COPIED = ["install", "docs/boxglue.1", "completions/boxglue.bash", "completions/_boxglue", "completions/boxglue.fish", "include/boxglue.h", "tools/version.py",
-          "bindings/boxglue.pc.in"]
-ORDER = ["check left", "check right", "check upper", "run boxglue"]
+          "tools/commands.py", "tools/crates.py", "tools/machine.py", "tools/progress.py", "tools/side_by_side.py", "bindings/boxglue.pc.in"]
 
 
 def write(path, text, mode=0o644):
@@ -121,43 +137,59 @@ def made_repository(root, room):
     """A repository with the script, in which a stand-in for `rt` proves."""
     for name in COPIED:
         write(f"{room}/top/{name}", read(f"{root}/{name}").decode(), 0o755)
-    made = {"crates.txt": CRATES, "tools/unproved.py": UNPROVED, "bindings/build": BUILD, "bindings/wheel": WHEEL, "bindings/rust/Cargo.toml": "[workspace]\n"}
+    made = {"crates.txt": CRATES, "HANDLES": "Handles allowed: none.\n", "tools/unproved.py": UNPROVED, "bindings/build": BUILD, "bindings/wheel": WHEEL, "bindings/rust/Cargo.toml": "[workspace]\n"}
     for name, text in made.items():
         write(f"{room}/top/{name}", text, 0o755)
-    for name in ("boxglue", "upper", "left", "right", "other", "boxglue_c"):
-        os.makedirs(f"{room}/top/crates/{name}")
+    for name in (*NAMES, "other", "boxglue_c"):
+        write(f"{room}/top/crates/{name}/src/lib.rt", f"// {name}\n")
     write(f"{room}/boxglue", ANSWERS, 0o755)
     write(f"{room}/bin/rt", RT, 0o755)
     return f"{room}/top", f"{room}/bin:{os.environ['PATH']}"
 
 
-def calls(room):
-    """The calls of `rt`."""
-    return read(f"{room}/calls").decode().splitlines() if os.path.exists(f"{room}/calls") else []
+def recorded(room, name="calls"):
+    """The calls of `rt`, or the crates that it proved."""
+    return read(f"{room}/{name}").decode().splitlines() if os.path.exists(f"{room}/{name}") else []
+
+
+def kept_wrong(top, names):
+    """What is wrong with the kept work of crates, which is in their folders, or None."""
+    found = [it for it in sorted(os.listdir(f"{top}/crates")) if os.path.exists(f"{top}/crates/{it}/out/rlib/stamp")]
+    if found != sorted(names) or os.path.exists(f"{top}/out/proved"):
+        return f"work is kept of {found}"
+    return None
 
 
 def proves(root):
-    """The crates are proved in order, each after those that it uses, with a line for each; then all is installed."""
+    """The crates of the program are proved by one call of `rt`, with a line as they end; then the program is built, and all is installed. What is proved stays so."""
     with tempfile.TemporaryDirectory(prefix="boxglue-install-") as room:
         top, path = made_repository(root, room)
-        status, output, errors = install(top, [], room, path)
-        lines = [it.split("] ")[1].split(",")[0] for it in output.splitlines() if it.startswith("[")]
-        if status != 0 or errors or calls(room) != ORDER:
-            return f"the status is {status}, rt was called for {calls(room)}: {(errors or output)[-200:]!r}"
-        if lines != [f"{at} of 4 {call.split()[1]}: proved" for at, call in enumerate(ORDER, 1)]:
-            return f"the lines of the crates are {lines}"
-        return placed(f"{room}/home/.local", top, f"{room}/boxglue")
+        for words in ([], ["--jobs", "3"]):
+            status, output, errors = install(top, words, room, path)
+            if status != 0 or errors:
+                return f"the status is {status}: {(errors or output)[-200:]!r}"
+            lines = [it.split("] ")[1] for it in output.splitlines() if it.startswith("[")]
+            proved = [name for it in lines if ": proved; " in it for name in it.split(": proved; ")[0].split(", ")]
+            if proved != NAMES or not lines[0].startswith("4 crates, ") or not lines[-2].endswith(": proved; 0 of 4 left") or not lines[-1].startswith("boxglue: built, "):
+                return f"the lines are {lines}"
+        made = recorded(room)
+        if made[1:] != ["run boxglue", "all check --jobs 3 proved", "run boxglue"] or not re.fullmatch(r"all check --jobs [1-9]\d* proved", made[0]):
+            return f"rt was called as {made}"
+        if recorded(room, "proofs") != [*NAMES, "boxglue"]:
+            return f"these were proved: {recorded(room, 'proofs')}"
+        return kept_wrong(top, NAMES[:3]) or placed(f"{room}/home/.local", top, f"{room}/boxglue")
 
 
-def stops_at_a_crate(root):
-    """A crate that is not proved ends it, with the text of `rt`; nothing is installed."""
+def stops_at_a_crate(root, name, before):
+    """A crate that is not proved ends it soon, with the text of `rt`; nothing is installed, and what is proved is kept."""
     with tempfile.TemporaryDirectory(prefix="boxglue-install-") as room:
         top, path = made_repository(root, room)
-        write(f"{room}/bad", "right\n")
+        write(f"{room}/bad", f"{name}\n")
+        began = time.monotonic()
         status, _, errors = install(top, [], room, path)
-        if status != 1 or "right is not proved" not in errors or "the prover says why" not in errors:
+        if status != 1 or f"{name} is not proved\nthe prover says why\n" not in errors or time.monotonic() - began > 20:
             return f"the status is {status}: {errors[-200:]!r}"
-        return None if calls(room) == ORDER[:2] and not os.path.exists(f"{room}/home") else f"rt was called for {calls(room)}"
+        return kept_wrong(top, before) or (f"rt was called as {recorded(room)}" if len(recorded(room)) > 1 or os.path.exists(f"{room}/home") else None)
 
 
 def stops_when_told(root, number, lines):
@@ -180,9 +212,78 @@ def stops_when_told(root, number, lines):
                 return "it does not end"
         if started.returncode != 128 + number or time.monotonic() - began > 20 or not all(line in it for line, it in zip(lines, found)):
             return f"the status is {started.returncode}, the lines {found}"
+        if kept_wrong(top, NAMES[:1]):
+            return kept_wrong(top, NAMES[:1])
         os.remove(f"{room}/slow")
         status, _, errors = install(top, [], room, path)
+        if recorded(room, "proofs") != ["left", "right", *NAMES[1:]]:
+            return f"these were proved: {recorded(room, 'proofs')}"
         return placed(f"{room}/home/.local", top, f"{room}/boxglue") if status == 0 else f"started again, it ends with status {status}: {errors[-200:]!r}"
+
+
+def stops_without_a_reader(root):
+    """Where its lines can no longer be printed, it ends, and what it runs with it; what is proved is kept."""
+    with tempfile.TemporaryDirectory(prefix="boxglue-install-") as room:
+        top, path = made_repository(root, room)
+        write(f"{room}/slow", "right\n")
+        began = time.monotonic()
+        with subprocess.Popen([f"{top}/install"], env={"HOME": f"{room}/home", "PATH": path, "ROOM": room}, stdin=subprocess.DEVNULL, stdout=subprocess.PIPE, stderr=subprocess.PIPE) as started:
+            started.stdout.readline()
+            started.stdout.close()
+            _, errors = started.communicate(timeout=LIMIT)
+        if started.returncode == 0 or b"Broken pipe" not in errors or time.monotonic() - began > 20:
+            return f"the status is {started.returncode} after {time.monotonic() - began:.0f} s: {errors[-200:]!r}"
+        return kept_wrong(top, NAMES[:1])
+
+
+def goes_on_after_a_kill(root):
+    """What a run that was killed left in its own tree is taken. Beside another run it does not begin."""
+    with tempfile.TemporaryDirectory(prefix="boxglue-install-") as room:
+        top, path = made_repository(root, room)
+        write(f"{top}/out/proved/crates/left/out/rlib/stamp", "// left\n")
+        write(f"{top}/out/proved/crates/left/src/old.rt", "old\n")
+        with open(f"{top}/out/proved.lock", "w", encoding="ascii") as lock:
+            fcntl.flock(lock, fcntl.LOCK_EX)
+            status, _, errors = install(top, [], room, path)
+            if status != 1 or "another ./install" not in errors or recorded(room):
+                return f"beside another run the status is {status}: {errors[-200:]!r}"
+        status, _, errors = install(top, [], room, path)
+        if status != 0 or recorded(room, "proofs") != NAMES[1:]:
+            return f"the status is {status}, these were proved: {recorded(room, 'proofs')}: {errors[-200:]!r}"
+        return kept_wrong(top, NAMES[:3])
+
+
+def knows_what_is_left(_root):
+    """What is proved at a time, and how long it goes on, as the lines of `rt` tell it."""
+    uses = {"left": [], "right": ["left"], "other": [], "upper": ["left", "right"], "boxglue": ["upper", "other"]}
+    with tempfile.TemporaryDirectory(prefix="boxglue-install-") as room:
+        for name in uses:
+            write(f"{room}/crates/{name}/src/lib.rt", "\n")
+        found, each = Progress(room, uses, 2), CRATE + LINE
+        wanted = [("", [], READING + 4 * each), ("only=0\n", ["left", "other"], 4 * each), ("== other\n", ["left"], 4 * each), ("== left\n", ["right"], 3 * each)]
+        text = ""
+        for more, names, left in wanted:
+            text += more
+            found.update(text)
+            if {*found.under_way()} != {*names} or abs(found.seconds_left() - left) > 1:
+                return f"after {text!r}: {found.under_way()}, {found.seconds_left()} s"
+        write(f"{room}/crates/right/out/rlib/stamp", "")
+        return None if found.failed() == ["left", "other"] or found.failed() == ["other", "left"] else f"these have failed: {found.failed()}"
+
+
+def fits_a_control_group(_root):
+    """No more is proved at a time than the time and the memory that a control group leaves."""
+    found, was = [], machine.GROUP
+    with tempfile.TemporaryDirectory(prefix="boxglue-install-") as machine.GROUP:
+        for quota, limit in (("max", "max"), ("100000", "max"), ("max", str(2 * MEMORY)), ("50000", "0")):
+            write(f"{machine.GROUP}/cpu.max", f"{quota} 100000\n")
+            write(f"{machine.GROUP}/memory.max", f"{limit}\n")
+            write(f"{machine.GROUP}/memory.stat", f"file 5\nanon {MEMORY}\n")
+            found.append((machine.cores(), jobs_that_fit()))
+    machine.GROUP = was
+    cores = found[0][0]
+    wanted = [cores >= found[0][1] >= 1, found[1] == (1, 1), found[2] == (cores, 1), found[3] == (1, 1)]
+    return None if all(wanted) else f"cores, and proofs at a time, are {found}"
 
 
 def files_below(folder):
@@ -195,8 +296,8 @@ def builds_unproved(root):
     with tempfile.TemporaryDirectory(prefix="boxglue-install-") as room:
         top, path = made_repository(root, room)
         status, output, errors = install(top, ["--unproved", "--prefix", f"{room}/here"], room, path)
-        if status != 0 or errors or calls(room) != ["unproved "]:
-            return f"the status is {status}, what was called {calls(room)}: {(errors or output)[-200:]!r}"
+        if status != 0 or errors or recorded(room) != ["unproved "]:
+            return f"the status is {status}, what was called {recorded(room)}: {(errors or output)[-200:]!r}"
         if files_below(f"{room}/here") != {*MODES} or SAYS.encode() not in read(f"{room}/here/bin/boxglue"):
             return f"these files are there: {sorted(files_below(f'{room}/here'))}"
         last = output.splitlines()[-2:]
@@ -218,14 +319,14 @@ def keeps_what_is_proved(root):
 
 
 def puts_the_library(root):
-    """The library is proved after the program, and its files go below DESTDIR. A crate that both use is proved once, and an old wheel goes."""
+    """The library is proved beside the program, and its files go below DESTDIR. A crate that both use is proved once, and an old wheel goes."""
     with tempfile.TemporaryDirectory(prefix="boxglue-install-") as room:
         top, path = made_repository(root, room)
         write(f"{room}/stage/usr/share/boxglue/python/boxglue-0-py3-none-any.whl", "old\n")
         env = {"HOME": f"{room}/home", "PATH": path, "ROOM": room, "DESTDIR": f"{room}/stage"}
         ran = subprocess.run([f"{top}/install", "--library", "--prefix", "/usr"], cwd=room, env=env, stdin=subprocess.DEVNULL, capture_output=True, text=True, timeout=LIMIT)
-        if ran.returncode != 0 or calls(room) != [*ORDER, "lib boxglue_c"]:
-            return f"the status is {ran.returncode}, rt was called for {calls(room)}: {ran.stderr[-200:]!r}"
+        if ran.returncode != 0 or recorded(room)[1:] != ["run boxglue", "lib boxglue_c"] or recorded(room, "proofs") != [*NAMES, "boxglue_c"]:
+            return f"the status is {ran.returncode}, rt was called as {recorded(room)}: {ran.stderr[-200:]!r}"
         found = {re.sub(r"so\.\d+\.\d+\.\d+", "so.VERSION", it) for it in files_below(f"{room}/stage/usr")}
         wanted = {*MODES, *LIBRARY, "share/boxglue/python/boxglue-1-py3-none-any.whl", "share/boxglue/rust/Cargo.toml"}
         if found != wanted:
@@ -243,9 +344,15 @@ def cases(programs, root):
     yield "a file that is no program", partial(refused, root, ["--program", "given"], "given cannot be run", "end: pages 0 bytes 0\n")
     yield "another program", partial(refused, root, ["--program", "given"], "given is not boxglue", "#!/bin/sh\necho end: pages 1 bytes 0\n")
     yield "crates in order", partial(proves, root)
-    yield "a crate that is not proved", partial(stops_at_a_crate, root)
-    yield "an interrupt", partial(stops_when_told, root, signal.SIGINT, ["1 of 4 left: proved", "2 of 4 right: 10 s"])
+    yield "a crate that is not proved", partial(stops_at_a_crate, root, "right", ["left"])
+    yield "a program that is not proved", partial(stops_at_a_crate, root, "boxglue", NAMES[:3])
+    yield "an interrupt", partial(stops_when_told, root, signal.SIGINT, ["4 crates", "left: proved", "proving right; 3 of 4 left, about "])
+    yield "lines that nobody reads", partial(stops_without_a_reader, root)
+    yield "a kill", partial(goes_on_after_a_kill, root)
+    yield "what is left", partial(knows_what_is_left, root)
+    yield "a control group", partial(fits_a_control_group, root)
     yield "without proofs", partial(builds_unproved, root)
     yield "over a proved program", partial(keeps_what_is_proved, root)
     yield "the library", partial(puts_the_library, root)
-    yield "an end", partial(stops_when_told, root, signal.SIGTERM, ["1 of 4 left: proved"])
+    yield "the end of a terminal", partial(stops_when_told, root, signal.SIGHUP, ["4 crates", "left: proved"])
+    yield "an end", partial(stops_when_told, root, signal.SIGTERM, ["4 crates", "left: proved"])
