@@ -3,7 +3,7 @@
 
 The inputs are the scripts, DVI files and metric files of bench/hostile.py. The caller is that of bindings/c, with AddressSanitizer where the compiler has it: it makes each call
 also with no room and with a byte too little, and fails where a byte outside its buffers is written or memory is not freed.
-A script is run at once and in pieces on a job; a file is listed, painted, and asked for its fonts. The answers and bytes have to be those of the program."""
+A script is run at once and in pieces on a job; a file is listed, painted, and asked for its marks and its fonts. The answers and bytes have to be those of the program."""
 
 import argparse
 import collections
@@ -19,6 +19,7 @@ from hostile_inputs import ROOT, Good, input_of
 from steps.library_build import build_calls
 
 NO_SUCH_PAGE = 5
+WIDTH = re.compile(rb"^(glyph .*) width -?\d+$", re.M)
 
 
 def called(room, words):
@@ -44,8 +45,16 @@ def check_script(program, library, it):
     return ("accepted", "refused")[wanted[0]]
 
 
+def check_marks(library, words, wanted):
+    """The marks of a DVI file, which are those of its listing."""
+    ran = library.run(["marks", "f.dvi", *words])
+    line, _, listing = ran.output.partition(b"\n")
+    require(ran.status == 0 and re.fullmatch(rb"%d \d+ \d+ \d+" % wanted.status, line), "marks: status %d, %r", ran.status, line or ran.errors[-500:])
+    require(WIDTH.sub(rb"\1", listing) == wanted.output, "marks: not as the listing of the program")
+
+
 def check_file(program, library, it):
-    """A DVI file: listed, painted, and asked for its fonts."""
+    """A DVI file: listed, painted, and asked for its marks and its fonts."""
     words = [word for word in it.words[it.words.index("f.dvi") + 1:] if word != "--"]
     sheet = ["1", "72", "40", "30"]
     for call, numbers in (("list", []), ("paint", sheet)):
@@ -53,6 +62,8 @@ def check_file(program, library, it):
         wanted = program.run([call, *options, *it.words[it.words.index("f.dvi"):]])
         status, text, rest = called(library, [call, *numbers, "f.dvi", *words])
         require((status, text, rest) == ((NO_SUCH_PAGE, b"", b"") if wanted.status == 2 else (wanted.status, wanted.output, b"")), "%s: status %d, not as the program", call, status)
+        if call == "list":
+            check_marks(library, words, wanted)
     fonts = library.run(["fonts", "f.dvi"])
     require(fonts.status == 0 and fonts.output[:2] in (b"0 ", b"1 "), "fonts: status %d, %r", fonts.status, fonts.errors[-500:])
     return ("accepted", "refused")[wanted.status] if wanted.status < 2 else "no such page"

@@ -98,6 +98,44 @@ struct boxglue_font_sizes {
     size_t text;
 };
 
+/* A page of a DVI file: its ten counts, and its marks, which stand one after the other among all marks. */
+struct boxglue_page {
+    int32_t counts[10];
+    size_t first_mark;
+    size_t marks;
+};
+
+enum boxglue_mark_kind { BOXGLUE_GLYPH = 1, BOXGLUE_RULE = 2, BOXGLUE_SPECIAL = 3 };
+
+/* A mark of a page, in DVI units. What its kind does not have is 0. */
+struct boxglue_mark {
+    /* One of enum boxglue_mark_kind. */
+    uint32_t kind;
+    /* Of a glyph: the number of its font, as in struct boxglue_dvi_font, and its character. */
+    int32_t font;
+    int32_t code;
+    /* The place: h grows to the right and v downward. That of a rule is its lower left corner. */
+    int32_t h;
+    int32_t v;
+    /* Of a rule: its height and its width, both above 0. Of a glyph: the width that the metric file of its font gives, and no height. */
+    int32_t height;
+    int32_t width;
+    /* Of a special: the size of its text in bytes, and where it begins in the DVI file that was passed. */
+    uint32_t text_size;
+    uint64_t text_start;
+};
+
+/* The sizes of the outputs of boxglue_marks: the number of pages, of marks, and of bytes of the text. A DVI unit is num / den times 10^-7 metres,
+ * enlarged by mag / 1000. */
+struct boxglue_mark_sizes {
+    size_t pages;
+    size_t marks;
+    size_t text;
+    int32_t num;
+    int32_t den;
+    int32_t mag;
+};
+
 /* Runs a script with these fonts.
  *
  * answers takes the answers to the commands, one line each (docs/FORMATS.md), or the one line of a script that is refused as a whole.
@@ -147,6 +185,21 @@ uint32_t boxglue_fonts(const uint8_t *dvi, size_t dvi_size,
                        struct boxglue_dvi_font *fonts, size_t font_room,
                        uint8_t *text, size_t text_room,
                        struct boxglue_font_sizes *sizes);
+
+/* Reads the marks of all pages of a DVI file.
+ *
+ * pages takes the pages, and marks their marks, in the order of a listing.
+ * text takes the line of a refusal. Then there are no pages and no marks, and the units are 0.
+ * *sizes takes the numbers of all three and the units. The rest of each buffer is as it was.
+ * Rooms of dvi_size / 46 pages, dvi_size marks and 64 bytes always suffice, so one call is enough.
+ *
+ * Returns 0, 1, 2, 3 or 4. At 4 *sizes says what the buffers need. At 2 and 3 *sizes is as it was. */
+uint32_t boxglue_marks(const uint8_t *dvi, size_t dvi_size,
+                       const struct boxglue_font *fonts, size_t font_count,
+                       struct boxglue_page *pages, size_t page_room,
+                       struct boxglue_mark *marks, size_t mark_room,
+                       uint8_t *text, size_t text_room,
+                       struct boxglue_mark_sizes *sizes);
 
 /* Returns the version of the library, as BOXGLUE_VERSION counts it. A program compares the two. */
 uint32_t boxglue_version(void);
@@ -258,6 +311,16 @@ static inline struct boxglue_dvi_font *boxglue_dvi_fonts_at(struct boxglue_dvi_f
     return size ? at : &none;
 }
 
+static inline struct boxglue_page *boxglue_pages_at(struct boxglue_page *at, size_t size) {
+    static struct boxglue_page none;
+    return size ? at : &none;
+}
+
+static inline struct boxglue_mark *boxglue_marks_at(struct boxglue_mark *at, size_t size) {
+    static struct boxglue_mark none;
+    return size ? at : &none;
+}
+
 static inline uint32_t boxglue_run_or_null(const uint8_t *script, size_t script_size,
                                            const struct boxglue_font *fonts, size_t font_count,
                                            uint8_t *answers, size_t answers_room,
@@ -302,6 +365,20 @@ static inline uint32_t boxglue_fonts_or_null(const uint8_t *dvi, size_t dvi_size
                          sizes);
 }
 
+static inline uint32_t boxglue_marks_or_null(const uint8_t *dvi, size_t dvi_size,
+                                             const struct boxglue_font *fonts, size_t font_count,
+                                             struct boxglue_page *pages, size_t page_room,
+                                             struct boxglue_mark *marks, size_t mark_room,
+                                             uint8_t *text, size_t text_room,
+                                             struct boxglue_mark_sizes *sizes) {
+    return boxglue_marks(boxglue_bytes_at(dvi, dvi_size), dvi_size,
+                         boxglue_fonts_at(fonts, font_count), font_count,
+                         boxglue_pages_at(pages, page_room), page_room,
+                         boxglue_marks_at(marks, mark_room), mark_room,
+                         boxglue_room_at(text, text_room), text_room,
+                         sizes);
+}
+
 static inline uint32_t boxglue_job_new_or_null(struct boxglue_job *job,
                                                const struct boxglue_font *fonts, size_t font_count) {
     return boxglue_job_new(job, boxglue_fonts_at(fonts, font_count), font_count);
@@ -330,6 +407,7 @@ static inline uint32_t boxglue_job_take_or_null(struct boxglue_job *job,
 #define boxglue_list boxglue_list_or_null
 #define boxglue_paint boxglue_paint_or_null
 #define boxglue_fonts boxglue_fonts_or_null
+#define boxglue_marks boxglue_marks_or_null
 #define boxglue_job_new boxglue_job_new_or_null
 #define boxglue_job_commands boxglue_job_commands_or_null
 #define boxglue_job_answers boxglue_job_answers_or_null

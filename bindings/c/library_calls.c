@@ -4,6 +4,7 @@
  *     library_calls [--refuse] list DVI [NAME=TFM ..]
  *     library_calls [--refuse] paint PAGE DPI WIDTH HEIGHT DVI [NAME=TFM ..]
  *     library_calls [--refuse] fonts DVI
+ *     library_calls [--refuse] marks DVI [NAME=TFM ..]
  *     library_calls [--refuse] job MOST SCRIPT [NAME=TFM ..]
  *     library_calls random COUNT SCRIPT DVI NAME=TFM
  *     library_calls pieces COUNT SCRIPT NAME=TFM
@@ -11,11 +12,12 @@
  *     library_calls handles
  *     library_calls version
  *
- * It prints a line with the status and the sizes of both outputs, and then the outputs. `job` runs the script on a job, in pieces of at most MOST lines, or in one
- * piece where MOST is 0.
+ * It prints a line with the status and the sizes of both outputs, and then the outputs; `marks` prints the status and the units, and then a listing. `job` runs the
+ * script on a job, in pieces of at most MOST lines, or in one piece where MOST is 0.
  * `frees` frees jobs after each line of the script. With --refuse each growth of memory is refused in turn instead, and the ways in which the calls ended are counted.
  * Where something is wrong, a line on standard error says so, and the status of the program is 1. */
 #include "job_calls.h"
+#include "mark_calls.h"
 #include "random_inputs.h"
 #include "random_pieces.h"
 #include "whole_calls.h"
@@ -78,6 +80,14 @@ static void run_frees(char **words, int count) {
     free_after_each_line(&pieces);
 }
 
+static void run_marks(char **words, int count, int refuses) {
+    REQUIRE(count >= 1, "marks needs DVI");
+    struct input dvi = read_file(words[0]);
+    struct fonts fonts = read_fonts(words + 1, count - 1);
+    if (refuses) refuse_mark_growths(&dvi, &fonts);
+    else print_marks(&dvi, &fonts);
+}
+
 static void run_job(char **words, int count, int refuses) {
     REQUIRE(count >= 2, "job needs MOST SCRIPT");
     struct pieces pieces = {read_file(words[1]), read_fonts(words + 2, count - 2), number(words[0])};
@@ -115,6 +125,7 @@ int main(int count, char **words) {
     if (!strcmp(words[0], "pieces")) return run_random_pieces(words + 1, count - 1), 0;
     if (!strcmp(words[0], "job")) return run_job(words + 1, count - 1, refuses), 0;
     if (!strcmp(words[0], "frees")) return run_frees(words + 1, count - 1), 0;
+    if (!strcmp(words[0], "marks")) return run_marks(words + 1, count - 1, refuses), 0;
     if (!strcmp(words[0], "handles")) return require_handles(), 0;
     int call = RUN;
     while (strcmp(words[0], CALLS[call])) REQUIRE(++call <= FONTS, "no call %s", words[0]);

@@ -19,7 +19,8 @@ STATUSES_OF_PYTHON = "bindings/python/boxglue/_status.py"
 RUST = "bindings/rust/boxglue-sys/src/lib.rs"
 PYTHON = "bindings/python/boxglue/_library.py"
 CALLS_OF_C = "#ifndef BOXGLUE_NO_INLINE"
-TYPES = {"u8": "uint8_t", "u32": "uint32_t", "u64": "uint64_t", "i32": "int32_t", "usize": "size_t", "": "void", "*mut u8": "void *", "JobHandle": "struct boxglue_job"}
+TYPES = {"u8": "uint8_t", "u32": "uint32_t", "u64": "uint64_t", "i32": "int32_t", "usize": "size_t", "": "void", "*mut u8": "void *", "JobHandle": "struct boxglue_job",
+         "DviPage": "struct boxglue_page", "DviMark": "struct boxglue_mark"}
 
 
 def read(root, path):
@@ -51,6 +52,9 @@ def c_fields(name, kind):
     """What C writes for a parameter or a field. Nothing is passed for the allocator."""
     if kind == "Global":
         return []
+    array = re.fullmatch(r"\[(\w+); (\d+)\]", kind)
+    if array:
+        return [f"{c_type(array[1])} {name}[{array[2]}]"]
     borrowed = re.fullmatch(r"&(?:'a )?(mut )?(?:\[(.*)\]|(.*))", kind)
     if not borrowed:
         return [f"{c_type(kind)} {name}".replace("* ", "*")]
@@ -110,7 +114,7 @@ def null_calls(root):
 
 def structs(root):
     """What is wrong with the structs."""
-    sources = "".join(read(root, it) for it in (f"{CALLS}/runs.rt", f"{CALLS}/given.rt", f"{CALLS}/font_table.rt", f"{JOBS}/handle.rt"))
+    sources = "".join(read(root, it) for it in (f"{CALLS}/runs.rt", f"{CALLS}/given.rt", f"{CALLS}/font_table.rt", f"{CALLS}/mark_table.rt", f"{JOBS}/handle.rt"))
     wanted = {}
     for name, fields in re.findall(r"#\[repr\(C\)\]\s+(?:#\[derive\([^)]*\)\]\s+)?pub struct (\w+)(?:<'a>)? \{(.*?)\n\}", sources, flags=re.S):
         plain = re.sub(r"///.*|(pub )?ghost .*", "", fields).replace("pub ", "")
@@ -121,7 +125,7 @@ def structs(root):
 
 def statuses(root):
     """What is wrong with the statuses."""
-    found = re.findall(r"BOXGLUE_(\w+) = (\d+)", declared(root))
+    found = re.findall(r"BOXGLUE_(\w+) = (\d+)", re.search(r"enum boxglue_status \{([^}]*)\}", declared(root))[1])
     wanted = re.findall(r"pub const (\w+): u32 = (\d+);", read(root, f"{CALLS}/status.rt") + read(root, f"{JOBS}/status.rt"))
     return None if wanted and found == wanted else f"the header has {found}, and the calls have {wanted}"
 

@@ -20,7 +20,7 @@ FILE_SIZE = 116
 # The compilers of the tests of the header, and the warnings that a program may ask for.
 LANGUAGES = {"C99": ["cc", "-std=c99"], "C11": ["cc", "-std=c11"], "C++98": ["c++", "-x", "c++", "-std=c++98", "-Wno-long-long"], "C++17": ["c++", "-x", "c++", "-std=c++17"]}
 WARNINGS = "-Wall -Wextra -Wpedantic -Wconversion -Wshadow -Wcast-qual -Wcast-align -Wundef -Werror".split()
-SYMBOLS = "run list paint fonts job_new job_commands job_answers job_take".split()
+SYMBOLS = "run list paint fonts marks job_new job_commands job_answers job_take".split()
 # The empty script is answered by "end: pages 0 bytes 0", and the empty file by "refused 20 BadDvi 0 Trailer".
 NULL_CALLS = b"""run 4 86 116: a buffer is too small: the sizes say what is needed
 run 4 21 0: a buffer is too small: the sizes say what is needed
@@ -28,6 +28,7 @@ list 4 28 0: a buffer is too small: the sizes say what is needed
 list by a pointer 4 28 0: a buffer is too small: the sizes say what is needed
 paint 4 28 0: a buffer is too small: the sizes say what is needed
 fonts 4 0 28: a buffer is too small: the sizes say what is needed
+marks 4 0 28: a buffer is too small: the sizes say what is needed
 new 0 0 0: accepted
 commands 0 0 0: accepted
 answers 0 0 0: accepted

@@ -20,6 +20,7 @@ static void call_whole(const uint8_t *script, size_t script_size) {
 
 static void call_readers(void) {
     struct boxglue_font_sizes sizes = {0, 0};
+    struct boxglue_mark_sizes mark_sizes = {0, 0, 0, 0, 0, 0};
     size_t size = 0;
     listing *by_pointer = boxglue_list;
     uint32_t status = boxglue_list(NULL, 0, NULL, 0, NULL, 0, &size);
@@ -30,6 +31,8 @@ static void call_readers(void) {
     print_call("paint", status, size, 0);
     status = boxglue_fonts(NULL, 0, NULL, 0, NULL, 0, &sizes);
     print_call("fonts", status, sizes.fonts, sizes.text);
+    status = boxglue_marks(NULL, 0, NULL, 0, NULL, 0, NULL, 0, NULL, 0, &mark_sizes);
+    print_call("marks", status, mark_sizes.pages, mark_sizes.text);
 }
 
 static void call_job(void) {

@@ -38,6 +38,12 @@ SYMBOL(fonts,
        (dvi, dvi_size, fonts, font_room, text, text_room, sizes),
        GOOD_BYTES(dvi) && GOOD_STRUCTS(fonts) && GOOD_BYTES(text))
 
+SYMBOL(marks,
+       (const uint8_t *dvi, size_t dvi_size, const struct boxglue_font *fonts, size_t font_count, struct boxglue_page *pages, size_t page_room,
+        struct boxglue_mark *marks, size_t mark_room, uint8_t *text, size_t text_room, struct boxglue_mark_sizes *sizes),
+       (dvi, dvi_size, fonts, font_count, pages, page_room, marks, mark_room, text, text_room, sizes),
+       GOOD_BYTES(dvi) && GOOD_STRUCTS(fonts) && GOOD_STRUCTS(pages) && GOOD_STRUCTS(marks) && GOOD_BYTES(text))
+
 SYMBOL(job_new, (struct boxglue_job *job, const struct boxglue_font *fonts, size_t font_count), (job, fonts, font_count), GOOD_STRUCTS(fonts))
 
 SYMBOL(job_commands, (struct boxglue_job *job, const uint8_t *script, size_t script_size), (job, script, script_size), GOOD_BYTES(script))

@@ -2,9 +2,10 @@
 //! `include/boxglue.h` describes them for callers in C. A function has no `requires`: it returns a status for every input.
 #![tactic(auto)]
 
-ghost use Rattle.std.specs.Prelude.{◌≡◌, ◌≢◌, ◌↔◌, ◌⊎◌, false, true, None, Some};
+ghost use Rattle.std.specs.Prelude.{◌≡◌, ◌≢◌, ◌↔◌, ◌⊎◌, ◌≤◌, ◌/◌, length, false, true, None, Some};
 ghost use Rattle.boxglue_calls.specs.Fonts.{are_named, files_of};
 ghost use Rattle.boxglue_calls.specs.FontTables.{HandsOverFonts};
+ghost use Rattle.boxglue_calls.specs.MarkTables.{HandsOverMarks, mark_outputs};
 ghost use Rattle.boxglue_calls.specs.Pages.{HandsOverPages, is_in_range};
 ghost use Rattle.boxglue_calls.specs.Runs.{HandsOverRun, IsRun};
 ghost use Rattle.boxglue_jobs.specs.Calls.{OnJob};
@@ -13,7 +14,7 @@ ghost use Rattle.boxglue_jobs.specs.Pieces.{DoesCommands, FinishesKept, HandsAns
 ghost use Rattle.boxglue_print.specs.Outputs.{IsListed, IsPainted, LacksPage};
 ghost use Rattle.raster_core.specs.Sheets.{sheet_of};
 
-use boxglue_calls::{DviFont, Font, FontSizes, Lengths};
+use boxglue_calls::{DviFont, DviMark, DviPage, Font, FontSizes, Lengths, MarkSizes};
 use boxglue_jobs::JobHandle;
 use std::alloc::Global;
 
@@ -94,6 +95,30 @@ pub extern "C" fn boxglue_fonts(
     ensures sizes { result ≡ 2 → sizes.new ≡ sizes.old }
 {
     boxglue_calls::fonts(alloc, dvi, fonts, text, sizes)
+}
+
+/// Reads the marks of all pages of a DVI file with these fonts. The pages go into `pages`, their marks into `marks`, and the numbers of both and the
+/// units of the file into `sizes`. The line of a refusal goes into `text`.
+#[unsafe(no_mangle)]
+pub extern "C" fn boxglue_marks(
+    alloc: Global,
+    dvi: &[u8],
+    fonts: &[Font<'_>],
+    pages: &mut [DviPage],
+    marks: &mut [DviMark],
+    text: &mut [u8],
+    sizes: &mut MarkSizes,
+) -> u32
+    ensures named { result ≡ 3 ↔ are_named fonts.now ≡ false }
+    ensures done { (result ≡ 2) ⊎ (result ≡ 3) ⊎ HandsOverMarks (files_of fonts.now) dvi.now
+        (mark_outputs pages.old marks.old text.old) (mark_outputs pages.new marks.new text.new) sizes.new result }
+    ensures enough { length dvi.now / 46 ≤ length pages.old → length dvi.now ≤ length marks.old → 64 ≤ length text.old → result ≢ 4 }
+    ensures pages { (result ≡ 2) ⊎ (result ≡ 3) → pages.new ≡ pages.old }
+    ensures marks { (result ≡ 2) ⊎ (result ≡ 3) → marks.new ≡ marks.old }
+    ensures text { (result ≡ 2) ⊎ (result ≡ 3) → text.new ≡ text.old }
+    ensures sizes { (result ≡ 2) ⊎ (result ≡ 3) → sizes.new ≡ sizes.old }
+{
+    boxglue_calls::marks(alloc, dvi, fonts, pages, marks, text, sizes)
 }
 
 /// The version of the library: 10,000 times the first of its three numbers, 100 times the second, and the third.

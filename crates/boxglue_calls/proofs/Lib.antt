@@ -1,3 +1,6 @@
+pub mod FaultLines
 pub mod FontTableLaws
+pub mod MarkRowLaws
+pub mod MarkTableLaws
 pub mod PageLaws
 pub mod RunLaws

@@ -6,7 +6,7 @@ ghost use Rattle.boxglue_calls.specs.Buffers.{Holds, HandsOver, HandsOverBoth};
 use crate::status::BUFFER_TOO_SMALL;
 
 /// Puts items at the front of a buffer that has room for them.
-fn put<T: Copy>(items: &[T], buffer: &mut [T])
+pub(crate) fn put<T: Copy>(items: &[T], buffer: &mut [T])
     requires { length items.now ≤ length buffer.old }
     ensures { Holds buffer.old buffer.new items.now }
 {

@@ -1,11 +1,12 @@
-//! The calls of the library for C, as safe functions over slices: a script is run, a DVI file is listed, a page of it is painted, its fonts are read.
-//! A call writes into buffers of its caller and returns a status. `boxglue_c` exports each of these functions to C.
+//! The calls of the library for C, as safe functions over slices: a script is run, a DVI file is listed, its marks are read, a page of it is painted,
+//! its fonts are read. A call writes into buffers of its caller and returns a status. `boxglue_c` exports each of these functions to C.
 #![tactic(auto)]
 
 pub mod buffers;
 mod edition;
 mod font_table;
 mod given;
+mod mark_table;
 mod pages;
 pub mod run_status;
 mod runs;
@@ -14,5 +15,6 @@ pub mod status;
 pub use edition::version;
 pub use font_table::{DviFont, FontSizes, fonts};
 pub use given::{Font, are_named, font_files};
+pub use mark_table::{DviMark, DviPage, MarkSizes, marks};
 pub use pages::{list, paint};
 pub use runs::{Lengths, run};

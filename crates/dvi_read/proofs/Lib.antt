@@ -3,6 +3,7 @@ pub mod StepLemmas
 pub mod PointerLemmas
 pub mod WalkLemmas
 mod MarkLines
+pub mod MarkLemmas
 mod NextLines
 mod PartLemmas
 pub mod FaultLemmas

@@ -1,6 +1,6 @@
 -- A whole file: its parts make a file, and each refusal has a reason.
 use Rattle.std.proofs.Common.{◌≡◌, ◌≢◌, ◌-◌, ◌++◌, List, length, ℕ, ℤ, Result, Ok, Err, refl, sym, ◌∙◌, ap, ap₂, subst, inl, inr, arith}
-use Rattle.std.specs.Prelude.{IfOk, IfErr}
+use Rattle.std.specs.Prelude.{IfOk, IfErr, IsErrAnd}
 use Rattle.std.proofs.lemmas.Grind.{flat_map-append}
 use Rattle.dvi_fonts.specs.Closing.{ClosesTo, IsClosingFault}
 use Rattle.dvi_fonts.proofs.AheadLemmas.{looked}
@@ -118,9 +118,17 @@ pub fonts_open : (files : List NamedBytes) (bytes : List ℕ) (result : Result O
 fonts_open files bytes (Ok dvi) read = read.fonts
 fonts_open files bytes (Err fault) read = tt
 
-pub none_refused : (files : List NamedBytes) (bytes : List ℕ) (result : Result Opened DviFault) → IfErr result (IsDviFault files bytes) → IfErr result (λ fault. fault ≢ faults.OutOfMemory → IsNoFile files bytes)
-none_refused files bytes (Ok dvi) bad = tt
-none_refused files bytes (Err fault) bad = λ other pages f. no_fault files bytes fault pages other bad f
+-- A fault, if it is none of memory, is of no file.
+abbrev pub IsRefused : List NamedBytes → List ℕ → DviFault → Type 0
+IsRefused files bytes fault = fault ≢ faults.OutOfMemory → IsNoFile files bytes
+
+pub refused : (files : List NamedBytes) (bytes : List ℕ) (fault : DviFault) → IsDviFault files bytes fault → IsRefused files bytes fault
+refused files bytes fault bad other pages f = no_fault files bytes fault pages other bad f
+
+-- A file that is not opened has no pages.
+pub not_opened : {A E : Type 0} (r : Result A E) (e : E) (P : A → Type 0) → IsErrAnd r (λ y. y ≡ e) → IfOk r P
+not_opened (Ok x) e P given = absurd given
+not_opened (Err y) e P given = tt
 
 exactly : (files : List NamedBytes) (bytes : List ℕ) (result : Result Opened DviFault) (pages : List MarkedPage) → IfOk result (IsReadFrom files bytes) → IfErr result (IsDviFault files bytes)
     → IsFile (file_widths files) bytes pages → GivesPages pages result

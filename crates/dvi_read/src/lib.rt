@@ -1,4 +1,5 @@
-//! DVI files are read: `Dvi::open` checks a whole file, and its pages are those of the file definition.
+//! DVI files are read: `Dvi::open` checks a whole file, and its pages are those of the file definition. `read_dvi` also gives the widths of their glyphs
+//! and the places of their specials.
 //!
 //! `walk_pages` passes over the instructions of all pages up to post, with the fonts that are selected. `listing` is the text of the pages and their marks,
 //! line by line, and `Lines` gives it piece by piece.
@@ -24,7 +25,7 @@ pub use ahead::Lines;
 pub use before_pages::{BeforePages, find_front};
 pub use dvi_scan::{Mark, Page};
 pub use fault::{DviFault, StepFault};
-pub use opening::Dvi;
+pub use opening::{Dvi, ReadDvi, read_dvi};
 pub use part::PART;
 pub use read_fonts::{CharCode, ReadFonts, width_asked, width_of};
 pub use selecting::select;

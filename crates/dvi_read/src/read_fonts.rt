@@ -5,6 +5,7 @@ ghost use Rattle.std.specs.BTreeMap.{IsEmpty, Updates};
 ghost use Rattle.std.specs.Ordering.{int_cmp};
 ghost use Rattle.dvi_fonts.specs.Widths.{HasBytes};
 ghost use Rattle.dvi_ops.specs.View.{view};
+ghost use Rattle.dvi_read.specs.PageMarks.{read_width};
 ghost use Rattle.dvi_read.specs.ReadFonts.{AreUnchanged, HaveByteCodes, asked_width, code_in, selected_font, font_place, width_in};
 ghost use Rattle.tfm_core.specs.FileWidths.{width_at};
 
@@ -82,6 +83,17 @@ impl ReadFonts {
         self.all.push(font).unwrap();
         self.current = place;
         Ok(())
+    }
+
+    /// The width of a character in the font of a number; None where that font was not read, or has no such character. It takes no memory, and time
+    /// logarithmic in the count of fonts.
+    pub fn width_by(&self, number: FontNumber, code: CharCode) -> Option<i32>
+        requires { HaveByteCodes self.now }
+        ensures { result ≡ read_width self.now number.value code.value }
+    {
+        let place = self.places.get(&number.value)?;
+        let font = self.all.get(*place)?;
+        width_of(font, code)
     }
 
     /// The width of a character in the font that was selected last; None where there is no font or no such character. It takes no memory.

@@ -6,9 +6,11 @@ ghost use Rattle.dvi_ops.specs.View.{postamble};
 ghost use Rattle.dvi_scan.specs.View.{marked_page};
 ghost use Rattle.dvi_read.specs.Opening.{IsDviFault, StartsAt};
 ghost use Rattle.dvi_read.specs.OpeningParts.{HoldsPages, IsFinishFault};
+ghost use Rattle.dvi_read.specs.PageMarks.{HasGlyphWidths, HasPlaces, marks_so_far};
 ghost use Rattle.dvi_read.specs.Steps.{known_of, places_left, stand_of};
 ghost use Rattle.dvi_read.specs.Stops.{PagesHaveEnded};
 ghost use Rattle.dvi_scan.specs.Passed.{framing};
+ghost use Rattle.tfm_core.specs.FileWidths.{file_widths};
 
 use crate::fault::DviFault;
 use crate::walk::{Source, Walk};
@@ -18,7 +20,7 @@ use dvi_scan::FileEnd;
 use std::alloc::Global;
 use tfm_core::FontFile;
 
-/// Reads the pages of a file. A font that they select needs a definition after post too.
+/// Reads the pages of a file. A font that they select needs a definition after post too. The places of the texts of specials come with the walk.
 pub(crate) fn read_pages<'a>(
     alloc: Global,
     bytes: &'a [u8],
@@ -26,11 +28,15 @@ pub(crate) fn read_pages<'a>(
     ending: &FileEnd,
     from: usize,
     chain: Vec<usize>,
-) -> Result<Walk<'a>, DviFault>
+) -> Result<(Walk<'a>, Vec<usize>), DviFault>
     requires low { ending.now.after + 5 ≤ ending.now.last }
     requires high { ending.now.last ≤ length bytes.now }
     requires starts { StartsAt bytes.now ending.now.post ending.now.after ending.now.last (postamble ending.now.stop) chain.items from }
-    ensures ok { IfOk result (HoldsPages files.now bytes.now (framing ending.now.post ending.now.after ending.now.last (postamble ending.now.stop) chain.items) from) }
+    ensures ok { IfOk result (λ found. HoldsPages files.now bytes.now
+        (framing ending.now.post ending.now.after ending.now.last (postamble ending.now.stop) chain.items) from found.0) }
+    ensures widths { IfOk result (λ found. HasGlyphWidths (file_widths files.now) (known_of found.0) found.0.fonts
+        (marks_so_far (stand_of found.0))) }
+    ensures specials { IfOk result (λ found. HasPlaces bytes.now found.1.items (stand_of found.0)) }
     ensures bad { IfErr result (IsDviFault files.now bytes.now) }
 {
     let ahead = prescan_definitions(alloc, bytes, ending.after, ending.last - 5)?;
@@ -54,6 +60,7 @@ pub(crate) fn finish<'a>(
     ensures ended { OnOk result (PagesHaveEnded (stand_of walk.old) (places_left walk.old) (map marked_page walk.old.done.items)) }
     ensures closed { OnOk result (ClosesTo bytes.now ending.now.after (ending.now.last - 5) (known_of walk.old) (known_of walk.new)) }
     ensures done { walk.new.done.items ≡ walk.old.done.items }
+    ensures fonts { walk.new.fonts ≡ walk.old.fonts }
     ensures bad { IfErr result (IsFinishFault bytes.now ending.now.post ending.now.after ending.now.last (stand_of walk.old) (places_left walk.old) (known_of walk.old)) }
 {
     pages_end(walk, ending.post)?;

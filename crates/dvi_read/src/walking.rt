@@ -1,11 +1,12 @@
 //! The walk over the pages of a file, from the preamble to post (DVItype, 15 and 18).
 
-ghost use Rattle.std.specs.Prelude.{◌≡◌, ◌≤◌, ◌<◌, length, map, min, IfErr, IfOk, OnOk};
+ghost use Rattle.std.specs.Prelude.{◌≡◌, ◌++◌, ◌≤◌, ◌<◌, length, map, min, IfErr, IfOk, OnErr, OnOk};
 ghost use Rattle.std.specs.List.{AllByRecursion};
 ghost use Rattle.dvi_ops.specs.Fonts.{IsFontSize};
-ghost use Rattle.dvi_ops.specs.View.{postamble};
+ghost use Rattle.dvi_ops.specs.View.{postamble, view};
 ghost use Rattle.dvi_scan.specs.Reached.{IsReached, before_pages};
 ghost use Rattle.dvi_scan.specs.View.{marked_page};
+ghost use Rattle.dvi_read.specs.PageMarks.{HasPlaces, PutsSpecial, text_place};
 ghost use Rattle.dvi_read.specs.ReadFonts.{AreSound, IsCurrent};
 ghost use Rattle.dvi_read.specs.Steps.{known_of, places_left, stand_of};
 ghost use Rattle.dvi_read.specs.Stops.{page_bytes, PagesHaveEnded, IsUnended, IsWalkFault};
@@ -17,15 +18,29 @@ use crate::read_fonts::ReadFonts;
 use crate::stepping::step;
 use crate::walk::{Source, Walk};
 use dvi_fonts::KnownFonts;
+use dvi_ops::Op;
 use dvi_scan::{BadDvi, DviCause, PassState, read_at};
-use std::alloc::Global;
+use std::alloc::{AllocError, Global};
 
-/// Reads the instruction at a place before post, processes it, and returns the place after it.
+/// Appends the place of the text of a special, which is the end of its instruction. Another instruction has none.
+fn push_text_place(op: &Op<'_>, next: usize, specials: &mut Vec<usize>) -> Result<(), AllocError>
+    ensures ok { OnOk result (specials.new.items ≡ specials.old.items ++ text_place next (view op.now)) }
+    ensures memory { OnErr result (PutsSpecial (view op.now)) }
+{
+    if let Op::Xxx(text) = *op {
+        specials.push(next.saturating_sub(text.len()))?;
+    }
+    Ok(())
+}
+
+/// Reads the instruction at a place before post, processes it, and returns the place after it. The place of the text of a special is added to
+/// `specials`.
 fn read_step<'a>(
     alloc: Global,
     source: &Source<'_, 'a>,
     at: usize,
     walk: &mut Walk<'a>,
+    specials: &mut Vec<usize>,
 ) -> Result<usize, DviFault>
     requires low { at < source.now.ending.now.post }
     requires high { source.now.ending.now.post ≤ length source.now.bytes.now }
@@ -38,6 +53,8 @@ fn read_step<'a>(
     ensures bad { IfErr result (StopsReading source.now.files.now
         (page_bytes source.now.ahead.now.keys source.now.bytes.now (min 1024 (postamble source.now.ending.now.stop).stack_depth) source.now.ending.now.post)
         at walk.old) }
+    ensures specials { HasPlaces source.now.bytes.now specials.old.items (stand_of walk.old)
+        → OnOk result (HasPlaces source.now.bytes.now specials.new.items (stand_of walk.new)) }
 {
     let (op, next) = match read_at(source.bytes, at, source.ending.post) {
         Ok(found) => found,
@@ -49,7 +66,10 @@ fn read_step<'a>(
         }
     };
     match step(alloc, source, at, &op, walk) {
-        Ok(()) => Ok(next),
+        Ok(()) => {
+            push_text_place(&op, next, specials)?;
+            Ok(next)
+        }
         Err(fault) => Err(fault.at(at)),
     }
 }
@@ -69,7 +89,8 @@ fn walk_start<'a>(alloc: Global, left: Vec<usize>) -> Walk<'a>
 }
 
 /// Walks over the pages of a file, from the place after the preamble up to post. `left` has the places of the pages, the last one first (DVItype, 15
-/// and 18). The width of a character is that of the first definition of its font. It takes memory for pages, marks, places, definitions and fonts.
+/// and 18). The width of a character is that of the first definition of its font. It returns the places of the texts of specials, in order, beside the
+/// walk. It takes memory for pages, marks, places, definitions and fonts.
 ///
 /// The fault is Bad with the first broken rule and its place; NoFont, BadTfm or DimensionTooLarge for a selected font without widths; or OutOfMemory.
 pub fn walk_pages<'a>(
@@ -77,21 +98,25 @@ pub fn walk_pages<'a>(
     source: &Source<'_, 'a>,
     from: usize,
     left: Vec<usize>,
-) -> Result<Walk<'a>, DviFault>
+) -> Result<(Walk<'a>, Vec<usize>), DviFault>
     requires low { from ≤ source.now.ending.now.post }
     requires high { source.now.ending.now.post ≤ length source.now.bytes.now }
     requires reached { IsReached (file_widths source.now.files.now) source.now.ahead.now.keys source.now.bytes.now (postamble source.now.ending.now.stop) left.items from (before_pages left.items) }
     // All instructions before post are right, and the walk has their pages and fonts.
-    ensures ok { IfOk result (IsWalked (file_widths source.now.files.now) source.now.ahead.now.keys source.now.bytes.now (postamble source.now.ending.now.stop) left.items source.now.ending.now.post) }
+    ensures ok { IfOk result (λ found. IsWalked (file_widths source.now.files.now) source.now.ahead.now.keys source.now.bytes.now
+        (postamble source.now.ending.now.stop) left.items source.now.ending.now.post found.0) }
+    // Each text of a special stands at its place.
+    ensures specials { IfOk result (λ found. HasPlaces source.now.bytes.now found.1.items (stand_of found.0)) }
     // All instructions before the place of a fault are right, and the rule that it names is broken there.
     ensures bad { IfErr result (IsWalkFault source.now.files.now source.now.ahead.now.keys source.now.bytes.now (postamble source.now.ending.now.stop) left.items source.now.ending.now.post) }
 {
     let mut walk = walk_start(alloc, left);
+    let mut specials = Vec::new(alloc);
     let mut at = from;
     while at < source.ending.post {
-        at = read_step(alloc, source, at, &mut walk)?;
+        at = read_step(alloc, source, at, &mut walk, &mut specials)?;
     }
-    Ok(walk)
+    Ok((walk, specials))
 }
 
 /// Tests that no page is open at the place of post, where the fault is Opcode, and that a bop was at each place of the chain, where the fault is

@@ -2,7 +2,9 @@
 
 use crate::samples::{NESTED, TINY};
 use boxglue_calls::status::{ACCEPTED, BUFFER_TOO_SMALL, NO_SUCH_PAGE, OUT_OF_RANGE, REFUSED};
-use boxglue_calls::{DviFont, Font, FontSizes, fonts, list, paint};
+use boxglue_calls::{
+    DviFont, DviMark, DviPage, Font, FontSizes, MarkSizes, fonts, list, marks, paint,
+};
 
 /// The font of the file.
 const FONT: Font<'static> = Font {
@@ -91,4 +93,113 @@ fn the_fonts_of_a_file(rt: HostRuntime) {
         BUFFER_TOO_SMALL
     );
     assert_eq!(rt; sizes.text, 8);
+}
+
+/// A mark of zeros.
+const NO_MARK: DviMark = DviMark {
+    kind: 0,
+    font: 0,
+    code: 0,
+    h: 0,
+    v: 0,
+    height: 0,
+    width: 0,
+    text_size: 0,
+    text_start: 0,
+};
+
+/// The sizes before a call.
+const NO_SIZES: MarkSizes = MarkSizes {
+    pages: 0,
+    marks: 0,
+    text: 0,
+    num: 0,
+    den: 0,
+    mag: 0,
+};
+
+#[test]
+fn the_marks_of_a_file(rt: HostRuntime) {
+    let mut pages = [DviPage {
+        counts: [9; 10],
+        first_mark: 9,
+        marks: 9,
+    }];
+    let mut rows = [NO_MARK; 4];
+    let mut sizes = NO_SIZES;
+    let status = marks(
+        rt.alloc(),
+        &NESTED,
+        &[FONT],
+        &mut pages,
+        &mut rows,
+        &mut [],
+        &mut sizes,
+    );
+    assert_eq!(rt; status, ACCEPTED);
+    let page = DviPage {
+        counts: [0; 10],
+        first_mark: 0,
+        marks: 3,
+    };
+    assert_eq!(rt; pages[0], page);
+    let second = DviMark {
+        kind: 1,
+        font: 1,
+        code: 98,
+        h: 327_680,
+        v: 655_360,
+        width: 655_360,
+        ..NO_MARK
+    };
+    assert_eq!(rt; rows[1], second);
+    assert_eq!(rt; rows[3], NO_MARK);
+    let wanted = MarkSizes {
+        pages: 1,
+        marks: 3,
+        text: 0,
+        num: 25_400_000,
+        den: 473_628_672,
+        mag: 1000,
+    };
+    assert_eq!(rt; sizes, wanted);
+}
+
+#[test]
+fn the_marks_of_a_refused_file(rt: HostRuntime) {
+    let mut text = [0u8; 64];
+    let mut sizes = NO_SIZES;
+    let status = marks(
+        rt.alloc(),
+        &NESTED,
+        &[],
+        &mut [],
+        &mut [],
+        &mut text,
+        &mut sizes,
+    );
+    assert_eq!(rt; status, REFUSED);
+    assert_eq!(rt;
+        text.get(..sizes.text),
+        Some(b"refused 4 NoFont\n".as_slice())
+    );
+    assert_eq!(rt; (sizes.pages, sizes.marks), (0, 0));
+}
+
+#[test]
+fn too_few_rows_for_marks_stay_as_they_were(rt: HostRuntime) {
+    let mut rows = [NO_MARK; 2];
+    let mut sizes = NO_SIZES;
+    let status = marks(
+        rt.alloc(),
+        &NESTED,
+        &[FONT],
+        &mut [],
+        &mut rows,
+        &mut [],
+        &mut sizes,
+    );
+    assert_eq!(rt; status, BUFFER_TOO_SMALL);
+    assert_eq!(rt; rows, [NO_MARK; 2]);
+    assert_eq!(rt; (sizes.pages, sizes.marks), (1, 3));
 }

@@ -2,6 +2,7 @@ use Rattle.dvi_fonts.proofs.RefusalLemmas.{handed_on}
 use Rattle.dvi_ops.specs.View.{postamble}
 use Rattle.dvi_read.specs.Steps.{so_far}
 use Rattle.dvi_read.specs.Stops.{IsWalkFault}
+use Rattle.dvi_read.proofs.MarkLemmas.{places_first}
 use Rattle.dvi_read.proofs.WalkLemmas.{known_sizes, walked_first, walked_more}
 use Rattle.tfm_core.specs.FileWidths.{file_widths}
 use Rattle.dvi_read.proofs.walking.walk_pages.Goals as goal
@@ -11,6 +12,7 @@ loop-at-init c =
     let source = c.args.source.now in (
       c.requires.low,
       walked_first (file_widths source.files.now) source.ahead.now.keys source.bytes.now (postamble source.ending.now.stop) c.args.left.items c.args.from c.walk_start-walk.result c.walk_start-walk.ensures c.requires.reached,
+      places_first source.bytes.now c.args.left.items c.walk_start-walk.result c.new-specials.result.items c.walk_start-walk.ensures c.new-specials.ensures.items,
     )
 
 pub read_step-requires-clause-sizes : goal.read_step-requires-clause-sizes
@@ -40,4 +42,5 @@ loop-at-preserved c =
       reads.within,
       walked_more (file_widths source.files.now) source.ahead.now.keys source.bytes.now (postamble source.ending.now.stop) c.args.left.items c.loop-at.at source.ending.now.post c.in_ok-at.at c.loop-at.walk
           c.read_step.new.walk c.requires.high c.loop-at.invariant.1 reads,
+      c.in_ok-at.ensures.specials c.loop-at.invariant.2,
     )

@@ -1,0 +1,84 @@
+-- What a reader of a file knows of the marks of its pages: the places of the texts of specials, and the widths of glyphs (own; the marks are
+-- DVItype's, 15 and 16).
+use Rattle.std.specs.Prelude.{◌≡◌, ◌≤◌, ◌<◌, ◌+◌, ◌*◌, ◌-◌, ◌^◌, ◌++◌, [], ◌∷◌, ℕ, ℤ}
+use Rattle.std.specs.Prelude.{List, Option, Some, drop, length, option_and_then, slice_index, take}
+use Rattle.std.specs.List.{AllByRecursion, flat_map}
+use Rattle.dvi_ops.specs.File.{MarkedPage}
+use Rattle.dvi_ops.specs.Fonts.{WidthsByName, widths_of}
+use Rattle.dvi_ops.specs.Instruction.{Definition, Xxx, Instruction, Do}
+use Rattle.dvi_scan.specs.Pass.{PassStateView, Between, Inside}
+use Rattle.dvi_read.specs.ReadFonts.{HaveByteCodes, font_place, read_font_at, width_in}
+use Rattle.dvi_read.specs.declared.read_fonts.ReadFonts.{ReadFonts}
+use Rattle.scaled_core.specs.Mark.{Mark, Glyph, Special}
+
+-- The marks of all pages, in order.
+abbrev pub marks_of : List MarkedPage → List Mark
+marks_of pages = flat_map (λ page. page.marks) pages
+
+-- The text of a special, as a list of one or none.
+abbrev pub text_in : Mark → List (List ℕ)
+text_in (Special h v text) = text ∷ []
+text_in mark = []
+
+-- The texts of the specials among marks, in order.
+abbrev pub texts_in : List Mark → List (List ℕ)
+texts_in marks = flat_map text_in marks
+
+-- A text stands in the bytes from a place on. Its length is one of four bytes (DVItype, 15).
+pub record TextStandsAt (bytes : List ℕ) (place : ℕ) (text : List ℕ) : Type 0 where
+  pub within : place + length text ≤ length bytes
+  pub short : length text < 2 ^ 32
+  pub text_is : take (length text) (drop place bytes) ≡ text
+
+-- Each text stands in the bytes from the place on that has its index.
+abbrev pub TextsStandAt : List ℕ → (places : List ℕ) → (texts : List (List ℕ)) → Type 0
+TextsStandAt bytes [] [] = Unit {0}
+TextsStandAt bytes (place ∷ places) (text ∷ texts) = TextStandsAt bytes place text × TextsStandAt bytes places texts
+TextsStandAt bytes places texts = ⊥
+
+-- The width of a character in the font of a number, where that font was read.
+abbrev pub read_width : ReadFonts → (number code : ℤ) → Option ℤ
+read_width fonts number code = width_in (option_and_then (read_font_at fonts) (font_place number fonts)) code
+
+-- The fonts that were read have a width for the character, and it is the one by the first definition of the font's number.
+abbrev pub IsGlyphWidth : WidthsByName → (table : List Definition) → ReadFonts → (number code : ℤ) → Type 0
+IsGlyphWidth metrics table fonts number code =
+    (width : ℤ) × (read_width fonts number code ≡ Some width) × (widths_of metrics table number code ≡ Some width)
+
+-- A fact for the font and the character of a glyph. Another mark has none.
+abbrev pub OfGlyph : (ℤ → ℤ → Type 0) → Mark → Type 0
+OfGlyph P (Glyph number code h v) = P number code
+OfGlyph P mark = Unit {0}
+
+-- Each glyph has such a width, and the codes of the characters of each font are bytes.
+pub record HasGlyphWidths (metrics : WidthsByName) (table : List Definition) (fonts : ReadFonts) (marks : List Mark) : Type 0 where
+  pub codes : HaveByteCodes fonts
+  pub widths : AllByRecursion (OfGlyph (IsGlyphWidth metrics table fonts)) marks
+
+-- A mark takes a byte of the file or more, and a page 46 or more.
+pub record HasRoomFor (bytes : List ℕ) (pages : List MarkedPage) : Type 0 where
+  pub marks_fit : length (marks_of pages) ≤ length bytes
+  pub pages_fit : 46 * length pages ≤ length bytes
+
+-- The marks of the pages so far, in order (own; no clause of a call that other crates use to read a file reaches this and what follows).
+abbrev pub marks_so_far : PassStateView → List Mark
+marks_so_far (Between pages) = marks_of pages
+marks_so_far (Inside pages counts marks stack s) = marks_of pages ++ marks
+
+-- The text of an instruction that puts a special, as a list of one or none.
+abbrev pub text_put : Instruction → List (List ℕ)
+text_put (Do (Xxx text)) = text ∷ []
+text_put i = []
+
+-- The place of that text, where the instruction ends at `next`, as a list of one or none.
+abbrev pub text_place : (next : ℕ) → Instruction → List ℕ
+text_place next (Do (Xxx text)) = (next - length text) ∷ []
+text_place next i = []
+
+-- An instruction puts a special.
+abbrev pub PutsSpecial : Instruction → Type 0
+PutsSpecial i = (text : List ℕ) × (i ≡ Do (Xxx text))
+
+-- Each text so far stands in the bytes at its place, where these are bytes.
+abbrev pub HasPlaces : List ℕ → (places : List ℕ) → PassStateView → Type 0
+HasPlaces bytes places p = ((k : ℕ) → slice_index bytes k < 256) → TextsStandAt bytes places (texts_in (marks_so_far p))
