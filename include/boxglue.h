@@ -41,7 +41,7 @@ extern "C" {
 enum boxglue_status {
     /* All was accepted. The outputs are written. */
     BOXGLUE_ACCEPTED = 0,
-    /* The script, one of its commands, the end of the job or the DVI file was refused. The text says why. The outputs are written. */
+    /* The script, one of its commands, the end of the job or the DVI file was refused. The text, or a reply, says why. The outputs are written. */
     BOXGLUE_REFUSED = 1,
     /* Memory was refused, and there is no result. Statuses 3, 6, 8 and 9 are tested before memory is taken, so none of their causes holds. The buffers are as they
      * were. */
@@ -264,6 +264,161 @@ uint32_t boxglue_job_take(struct boxglue_job *job,
  * At 10 the line is lost, and whether the job has ended is known by the next call of it: JobOver. */
 uint32_t boxglue_job_finish(struct boxglue_job *job);
 
+/* What the reply to a line is. docs/COMMANDS.md, section 3, has the answers of each command, and docs/FORMATS.md their numbers. */
+enum boxglue_reply_kind {
+    /* The command was done, and has nothing to report. */
+    BOXGLUE_REPLY_OK = 0,
+    /* The command, or the end of the job, was refused: refusal, and cause where it is BOXGLUE_REFUSAL_BAD_TFM. */
+    BOXGLUE_REPLY_REFUSED = 1,
+    /* The piece or the script was refused for this line, and nothing of it was run: refusal, which is BOXGLUE_REFUSAL_BAD_SCRIPT, and cause. */
+    BOXGLUE_REPLY_BAD_LINE = 2,
+    /* box, badness. */
+    BOXGLUE_REPLY_PACKED = 3,
+    /* box_kind, box. */
+    BOXGLUE_REPLY_MEASURED = 4,
+    /* The register that was measured is void. */
+    BOXGLUE_REPLY_MEASURED_VOID = 5,
+    /* count items were added for a text, missing. */
+    BOXGLUE_REPLY_SHAPED = 6,
+    /* count items were added. */
+    BOXGLUE_REPLY_ADDED = 7,
+    /* count lines, pass, overhang, demerits. */
+    BOXGLUE_REPLY_PARAGRAPH = 8,
+    /* box, which is the front, badness; has_rest, rest. */
+    BOXGLUE_REPLY_SPLIT = 9,
+    /* The register whose box was to be split is void. */
+    BOXGLUE_REPLY_SPLIT_VOID = 10,
+    /* count pages were shipped so far. */
+    BOXGLUE_REPLY_SHIPPED = 11,
+    /* The job was ended: count pages, bytes. line is 0, as it is in a refusal of the end. */
+    BOXGLUE_REPLY_END = 12
+};
+
+/* Why a command, the end of a job, a piece or a script is refused: the numbers of docs/COMMANDS.md, section 2. */
+enum boxglue_refusal {
+    BOXGLUE_REFUSAL_OUT_OF_MEMORY = 1,
+    BOXGLUE_REFUSAL_BAD_SCRIPT = 2,
+    BOXGLUE_REFUSAL_DIMENSION_TOO_LARGE = 3,
+    BOXGLUE_REFUSAL_NO_FONT = 4,
+    BOXGLUE_REFUSAL_BAD_TFM = 5,
+    BOXGLUE_REFUSAL_SLOT_TAKEN = 6,
+    BOXGLUE_REFUSAL_NO_OPEN_LIST = 7,
+    BOXGLUE_REFUSAL_WRONG_MODE = 8,
+    BOXGLUE_REFUSAL_WRONG_KIND = 9,
+    BOXGLUE_REFUSAL_LIST_TOO_LONG = 10,
+    BOXGLUE_REFUSAL_TOO_DEEP = 11,
+    BOXGLUE_REFUSAL_INFINITE_SHRINK = 12,
+    BOXGLUE_REFUSAL_TOO_MANY_BREAKS = 13,
+    BOXGLUE_REFUSAL_HUGE_PAGE = 14,
+    BOXGLUE_REFUSAL_TOO_MANY_PAGES = 15,
+    BOXGLUE_REFUSAL_TOO_MUCH_SHIPPED = 16,
+    BOXGLUE_REFUSAL_LISTS_OPEN = 17,
+    BOXGLUE_REFUSAL_DEVICE = 18,
+    BOXGLUE_REFUSAL_JOB_OVER = 19,
+    BOXGLUE_REFUSAL_VOID_BOX = 21,
+    BOXGLUE_REFUSAL_TOO_MUCH_SPECIAL = 22
+};
+
+/* Why a metric file is refused (docs/FORMATS.md, section 9). */
+enum boxglue_tfm_cause {
+    BOXGLUE_TFM_TOO_SHORT = 1,
+    BOXGLUE_TFM_COUNTS = 2,
+    BOXGLUE_TFM_DESIGN_SIZE = 3,
+    BOXGLUE_TFM_CHAR_INFO = 4,
+    BOXGLUE_TFM_FIX_WORD = 5,
+    BOXGLUE_TFM_LIG_KERN = 6
+};
+
+/* Why a line is bad (docs/FORMATS.md, section 2). */
+enum boxglue_line_cause {
+    BOXGLUE_LINE_BYTE = 1,
+    BOXGLUE_LINE_WORD = 2,
+    BOXGLUE_LINE_MISSING = 3,
+    BOXGLUE_LINE_EXTRA = 4,
+    BOXGLUE_LINE_NUMBER = 5,
+    BOXGLUE_LINE_DIMENSION = 6,
+    BOXGLUE_LINE_NAME = 7
+};
+
+/* The kind of a box that was measured. A vtop is a vbox. */
+enum boxglue_box_kind {
+    BOXGLUE_BOX_HORIZONTAL = 0,
+    BOXGLUE_BOX_VERTICAL = 1
+};
+
+/* The sizes of a box, in scaled points: 65,536 of them are a point. */
+struct boxglue_box_sizes {
+    int32_t width;
+    int32_t height;
+    int32_t depth;
+};
+
+/* The reply to a line of a script, or to the end of a job. What its kind does not have is 0. */
+struct boxglue_reply {
+    /* The number of the line, from 1. */
+    uint64_t line;
+    /* One of enum boxglue_reply_kind. */
+    uint32_t kind;
+    /* One of enum boxglue_refusal; 0 where nothing was refused. */
+    uint32_t refusal;
+    /* One of enum boxglue_tfm_cause where the refusal is BadTfm, and of enum boxglue_line_cause where the line is bad; else 0. */
+    uint32_t cause;
+    /* One of enum boxglue_box_kind. */
+    uint32_t box_kind;
+    struct boxglue_box_sizes box;
+    struct boxglue_box_sizes rest;
+    /* 1 where a split left a rest, else 0. */
+    uint32_t has_rest;
+    /* 0 to 10000, or 1000000 for an overfull box. */
+    uint32_t badness;
+    /* The pass that broke the paragraph, 1 to 3; 0 for an empty one. */
+    uint32_t pass;
+    /* How many characters of the text the font does not have. UINT32_MAX stands for more, too. */
+    uint32_t missing;
+    uint64_t count;
+    uint64_t bytes;
+    /* By how much lines are overfull, in scaled points. */
+    int64_t overhang;
+    int64_t demerits;
+};
+
+/* The sizes of the outputs of boxglue_run_replies: the number of replies, and the number of bytes of the DVI file. */
+struct boxglue_reply_sizes {
+    size_t replies;
+    size_t dvi;
+};
+
+/* Runs a piece of a script as boxglue_job_commands does, and hands over the replies at once, as numbers. No answer is kept, and none can be lost; answers that are
+ * kept already stay.
+ *
+ * replies takes a reply for each line with a command, in order, or the one reply of a piece with a bad line; *count takes their number. The rest of the buffer is as it
+ * was. The room is tested before a line is run: as many as the piece has line feeds, and one, always suffice.
+ *
+ * Returns 0, 1, 2, 4, 7 or 8. At 7 the kind of a reply is refused, and its refusal is 1, OutOfMemory. At 4 nothing was run, and *count says what the buffer needs.
+ * At 2 nothing was run. At 2 and 8 *count is as it was. */
+uint32_t boxglue_job_run(struct boxglue_job *job,
+                         const uint8_t *script, size_t script_size,
+                         struct boxglue_reply *replies, size_t reply_room,
+                         size_t *count);
+
+/* Ends the job as boxglue_job_finish does, with one reply. No answer is kept; those that are kept already stay.
+ *
+ * Returns 0, 1, 7 or 8. At 8 *reply is as it was. */
+uint32_t boxglue_job_end(struct boxglue_job *job, struct boxglue_reply *reply);
+
+/* Runs a script with these fonts as boxglue_run does, with its replies as numbers.
+ *
+ * replies takes a reply for each line with a command, in order, and then that of the end; or the one reply of a script with a bad line.
+ * dvi takes the bytes of the DVI file, as in boxglue_run. *sizes takes the numbers of both. The rest of each buffer is as it was.
+ *
+ * Returns 0, 1, 2, 3, 4 or 7, as boxglue_run. At 4 *sizes says what both buffers need, and nothing is written to them: the script was run, and a second call runs it
+ * again. At 2 and 3 *sizes is as it was. */
+uint32_t boxglue_run_replies(const uint8_t *script, size_t script_size,
+                             const struct boxglue_font *fonts, size_t font_count,
+                             struct boxglue_reply *replies, size_t reply_room,
+                             uint8_t *dvi, size_t dvi_room,
+                             struct boxglue_reply_sizes *sizes);
+
 /* Frees all memory of the job, whether it was finished or not. The handle is null then, and may get another job. A handle without a job stays as it is. */
 void boxglue_job_free(struct boxglue_job *job);
 
@@ -318,6 +473,11 @@ static inline struct boxglue_page *boxglue_pages_at(struct boxglue_page *at, siz
 
 static inline struct boxglue_mark *boxglue_marks_at(struct boxglue_mark *at, size_t size) {
     static struct boxglue_mark none;
+    return size ? at : &none;
+}
+
+static inline struct boxglue_reply *boxglue_replies_at(struct boxglue_reply *at, size_t size) {
+    static struct boxglue_reply none;
     return size ? at : &none;
 }
 
@@ -403,6 +563,27 @@ static inline uint32_t boxglue_job_take_or_null(struct boxglue_job *job,
                             size);
 }
 
+static inline uint32_t boxglue_job_run_or_null(struct boxglue_job *job,
+                                               const uint8_t *script, size_t script_size,
+                                               struct boxglue_reply *replies, size_t reply_room,
+                                               size_t *count) {
+    return boxglue_job_run(job, boxglue_bytes_at(script, script_size), script_size,
+                           boxglue_replies_at(replies, reply_room), reply_room,
+                           count);
+}
+
+static inline uint32_t boxglue_run_replies_or_null(const uint8_t *script, size_t script_size,
+                                                   const struct boxglue_font *fonts, size_t font_count,
+                                                   struct boxglue_reply *replies, size_t reply_room,
+                                                   uint8_t *dvi, size_t dvi_room,
+                                                   struct boxglue_reply_sizes *sizes) {
+    return boxglue_run_replies(boxglue_bytes_at(script, script_size), script_size,
+                               boxglue_fonts_at(fonts, font_count), font_count,
+                               boxglue_replies_at(replies, reply_room), reply_room,
+                               boxglue_room_at(dvi, dvi_room), dvi_room,
+                               sizes);
+}
+
 #define boxglue_run boxglue_run_or_null
 #define boxglue_list boxglue_list_or_null
 #define boxglue_paint boxglue_paint_or_null
@@ -412,6 +593,8 @@ static inline uint32_t boxglue_job_take_or_null(struct boxglue_job *job,
 #define boxglue_job_commands boxglue_job_commands_or_null
 #define boxglue_job_answers boxglue_job_answers_or_null
 #define boxglue_job_take boxglue_job_take_or_null
+#define boxglue_job_run boxglue_job_run_or_null
+#define boxglue_run_replies boxglue_run_replies_or_null
 
 #endif
 

@@ -1,5 +1,6 @@
 #include "job_calls.h"
 #include "heap.h"
+#include "reply_calls.h"
 
 #include <stdlib.h>
 
@@ -50,8 +51,12 @@ static struct boxglue_job make_job(const struct fonts *fonts, struct job_result 
     return job;
 }
 
-static void run_piece(struct boxglue_job *job, const struct input *piece, struct job_result *result) {
-    while (!is_made(result, COUNTED(boxglue_job_commands(job, piece->bytes, piece->size)))) {
+static uint32_t make_run(struct boxglue_job *job, const struct input *piece, int as_replies, struct job_result *result) {
+    return as_replies ? reply_to_piece(job, piece, &result->answers) : COUNTED(boxglue_job_commands(job, piece->bytes, piece->size));
+}
+
+static void run_piece(struct boxglue_job *job, const struct input *piece, int as_replies, struct job_result *result) {
+    while (!is_made(result, make_run(job, piece, as_replies, result))) {
         size_t answers = call_with_room(job, boxglue_job_answers, 0, NULL), bytes = call_with_room(job, boxglue_job_take, 0, NULL);
         REQUIRE(!answers && !bytes, "a piece that was not run has %zu bytes of answers, and %zu of the file", answers, bytes);
     }
@@ -63,10 +68,10 @@ static void take_both(struct boxglue_job *job, struct job_result *result) {
 }
 
 /* Ends a job, again where memory was refused for it. */
-static void finish_job(struct boxglue_job *job, struct job_result *result) {
+static void finish_job(struct boxglue_job *job, int as_replies, struct job_result *result) {
     uint32_t status;
     do {
-        status = COUNTED(boxglue_job_finish(job));
+        status = as_replies ? reply_to_end(job, &result->answers) : COUNTED(boxglue_job_finish(job));
         REQUIRE(is_made(result, status), "the end of a job has status %u", status);
         take_both(job, result);
     } while (status == BOXGLUE_REFUSED_MEMORY);
@@ -87,11 +92,11 @@ struct job_result run_pieces(const struct pieces *pieces, size_t refused) {
     struct boxglue_job job = make_job(&pieces->fonts, &result);
     for (size_t from = 0, number = 0; from < pieces->script.size; number++) {
         struct input piece = piece_at(pieces, from, number);
-        run_piece(&job, &piece, &result);
+        run_piece(&job, &piece, pieces->as_replies, &result);
         take_both(&job, &result);
         from += piece.size;
     }
-    finish_job(&job, &result);
+    finish_job(&job, pieces->as_replies, &result);
     result.growths = heap_growths();
     free_job(&job);
     REQUIRE(!heap_live(), "growth %zu refused: %ld blocks are not freed", refused, heap_live());

@@ -6,11 +6,12 @@
 
 enum { STATUS_COUNT = BOXGLUE_ANSWERS_LOST + 1 };
 
-/* A script with its fonts, and how many lines a piece of it has at most; 0 for one piece of all lines. */
+/* A script with its fonts, how many lines a piece of it has at most, 0 for one piece of all lines, and whether it is run by the calls whose replies are numbers. */
 struct pieces {
     struct input script;
     struct fonts fonts;
     size_t most;
+    int as_replies;
 };
 
 /* What came of all calls on a job: how many of them returned each status, the answers, the bytes of the file, and how many growths of memory there were. */

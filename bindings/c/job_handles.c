@@ -1,6 +1,8 @@
 #include "job_calls.h"
 #include "heap.h"
 
+#include <string.h>
+
 static const uint8_t SCRIPT[] = "hbox into 0\nend\n";
 
 static void require_status(uint32_t status, uint32_t wanted, const char *call) {
@@ -17,11 +19,22 @@ static void require_nothing(struct boxglue_job *job, hand_over *call, const char
     free_output(&output);
 }
 
+/* Fails where a call writes a reply for a handle without a job. */
+static void require_no_replies(struct boxglue_job *job) {
+    const struct boxglue_reply before = {.line = 7, .kind = BOXGLUE_REPLY_END};
+    struct boxglue_reply reply = before;
+    size_t count = 7;
+    require_status(boxglue_job_run(job, SCRIPT, sizeof SCRIPT - 1, &reply, 1, &count), BOXGLUE_NO_JOB, "boxglue_job_run");
+    require_status(boxglue_job_end(job, &reply), BOXGLUE_NO_JOB, "boxglue_job_end");
+    REQUIRE(count == 7 && !memcmp(&reply, &before, sizeof reply), "a reply is written for a handle without a job");
+}
+
 static void require_no_job(struct boxglue_job *job) {
     heap_begin(0);
     heap_count(1);
     require_status(boxglue_job_commands(job, SCRIPT, sizeof SCRIPT - 1), BOXGLUE_NO_JOB, "boxglue_job_commands");
     require_status(boxglue_job_finish(job), BOXGLUE_NO_JOB, "boxglue_job_finish");
+    require_no_replies(job);
     boxglue_job_free(job);
     heap_count(0);
     require_nothing(job, boxglue_job_answers, "boxglue_job_answers");

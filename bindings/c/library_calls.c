@@ -5,7 +5,9 @@
  *     library_calls [--refuse] paint PAGE DPI WIDTH HEIGHT DVI [NAME=TFM ..]
  *     library_calls [--refuse] fonts DVI
  *     library_calls [--refuse] marks DVI [NAME=TFM ..]
+ *     library_calls [--refuse] run_replies SCRIPT [NAME=TFM ..]
  *     library_calls [--refuse] job MOST SCRIPT [NAME=TFM ..]
+ *     library_calls [--refuse] job_replies MOST SCRIPT [NAME=TFM ..]
  *     library_calls random COUNT SCRIPT DVI NAME=TFM
  *     library_calls pieces COUNT SCRIPT NAME=TFM
  *     library_calls frees SCRIPT [NAME=TFM ..]
@@ -14,12 +16,14 @@
  *
  * It prints a line with the status and the sizes of both outputs, and then the outputs; `marks` prints the status and the units, and then a listing. `job` runs the
  * script on a job, in pieces of at most MOST lines, or in one piece where MOST is 0.
+ * `run_replies` and `job_replies` print the texts of the replies that came as numbers.
  * `frees` frees jobs after each line of the script. With --refuse each growth of memory is refused in turn instead, and the ways in which the calls ended are counted.
  * Where something is wrong, a line on standard error says so, and the status of the program is 1. */
 #include "job_calls.h"
 #include "mark_calls.h"
 #include "random_inputs.h"
 #include "random_pieces.h"
+#include "reply_text.h"
 #include "whole_calls.h"
 
 #include <stdio.h>
@@ -41,6 +45,14 @@ static void print_fonts(const struct result *result) {
     if (!count) fwrite(result->outputs[1].bytes, 1, result->sizes[1], stdout);
 }
 
+/* Prints the texts of the replies to a script, and the file. */
+static void print_replies(const struct result *result) {
+    struct input texts = {0};
+    say_replies(&texts, (const struct boxglue_reply *)result->outputs[0].bytes, result->sizes[0] / sizeof(struct boxglue_reply));
+    print_outputs(result->status, texts.bytes, texts.size, result->outputs[1].bytes, result->sizes[1]);
+    free(texts.bytes);
+}
+
 static void make_request(const struct request *request, int refuses) {
     if (refuses) {
         refuse_growths(request);
@@ -50,6 +62,7 @@ static void make_request(const struct request *request, int refuses) {
     int is_written = result.status <= BOXGLUE_REFUSED || result.status == BOXGLUE_REFUSED_MEMORY;
     if (!is_written) printf("%u 0 0\n", result.status);
     else if (request->call == FONTS) print_fonts(&result);
+    else if (request->call == REPLIES) print_replies(&result);
     else print_outputs(result.status, result.outputs[0].bytes, result.sizes[0], result.outputs[1].bytes, result.sizes[1]);
     free_result(&result);
 }
@@ -76,7 +89,7 @@ static void run_random_pieces(char **words, int count) {
 
 static void run_frees(char **words, int count) {
     REQUIRE(count >= 1, "frees needs SCRIPT");
-    struct pieces pieces = {read_file(words[0]), read_fonts(words + 1, count - 1), 0};
+    struct pieces pieces = {read_file(words[0]), read_fonts(words + 1, count - 1), 0, 0};
     free_after_each_line(&pieces);
 }
 
@@ -88,9 +101,9 @@ static void run_marks(char **words, int count, int refuses) {
     else print_marks(&dvi, &fonts);
 }
 
-static void run_job(char **words, int count, int refuses) {
-    REQUIRE(count >= 2, "job needs MOST SCRIPT");
-    struct pieces pieces = {read_file(words[1]), read_fonts(words + 2, count - 2), number(words[0])};
+static void run_job(char **words, int count, int refuses, int as_replies) {
+    REQUIRE(count >= 2, "a job needs MOST SCRIPT");
+    struct pieces pieces = {read_file(words[1]), read_fonts(words + 2, count - 2), number(words[0]), as_replies};
     if (refuses) {
         refuse_job_growths(&pieces);
         return;
@@ -115,7 +128,7 @@ static struct request read_request(enum call call, char **words, int count) {
 }
 
 int main(int count, char **words) {
-    static const char *const CALLS[] = {[RUN] = "run", [LIST] = "list", [PAINT] = "paint", [FONTS] = "fonts"};
+    static const char *const CALLS[] = {[RUN] = "run", [LIST] = "list", [PAINT] = "paint", [FONTS] = "fonts", [REPLIES] = "run_replies"};
     int refuses = count > 1 && !strcmp(words[1], "--refuse");
     words += 1 + refuses, count -= 1 + refuses;
     REQUIRE(count >= 1, "the name of a call is missing");
@@ -123,12 +136,13 @@ int main(int count, char **words) {
     if (!strcmp(words[0], "version")) return printf("%u\n", boxglue_version()) < 0;
     if (!strcmp(words[0], "random")) return run_random(words + 1, count - 1), 0;
     if (!strcmp(words[0], "pieces")) return run_random_pieces(words + 1, count - 1), 0;
-    if (!strcmp(words[0], "job")) return run_job(words + 1, count - 1, refuses), 0;
+    if (!strcmp(words[0], "job")) return run_job(words + 1, count - 1, refuses, 0), 0;
+    if (!strcmp(words[0], "job_replies")) return run_job(words + 1, count - 1, refuses, 1), 0;
     if (!strcmp(words[0], "frees")) return run_frees(words + 1, count - 1), 0;
     if (!strcmp(words[0], "marks")) return run_marks(words + 1, count - 1, refuses), 0;
     if (!strcmp(words[0], "handles")) return require_handles(), 0;
     int call = RUN;
-    while (strcmp(words[0], CALLS[call])) REQUIRE(++call <= FONTS, "no call %s", words[0]);
+    while (strcmp(words[0], CALLS[call])) REQUIRE(++call <= REPLIES, "no call %s", words[0]);
     struct request request = read_request((enum call)call, words + 1, count - 1);
     make_request(&request, refuses);
     return 0;

@@ -1,7 +1,9 @@
 #include "whole_calls.h"
 #include "heap.h"
+#include "reply_text.h"
 
 #include <stdio.h>
+#include <stdlib.h>
 #include <string.h>
 
 static const size_t UNSET = (size_t)-1;
@@ -9,12 +11,12 @@ enum { NOTHING, COMMAND, DEVICE, SAME, KINDS };
 
 /* The bytes of an item of the first output. */
 static size_t item_size(enum call call) {
-    return call == FONTS ? sizeof(struct boxglue_dvi_font) : 1;
+    return call == FONTS ? sizeof(struct boxglue_dvi_font) : call == REPLIES ? sizeof(struct boxglue_reply) : 1;
 }
 
 /* Whether a call has two outputs. */
 static int has_two(const struct request *request) {
-    return request->call == RUN || request->call == FONTS;
+    return request->call == RUN || request->call == FONTS || request->call == REPLIES;
 }
 
 static uint32_t call_library(const struct request *request, struct result *result, const size_t rooms[2]) {
@@ -24,6 +26,7 @@ static uint32_t call_library(const struct request *request, struct result *resul
     uint8_t *first = result->outputs[0].bytes, *second = result->outputs[1].bytes;
     struct boxglue_lengths lengths = {UNSET, UNSET};
     struct boxglue_font_sizes font_sizes = {UNSET, UNSET};
+    struct boxglue_reply_sizes reply_sizes = {UNSET, UNSET};
     uint32_t status = 0;
     switch (request->call) {
     case RUN:
@@ -39,6 +42,10 @@ static uint32_t call_library(const struct request *request, struct result *resul
     case FONTS:
         status = boxglue_fonts(input->bytes, input->size, (struct boxglue_dvi_font *)first, rooms[0] / item_size(FONTS), second, rooms[1], &font_sizes);
         sizes[0] = font_sizes.fonts == UNSET ? UNSET : font_sizes.fonts * item_size(FONTS), sizes[1] = font_sizes.text;
+        break;
+    case REPLIES:
+        status = boxglue_run_replies(input->bytes, input->size, fonts, count, (struct boxglue_reply *)first, rooms[0] / item_size(REPLIES), second, rooms[1], &reply_sizes);
+        sizes[0] = reply_sizes.replies == UNSET ? UNSET : reply_sizes.replies * item_size(REPLIES), sizes[1] = reply_sizes.dvi;
     }
     return status;
 }
@@ -66,9 +73,21 @@ static int is_written(uint32_t status) {
     return status == BOXGLUE_ACCEPTED || status == BOXGLUE_REFUSED || status == BOXGLUE_REFUSED_MEMORY;
 }
 
+/* The replies of a call. */
+static const struct boxglue_reply *replies_of(const struct result *result) {
+    return (const struct boxglue_reply *)result->outputs[0].bytes;
+}
+
+/* Fails where the status of a call is not that of its replies. */
+static void require_status(const struct result *result) {
+    uint32_t wanted = status_of(replies_of(result), result->sizes[0] / item_size(REPLIES));
+    REQUIRE(result->status == wanted, "the status is %u, and the replies say %u", result->status, wanted);
+}
+
 /* Fails where a call wrote a byte, or a size, that its status leaves alone. */
 static void require_tidy(const struct request *request, const struct result *result, const char *when) {
     int has_sizes = is_written(result->status) || result->status == BOXGLUE_BUFFER_TOO_SMALL;
+    if (request->call == REPLIES && is_written(result->status)) require_status(result);
     for (int at = 0; at < 2; at++) {
         int unset = result->sizes[at] == UNSET || (at && !has_two(request));
         REQUIRE(has_sizes ? result->sizes[at] != UNSET : unset, "%s: status %u, and size %d is %zu", when, result->status, at, result->sizes[at]);
@@ -104,10 +123,14 @@ struct result checked_call(const struct request *request) {
     return result;
 }
 
-/* Whether the answers of a run have this end of a line. */
+/* Whether the answers or the replies of a run have this end of a line. */
 static int has_line(const struct request *request, const struct result *result, const char *line) {
-    struct input answers = {result->outputs[0].bytes, result->sizes[0]};
-    return request->call == RUN && has_text(&answers, line);
+    struct input texts = {0};
+    if (request->call == RUN) append(&texts, result->outputs[0].bytes, result->sizes[0]);
+    if (request->call == REPLIES) say_replies(&texts, replies_of(result), result->sizes[0] / item_size(REPLIES));
+    int has = has_text(&texts, line);
+    free(texts.bytes);
+    return has;
 }
 
 static int is_same(const struct result *result, const struct result *other) {

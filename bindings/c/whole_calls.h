@@ -4,7 +4,7 @@
 
 #include "inputs.h"
 
-enum call { RUN, LIST, PAINT, FONTS };
+enum call { RUN, LIST, PAINT, FONTS, REPLIES };
 
 /* What a call is given. */
 struct request {

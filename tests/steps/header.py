@@ -15,12 +15,14 @@ HEADER = "include/boxglue.h"
 EXPORTS = "crates/boxglue_c/src/lib.rt"
 CALLS = "crates/boxglue_calls/src"
 JOBS = "crates/boxglue_jobs/src"
+REFUSALS = "crates/boxglue_program/src/refusals.rt"
 STATUSES_OF_PYTHON = "bindings/python/boxglue/_status.py"
 RUST = "bindings/rust/boxglue-sys/src/lib.rs"
 PYTHON = "bindings/python/boxglue/_library.py"
 CALLS_OF_C = "#ifndef BOXGLUE_NO_INLINE"
-TYPES = {"u8": "uint8_t", "u32": "uint32_t", "u64": "uint64_t", "i32": "int32_t", "usize": "size_t", "": "void", "*mut u8": "void *", "JobHandle": "struct boxglue_job",
-         "DviPage": "struct boxglue_page", "DviMark": "struct boxglue_mark"}
+TYPES = {"u8": "uint8_t", "u32": "uint32_t", "u64": "uint64_t", "i32": "int32_t", "i64": "int64_t", "usize": "size_t", "": "void", "*mut u8": "void *",
+         "JobHandle": "struct boxglue_job", "DviPage": "struct boxglue_page", "DviMark": "struct boxglue_mark", "ReplyRow": "struct boxglue_reply"}
+NAMES = {"box_sizes": "box"}  # what Rust does not take as a name
 
 
 def read(root, path):
@@ -43,7 +45,7 @@ def c_type(name):
 def slice_of(name, item, mutable):
     """The pointer and the length that C passes for a slice. A length is named after one item: `fonts` and `font_count`."""
     kind = c_type(item)
-    one = name.removesuffix("s") if kind.startswith("struct") else name
+    one = re.sub("ies$|s$", lambda end: "y" if end[0] == "ies" else "", name) if kind.startswith("struct") else name
     suffix = "room" if mutable else "size" if item == "u8" else "count"
     return [f"{'' if mutable else 'const '}{kind} *{name}", f"size_t {one}_{suffix}"]
 
@@ -57,7 +59,7 @@ def c_fields(name, kind):
         return [f"{c_type(array[1])} {name}[{array[2]}]"]
     borrowed = re.fullmatch(r"&(?:'a )?(mut )?(?:\[(.*)\]|(.*))", kind)
     if not borrowed:
-        return [f"{c_type(kind)} {name}".replace("* ", "*")]
+        return [f"{c_type(kind)} {NAMES.get(name, name)}".replace("* ", "*")]
     mutable, item, one = borrowed.groups()
     return slice_of(name, item, mutable) if item else [f"{'' if mutable else 'const '}{c_type(one)} *{name}"]
 
@@ -114,7 +116,8 @@ def null_calls(root):
 
 def structs(root):
     """What is wrong with the structs."""
-    sources = "".join(read(root, it) for it in (f"{CALLS}/runs.rt", f"{CALLS}/given.rt", f"{CALLS}/font_table.rt", f"{CALLS}/mark_table.rt", f"{JOBS}/handle.rt"))
+    sources = "".join(read(root, f"{CALLS}/{it}.rt") for it in ("runs", "given", "font_table", "mark_table"))
+    sources += "".join(read(root, f"{JOBS}/{it}.rt") for it in ("handle", "rows", "whole"))
     wanted = {}
     for name, fields in re.findall(r"#\[repr\(C\)\]\s+(?:#\[derive\([^)]*\)\]\s+)?pub struct (\w+)(?:<'a>)? \{(.*?)\n\}", sources, flags=re.S):
         plain = re.sub(r"///.*|(pub )?ghost .*", "", fields).replace("pub ", "")
@@ -123,11 +126,32 @@ def structs(root):
     return None if wanted and found == wanted else f"the header has {found}, and the calls have {wanted}"
 
 
+def numbers(root, enum, prefix, *sources, row=r"const (\w+): u32 = (\d+);"):
+    """What is wrong with the numbers of an enum. A row of the sources has a name and its number."""
+    found = re.findall(rf"{prefix}(\w+) = (\d+)", re.search(rf"enum {enum} {{(.*?)}}", declared(root))[1])
+    rows = re.findall(row, "".join(read(root, it) for it in sources))
+    wanted = [(re.sub(r"(?<=[a-z])(?=[A-Z])", "_", name).upper(), number) for name, number in rows]
+    return None if wanted and found == sorted(wanted, key=lambda it: int(it[1])) else f"the header has {found}, and the calls have {wanted}"
+
+
 def statuses(root):
     """What is wrong with the statuses."""
-    found = re.findall(r"BOXGLUE_(\w+) = (\d+)", re.search(r"enum boxglue_status \{([^}]*)\}", declared(root))[1])
-    wanted = re.findall(r"pub const (\w+): u32 = (\d+);", read(root, f"{CALLS}/status.rt") + read(root, f"{JOBS}/status.rt"))
-    return None if wanted and found == wanted else f"the header has {found}, and the calls have {wanted}"
+    return numbers(root, "boxglue_status", "BOXGLUE_", f"{CALLS}/status.rt", f"{JOBS}/status.rt")
+
+
+def reply_kinds(root):
+    """What is wrong with the kinds of replies."""
+    return numbers(root, "boxglue_reply_kind", "BOXGLUE_REPLY_", f"{JOBS}/reply_kind.rt")
+
+
+def numbers_of_replies(root):
+    """What is wrong with the numbers of refusals, of their causes, and of kinds of boxes."""
+    rows = f"{JOBS}/rows.rt"
+    wrong = (numbers(root, "boxglue_refusal", "BOXGLUE_REFUSAL_", REFUSALS, rows, row=r"(?:Refusal::|const )(\w+)\S* (?:=> \(|u32 = )(\d+)"),
+             numbers(root, "boxglue_tfm_cause", "BOXGLUE_TFM_", rows, row=r"\bTfmCause::(\w+) => (\d+)"),
+             numbers(root, "boxglue_line_cause", "BOXGLUE_LINE_", rows, row=r"\bCause::(\w+) => (\d+)"),
+             numbers(root, "boxglue_box_kind", "BOXGLUE_BOX_", rows, row=r"\bKind::(\w+) => (\d+)"))
+    return "; ".join(it for it in wrong if it) or None
 
 
 def status_texts(root):
@@ -190,5 +214,5 @@ def new_version(root):
 
 def cases(_programs, root):
     """A case for each kind of declaration."""
-    for check in (functions, null_calls, structs, statuses, status_texts, rust, python, version, new_version):
+    for check in (functions, null_calls, structs, statuses, reply_kinds, numbers_of_replies, status_texts, rust, python, version, new_version):
         yield check.__name__, partial(check, root)

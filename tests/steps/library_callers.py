@@ -20,10 +20,12 @@ FILE_SIZE = 116
 # The compilers of the tests of the header, and the warnings that a program may ask for.
 LANGUAGES = {"C99": ["cc", "-std=c99"], "C11": ["cc", "-std=c11"], "C++98": ["c++", "-x", "c++", "-std=c++98", "-Wno-long-long"], "C++17": ["c++", "-x", "c++", "-std=c++17"]}
 WARNINGS = "-Wall -Wextra -Wpedantic -Wconversion -Wshadow -Wcast-qual -Wcast-align -Wundef -Werror".split()
-SYMBOLS = "run list paint fonts marks job_new job_commands job_answers job_take".split()
+SYMBOLS = "run run_replies list paint fonts marks job_new job_commands job_run job_answers job_take".split()
 # The empty script is answered by "end: pages 0 bytes 0", and the empty file by "refused 20 BadDvi 0 Trailer".
 NULL_CALLS = b"""run 4 86 116: a buffer is too small: the sizes say what is needed
+run_replies 4 5 116: a buffer is too small: the sizes say what is needed
 run 4 21 0: a buffer is too small: the sizes say what is needed
+run_replies 4 1 0: a buffer is too small: the sizes say what is needed
 list 4 28 0: a buffer is too small: the sizes say what is needed
 list by a pointer 4 28 0: a buffer is too small: the sizes say what is needed
 paint 4 28 0: a buffer is too small: the sizes say what is needed
@@ -31,6 +33,7 @@ fonts 4 0 28: a buffer is too small: the sizes say what is needed
 marks 4 0 28: a buffer is too small: the sizes say what is needed
 new 0 0 0: accepted
 commands 0 0 0: accepted
+job_run 0 0 0: accepted
 answers 0 0 0: accepted
 finish 0 0 0: accepted
 take 0 0 0: accepted
@@ -39,7 +42,7 @@ WANTED = b"1: ok\n2: ok\n3: packed 1.0pt 1.0pt 0.0pt badness 0\n4: shipped 1\nen
 
 
 def block(root, language, number):
-    """The block of docs/LIBRARY.md in a language with this number, from 0: the first one runs a whole script, and the second keeps a job."""
+    """The block of docs/LIBRARY.md in a language with this number, from 0: the first one runs a whole script, the second keeps a job, and the third takes replies as numbers."""
     with open(f"{root}/docs/LIBRARY.md", encoding="utf-8") as it:
         section = it.read().partition(f"{SECTION}\n")[2].split("\n## ")[0]
     return re.findall(rf"^```{language}\n(.*?)^```$", section, flags=re.M | re.S)[number]
@@ -64,9 +67,18 @@ def file_wrong(folder):
     return None if size == FILE_SIZE else f"page.dvi has {size} bytes"
 
 
-def caller_in_c(number, root, archive, folder):
+def compiled_in_c(number, root, archive, folder, wanted=WANTED):
+    """Runs a caller in C, and says what is wrong, or returns None."""
     write(f"{folder}/caller.c", block(root, "c", number))
-    return compile_c(root, archive, [f"{folder}/caller.c"], f"{folder}/caller", []) or run_wrong([f"{folder}/caller"], folder=folder) or file_wrong(folder)
+    return compile_c(root, archive, [f"{folder}/caller.c"], f"{folder}/caller", []) or run_wrong([f"{folder}/caller"], folder=folder, wanted=wanted)
+
+
+def caller_in_c(number, root, archive, folder):
+    return compiled_in_c(number, root, archive, folder) or file_wrong(folder)
+
+
+def replies_in_c(root, archive, folder):
+    return compiled_in_c(2, root, archive, folder, b"line 3: 65536 sp wide\n")
 
 
 def caller_in_python(number, root, archive, folder):
@@ -129,7 +141,8 @@ def outcome(call, root, archive=None, *_programs):
 
 def cases(programs, root):
     """The callers."""
-    calls = {"LIBRARY.md in C": partial(caller_in_c, 0), "LIBRARY.md in C, a job": partial(caller_in_c, 1), "LIBRARY.md in Python": partial(caller_in_python, 0),
+    calls = {"LIBRARY.md in C": partial(caller_in_c, 0), "LIBRARY.md in C, a job": partial(caller_in_c, 1), "LIBRARY.md in C, replies": replies_in_c,
+             "LIBRARY.md in Python": partial(caller_in_python, 0),
              "LIBRARY.md in Python, a job": partial(caller_in_python, 1), "LIBRARY.md in Rust": caller_in_rust, "tests of bindings/python": partial(binding, "test_*.py"),
              "types of bindings/python": types_of_binding, "examples/markdown": client}
     calls |= {f"null pointers in {it}": partial(null_pointers, it) for it in LANGUAGES}

@@ -26,6 +26,9 @@ def command_in_python(root, archive, words):
     return python_words(root, archive, [f"{root}/tests/steps/python_calls.py", *words])
 
 
+KINDS = {command_in_c: [("run", "job"), ("run_replies", "job_replies")], command_in_python: [("run", "job")]}
+
+
 def printed(ran):
     """What a call printed, or what is wrong with it."""
     line, _, rest = ran.stdout.partition(b"\n")
@@ -44,13 +47,14 @@ def differs(call, found, wanted):
     return first_difference(f"{call}: the text", found.text, wanted.text) or first_difference(f"{call}: the file", found.dvi, wanted.dvi)
 
 
-def calls_of(room, wanted):
-    """The calls that are made, each with its words and with what it has to give."""
+def calls_of(room, wanted, kinds):
+    """The calls that are made, each with its words and with what it has to give. Replies that come as numbers are printed as the texts of the answers."""
     script = wanted["run"]
-    yield "run", ["run", "script", *room.fonts], script
-    if not script.text.startswith(BAD_SCRIPT):  # a bad piece is refused, and not the whole script
-        for most in LINES:
-            yield f"job, pieces of up to {most}", ["job", str(most), "script", *room.fonts], script
+    for run, job in kinds:
+        yield run, [run, "script", *room.fonts], script
+        if not script.text.startswith(BAD_SCRIPT):  # a bad piece is refused, and not the whole script
+            for most in LINES:
+                yield f"{job}, pieces of up to {most}", [job, str(most), "script", *room.fonts], script
     if "list" in wanted:
         room.write("out.dvi", script.dvi)
         yield "list", ["list", "out.dvi", *room.fonts], wanted["list"]
@@ -66,7 +70,7 @@ def outcome(command, given, root, archive=None, *programs):
         return "the program does not give what the case file has"
     with tempfile.TemporaryDirectory(prefix="boxglue-library-") as path:
         room = Room(path, given)
-        for call, words, its in calls_of(room, wanted):
+        for call, words, its in calls_of(room, wanted, KINDS[command]):
             words, env = command(root, archive, words)
             wrong = differs(call, printed(room.run(words, env=env)), its)
             if wrong:

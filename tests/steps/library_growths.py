@@ -61,7 +61,7 @@ def growths_wrong(root, archive, name):
     with tempfile.TemporaryDirectory(prefix="boxglue-library-") as path:
         given = given_of(root, name)
         room = Room(path, given)
-        calls = [("run", "script", *room.fonts)]
+        calls = [("run", "script", *room.fonts), ("run_replies", "script", *room.fonts)]
         if write_dvi(root, archive, room):
             calls += [("list", "out.dvi", *room.fonts), ("paint", *ONE_SHEET, "out.dvi", *room.fonts), ("fonts", "out.dvi")]
         for words in calls:
@@ -75,7 +75,11 @@ def job_growths_wrong(root, archive, name):
     """Refuses each growth of the calls on a job that runs a script in pieces."""
     with tempfile.TemporaryDirectory(prefix="boxglue-library-") as path:
         room = Room(path, given_of(root, name))
-        return count_wrong(run_calls(root, archive, room, ["--refuse", "job", str(LINES), "script", *room.fonts]), COUNTED_JOB)
+        for call in ("job", "job_replies"):
+            wrong = count_wrong(run_calls(root, archive, room, ["--refuse", call, str(LINES), "script", *room.fonts]), COUNTED_JOB)
+            if wrong:
+                return f"{call}: {wrong}"
+        return None
 
 
 def frees_wrong(root, archive, name):

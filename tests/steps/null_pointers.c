@@ -16,6 +16,9 @@ static void call_whole(const uint8_t *script, size_t script_size) {
     struct boxglue_lengths lengths = {0, 0};
     uint32_t status = boxglue_run(script, script_size, NULL, 0, NULL, 0, NULL, 0, &lengths);
     print_call("run", status, lengths.answers, lengths.dvi);
+    struct boxglue_reply_sizes sizes = {0, 0};
+    status = boxglue_run_replies(script, script_size, NULL, 0, NULL, 0, NULL, 0, &sizes);
+    print_call("run_replies", status, sizes.replies, sizes.dvi);
 }
 
 static void call_readers(void) {
@@ -42,6 +45,8 @@ static void call_job(void) {
     print_call("new", status, 0, 0);
     status = boxglue_job_commands(&job, NULL, 0);
     print_call("commands", status, 0, 0);
+    status = boxglue_job_run(&job, NULL, 0, NULL, 0, &size);
+    print_call("job_run", status, size, 0);
     status = boxglue_job_answers(&job, NULL, 0, &size);
     print_call("answers", status, size, 0);
     status = boxglue_job_finish(&job);

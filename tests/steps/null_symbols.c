@@ -22,6 +22,12 @@ SYMBOL(run,
        (script, script_size, fonts, font_count, answers, answers_room, dvi, dvi_room, lengths),
        GOOD_BYTES(script) && GOOD_STRUCTS(fonts) && GOOD_BYTES(answers) && GOOD_BYTES(dvi))
 
+SYMBOL(run_replies,
+       (const uint8_t *script, size_t script_size, const struct boxglue_font *fonts, size_t font_count, struct boxglue_reply *replies, size_t reply_room,
+        uint8_t *dvi, size_t dvi_room, struct boxglue_reply_sizes *sizes),
+       (script, script_size, fonts, font_count, replies, reply_room, dvi, dvi_room, sizes),
+       GOOD_BYTES(script) && GOOD_STRUCTS(fonts) && GOOD_STRUCTS(replies) && GOOD_BYTES(dvi))
+
 SYMBOL(list,
        (const uint8_t *dvi, size_t dvi_size, const struct boxglue_font *fonts, size_t font_count, uint8_t *text, size_t text_room, size_t *size),
        (dvi, dvi_size, fonts, font_count, text, text_room, size),
@@ -47,6 +53,11 @@ SYMBOL(marks,
 SYMBOL(job_new, (struct boxglue_job *job, const struct boxglue_font *fonts, size_t font_count), (job, fonts, font_count), GOOD_STRUCTS(fonts))
 
 SYMBOL(job_commands, (struct boxglue_job *job, const uint8_t *script, size_t script_size), (job, script, script_size), GOOD_BYTES(script))
+
+SYMBOL(job_run,
+       (struct boxglue_job *job, const uint8_t *script, size_t script_size, struct boxglue_reply *replies, size_t reply_room, size_t *count),
+       (job, script, script_size, replies, reply_room, count),
+       GOOD_BYTES(script) && GOOD_STRUCTS(replies))
 
 SYMBOL(job_answers, (struct boxglue_job *job, uint8_t *text, size_t text_room, size_t *size), (job, text, text_room, size), GOOD_BYTES(text))
 

@@ -11,11 +11,13 @@ ghost use Rattle.boxglue_calls.specs.Runs.{HandsOverRun, IsRun};
 ghost use Rattle.boxglue_jobs.specs.Calls.{OnJob};
 ghost use Rattle.boxglue_jobs.specs.Jobs.{IsNewJob, KeptState};
 ghost use Rattle.boxglue_jobs.specs.Pieces.{DoesCommands, FinishesKept, HandsAnswers, HandsBytes};
+ghost use Rattle.boxglue_jobs.specs.Replies.{RepliesTo, RepliesToEnd};
+ghost use Rattle.boxglue_jobs.specs.Whole.{IsReplied};
 ghost use Rattle.boxglue_print.specs.Outputs.{IsListed, IsPainted, LacksPage};
 ghost use Rattle.raster_core.specs.Sheets.{sheet_of};
 
 use boxglue_calls::{DviFont, DviMark, DviPage, Font, FontSizes, Lengths, MarkSizes};
-use boxglue_jobs::JobHandle;
+use boxglue_jobs::{JobHandle, ReplyRow, ReplySizes};
 use std::alloc::Global;
 
 /// Runs a script with these fonts. The answers and the bytes of the DVI file go into the buffers, and the numbers of these bytes into `lengths`.
@@ -29,7 +31,8 @@ pub extern "C" fn boxglue_run(
     lengths: &mut Lengths,
 ) -> u32
     ensures named { result ≡ 3 ↔ are_named fonts.now ≡ false }
-    ensures done { (result ≡ 2) ⊎ (result ≡ 3) ⊎ HandsOverRun (IsRun script.now (files_of fonts.now)) answers.old answers.new dvi.old dvi.new lengths.new result }
+    ensures done { (result ≡ 2) ⊎ (result ≡ 3)
+        ⊎ HandsOverRun (IsRun script.now (files_of fonts.now)) answers.old answers.new dvi.old dvi.new (lengths.new.answers, lengths.new.dvi) result }
     ensures answers { (result ≡ 2) ⊎ (result ≡ 3) → answers.new ≡ answers.old }
     ensures dvi { (result ≡ 2) ⊎ (result ≡ 3) → dvi.new ≡ dvi.old }
     ensures lengths { (result ≡ 2) ⊎ (result ≡ 3) → lengths.new ≡ lengths.old }
@@ -189,6 +192,54 @@ pub extern "C" fn boxglue_job_finish(alloc: Global, job: &mut JobHandle) -> u32
     ensures done { OnJob FinishesKept job.old.value job.new.value result }
 {
     boxglue_jobs::finish(alloc, job)
+}
+
+/// Runs a piece of a script, which is whole lines, on a job. The replies go into `replies`, and their number into `count`.
+#[unsafe(no_mangle)]
+pub extern "C" fn boxglue_job_run(
+    alloc: Global,
+    job: &mut JobHandle,
+    script: &[u8],
+    replies: &mut [ReplyRow],
+    count: &mut usize,
+) -> u32
+    ensures no_job { result ≡ 8 ↔ job.old.value ≡ None }
+    ensures done { OnJob (RepliesTo script.now (record { rows = replies.old; count = count.old }) (record { rows = replies.new; count = count.new }))
+        job.old.value job.new.value result }
+    ensures replies { result ≡ 8 → replies.new ≡ replies.old }
+    ensures count { result ≡ 8 → count.new ≡ count.old }
+{
+    boxglue_jobs::run(alloc, job, script, replies, count)
+}
+
+/// Writes the end of the file of a job. Its reply goes into `reply`.
+#[unsafe(no_mangle)]
+pub extern "C" fn boxglue_job_end(alloc: Global, job: &mut JobHandle, reply: &mut ReplyRow) -> u32
+    ensures no_job { result ≡ 8 ↔ job.old.value ≡ None }
+    ensures done { OnJob (RepliesToEnd reply.new) job.old.value job.new.value result }
+    ensures reply { result ≡ 8 → reply.new ≡ reply.old }
+{
+    boxglue_jobs::end(alloc, job, reply)
+}
+
+/// Runs a script with these fonts. The replies and the bytes of the DVI file go into the buffers, and the numbers of both into `sizes`.
+#[unsafe(no_mangle)]
+pub extern "C" fn boxglue_run_replies(
+    alloc: Global,
+    script: &[u8],
+    fonts: &[Font<'_>],
+    replies: &mut [ReplyRow],
+    dvi: &mut [u8],
+    sizes: &mut ReplySizes,
+) -> u32
+    ensures named { result ≡ 3 ↔ are_named fonts.now ≡ false }
+    ensures done { (result ≡ 2) ⊎ (result ≡ 3)
+        ⊎ HandsOverRun (IsReplied script.now (files_of fonts.now)) replies.old replies.new dvi.old dvi.new (sizes.new.replies, sizes.new.dvi) result }
+    ensures replies { (result ≡ 2) ⊎ (result ≡ 3) → replies.new ≡ replies.old }
+    ensures dvi { (result ≡ 2) ⊎ (result ≡ 3) → dvi.new ≡ dvi.old }
+    ensures sizes { (result ≡ 2) ⊎ (result ≡ 3) → sizes.new ≡ sizes.old }
+{
+    boxglue_jobs::run_replies(alloc, script, fonts, replies, dvi, sizes)
 }
 
 /// Gives all memory of a job back. The handle is null then.

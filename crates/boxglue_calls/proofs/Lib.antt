@@ -4,3 +4,4 @@ pub mod MarkRowLaws
 pub mod MarkTableLaws
 pub mod PageLaws
 pub mod RunLaws
+pub mod StatusLaws

@@ -1,23 +1,60 @@
 -- A run that is handed over.
-use Rattle.std.proofs.Common.{◌≡◌, ◌∙◌, ℕ, Bool, List, length, ap, subst}
+use Rattle.std.proofs.Common.{◌≡◌, ◌∙◌, ℕ, List, length, Result, Ok, Err, IfOk, Some, inl, inr, refl, sym, ap, subst}
+use Rattle.tfm_core.specs.NamedBytes.{NamedBytes}
+use Rattle.job_commands.specs.declared.replies.Refusal.{Refusal}
+use Rattle.job_commands.specs.declared.replies.Summary.{Summary}
+use Rattle.job_commands.specs.Reply.{Reply}
+use Rattle.boxglue_script.specs.declared.script.Line.{Line}
+use Rattle.boxglue_script.specs.Script.{IsScript}
+use Rattle.boxglue_program.specs.Runs.{WasRun, commands_of, is_accepted, line_numbers}
+use Rattle.boxglue_program.specs.Texts.{answers_text}
 use Rattle.boxglue_calls.specs.Buffers.{HandsOverBoth}
-use Rattle.boxglue_calls.specs.Runs.{HandsOverRun, IsRunStatus}
-use Rattle.boxglue_calls.specs.declared.runs.Lengths.{Lengths}
+use Rattle.boxglue_calls.specs.RunStatus.{run_status}
+use Rattle.boxglue_calls.specs.Runs.{HandsOverRun, IsRun}
+use Rattle.boxglue_calls.proofs.StatusLaws.{IsDone, run_done}
 
-pub handed_run : (Is : (answers dvi : List ℕ) → (accepted : Bool) → Type 0) (old new dvi_old dvi_new : List ℕ) (lengths : Lengths) (done status : ℕ) (answers dvi : List ℕ) (accepted : Bool)
-    (line_fit put sent : List ℕ) → Is answers dvi accepted → line_fit ≡ answers → put ≡ answers → sent ≡ dvi → IsRunStatus line_fit accepted done
-    → HandsOverBoth (record { old = old; new = new; items = put }) (record { old = dvi_old; new = dvi_new; items = sent }) done status → lengths.answers ≡ length answers → lengths.dvi ≡ length sent → HandsOverRun Is old new dvi_old dvi_new lengths status
-handed_run Is old new dvi_old dvi_new lengths done status answers dvi accepted line_fit put sent run fit_is put_is sent_is done_is handed answers_size dvi_size =
+pub handed_run : {A : Type 0} (Is : (answers : List A) → (dvi : List ℕ) → (done : ℕ) → Type 0) (old new : List A) (dvi_old dvi_new : List ℕ) (sizes : ℕ × ℕ) (done status : ℕ)
+    (answers : List A) (dvi : List ℕ) (put : List A) (sent : List ℕ) → Is answers dvi done → put ≡ answers → sent ≡ dvi
+    → HandsOverBoth (record { old = old; new = new; items = put }) (record { old = dvi_old; new = dvi_new; items = sent }) done status → sizes.0 ≡ length answers → sizes.1 ≡ length sent
+    → HandsOverRun Is old new dvi_old dvi_new sizes status
+handed_run {A = A} Is old new dvi_old dvi_new sizes done status answers dvi put sent run put_is sent_is handed answers_size dvi_size =
     record {
       answers = answers;
       dvi = dvi;
-      accepted = accepted;
       done = done;
       run = run;
-      done_is = subst (λ (text : List ℕ). IsRunStatus text accepted done) fit_is done_is;
       handed =
-          subst (λ (text : List ℕ). HandsOverBoth (record { old = old; new = new; items = text }) (record { old = dvi_old; new = dvi_new; items = dvi }) done status) put_is
+          subst (λ (items : List A). HandsOverBoth (record { old = old; new = new; items = items }) (record { old = dvi_old; new = dvi_new; items = dvi }) done status) put_is
           (subst (λ (bytes : List ℕ). HandsOverBoth (record { old = old; new = new; items = put }) (record { old = dvi_old; new = dvi_new; items = bytes }) done status) sent_is handed);
       answers_size = answers_size;
       dvi_size = dvi_size ∙ ap (λ (bytes : List ℕ). length bytes) sent_is;
     }
+
+pub if_ok : {A E : Type 0} {P Q : A → Type 0} (result : Result A E) → ((x : A) → P x → Q x) → IfOk result P → IfOk result Q
+if_ok (Ok x) f h = f x h
+if_ok (Err error) f h = h
+
+-- A run of the lines of a script is a run of the script.
+pub ran_script : (text : List ℕ) (files given : List NamedBytes) (lines ran : List Line) (replies : List Reply) (end : Result Summary Refusal) (failures : ℕ) (answers dvi : List ℕ) (status : ℕ)
+    → IsScript text lines → ran ≡ lines → given ≡ files → WasRun given 0 (commands_of ran) replies end failures (Some dvi) → answers ≡ answers_text (line_numbers ran) replies end
+    → status ≡ run_status replies end → IsRun text files answers dvi status
+ran_script text files given lines ran replies end failures answers dvi status script lines_are files_are run answer_is status_is = inl (
+  failures,
+  is_accepted replies end,
+  record {
+    lines = lines;
+    replies = replies;
+    end = end;
+    script = script;
+    run = subst (λ (fs : List NamedBytes). WasRun fs 0 (commands_of lines) replies end failures (Some dvi)) files_are
+        (subst (λ (ls : List Line). WasRun given 0 (commands_of ls) replies end failures (Some dvi)) lines_are run);
+    answer_is = subst (λ (ls : List Line). answers ≡ answers_text (line_numbers ls) replies end) lines_are answer_is;
+    fine_is = refl;
+  },
+  status_is,
+)
+
+-- The status of a run is that of one that was done.
+pub is_done : (text : List ℕ) (files : List NamedBytes) (answers dvi : List ℕ) (status : ℕ) → IsRun text files answers dvi status → IsDone status
+is_done text files answers dvi status (inl (failures, accepted, ran, is)) = subst IsDone (sym is) (run_done ran.replies ran.end)
+is_done text files answers dvi status (inr (accepted, refused, none, is)) = inr (inl is)

@@ -4,4 +4,5 @@ pub mod FontTables
 pub mod MarkRows
 pub mod MarkTables
 pub mod Pages
+pub mod RunStatus
 pub mod Runs

@@ -1,33 +1,25 @@
 -- Runs of scripts in memory (own).
-use Rattle.std.specs.Prelude.{◌≡◌, ◌⊎◌, ℕ, Bool, true, false, List, [], length, codes, Some}
-use Rattle.memchr.specs.Find.{OccursAt}
+use Rattle.std.specs.Prelude.{◌≡◌, ◌⊎◌, ℕ, Bool, List, [], length, Some}
 use Rattle.tfm_core.specs.NamedBytes.{NamedBytes}
 use Rattle.boxglue_program.specs.Runs.{RanScript, RefusedScript}
 use Rattle.boxglue_calls.specs.Buffers.{HandsOverBoth}
-use Rattle.boxglue_calls.specs.declared.runs.Lengths.{Lengths}
+use Rattle.boxglue_calls.specs.RunStatus.{run_status}
 
--- A script with these font files gives these answers and these bytes of a DVI file: it was run on a device in memory; or it is bad, and there are no bytes.
-abbrev pub IsRun : (text : List ℕ) → (files : List NamedBytes) → (answers dvi : List ℕ) → (accepted : Bool) → Type 0
-IsRun text files answers dvi accepted =
-    ((failures : ℕ) × RanScript text files 0 failures (Some dvi) answers accepted) ⊎ (RefusedScript text answers accepted × (dvi ≡ []))
+-- A script with these font files gives these answers, these bytes of a DVI file and this status: it was run on a device in memory, and the
+-- status is that of its replies and its end; or it is bad, there are no bytes, and the status is 1.
+abbrev pub IsRun : (text : List ℕ) → (files : List NamedBytes) → (answers dvi : List ℕ) → (status : ℕ) → Type 0
+IsRun text files answers dvi status =
+    ((failures : ℕ) × (accepted : Bool) × (ran : RanScript text files 0 failures (Some dvi) answers accepted)
+    × (status ≡ run_status ran.replies ran.end))
+    ⊎ ((accepted : Bool) × RefusedScript text answers accepted × (dvi ≡ []) × (status ≡ 1))
 
--- A line of the answers ends by saying that memory was refused.
-abbrev pub SaysOutOfMemory : (answers : List ℕ) → Type 0
-SaysOutOfMemory answers = (place : ℕ) × OccursAt answers (codes ": refused 1 OutOfMemory\n") place
-
--- The status of a run: 0 where all was accepted, 7 where a line says that memory was refused, else 1.
-abbrev pub IsRunStatus : (answers : List ℕ) → (accepted : Bool) → (status : ℕ) → Type 0
-IsRunStatus answers true status = status ≡ 0
-IsRunStatus answers false status = (SaysOutOfMemory answers × (status ≡ 7)) ⊎ ((SaysOutOfMemory answers → ⊥) × (status ≡ 1))
-
--- The answers and the bytes of a run are handed over, and the lengths are theirs.
-pub record HandsOverRun (Is : (answers dvi : List ℕ) → (accepted : Bool) → Type 0) (old new dvi_old dvi_new : List ℕ) (lengths : Lengths) (status : ℕ) : Type 0 where
-  pub answers : List ℕ
+-- The answers and the bytes of a run are handed over, and the sizes are theirs.
+pub record HandsOverRun {A : Type 0} (Is : (answers : List A) → (dvi : List ℕ) → (done : ℕ) → Type 0) (old new : List A)
+    (dvi_old dvi_new : List ℕ) (sizes : ℕ × ℕ) (status : ℕ) : Type 0 where
+  pub answers : List A
   pub dvi : List ℕ
-  pub accepted : Bool
   pub done : ℕ
-  pub run : Is answers dvi accepted
-  pub done_is : IsRunStatus answers accepted done
+  pub run : Is answers dvi done
   pub handed : HandsOverBoth (record { old = old; new = new; items = answers }) (record { old = dvi_old; new = dvi_new; items = dvi }) done status
-  pub answers_size : lengths.answers ≡ length answers
-  pub dvi_size : lengths.dvi ≡ length dvi
+  pub answers_size : sizes.0 ≡ length answers
+  pub dvi_size : sizes.1 ≡ length dvi

@@ -25,7 +25,7 @@ pub fn hand_over(output: &[u8], buffer: &mut [u8], done: u32) -> u32
 }
 
 /// Hands two outputs over: each goes into its buffer, and the status is this one; or a buffer is too small, and nothing is written.
-pub(crate) fn hand_over_both<T: Copy>(
+pub fn hand_over_both<T: Copy>(
     items: &[T],
     buffer: &mut [T],
     text: &[u8],

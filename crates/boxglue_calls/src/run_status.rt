@@ -1,27 +1,27 @@
-//! The status of a run that was done.
+//! The status of a run, from its replies.
 
-ghost use Rattle.std.specs.Prelude.{◌↔◌, IsTrue};
-ghost use Rattle.boxglue_calls.specs.Runs.{SaysOutOfMemory, IsRunStatus};
+ghost use Rattle.std.specs.Prelude.{◌≡◌};
+ghost use Rattle.boxglue_calls.specs.RunStatus.{refusal_status, reply_status};
 
 use crate::status::{ACCEPTED, REFUSED, REFUSED_MEMORY};
-use memchr::memmem;
+use job_core::Refusal;
 
-/// Whether a line of the answers says that memory was refused to its command.
-fn says_out_of_memory(answers: &[u8]) -> bool
-    ensures { IsTrue result ↔ SaysOutOfMemory answers.now }
+/// The status of a refusal.
+fn refusal_status(refusal: Refusal) -> u32
+    ensures { result ≡ refusal_status refusal }
 {
-    memmem::find(answers, b": refused 1 OutOfMemory\n").is_some()
+    match refusal {
+        Refusal::OutOfMemory => REFUSED_MEMORY,
+        _ => REFUSED,
+    }
 }
 
-/// The status of a run with these answers.
-pub fn run_status(answers: &[u8], accepted: bool) -> u32
-    ensures { IsRunStatus answers.now accepted result }
+/// The status of a reply, or of the end of a job: that of its refusal, if it is one.
+pub fn reply_status<T>(reply: &Result<T, Refusal>) -> u32
+    ensures { result ≡ reply_status reply.now }
 {
-    if accepted {
-        ACCEPTED
-    } else if says_out_of_memory(answers) {
-        REFUSED_MEMORY
-    } else {
-        REFUSED
+    match reply {
+        Ok(_) => ACCEPTED,
+        Err(refusal) => refusal_status(*refusal),
     }
 }

@@ -1,14 +1,24 @@
 //! Runs of scripts in memory.
 
-ghost use Rattle.std.specs.Prelude.{◌≡◌, ◌↔◌, ◌⊎◌, false, true, IfOk};
+ghost use Rattle.std.specs.Prelude.{◌≡◌, ◌↔◌, ◌⊎◌, false, true, List, [], Result, Some, IfOk};
+ghost use Rattle.job_commands.specs.declared.replies.Refusal.{Refusal};
+ghost use Rattle.job_commands.specs.declared.replies.Summary.{Summary};
+ghost use Rattle.job_commands.specs.Reply.{Reply};
+ghost use Rattle.boxglue_program.specs.Runs.{WasRun, commands_of, line_numbers};
+ghost use Rattle.boxglue_program.specs.Texts.{answers_text, script_refusal_text};
 ghost use Rattle.boxglue_calls.specs.Fonts.{are_named, files_of};
+ghost use Rattle.boxglue_calls.specs.RunStatus.{run_status};
 ghost use Rattle.boxglue_calls.specs.Runs.{HandsOverRun, IsRun};
 
+use crate::answered::answer_each;
 use crate::buffers::hand_over_both;
 use crate::given::{Font, are_named, font_files};
-use crate::run_status::run_status;
-use crate::status::{BAD_FONT_NAME, OUT_OF_MEMORY};
-use boxglue_program::{Memory, RunFault, run_script};
+use crate::run_status::reply_status;
+use crate::status::{BAD_FONT_NAME, OUT_OF_MEMORY, REFUSED};
+use boxglue_program::{
+    Cause, FontFile, Line, Memory, ScriptFault, read_script, script_refusal_text, with_end,
+};
+use job_core::Job;
 use std::alloc::{AllocError, Global};
 
 /// How many bytes the two outputs of a run have.
@@ -19,29 +29,59 @@ pub struct Lengths {
     pub dvi: usize,
 }
 
-/// The answers of a script, the device with the bytes of its DVI file, and whether nothing was refused.
+/// The answers of a script, the device with the bytes of its DVI file, and the status.
 #[derive(Drop)]
 struct Ran {
     answers: Vec<u8>,
     device: Memory,
-    accepted: bool,
+    status: u32,
+}
+
+/// Runs the lines of a script with these font files on a device in memory, and ends the job.
+fn run_lines(alloc: Global, lines: &[Line], files: &[FontFile]) -> Result<Ran, AllocError>
+    ensures { IfOk result (λ ran. (replies : List Reply) × (end : Result Summary Refusal)
+        × WasRun files.now 0 (commands_of lines.now) replies end ran.device.failures (Some ran.device.bytes)
+        × (ran.answers.items ≡ answers_text (line_numbers lines.now) replies end) × (ran.status ≡ run_status replies end)) }
+{
+    let mut job = match Job::new(alloc, Memory::new(alloc), files) {
+        Ok(job) => job,
+        Err(_) => return Err(AllocError),
+    };
+    let (text, status) = answer_each(alloc, &mut job, lines);
+    let end = job.finish();
+    match with_end(text, &end) {
+        Some(answers) => Ok(Ran {
+            answers,
+            device: job.into_device(),
+            status: status.max(reply_status(&end)),
+        }),
+        None => Err(AllocError),
+    }
+}
+
+/// The run of a bad script: its one line, and no bytes.
+fn refused_run(alloc: Global, line: usize, cause: Cause) -> Result<Ran, AllocError>
+    ensures text { IfOk result (λ ran. ran.answers.items ≡ script_refusal_text line cause) }
+    ensures device { IfOk result (λ ran. ran.device.bytes ≡ []) }
+    ensures status { IfOk result (λ ran. ran.status ≡ 1) }
+{
+    Ok(Ran {
+        answers: script_refusal_text(alloc, line, cause)?,
+        device: Memory::new(alloc),
+        status: REFUSED,
+    })
 }
 
 /// Runs a script with these fonts, which have names, on a device in memory.
 fn run_on_memory(alloc: Global, script: &[u8], fonts: &[Font<'_>]) -> Result<Ran, AllocError>
     requires { are_named fonts.now ≡ true }
-    ensures { IfOk result (λ ran. IsRun script.now (files_of fonts.now) ran.answers.items ran.device.bytes ran.accepted) }
+    ensures { IfOk result (λ ran. IsRun script.now (files_of fonts.now) ran.answers.items ran.device.bytes ran.status) }
 {
     let files = font_files(alloc, fonts)?;
-    let mut answers = Vec::new(alloc);
-    match run_script(alloc, script, &files, Memory::new(alloc), &mut answers) {
-        Ok((accepted, device)) => Ok(Ran {
-            answers,
-            device,
-            accepted,
-        }),
-        // A vector fails as a writer where its growth is refused.
-        Err(RunFault::Memory(_) | RunFault::Answers(_)) => Err(AllocError),
+    match read_script(alloc, script) {
+        Ok(lines) => run_lines(alloc, &lines, &files),
+        Err(ScriptFault::OutOfMemory) => Err(AllocError),
+        Err(ScriptFault::BadScript { line, cause }) => refused_run(alloc, line, cause),
     }
 }
 
@@ -58,7 +98,8 @@ pub fn run(
     lengths: &mut Lengths,
 ) -> u32
     ensures named { result ≡ 3 ↔ are_named fonts.now ≡ false }
-    ensures done { (result ≡ 2) ⊎ (result ≡ 3) ⊎ HandsOverRun (IsRun script.now (files_of fonts.now)) answers.old answers.new dvi.old dvi.new lengths.new result }
+    ensures done { (result ≡ 2) ⊎ (result ≡ 3)
+        ⊎ HandsOverRun (IsRun script.now (files_of fonts.now)) answers.old answers.new dvi.old dvi.new (lengths.new.answers, lengths.new.dvi) result }
     ensures answers { (result ≡ 2) ⊎ (result ≡ 3) → answers.new ≡ answers.old }
     ensures dvi { (result ≡ 2) ⊎ (result ≡ 3) → dvi.new ≡ dvi.old }
     ensures lengths { (result ≡ 2) ⊎ (result ≡ 3) → lengths.new ≡ lengths.old }
@@ -75,6 +116,5 @@ pub fn run(
         answers: ran.answers.len(),
         dvi: bytes.len(),
     };
-    let done = run_status(&ran.answers, ran.accepted);
-    hand_over_both(&ran.answers, answers, bytes, dvi, done)
+    hand_over_both(&ran.answers, answers, bytes, dvi, ran.status)
 }

@@ -14,5 +14,5 @@ pub const BUFFER_TOO_SMALL: u32 = 4;
 pub const NO_SUCH_PAGE: u32 = 5;
 /// A number is out of its range, and nothing is written.
 pub const OUT_OF_RANGE: u32 = 6;
-/// A script was run, a line of its answers ends in `refused 1 OutOfMemory`, and the outputs are written.
+/// A script was run, and the reply to a line of it, or its end, is OutOfMemory. The outputs are written.
 pub const REFUSED_MEMORY: u32 = 7;

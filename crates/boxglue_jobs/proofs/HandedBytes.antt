@@ -8,6 +8,8 @@ use Rattle.dvi_device.specs.Written.{written_then}
 use Rattle.job_core.specs.Jobs.{JobView}
 use Rattle.boxglue_jobs.specs.Jobs.{HasHanded, KeptState, reported, sent_by}
 use Rattle.boxglue_jobs.specs.Pieces.{DoesCommands, FinishesKept, HandsAnswers, HandsBytes}
+use Rattle.boxglue_jobs.specs.Replies.{RepliesTo, RepliesToEnd, RowRoom}
+use Rattle.boxglue_jobs.specs.declared.rows.ReplyRow.{ReplyRow}
 
 -- More was reported after what was reported.
 reported_more : (old new : Option (List ℕ)) (more : List ℕ) → new ≡ written_then old more → (rest : List ℕ) × (reported new ≡ reported old ++ rest)
@@ -33,13 +35,23 @@ same_handed old new handed has job taken = record {
 }
 
 pub commands_handed : (script handed : List ℕ) (old new : KeptState) (status : ℕ) → HasHanded old handed → DoesCommands script old new status → HasHanded new handed
-commands_handed script handed old new status has (inl ran) = still_handed old new handed has ran.grows ran.taken
+commands_handed script handed old new status has (inl ran) = still_handed old new handed has ran.run.grows ran.run.taken
 commands_handed script handed old new status has (inr (inl bad)) =
     same_handed old new handed has (ap (λ (k : KeptState). k.job) bad.new_is) (ap (λ (k : KeptState). k.taken) bad.new_is)
 commands_handed script handed old new status has (inr (inr (same, lacks))) = subst (λ (k : KeptState). HasHanded k handed) (sym same) has
 
 pub finish_handed : (handed : List ℕ) (old new : KeptState) (status : ℕ) → HasHanded old handed → FinishesKept old new status → HasHanded new handed
-finish_handed handed old new status has ends = still_handed old new handed has ends.grows ends.taken
+finish_handed handed old new status has ends = still_handed old new handed has ends.ended.grows ends.ended.taken
+
+pub replies_handed : (script handed : List ℕ) (before after : RowRoom) (old new : KeptState) (status : ℕ) → HasHanded old handed → RepliesTo script before after old new status → HasHanded new handed
+replies_handed script handed before after old new status has (inl ran) = still_handed old new handed has ran.run.grows ran.run.taken
+replies_handed script handed before after old new status has (inr (inl bad)) = subst (λ (k : KeptState). HasHanded k handed) (sym bad.same) has
+replies_handed script handed before after old new status has (inr (inr (inl lacks))) = subst (λ (k : KeptState). HasHanded k handed) (sym lacks.same) has
+replies_handed script handed before after old new status has (inr (inr (inr (same, room, lacks)))) =
+    subst (λ (k : KeptState). HasHanded k handed) (sym same) has
+
+pub end_handed : (handed : List ℕ) (row : ReplyRow) (old new : KeptState) (status : ℕ) → HasHanded old handed → RepliesToEnd row old new status → HasHanded new handed
+end_handed handed row old new status has ends = still_handed old new handed has ends.ended.grows ends.ended.taken
 
 pub answers_handed : (text_old text_new handed : List ℕ) (size : ℕ) (old new : KeptState) (status : ℕ) → HasHanded old handed → HandsAnswers text_old text_new size old new status → HasHanded new handed
 answers_handed text_old text_new handed size old new status has hands =

@@ -1,6 +1,5 @@
 -- What is kept after a piece, and after the end (own).
-use Rattle.std.proofs.Common.{◌≡◌, ◌≢◌, ◌<◌, ◌^◌, ℕ, Bool, true, List, length, Result, Err, OnOk, IfOk, IfErr, IfSome, is_ok, sym, ap, ◌∙◌, subst}
-use Rattle.std.specs.List.{list_all}
+use Rattle.std.proofs.Common.{◌≡◌, ◌≢◌, ◌<◌, ◌^◌, ℕ, true, List, length, Result, Err, OnOk, IfOk, IfErr, IfSome, refl, sym, ap, ◌∙◌, subst}
 use Rattle.job_commands.specs.declared.command.Command.{Command}
 use Rattle.job_commands.specs.declared.replies.Refusal.{Refusal}
 use Rattle.job_commands.specs.declared.replies.Refusal.TheVariants as refusals
@@ -18,19 +17,23 @@ use Rattle.boxglue_program.specs.Runs.{commands_of, line_numbers}
 use Rattle.boxglue_program.specs.Texts.{answer_lines, end_line}
 use Rattle.boxglue_jobs.specs.Jobs.{KeptState}
 use Rattle.boxglue_jobs.specs.Numbers.{number_after, numbered, line_count}
-use Rattle.boxglue_jobs.specs.Pieces.{Answers, RunsPiece, FinishesKept}
+use Rattle.boxglue_calls.specs.Buffers.{Holds}
+use Rattle.boxglue_calls.specs.RunStatus.{replies_status, reply_status}
+use Rattle.boxglue_jobs.specs.Pieces.{Answers, EndsJob, FinishesKept, RunsLines, RunsPiece}
+use Rattle.boxglue_jobs.specs.Replies.{RepliesToPiece}
+use Rattle.boxglue_jobs.specs.Rows.{reply_rows}
+use Rattle.boxglue_jobs.specs.declared.rows.ReplyRow.{ReplyRow}
 use Rattle.boxglue_jobs.proofs.PieceLaws.{commands_numbered, length_numbered}
 
 -- What a job has sent has grown.
 abbrev Grows : JobView → JobView → Type 0
 Grows old new = (more : List ℕ) × (new.bytes_written ≡ written_then old.bytes_written more)
 
--- Numbered lines that were run are a piece that was run.
-pub ran_piece : (old new : KeptState) (job : JobView) (script : List ℕ) (lines counted : List Line) (replies : List Reply) (fine : Bool) (status : ℕ)
+-- Numbered lines that were run.
+abbrev pub ran_lines : (old new : KeptState) (job : JobView) (script : List ℕ) (lines counted : List Line) (replies : List Reply)
     → counted ≡ numbered old.lines lines → IsScript script lines → RunsTo old.job (commands_of counted) replies job → (old.job.state.over ≡ true → job ≡ old.job) → Grows old.job job → length replies ≡ length counted
-    → new.job ≡ job → new.lines ≡ number_after old.lines (line_count script) → new.taken ≡ old.taken
-    → Answers old.answers new.answers (answer_lines (line_numbers counted) replies) fine status → fine ≡ list_all is_ok replies → RunsPiece old script new status
-ran_piece old new job script lines counted replies fine status is piece ran idle grows each job_is lines_is taken_is answered fine_is = record {
+    → new.job ≡ job → new.lines ≡ number_after old.lines (line_count script) → new.taken ≡ old.taken → RunsLines old script new
+ran_lines old new job script lines counted replies is piece ran idle grows each job_is lines_is taken_is = record {
   lines = lines;
   replies = replies;
   piece = piece;
@@ -39,14 +42,37 @@ ran_piece old new job script lines counted replies fine status is piece ran idle
   idle = λ over. job_is ∙ idle over;
   grows = subst (λ (j : JobView). Grows old.job j) (sym job_is) grows;
   each = each ∙ ap length is ∙ length_numbered old.lines lines;
-  answered = subst (λ (b : Bool). Answers old.answers new.answers (answer_lines (line_numbers (numbered old.lines lines)) replies) b status) fine_is
-      (subst (λ (ls : List Line). Answers old.answers new.answers (answer_lines (line_numbers ls) replies) fine status) is answered);
   counted = lines_is;
   taken = taken_is;
 }
 
--- A job that was finished, and whose end was answered.
-pub finished_kept : (old new : KeptState) (job : JobView) (end : Result Summary Refusal) (fine : Bool) (status : ℕ)
+-- Numbered lines that were run and answered are a piece that was run.
+pub ran_piece : (old new : KeptState) (job : JobView) (script : List ℕ) (lines counted : List Line) (replies : List Reply) (done status : ℕ)
+    → counted ≡ numbered old.lines lines → IsScript script lines → RunsTo old.job (commands_of counted) replies job → (old.job.state.over ≡ true → job ≡ old.job) → Grows old.job job → length replies ≡ length counted
+    → new.job ≡ job → new.lines ≡ number_after old.lines (line_count script) → new.taken ≡ old.taken
+    → Answers old.answers new.answers (answer_lines (line_numbers counted) replies) done status → done ≡ replies_status replies → RunsPiece old script new status
+ran_piece old new job script lines counted replies done status is piece ran idle grows each job_is lines_is taken_is answered done_is = record {
+  run = ran_lines old new job script lines counted replies is piece ran idle grows each job_is lines_is taken_is;
+  answered = subst (λ (n : ℕ). Answers old.answers new.answers (answer_lines (line_numbers (numbered old.lines lines)) replies) n status) done_is
+      (subst (λ (ls : List Line). Answers old.answers new.answers (answer_lines (line_numbers ls) replies) done status) is answered);
+}
+
+-- Numbered lines that were run, and whose rows were written, are a piece that was run.
+pub replied_piece : (old new : KeptState) (job : JobView) (script : List ℕ) (lines counted : List Line) (replies : List Reply) (rows_old rows_new : List ReplyRow) (status : ℕ)
+    → counted ≡ numbered old.lines lines → IsScript script lines → RunsTo old.job (commands_of counted) replies job → (old.job.state.over ≡ true → job ≡ old.job) → Grows old.job job → length replies ≡ length counted
+    → new.job ≡ job → new.lines ≡ number_after old.lines (line_count script) → new.taken ≡ old.taken
+    → Holds rows_old rows_new (reply_rows (line_numbers counted) replies) → status ≡ replies_status replies → new.answers ≡ old.answers
+    → (count : ℕ) → RepliesToPiece script (record { rows = rows_old; count = count }) (record { rows = rows_new; count = length lines }) old new status
+replied_piece old new job script lines counted replies rows_old rows_new status is piece ran idle grows each job_is lines_is taken_is written status_is answers_are count = record {
+  run = ran_lines old new job script lines counted replies is piece ran idle grows each job_is lines_is taken_is;
+  written = subst (λ (ls : List Line). Holds rows_old rows_new (reply_rows (line_numbers ls) replies)) is written;
+  count_is = refl;
+  status_is = status_is;
+  answers = answers_are;
+}
+
+-- A job that was finished, or whose end was refused.
+abbrev pub ended_job : (old new : KeptState) (job : JobView) (end : Result Summary Refusal)
     → FinishesTo old.job end job → IfErr end (λ refusal. refusal ≢ refusals.Device → job ≡ old.job) → (old.job.state.over ≡ true → job ≡ old.job) → FilesPages old.job end job → ClosesFile old.job end job
     → ((m : Machine) → Represents old.job m → OnOk end (IfSome job.bytes_written (λ bytes. bytes ≡ whole m.state.fonts m.pages)))
     → IfOk end (λ summary. (m : Machine) → Represents old.job m → IfSome job.bytes_written (λ bytes. summary.bytes ≡ length bytes))
@@ -54,8 +80,8 @@ pub finished_kept : (old new : KeptState) (job : JobView) (end : Result Summary 
     → IfOk end (λ summary. summary.bytes < 2 ^ 31)
     → (end ≡ Err refusals.Device → (m : Machine) → Represents old.job m → GrowsByFront (before_writing old.job.bytes_written) job.bytes_written (whole m.state.fonts m.pages))
     → Grows old.job job
-    → new.job ≡ job → new.lines ≡ old.lines → new.taken ≡ old.taken → Answers old.answers new.answers (end_line end) fine status → fine ≡ is_ok end → FinishesKept old new status
-finished_kept old new job end fine status finished same idle dvi closed file size count small part grows job_is lines_is taken_is answered fine_is = record {
+    → new.job ≡ job → new.lines ≡ old.lines → new.taken ≡ old.taken → EndsJob old new
+ended_job old new job end finished same idle dvi closed file size count small part grows job_is lines_is taken_is = record {
   end = end;
   finished = subst (λ (j : JobView). FinishesTo old.job end j) (sym job_is) finished;
   same = subst (λ (j : JobView). IfErr end (λ refusal. refusal ≢ refusals.Device → j ≡ old.job)) (sym job_is) same;
@@ -69,7 +95,14 @@ finished_kept old new job end fine status finished same idle dvi closed file siz
   part = subst (λ (j : JobView). end ≡ Err refusals.Device → (m : Machine) → Represents old.job m → GrowsByFront (before_writing old.job.bytes_written) j.bytes_written (whole m.state.fonts m.pages))
       (sym job_is) part;
   grows = subst (λ (j : JobView). Grows old.job j) (sym job_is) grows;
-  answered = subst (λ (b : Bool). Answers old.answers new.answers (end_line end) b status) fine_is answered;
   lines = lines_is;
   taken = taken_is;
+}
+
+-- The end was answered.
+pub finished_kept : (old new : KeptState) (ended : EndsJob old new) (done status : ℕ) → Answers old.answers new.answers (end_line ended.end) done status → done ≡ reply_status ended.end
+    → FinishesKept old new status
+finished_kept old new ended done status answered done_is = record {
+  ended = ended;
+  answered = subst (λ (n : ℕ). Answers old.answers new.answers (end_line ended.end) n status) done_is answered;
 }

@@ -6,4 +6,7 @@ pub mod KeptMoves
 pub mod LineNumbers
 pub mod NodesCrossing
 pub mod PieceLaws
+pub mod RoomLaws
+pub mod RowLaws
 pub mod Values
+pub mod WholeLaws

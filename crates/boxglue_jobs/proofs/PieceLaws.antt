@@ -7,6 +7,8 @@ use Rattle.boxglue_script.specs.declared.script.Line.{Line}
 use Rattle.boxglue_program.specs.Runs.{commands_of, line_numbers}
 use Rattle.boxglue_program.specs.Texts.{answer_line, answer_lines}
 use Rattle.boxglue_jobs.specs.Numbers.{number_after, numbered}
+use Rattle.boxglue_jobs.specs.Rows.{reply_row, reply_rows}
+use Rattle.boxglue_jobs.specs.declared.rows.ReplyRow.{ReplyRow}
 
 pub commands_joined : (front rest : List Line) → commands_of (front ++ rest) ≡ commands_of front ++ commands_of rest
 commands_joined [] rest = refl
@@ -30,3 +32,12 @@ answers_joined before middle (line ∷ front) rest [] others h = absurd (omega a
 answers_joined before middle (line ∷ front) rest (reply ∷ replies) others h =
     append_assoc (answer_line (number_after before line.number) reply) (answer_lines (line_numbers (numbered before front)) replies) (answer_lines (line_numbers (numbered middle rest)) others)
     ∙ ap (λ (text : List ℕ). answer_line (number_after before line.number) reply ++ text) (answers_joined before middle front rest replies others (omega (arith, h)))
+
+pub rows_joined : (before middle : ℕ) (front rest : List Line) (replies others : List Reply) → length replies ≡ length front
+    → reply_rows (line_numbers (numbered before front)) replies ++ reply_rows (line_numbers (numbered middle rest)) others
+    ≡ reply_rows (line_numbers (numbered before front ++ numbered middle rest)) (replies ++ others)
+rows_joined before middle [] rest [] others h = refl
+rows_joined before middle [] rest (reply ∷ replies) others h = absurd (omega arith)
+rows_joined before middle (line ∷ front) rest [] others h = absurd (omega arith)
+rows_joined before middle (line ∷ front) rest (reply ∷ replies) others h =
+    ap (λ (rows : List ReplyRow). reply_row (number_after before line.number) reply ∷ rows) (rows_joined before middle front rest replies others (omega (arith, h)))

@@ -4,3 +4,6 @@ pub mod KeptCode
 pub mod Numbers
 pub mod Owned
 pub mod Pieces
+pub mod Replies
+pub mod Rows
+pub mod Whole

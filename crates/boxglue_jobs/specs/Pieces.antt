@@ -1,6 +1,5 @@
 -- What the calls on a kept job do (own).
-use Rattle.std.specs.Prelude.{◌≡◌, ◌≢◌, ◌<◌, ◌⊎◌, ◌^◌, ◌++◌, ℕ, Bool, true, List, [], length, drop, Result, Err, OnOk, IfOk, IfErr, IfSome, is_ok}
-use Rattle.std.specs.List.{list_all}
+use Rattle.std.specs.Prelude.{◌≡◌, ◌≢◌, ◌<◌, ◌⊎◌, ◌^◌, ◌++◌, ℕ, true, List, [], length, drop, Result, Err, OnOk, IfOk, IfErr, IfSome}
 use Rattle.job_commands.specs.declared.replies.Refusal.{Refusal}
 use Rattle.job_commands.specs.declared.replies.Refusal.TheVariants as refusals
 use Rattle.job_commands.specs.declared.replies.Summary.{Summary}
@@ -17,17 +16,17 @@ use Rattle.boxglue_script.specs.Script.{IsScript, IsFirstBad}
 use Rattle.boxglue_program.specs.Runs.{commands_of, line_numbers}
 use Rattle.boxglue_program.specs.Texts.{answer_lines, end_line, script_refusal_text}
 use Rattle.boxglue_calls.specs.Buffers.{HandsOver}
-use Rattle.boxglue_calls.specs.Runs.{IsRunStatus}
+use Rattle.boxglue_calls.specs.RunStatus.{replies_status, reply_status}
 use Rattle.boxglue_jobs.specs.Jobs.{KeptState, sent_by}
 use Rattle.boxglue_jobs.specs.Numbers.{number_after, numbered, line_count}
 
--- A text becomes the last of the answers, and the status is that of a run with this text; or memory was refused for it: the answers are as they were, and the status is 10.
-abbrev pub Answers : (old new text : List ℕ) → (accepted : Bool) → (status : ℕ) → Type 0
-Answers old new text accepted status = ((new ≡ old ++ text) × IsRunStatus text accepted status) ⊎ ((new ≡ old) × (status ≡ 10))
+-- A text becomes the last of the answers, and the status is this one; or memory was refused for it: the answers are as they were, and the status
+-- is 10.
+abbrev pub Answers : (old new text : List ℕ) → (done status : ℕ) → Type 0
+Answers old new text done status = ((new ≡ old ++ text) × (status ≡ done)) ⊎ ((new ≡ old) × (status ≡ 10))
 
--- A piece of a script was run and answered, as `run_lines` says. Its lines are numbered after those of the pieces before it. A job that is over stays as
--- it was, and the bytes that were sent stand.
-pub record RunsPiece (old : KeptState) (script : List ℕ) (new : KeptState) (status : ℕ) : Type 0 where
+-- The lines of a piece of a script were run, with these replies. A job that is over stays as it was, and the bytes that were sent stand.
+pub record RunsLines (old : KeptState) (script : List ℕ) (new : KeptState) : Type 0 where
   pub lines : List Line
   pub replies : List Reply
   pub piece : IsScript script lines
@@ -35,9 +34,14 @@ pub record RunsPiece (old : KeptState) (script : List ℕ) (new : KeptState) (st
   pub idle : old.job.state.over ≡ true → new.job ≡ old.job
   pub grows : (more : List ℕ) × (new.job.bytes_written ≡ written_then old.job.bytes_written more)
   pub each : length replies ≡ length lines
-  pub answered : Answers old.answers new.answers (answer_lines (line_numbers (numbered old.lines lines)) replies) (list_all is_ok replies) status
   pub counted : new.lines ≡ number_after old.lines (line_count script)
   pub taken : new.taken ≡ old.taken
+
+-- A piece of a script was run and answered. Its lines are numbered after those of the pieces before it.
+pub record RunsPiece (old : KeptState) (script : List ℕ) (new : KeptState) (status : ℕ) : Type 0 where
+  pub run : RunsLines old script new
+  pub answered : Answers old.answers new.answers (answer_lines (line_numbers (numbered old.lines run.lines)) run.replies)
+      (replies_status run.replies) status
 
 -- A piece is bad: its one line becomes the last of the answers, nothing else changes, and the status is 1.
 pub record RefusesPiece (old : KeptState) (script : List ℕ) (new : KeptState) (status : ℕ) : Type 0 where
@@ -65,9 +69,9 @@ pub record HandsBytes (dvi_old dvi_new : List ℕ) (size : ℕ) (old new : KeptS
   pub given : status ≡ 0 → new ≡ record old { taken = length (sent_by old.job) }
   pub same : status ≡ 4 → new ≡ old
 
--- The job was finished, or its end was refused, as `Job::finish` says; and this was answered. Left out are its clauses `unsent`, which follows from `same`,
--- `front`, from `part`, and `sent`, from `file` and `grows`.
-pub record FinishesKept (old new : KeptState) (status : ℕ) : Type 0 where
+-- The job was finished, or its end was refused, as `Job::finish` says. Left out are its clauses `unsent`, which follows from `same`, `front`,
+-- from `part`, and `sent`, from `file` and `grows`.
+pub record EndsJob (old new : KeptState) : Type 0 where
   pub end : Result Summary Refusal
   pub finished : FinishesTo old.job end new.job
   pub same : IfErr end (λ refusal. refusal ≢ refusals.Device → new.job ≡ old.job)
@@ -80,6 +84,10 @@ pub record FinishesKept (old new : KeptState) (status : ℕ) : Type 0 where
   pub small : IfOk end (λ summary. summary.bytes < 2 ^ 31)
   pub part : end ≡ Err refusals.Device → (m : Machine) → Represents old.job m → GrowsByFront (before_writing old.job.bytes_written) new.job.bytes_written (whole m.state.fonts m.pages)
   pub grows : (more : List ℕ) × (new.job.bytes_written ≡ written_then old.job.bytes_written more)
-  pub answered : Answers old.answers new.answers (end_line end) (is_ok end) status
   pub lines : new.lines ≡ old.lines
   pub taken : new.taken ≡ old.taken
+
+-- The job was finished, or its end was refused, and this was answered.
+pub record FinishesKept (old new : KeptState) (status : ℕ) : Type 0 where
+  pub ended : EndsJob old new
+  pub answered : Answers old.answers new.answers (end_line ended.end) (reply_status ended.end) status

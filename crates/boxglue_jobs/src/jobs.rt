@@ -5,9 +5,11 @@ ghost use Rattle.boxglue_calls.specs.Fonts.{are_named, files_of};
 ghost use Rattle.boxglue_jobs.specs.Calls.{OnJob};
 ghost use Rattle.boxglue_jobs.specs.Jobs.{IsNewJob, KeptState};
 ghost use Rattle.boxglue_jobs.specs.Pieces.{DoesCommands, FinishesKept, HandsAnswers, HandsBytes};
+ghost use Rattle.boxglue_jobs.specs.Replies.{RepliesTo, RepliesToEnd};
 
 use crate::handle::{JobHandle, put, take as take_out};
 use crate::kept_job::KeptJob;
+use crate::rows::ReplyRow;
 use crate::status::{JOB_EXISTS, NO_JOB};
 use boxglue_calls::status::{ACCEPTED, BAD_FONT_NAME, OUT_OF_MEMORY};
 use boxglue_calls::{Font, are_named, font_files};
@@ -57,7 +59,7 @@ pub fn new(alloc: Global, job: &mut JobHandle, fonts: &[Font<'_>]) -> u32
 ///
 /// Returns ACCEPTED, REFUSED or REFUSED_MEMORY, and then the answers are kept; ANSWERS_LOST, and then the commands were run and memory was refused for the text of their
 /// answers; NO_JOB or OUT_OF_MEMORY, and then nothing changed.
-#[tactic(auto, using(crate::proofs::KeptLaws::on_a_job, crate::proofs::KeptLaws::on_no_job, crate::proofs::KeptLaws::there_was_none, crate::proofs::KeptLaws::commands_on_a_job))]
+#[tactic(auto, using(crate::proofs::KeptLaws::on_a_job, crate::proofs::KeptLaws::on_no_job, crate::proofs::KeptLaws::there_was_none))]
 pub fn commands(alloc: Global, job: &mut JobHandle, script: &[u8]) -> u32
     ensures no_job { result ≡ 8 ↔ job.old.value ≡ None }
     ensures done { OnJob (DoesCommands script.now) job.old.value job.new.value result }
@@ -118,6 +120,50 @@ pub fn finish(alloc: Global, job: &mut JobHandle) -> u32
         return NO_JOB;
     };
     let status = kept.finish(alloc);
+    put(alloc, job, kept);
+    status
+}
+
+/// Runs a piece of a script, as `commands` does, and writes the row of each reply to the front of `rows`, and their number into `count`. A bad
+/// piece has one row. No answer is kept, and those that are kept stay.
+///
+/// Returns ACCEPTED, REFUSED or REFUSED_MEMORY; BUFFER_TOO_SMALL, and then nothing was run, and `count` alone is written: the number of rows that
+/// are needed; NO_JOB or OUT_OF_MEMORY, and then nothing changed.
+#[tactic(auto, using(crate::proofs::KeptLaws::on_a_job, crate::proofs::KeptLaws::on_no_job, crate::proofs::KeptLaws::there_was_none))]
+pub fn run(
+    alloc: Global,
+    job: &mut JobHandle,
+    script: &[u8],
+    rows: &mut [ReplyRow],
+    count: &mut usize,
+) -> u32
+    ensures no_job { result ≡ 8 ↔ job.old.value ≡ None }
+    ensures done { OnJob (RepliesTo script.now (record { rows = rows.old; count = count.old }) (record { rows = rows.new; count = count.new }))
+        job.old.value job.new.value result }
+    ensures rows { result ≡ 8 → rows.new ≡ rows.old }
+    ensures count { result ≡ 8 → count.new ≡ count.old }
+{
+    let Some(mut kept) = take_out(alloc, job) else {
+        return NO_JOB;
+    };
+    let status = kept.run(alloc, script, rows, count);
+    put(alloc, job, kept);
+    status
+}
+
+/// Writes the end of the file, as `finish` does, and the row of its reply. No answer is kept, and those that are kept stay.
+///
+/// Returns ACCEPTED, REFUSED or REFUSED_MEMORY; or NO_JOB, and then nothing changed.
+#[tactic(auto, using(crate::proofs::KeptLaws::on_a_job, crate::proofs::KeptLaws::on_no_job, crate::proofs::KeptLaws::there_was_none, crate::proofs::KeptLaws::end_on_a_job))]
+pub fn end(alloc: Global, job: &mut JobHandle, row: &mut ReplyRow) -> u32
+    ensures no_job { result ≡ 8 ↔ job.old.value ≡ None }
+    ensures done { OnJob (RepliesToEnd row.new) job.old.value job.new.value result }
+    ensures row { result ≡ 8 → row.new ≡ row.old }
+{
+    let Some(mut kept) = take_out(alloc, job) else {
+        return NO_JOB;
+    };
+    let status = kept.end(row);
     put(alloc, job, kept);
     status
 }

@@ -1,14 +1,19 @@
 //! A job that is kept, with the answers and the bytes that were not handed over yet.
 
-ghost use Rattle.std.specs.Prelude.{◌≡◌, drop};
+ghost use Rattle.std.specs.Prelude.{◌≡◌, ◌<◌, ◌⊎◌, [], ◌∷◌, length, drop};
+ghost use Rattle.boxglue_calls.specs.Buffers.{Holds};
+ghost use Rattle.boxglue_jobs.specs.Rows.{bad_row};
 
 use crate::numbering::{line_count, number_after, number_on};
+use crate::replied::reply_to_each;
+use crate::rows::{ReplyRow, bad_row, end_row};
 use crate::status::ANSWERS_LOST;
+use boxglue_calls::answer_each;
 use boxglue_calls::buffers::hand_over;
-use boxglue_calls::run_status::run_status;
-use boxglue_calls::status::{ACCEPTED, OUT_OF_MEMORY, REFUSED};
+use boxglue_calls::run_status::reply_status;
+use boxglue_calls::status::{ACCEPTED, BUFFER_TOO_SMALL, OUT_OF_MEMORY, REFUSED};
 use boxglue_program::{
-    Cause, FontFile, Memory, ScriptFault, read_script, run_lines, script_refusal_text, with_end,
+    Cause, FontFile, Line, Memory, ScriptFault, read_script, script_refusal_text, with_end,
 };
 use job_core::Job;
 use std::alloc::{AllocError, Global};
@@ -41,11 +46,24 @@ fn bytes_after(bytes: &[u8], taken: usize) -> &[u8]
     &bytes[taken.min(bytes.len())..]
 }
 
+/// Writes the row of a piece that is refused for the line with this number.
+fn refuse_in_rows(line: usize, cause: Cause, rows: &mut [ReplyRow]) -> u32
+    ensures { (Holds rows.old rows.new (bad_row line cause ∷ []) × (result ≡ 1)) ⊎ ((length rows.old < 1) × (rows.new ≡ rows.old) × (result ≡ 4)) }
+{
+    if rows.is_empty() {
+        return BUFFER_TOO_SMALL;
+    }
+    rows[0] = bad_row(line, cause);
+    REFUSED
+}
+
 impl KeptJob {
-    ghost use Rattle.std.specs.Prelude.{◌≡◌, ◌⊎◌, ◌++◌, List, ℕ, [], IfOk, IfSome};
+    ghost use Rattle.std.specs.Prelude.{◌≡◌, ◌≤◌, ◌⊎◌, ◌++◌, List, ℕ, [], length, IfOk, IfSome};
     ghost use Rattle.boxglue_program.specs.Texts.{script_refusal_text};
+    ghost use Rattle.boxglue_script.specs.Script.{IsScript};
     ghost use Rattle.boxglue_jobs.specs.Jobs.{IsNewJob};
     ghost use Rattle.boxglue_jobs.specs.Pieces.{Answers, DoesCommands, FinishesKept, HandsAnswers, HandsBytes};
+    ghost use Rattle.boxglue_jobs.specs.Replies.{RepliesTo, RepliesToEnd, RepliesToPiece};
 
     /// A new job with these font files.
     pub fn new(alloc: Global, files: &[FontFile]) -> Result<KeptJob, AllocError>
@@ -62,16 +80,16 @@ impl KeptJob {
         }
     }
 
-    /// Appends a text to the answers, and returns the status. None is a text for which memory was refused.
-    fn keep(&mut self, text: Option<Vec<u8>>, accepted: bool) -> u32
-        ensures answered { (lines : List ℕ) → IfSome text (λ kept. kept.items ≡ lines) → Answers self.old.answers self.new.answers lines accepted result }
+    /// Appends a text to the answers, and returns the status, which is this one where it was kept. None is a text for which memory was refused.
+    fn keep(&mut self, text: Option<Vec<u8>>, done: u32) -> u32
+        ensures answered { (lines : List ℕ) → IfSome text (λ kept. kept.items ≡ lines) → Answers self.old.answers self.new.answers lines done result }
         ensures same { (self.new.job ≡ self.old.job) × (self.new.lines ≡ self.old.lines) × (self.new.taken ≡ self.old.taken) }
     {
         let Some(text) = text else {
             return ANSWERS_LOST;
         };
         match self.answers.extend_from_slice(&text) {
-            Ok(()) => run_status(&text, accepted),
+            Ok(()) => done,
             Err(_) => ANSWERS_LOST,
         }
     }
@@ -101,9 +119,49 @@ impl KeptJob {
             }
         };
         number_on(self.lines, &mut lines);
-        let (text, accepted) = run_lines(alloc, &mut self.job, &lines);
+        let (text, done) = answer_each(alloc, &mut self.job, &lines);
         self.lines = number_after(self.lines, line_count(script));
-        self.keep(text, accepted)
+        self.keep(text, done)
+    }
+
+    /// Runs the lines of a piece of a script, and writes the rows of their replies.
+    fn reply_to_piece(&mut self, script: &[u8], lines: &mut [Line], rows: &mut [ReplyRow]) -> u32
+        requires piece { IsScript script.now lines.old }
+        requires room { length lines.old ≤ length rows.old }
+        ensures { (count : ℕ) → RepliesToPiece script.now (record { rows = rows.old; count = count })
+            (record { rows = rows.new; count = length lines.old }) self.old self.new result }
+    {
+        number_on(self.lines, lines);
+        let status = reply_to_each(&mut self.job, lines, rows);
+        self.lines = number_after(self.lines, line_count(script));
+        status
+    }
+
+    /// Runs a piece of a script, which is whole lines, and writes the rows of its replies. It is read first, and where it is bad, or there is no
+    /// room for its rows, no line of it is run.
+    pub fn run(
+        &mut self,
+        alloc: Global,
+        script: &[u8],
+        rows: &mut [ReplyRow],
+        count: &mut usize,
+    ) -> u32
+        ensures { RepliesTo script.now (record { rows = rows.old; count = count.old }) (record { rows = rows.new; count = count.new })
+            self.old self.new result }
+    {
+        let mut lines = match read_script(alloc, script) {
+            Ok(lines) => lines,
+            Err(ScriptFault::OutOfMemory) => return OUT_OF_MEMORY,
+            Err(ScriptFault::BadScript { line, cause }) => {
+                *count = 1;
+                return refuse_in_rows(number_after(self.lines, line), cause, rows);
+            }
+        };
+        *count = lines.len();
+        if lines.len() > rows.len() {
+            return BUFFER_TOO_SMALL;
+        }
+        self.reply_to_piece(script, &mut lines, rows)
     }
 
     /// Hands the answers over that were not handed over yet.
@@ -138,6 +196,15 @@ impl KeptJob {
     {
         let end = self.job.finish();
         let text = with_end(Some(Vec::new(alloc)), &end);
-        self.keep(text, end.is_ok())
+        self.keep(text, reply_status(&end))
+    }
+
+    /// Writes the end of the file, and the row of its reply.
+    pub fn end(&mut self, row: &mut ReplyRow) -> u32
+        ensures { RepliesToEnd row.new self.old self.new result }
+    {
+        let ended = self.job.finish();
+        *row = end_row(&ended);
+        reply_status(&ended)
     }
 }

@@ -22,7 +22,7 @@ fn metric_refusal_name(cause: TfmCause) -> &'static str
 }
 
 /// The number and the name of a refusal. 2 is the number of a bad script, and 20 that of a DVI file that is refused.
-fn refusal_row(refusal: Refusal) -> (u32, &'static str)
+pub fn refusal_row(refusal: Refusal) -> (u32, &'static str)
     ensures number { result.0 ≡ (refusal_row refusal).0 }
     ensures name { result.1.now ≡ (refusal_row refusal).1 }
 {

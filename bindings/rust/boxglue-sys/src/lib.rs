@@ -19,6 +19,60 @@ pub const BOXGLUE_NO_JOB: u32 = 8;
 pub const BOXGLUE_JOB_EXISTS: u32 = 9;
 pub const BOXGLUE_ANSWERS_LOST: u32 = 10;
 
+pub const BOXGLUE_REPLY_OK: u32 = 0;
+pub const BOXGLUE_REPLY_REFUSED: u32 = 1;
+pub const BOXGLUE_REPLY_BAD_LINE: u32 = 2;
+pub const BOXGLUE_REPLY_PACKED: u32 = 3;
+pub const BOXGLUE_REPLY_MEASURED: u32 = 4;
+pub const BOXGLUE_REPLY_MEASURED_VOID: u32 = 5;
+pub const BOXGLUE_REPLY_SHAPED: u32 = 6;
+pub const BOXGLUE_REPLY_ADDED: u32 = 7;
+pub const BOXGLUE_REPLY_PARAGRAPH: u32 = 8;
+pub const BOXGLUE_REPLY_SPLIT: u32 = 9;
+pub const BOXGLUE_REPLY_SPLIT_VOID: u32 = 10;
+pub const BOXGLUE_REPLY_SHIPPED: u32 = 11;
+pub const BOXGLUE_REPLY_END: u32 = 12;
+
+pub const BOXGLUE_REFUSAL_OUT_OF_MEMORY: u32 = 1;
+pub const BOXGLUE_REFUSAL_BAD_SCRIPT: u32 = 2;
+pub const BOXGLUE_REFUSAL_DIMENSION_TOO_LARGE: u32 = 3;
+pub const BOXGLUE_REFUSAL_NO_FONT: u32 = 4;
+pub const BOXGLUE_REFUSAL_BAD_TFM: u32 = 5;
+pub const BOXGLUE_REFUSAL_SLOT_TAKEN: u32 = 6;
+pub const BOXGLUE_REFUSAL_NO_OPEN_LIST: u32 = 7;
+pub const BOXGLUE_REFUSAL_WRONG_MODE: u32 = 8;
+pub const BOXGLUE_REFUSAL_WRONG_KIND: u32 = 9;
+pub const BOXGLUE_REFUSAL_LIST_TOO_LONG: u32 = 10;
+pub const BOXGLUE_REFUSAL_TOO_DEEP: u32 = 11;
+pub const BOXGLUE_REFUSAL_INFINITE_SHRINK: u32 = 12;
+pub const BOXGLUE_REFUSAL_TOO_MANY_BREAKS: u32 = 13;
+pub const BOXGLUE_REFUSAL_HUGE_PAGE: u32 = 14;
+pub const BOXGLUE_REFUSAL_TOO_MANY_PAGES: u32 = 15;
+pub const BOXGLUE_REFUSAL_TOO_MUCH_SHIPPED: u32 = 16;
+pub const BOXGLUE_REFUSAL_LISTS_OPEN: u32 = 17;
+pub const BOXGLUE_REFUSAL_DEVICE: u32 = 18;
+pub const BOXGLUE_REFUSAL_JOB_OVER: u32 = 19;
+pub const BOXGLUE_REFUSAL_VOID_BOX: u32 = 21;
+pub const BOXGLUE_REFUSAL_TOO_MUCH_SPECIAL: u32 = 22;
+
+pub const BOXGLUE_TFM_TOO_SHORT: u32 = 1;
+pub const BOXGLUE_TFM_COUNTS: u32 = 2;
+pub const BOXGLUE_TFM_DESIGN_SIZE: u32 = 3;
+pub const BOXGLUE_TFM_CHAR_INFO: u32 = 4;
+pub const BOXGLUE_TFM_FIX_WORD: u32 = 5;
+pub const BOXGLUE_TFM_LIG_KERN: u32 = 6;
+
+pub const BOXGLUE_LINE_BYTE: u32 = 1;
+pub const BOXGLUE_LINE_WORD: u32 = 2;
+pub const BOXGLUE_LINE_MISSING: u32 = 3;
+pub const BOXGLUE_LINE_EXTRA: u32 = 4;
+pub const BOXGLUE_LINE_NUMBER: u32 = 5;
+pub const BOXGLUE_LINE_DIMENSION: u32 = 6;
+pub const BOXGLUE_LINE_NAME: u32 = 7;
+
+pub const BOXGLUE_BOX_HORIZONTAL: u32 = 0;
+pub const BOXGLUE_BOX_VERTICAL: u32 = 1;
+
 #[repr(C)]
 #[derive(Clone, Copy, Debug)]
 pub struct boxglue_font {
@@ -56,6 +110,41 @@ pub struct boxglue_font_sizes {
 #[derive(Debug)]
 pub struct boxglue_job {
     pub at: *mut core::ffi::c_void,
+}
+
+#[repr(C)]
+#[derive(Clone, Copy, Debug, Default, PartialEq, Eq)]
+pub struct boxglue_box_sizes {
+    pub width: i32,
+    pub height: i32,
+    pub depth: i32,
+}
+
+#[repr(C)]
+#[derive(Clone, Copy, Debug, Default, PartialEq, Eq)]
+pub struct boxglue_reply {
+    pub line: u64,
+    pub kind: u32,
+    pub refusal: u32,
+    pub cause: u32,
+    pub box_kind: u32,
+    pub box_: boxglue_box_sizes,
+    pub rest: boxglue_box_sizes,
+    pub has_rest: u32,
+    pub badness: u32,
+    pub pass: u32,
+    pub missing: u32,
+    pub count: u64,
+    pub bytes: u64,
+    pub overhang: i64,
+    pub demerits: i64,
+}
+
+#[repr(C)]
+#[derive(Clone, Copy, Debug, Default)]
+pub struct boxglue_reply_sizes {
+    pub replies: usize,
+    pub dvi: usize,
 }
 
 extern "C" {
@@ -107,5 +196,25 @@ extern "C" {
     pub fn boxglue_job_answers(job: *mut boxglue_job, text: *mut u8, text_room: usize, size: *mut usize) -> u32;
     pub fn boxglue_job_take(job: *mut boxglue_job, dvi: *mut u8, dvi_room: usize, size: *mut usize) -> u32;
     pub fn boxglue_job_finish(job: *mut boxglue_job) -> u32;
+    pub fn boxglue_job_run(
+        job: *mut boxglue_job,
+        script: *const u8,
+        script_size: usize,
+        replies: *mut boxglue_reply,
+        reply_room: usize,
+        count: *mut usize,
+    ) -> u32;
+    pub fn boxglue_job_end(job: *mut boxglue_job, reply: *mut boxglue_reply) -> u32;
+    pub fn boxglue_run_replies(
+        script: *const u8,
+        script_size: usize,
+        fonts: *const boxglue_font,
+        font_count: usize,
+        replies: *mut boxglue_reply,
+        reply_room: usize,
+        dvi: *mut u8,
+        dvi_room: usize,
+        sizes: *mut boxglue_reply_sizes,
+    ) -> u32;
     pub fn boxglue_job_free(job: *mut boxglue_job);
 }

@@ -1,7 +1,7 @@
 -- The bytes that were handed over, call by call.
 use Rattle.std.proofs.Common.{[], ap}
 use Rattle.boxglue_jobs.specs.Jobs.{reported}
-use Rattle.boxglue_jobs.proofs.HandedBytes.{all_handed, answers_handed, commands_handed, finish_handed, given_handed, waits_handed}
+use Rattle.boxglue_jobs.proofs.HandedBytes.{all_handed, answers_handed, commands_handed, end_handed, finish_handed, given_handed, replies_handed, waits_handed}
 use Rattle.boxglue_jobs.proofs.laws.bytes_are_handed_over_once.Goals as goal
 
 pub returns : goal.returns
@@ -11,6 +11,8 @@ returns c = record {
   all = all_handed;
   waits = waits_handed;
   commands = commands_handed;
+  replies = replies_handed;
   answers = answers_handed;
   finish = finish_handed;
+  end = end_handed;
 }

@@ -1,0 +1,17 @@
+-- The lines so far were run, and their rows are written.
+use Rattle.std.proofs.Common.{◌≡◌, ◌++◌, ℕ, true, List, length, take, drop}
+use Rattle.job_commands.specs.Reply.{Reply}
+use Rattle.dvi_device.specs.Written.{written_then}
+use Rattle.job_core.specs.Jobs.{RunsTo}
+use Rattle.boxglue_program.specs.Runs.{commands_of, line_numbers}
+use Rattle.boxglue_calls.specs.RunStatus.{replies_status}
+use Rattle.boxglue_jobs.specs.Rows.{reply_rows}
+use Rattle.boxglue_jobs.proofs.replied.reply_to_each.Given as goal
+
+abbrev pub invariant-loop-at : goal.invariant-loop-at
+invariant-loop-at g l = record {
+  ran : (replies : List Reply) × RunsTo l.initial.job (commands_of (take l.at l.lines)) replies l.job × (length replies ≡ length (take l.at l.lines))
+      × (l.rows ≡ reply_rows (line_numbers (take l.at l.lines)) replies ++ drop l.at l.initial.rows) × (l.status ≡ replies_status replies);
+  idle : l.initial.job.state.over ≡ true → l.job ≡ l.initial.job;
+  grows : (more : List ℕ) × (l.job.bytes_written ≡ written_then l.initial.job.bytes_written more);
+}
