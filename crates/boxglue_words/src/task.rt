@@ -23,6 +23,10 @@ pub enum Task<'a> {
         dvi: &'a str,
         fonts: Vec<NamedPath<'a>>,
     },
+    /// Prints the fonts that the DVI file at this path defines.
+    Fonts {
+        dvi: &'a str,
+    },
     /// Paints a page of the DVI file at this path.
     Painting {
         sheet: PaintOptions,
