@@ -19,6 +19,10 @@ pub const BOXGLUE_NO_JOB: u32 = 8;
 pub const BOXGLUE_JOB_EXISTS: u32 = 9;
 pub const BOXGLUE_ANSWERS_LOST: u32 = 10;
 
+pub const BOXGLUE_GLYPH: u32 = 1;
+pub const BOXGLUE_RULE: u32 = 2;
+pub const BOXGLUE_SPECIAL: u32 = 3;
+
 pub const BOXGLUE_REPLY_OK: u32 = 0;
 pub const BOXGLUE_REPLY_REFUSED: u32 = 1;
 pub const BOXGLUE_REPLY_BAD_LINE: u32 = 2;
@@ -107,6 +111,39 @@ pub struct boxglue_font_sizes {
     pub text: usize,
 }
 
+#[repr(C)]
+#[derive(Clone, Copy, Debug, Default)]
+pub struct boxglue_page {
+    pub counts: [i32; 10],
+    pub first_mark: usize,
+    pub marks: usize,
+}
+
+#[repr(C)]
+#[derive(Clone, Copy, Debug, Default)]
+pub struct boxglue_mark {
+    pub kind: u32,
+    pub font: i32,
+    pub code: i32,
+    pub h: i32,
+    pub v: i32,
+    pub height: i32,
+    pub width: i32,
+    pub text_size: u32,
+    pub text_start: u64,
+}
+
+#[repr(C)]
+#[derive(Clone, Copy, Debug, Default)]
+pub struct boxglue_mark_sizes {
+    pub pages: usize,
+    pub marks: usize,
+    pub text: usize,
+    pub num: i32,
+    pub den: i32,
+    pub mag: i32,
+}
+
 /// A handle goes to one call at a time, and is never copied.
 #[repr(C)]
 #[derive(Debug)]
@@ -191,6 +228,19 @@ extern "C" {
         text: *mut u8,
         text_room: usize,
         sizes: *mut boxglue_font_sizes,
+    ) -> u32;
+    pub fn boxglue_marks(
+        dvi: *const u8,
+        dvi_size: usize,
+        fonts: *const boxglue_font,
+        font_count: usize,
+        pages: *mut boxglue_page,
+        page_room: usize,
+        marks: *mut boxglue_mark,
+        mark_room: usize,
+        text: *mut u8,
+        text_room: usize,
+        sizes: *mut boxglue_mark_sizes,
     ) -> u32;
     pub fn boxglue_version() -> u32;
     pub fn boxglue_job_new(job: *mut boxglue_job, fonts: *const boxglue_font, font_count: usize) -> u32;

@@ -4,7 +4,7 @@ use boxglue_sys as sys;
 use std::fmt;
 
 /// A refusal: of a command, a script, the end of a job, or a DVI file.
-#[derive(Clone, Debug, PartialEq, Eq)]
+#[derive(Clone, Debug, PartialEq, Eq, Hash)]
 pub struct Refusal {
     /// The line of the command that was refused; none where no command was.
     pub line: Option<u64>,
@@ -26,6 +26,47 @@ impl Refusal {
         Some(Refusal { line: line.parse().ok(), number, name, detail: words.next().unwrap_or_default().to_string() })
     }
 
+    /// What is wrong with a line of a script, a metric file or a DVI file; none where the refusal names no cause.
+    ///
+    /// ```
+    /// let refusal = boxglue::run("kern 12px\n", &[])?.refusals().next().unwrap();
+    /// assert_eq!((refusal.name.as_str(), refusal.bad_line(), refusal.cause()), ("BadScript", Some(1), Some("Dimension")));
+    /// # Ok::<(), boxglue::Error>(())
+    /// ```
+    pub fn cause(&self) -> Option<&str> {
+        self.detail.rsplit(' ').next().filter(|it| !it.is_empty())
+    }
+
+    /// The number of the bad line for which a script or a piece was refused as a whole.
+    pub fn bad_line(&self) -> Option<u64> {
+        self.where_in("BadScript")
+    }
+
+    /// The place in a DVI file, in bytes, at which it breaks a rule.
+    ///
+    /// ```
+    /// let refused = boxglue::fonts(b"no DVI file").unwrap_err();
+    /// assert!(matches!(refused, boxglue::Error::Refused(it) if it.place() == Some(11) && it.cause() == Some("Trailer")));
+    /// ```
+    pub fn place(&self) -> Option<u64> {
+        self.where_in("BadDvi")
+    }
+
+    /// Writes what an answer says of it.
+    pub(crate) fn write_said(&self, out: &mut fmt::Formatter<'_>) -> fmt::Result {
+        write!(out, "refused {} {}", self.number, self.name)?;
+        if self.detail.is_empty() {
+            Ok(())
+        } else {
+            write!(out, " {}", self.detail)
+        }
+    }
+
+    /// The number before the cause of a refusal of this name.
+    fn where_in(&self, name: &str) -> Option<u64> {
+        self.detail.split_once(' ').filter(|_| self.name == name)?.0.parse().ok()
+    }
+
     /// The refusals among answers.
     pub(crate) fn all(answers: &str) -> impl Iterator<Item = Refusal> + '_ {
         answers.lines().filter_map(Refusal::of)
@@ -37,11 +78,7 @@ impl fmt::Display for Refusal {
         if let Some(line) = self.line {
             write!(out, "line {line}: ")?;
         }
-        write!(out, "refused {} {}", self.number, self.name)?;
-        if !self.detail.is_empty() {
-            write!(out, " {}", self.detail)?;
-        }
-        Ok(())
+        self.write_said(out)
     }
 }
 
@@ -100,11 +137,11 @@ impl fmt::Display for Error {
     }
 }
 
-impl std::error::Error for Error {
-    fn source(&self) -> Option<&(dyn std::error::Error + 'static)> {
-        match self {
-            Error::Refused(refusal) => Some(refusal),
-            _ => None,
-        }
+impl From<Refusal> for Error {
+    fn from(refusal: Refusal) -> Error {
+        Error::Refused(refusal)
     }
 }
+
+/// The text of a refusal is that of the error, so it is no source beside it.
+impl std::error::Error for Error {}

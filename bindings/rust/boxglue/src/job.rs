@@ -1,7 +1,8 @@
 //! A job that is kept between calls.
 
-use crate::buffers::{given, one_output, one_text, DVI_ROOM, TEXT_ROOM};
-use crate::{Error, Font, Refusal};
+use crate::buffers::{buffer, given, one_output, one_text, DVI_ROOM, TEXT_ROOM};
+use crate::replies::lines_of;
+use crate::{Error, Font, Refusal, Reply};
 use boxglue_sys as sys;
 
 /// The answers to the commands of a piece, a line each, or the line of the end of a job.
@@ -20,6 +21,10 @@ impl Answers {
     }
 
     /// These answers, or the first refusal as an error.
+    ///
+    /// # Errors
+    ///
+    /// [`Error::Refused`].
     pub fn check(self) -> Result<Answers, Error> {
         if self.accepted {
             Ok(self)
@@ -101,6 +106,47 @@ impl Job {
         // SAFETY: the pointer is that of a slice with its length.
         let status = unsafe { sys::boxglue_job_commands(&mut self.handle, script.as_ptr(), script.len()) };
         self.answers(status)
+    }
+
+    /// Runs a piece of a script as [`Job::commands`] does, and returns the reply to each of its commands: or the one refusal of a piece with a bad line. No answer is
+    /// kept, and none can be lost.
+    ///
+    /// # Errors
+    ///
+    /// [`Error::OutOfMemory`], and then nothing was run.
+    ///
+    /// ```
+    /// use boxglue::{Answer, BoxSizes, Job};
+    ///
+    /// let mut job = Job::new(&[])?;
+    /// let replies = job.run("hbox into 0\nrule 1pt 1pt 0pt\nend\n")?;
+    /// assert_eq!(replies[2].answer, Ok(Answer::Packed { sizes: BoxSizes { width: 65_536, height: 65_536, depth: 0 }, badness: 0 }));
+    /// assert_eq!(job.end()?.answer?, Answer::End { pages: 0, bytes: 0 });
+    /// # Ok::<(), boxglue::Error>(())
+    /// ```
+    pub fn run(&mut self, script: impl AsRef<[u8]>) -> Result<Vec<Reply>, Error> {
+        let script = script.as_ref();
+        let (mut rows, mut count) = (buffer(lines_of(script), sys::boxglue_reply::default())?, 0);
+        // SAFETY: each pointer is that of a slice with its length, and they do not overlap.
+        match unsafe { sys::boxglue_job_run(&mut self.handle, script.as_ptr(), script.len(), rows.as_mut_ptr(), rows.len(), &mut count) } {
+            sys::BOXGLUE_ACCEPTED | sys::BOXGLUE_REFUSED | sys::BOXGLUE_REFUSED_MEMORY => Ok(rows[..count].iter().map(Reply::of).collect()),
+            // A room of a reply to each line suffices, so status 4 is not among these.
+            other => Err(Error::of(other)),
+        }
+    }
+
+    /// Ends the job as [`Job::finish`] does, and returns the reply to its end.
+    ///
+    /// # Errors
+    ///
+    /// None of today's library: a refusal is a reply.
+    pub fn end(&mut self) -> Result<Reply, Error> {
+        let mut row = sys::boxglue_reply::default();
+        // SAFETY: the handle has a job.
+        match unsafe { sys::boxglue_job_end(&mut self.handle, &mut row) } {
+            sys::BOXGLUE_ACCEPTED | sys::BOXGLUE_REFUSED | sys::BOXGLUE_REFUSED_MEMORY => Ok(Reply::of(&row)),
+            other => Err(Error::of(other)),
+        }
     }
 
     /// The bytes of the DVI file that went out since the last call: pages as they were shipped, and the end of the file after [`Job::finish`].

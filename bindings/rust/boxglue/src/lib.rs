@@ -1,4 +1,4 @@
-//! Boxglue from Rust: scripts are run, and DVI files are listed and painted.
+//! Boxglue from Rust: scripts are run, and the pages of DVI files are read, listed and painted.
 //!
 //! ```
 //! let ran = boxglue::run("hbox into 0\nrule 1pt 1pt 0pt\nend\nship 0\n", &[])?.check()?;
@@ -7,7 +7,8 @@
 //! # Ok::<(), boxglue::Error>(())
 //! ```
 //!
-//! A [`Job`] is kept between calls, and takes a script piece by piece.
+//! A [`Job`] is kept between calls, and takes a script piece by piece. [`run_replies`] and [`Job::run`] give replies as numbers in place of texts, and [`marks`] the
+//! pages of a DVI file with their marks.
 //!
 //! Scripts and answers are those of docs/FORMATS.md of boxglue, and the commands those of docs/COMMANDS.md. A font has the name by which scripts and DVI
 //! files mean it, and the bytes of its metric file (TFM); of several with one name the first counts. Calls may run in several threads at once.
@@ -16,9 +17,14 @@
 mod buffers;
 mod error;
 mod job;
+mod marks;
+mod replies;
+mod texts;
 
 pub use error::{Error, Refusal};
 pub use job::{Answers, Job};
+pub use marks::{marks, Document, Mark, Page, Units};
+pub use replies::{run_replies, Answer, BoxKind, BoxSizes, RepliedRun, Reply};
 
 use boxglue_sys as sys;
 use buffers::{buffer, given, one_text, text, DVI_ROOM, FONT_ROOM, TEXT_ROOM};
@@ -60,6 +66,10 @@ impl Run {
     }
 
     /// This run, or the first refusal as an error.
+    ///
+    /// # Errors
+    ///
+    /// [`Error::Refused`].
     pub fn check(self) -> Result<Run, Error> {
         if self.accepted {
             Ok(self)
@@ -165,7 +175,8 @@ pub fn paint(dvi: &[u8], fonts: &[Font<'_>], sheet: PaintOptions) -> Result<Stri
 }
 
 /// A font that a DVI file defines.
-#[derive(Clone, Debug, PartialEq, Eq)]
+#[derive(Clone, Debug, PartialEq, Eq, Hash)]
+#[non_exhaustive]
 pub struct DviFont {
     /// The number by which pages select it.
     pub number: i32,
@@ -175,7 +186,7 @@ pub struct DviFont {
     pub size: i32,
     /// Its design size in DVI units.
     pub design_size: i32,
-    /// The check sum of its metric file, as the writer of the file saw it.
+    /// The check sum of its metric file, as the DVI file gives it. Neither is compared with a metric file.
     pub check_sum: u32,
 }
 
@@ -209,6 +220,27 @@ pub fn fonts(dvi: &[u8]) -> Result<Vec<DviFont>, Error> {
             }
             sys::BOXGLUE_REFUSED => return Err(Error::refused(&text(names))),
             other => return Err(Error::of(other)),
+        }
+    }
+}
+
+/// A dimension in scaled points as scripts and answers have it in points: with the fewest digits that are read as the same number.
+///
+/// ```
+/// assert_eq!((boxglue::points(98_304), boxglue::points(-1)), ("1.5pt".to_string(), "-0.00002pt".to_string()));
+/// ```
+pub fn points(dimension: i32) -> String {
+    const POINT: u32 = 65_536;
+    let size = dimension.unsigned_abs();
+    let (mut rest, mut delta, mut digits) = (10 * (size % POINT) + 5, 10, String::new());
+    loop {
+        if delta > POINT {
+            rest -= 17_232; // rounds the fifth digit
+        }
+        digits += &(rest / POINT).to_string();
+        (rest, delta) = (10 * (rest % POINT), 10 * delta);
+        if rest <= delta {
+            return format!("{}{}.{digits}pt", if dimension < 0 { "-" } else { "" }, size / POINT);
         }
     }
 }
