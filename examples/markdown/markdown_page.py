@@ -3,7 +3,7 @@
 
     examples/markdown/markdown_page.py --text=cmr10.tfm --bold=cmbx10.tfm --italic=cmti10.tfm --code=cmtt10.tfm page.md page.dvi
 
-The names of the fonts are those of the metric files. No width is computed here: a job measures the labels of lists before it gets the text, and its answers say
+The names of the fonts are those of the metric files. No width is computed here: a job measures the labels of lists before it gets the text, and its replies say
 when the pages have taken all of it."""
 import argparse
 import os
@@ -94,17 +94,15 @@ def font_commands(names):
         yield from (f"font {4 * level + face} {name} at {size}pt" for level, (size, _) in HEADING_SIZES.items())
 
 
-def answers_of(job, commands):
-    """Runs commands on a job. Returns their answers, without the numbers of lines. A refusal is raised."""
-    ran = job.commands("".join(f"{it}\n" for it in commands)).check()
-    return [it.partition(": ")[2] for it in ran.answers.splitlines()]
+def replies_to(job, commands):
+    """Runs commands on a job. Returns their replies. A refusal is raised."""
+    return job.commands("".join(f"{it}\n" for it in commands)).check().replies
 
 
 def widest(job, labels):
     """The width of the widest of some labels, in points."""
     commands = (command for label in labels for command in ("hbox into 1", *text_commands(label), "end"))
-    packed = [it for it in answers_of(job, commands) if it.startswith("packed ")]
-    return max((float(it.split()[1].removesuffix("pt")) for it in packed), default=0)
+    return max((it.width / 65536 for it in replies_to(job, commands) if isinstance(it, boxglue.Packed)), default=0)
 
 
 @dataclass
@@ -157,15 +155,16 @@ class Setter:
 def set_pages(blocks, names, fonts):
     """The DVI file of some blocks, and how many characters are missing. Pages are split off until nothing is left."""
     with boxglue.Job(fonts) as job:
-        answers_of(job, font_commands(names))
+        replies_to(job, font_commands(names))
         labels = [it.label for it in blocks if it.label]
         setter = Setter(max(INDENT, widest(job, labels) + LABEL_GAP))
         setter.text(blocks)
-        missing = sum(int(it.split()[-1]) for it in answers_of(job, setter.commands) if " missing " in it)
-        page, split = 0, ""
-        while not split.endswith("rest void"):
+        missing = sum(it.missing or 0 for it in replies_to(job, setter.commands) if isinstance(it, boxglue.Added))
+        page, rest = 0, True
+        while rest:
             page += 1
-            _, split, _ = answers_of(job, [f"count 0 {page}", f"vsplit 0 to {HEIGHT}pt into 1", "ship 1"])
+            _, split, _ = replies_to(job, [f"count 0 {page}", f"vsplit 0 to {HEIGHT}pt into 1", "ship 1"])
+            rest = split.rest
         job.finish().check()
         return job.take(), missing
 

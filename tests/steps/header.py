@@ -1,9 +1,12 @@
 """include/boxglue.h: the functions, structs, statuses and the version that it declares are those of the exports, and each function that has a pointer with a size has
-a call that takes a null pointer where the size is 0.
-Only texts are compared: names, the order and the width of parameters and fields. No program is run."""
+a call that takes a null pointer where the size is 0. What bindings/rust and bindings/python declare is what the header does.
+Only texts are compared: names, numbers, the order and the width of parameters and fields. No program is built, and Python loads no library."""
+import json
 import os
 import re
 import shutil
+import subprocess
+import sys
 import tempfile
 from functools import partial
 
@@ -18,7 +21,6 @@ JOBS = "crates/boxglue_jobs/src"
 REFUSALS = "crates/boxglue_program/src/refusals.rt"
 STATUSES_OF_PYTHON = "bindings/python/boxglue/_status.py"
 RUST = "bindings/rust/boxglue-sys/src/lib.rs"
-PYTHON = "bindings/python/boxglue/_library.py"
 CALLS_OF_C = "#ifndef BOXGLUE_NO_INLINE"
 TYPES = {"u8": "uint8_t", "u32": "uint32_t", "u64": "uint64_t", "i32": "int32_t", "i64": "int64_t", "usize": "size_t", "": "void", "*mut u8": "void *",
          "JobHandle": "struct boxglue_job", "DviPage": "struct boxglue_page", "DviMark": "struct boxglue_mark", "ReplyRow": "struct boxglue_reply"}
@@ -126,11 +128,16 @@ def structs(root):
     return None if wanted and found == wanted else f"the header has {found}, and the calls have {wanted}"
 
 
+def spelled(name):
+    """A name as C spells those of numbers: OUT_OF_MEMORY for OutOfMemory."""
+    return re.sub(r"(?<=[a-z])(?=[A-Z])", "_", name).upper()
+
+
 def numbers(root, enum, prefix, *sources, row=r"const (\w+): u32 = (\d+);"):
     """What is wrong with the numbers of an enum. A row of the sources has a name and its number."""
     found = re.findall(rf"{prefix}(\w+) = (\d+)", re.search(rf"enum {enum} {{(.*?)}}", declared(root))[1])
     rows = re.findall(row, "".join(read(root, it) for it in sources))
-    wanted = [(re.sub(r"(?<=[a-z])(?=[A-Z])", "_", name).upper(), number) for name, number in rows]
+    wanted = [(spelled(name), number) for name, number in rows]
     return None if wanted and found == sorted(wanted, key=lambda it: int(it[1])) else f"the header has {found}, and the calls have {wanted}"
 
 
@@ -189,11 +196,60 @@ def rust(root):
     return None if found == wanted else f"Rust has {found}, and the header {wanted}"
 
 
+# Prints the structs, the calls and the numbers of the binding for Python as C declares them. It loads no library.
+PRINT_PYTHON = """
+import ctypes, json
+from boxglue import MarkKind, ReplyKind, Status, _library, _replies
+NAMES = {"Font": "font", "DviFontRow": "dvi_font", "FontSizes": "font_sizes", "PageRow": "page", "MarkRow": "mark", "MarkSizes": "mark_sizes", "BoxSizes": "box_sizes",
+         "ReplyRow": "reply", "ReplySizes": "reply_sizes", "JobHandle": "job", "c_int": "int32_t", "c_uint": "uint32_t", "c_long": "int64_t", "c_ulong": "size_t",
+         "c_char": "uint8_t", "c_char_p": "const uint8_t *", "c_void_p": "void *"}
+def text(kind):
+    if hasattr(kind, "_length_"):
+        return f"{text(kind._type_)}[{kind._length_}]"
+    if hasattr(kind, "contents"):
+        return f"{text(kind._type_)} *"
+    name = NAMES[kind.__name__]
+    return f"struct boxglue_{name}" if issubclass(kind, ctypes.Structure) else name
+structs = {text(it): [f"{text(kind)} {name.rstrip('_')}" for name, kind in it._fields_] for it in vars(_library).values() if hasattr(it, "_fields_") and it is not ctypes.Structure}
+calls = {f"boxglue_{name}": [*map(text, kinds)] for name, kinds in _library._CALLS.items()}
+enums = {"status": Status.__members__, "mark_kind": MarkKind.__members__, "reply_kind": ReplyKind.__members__,
+         "refusal": {name: number for number, name in _replies._REFUSALS.items()}, "tfm_cause": {it: at for at, it in enumerate(_replies._METRIC_CAUSES) if at},
+         "line_cause": {it: at for at, it in enumerate(_replies._LINE_CAUSES) if at}}
+print(json.dumps({**structs, **calls, **{f"enum boxglue_{name}": [*found.items()] for name, found in enums.items()}}))
+"""
+
+
+def python_words(root):
+    """What the binding for Python has: by the names of structs, of calls and of enums their fields, their parameters and their numbers."""
+    env = {"PYTHONPATH": f"{root}/bindings/python", "PYTHONDONTWRITEBYTECODE": "1"}
+    return json.loads(subprocess.run([sys.executable, "-c", PRINT_PYTHON], env=env, capture_output=True, text=True, timeout=60, check=True).stdout)
+
+
+def python_type(declaration):
+    """The type of a parameter or a field as Python knows it, and its name: pointers to constant structs are pointers, and size_t has the 64 bits of uint64_t."""
+    kind, name, length = re.fullmatch(r"(.*?) ?(\w+)((?:\[\d+\])?)", declaration.strip()).groups()
+    return kind.replace("uint64_t", "size_t").replace("const struct", "struct") + length, name
+
+
+def python_wanted(root):
+    """The same of the header."""
+    text = declared(root).partition(CALLS_OF_C)[0]
+    made = {name: [" ".join(python_type(it)) for it in body.split(";")[:-1]] for name, body in re.findall(r"(struct boxglue_\w+) \{([^}]*)\};", text)}
+    for name, body in re.findall(r"\w+ (boxglue_\w+)\(([^)]*)\);", text):
+        made[name] = [] if body == "void" else [python_type(it)[0] for it in body.split(",")]
+    for name, body in re.findall(r"(enum boxglue_\w+) \{([^}]*)\};", text):
+        rows = re.findall(r"BOXGLUE_(\w+) = (\d+)", body)
+        prefix = os.path.commonprefix([it for it, _ in rows])
+        made[name] = [[it.removeprefix(prefix[:prefix.rfind("_") + 1]), int(number)] for it, number in rows]
+    return made
+
+
 def python(root):
-    """What is wrong with the names of the calls of bindings/python."""
-    found = re.findall(r'^    "(\w+)": \[', read(root, PYTHON).partition("_CALLS = {")[2].partition("\n}")[0], flags=re.M)
-    wanted = [it.removeprefix("boxglue_") for it in re.findall(r" (boxglue_\w+)\(", " ".join(functions_of(declared(root))))]
-    return None if found and not {*found} - {*wanted} else f"Python calls {found}, and the header declares {wanted}"
+    """What is wrong with the structs, the calls and the numbers of bindings/python."""
+    found, wanted = python_words(root), python_wanted(root)
+    plain = {name: [[spelled(it[0]), it[1]] for it in rows] if name.startswith("enum") else rows for name, rows in found.items()}
+    wrong = [f"{name} is {rows} in Python, and {wanted.get(name)} in the header" for name, rows in plain.items() if rows != wanted.get(name)]
+    return "; ".join(wrong) or (None if plain else "Python declares nothing")
 
 
 def version(root):

@@ -92,7 +92,7 @@ def built(build, root, archive):
 
 def python_words(root, archive, words):
     """The words that run Python with the binding, and their environment."""
-    env = {**os.environ, "BOXGLUE_LIBRARY": built(build_shared, root, archive), "PYTHONPATH": f"{root}/bindings/python", "PYTHONDONTWRITEBYTECODE": "1"}
+    env = {**os.environ, "BOXGLUE_LIBRARY": built(build_shared, root, archive), "PYTHONPATH": f"{root}/bindings/python", "PYTHONPYCACHEPREFIX": f"{folder()}/pycache"}
     return [sys.executable, *words], env
 
 

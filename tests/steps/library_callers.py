@@ -7,7 +7,7 @@ import tempfile
 from functools import partial
 
 from steps.library_build import build_shared, built, compile_c, heap_archive, lacking, python_words, run_build
-from steps.outcome import lacks
+from steps.outcome import lacks, without
 from steps.plain_font import metric_file
 from steps.texts import last_lines
 
@@ -42,7 +42,8 @@ WANTED = b"1: ok\n2: ok\n3: packed 1.0pt 1.0pt 0.0pt badness 0\n4: shipped 1\nen
 
 
 def block(root, language, number):
-    """The block of docs/LIBRARY.md in a language with this number, from 0: the first one runs a whole script, the second keeps a job, and the third takes replies as numbers."""
+    """The block of docs/LIBRARY.md in a language with this number, from 0. The first one runs a whole script. In C the second keeps a job, and the third takes replies
+    as numbers; in Python the second takes replies and marks, and the third keeps a job."""
     with open(f"{root}/docs/LIBRARY.md", encoding="utf-8") as it:
         section = it.read().partition(f"{SECTION}\n")[2].split("\n## ")[0]
     return re.findall(rf"^```{language}\n(.*?)^```$", section, flags=re.M | re.S)[number]
@@ -87,6 +88,12 @@ def caller_in_python(number, root, archive, folder):
     return run_wrong(words, env, folder=folder) or (file_wrong(folder) if number else None)
 
 
+def typed_in_python(root, archive, folder):
+    write(f"{folder}/caller.py", block(root, "python", 1))
+    words, env = python_words(root, archive, [f"{folder}/caller.py"])
+    return run_wrong(words, env, b"65536 2.0pt\n0 Rule(h=0, v=131072, height=131072, width=65536)\n", folder)
+
+
 def caller_in_rust(root, archive, folder):
     if lacks("cargo"):
         return lacks("cargo")
@@ -122,6 +129,15 @@ def types_of_binding(root, archive, folder):
     return lacks("mypy") or binding("test_types.py", root, archive, folder)
 
 
+def marks_in_numpy(root, archive, folder):
+    """Runs the tests of marks by a Python that has numpy: this one, or the system's."""
+    words, env = python_words(root, archive, ["-m", "unittest", "-q", "tests.test_marks"])
+    for python in (words[0], "/usr/bin/python3"):
+        if not run_wrong([python, "-c", "import numpy"], wanted=None):
+            return run_wrong([python, *words[1:]], env, b"", f"{root}/bindings/python")
+    return without("numpy")
+
+
 def client(root, archive, folder):
     with open(f"{folder}/plain.tfm", "wb") as it:
         it.write(metric_file())
@@ -143,7 +159,8 @@ def cases(programs, root):
     """The callers."""
     calls = {"LIBRARY.md in C": partial(caller_in_c, 0), "LIBRARY.md in C, a job": partial(caller_in_c, 1), "LIBRARY.md in C, replies": replies_in_c,
              "LIBRARY.md in Python": partial(caller_in_python, 0),
-             "LIBRARY.md in Python, a job": partial(caller_in_python, 1), "LIBRARY.md in Rust": caller_in_rust, "tests of bindings/python": partial(binding, "test_*.py"),
-             "types of bindings/python": types_of_binding, "examples/markdown": client}
+             "LIBRARY.md in Python, replies and marks": typed_in_python, "LIBRARY.md in Python, a job": partial(caller_in_python, 2),
+             "LIBRARY.md in Rust": caller_in_rust, "tests of bindings/python": partial(binding, "test_*.py"),
+             "types of bindings/python": types_of_binding, "marks of bindings/python in numpy": marks_in_numpy, "examples/markdown": client}
     calls |= {f"null pointers in {it}": partial(null_pointers, it) for it in LANGUAGES}
     return [(name, partial(outcome, call, root, *programs)) for name, call in calls.items()]

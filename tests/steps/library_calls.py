@@ -26,7 +26,8 @@ def command_in_python(root, archive, words):
     return python_words(root, archive, [f"{root}/tests/steps/python_calls.py", *words])
 
 
-KINDS = {command_in_c: [("run", "job"), ("run_replies", "job_replies")], command_in_python: [("run", "job")]}
+# The calls on scripts, each with that on a job, and those that give a listing.
+KINDS = {command_in_c: ([("run", "job"), ("run_replies", "job_replies")], ["list"]), command_in_python: ([("run", "job")], ["list", "marks"])}
 
 
 def printed(ran):
@@ -47,8 +48,9 @@ def differs(call, found, wanted):
     return first_difference(f"{call}: the text", found.text, wanted.text) or first_difference(f"{call}: the file", found.dvi, wanted.dvi)
 
 
-def calls_of(room, wanted, kinds):
-    """The calls that are made, each with its words and with what it has to give. Replies that come as numbers are printed as the texts of the answers."""
+def calls_of(room, wanted, kinds, listings):
+    """The calls that are made, each with its words and with what it has to give. Replies that come as numbers are printed as the texts of the answers, and in Python
+    marks as a listing."""
     script = wanted["run"]
     for run, job in kinds:
         yield run, [run, "script", *room.fonts], script
@@ -57,7 +59,8 @@ def calls_of(room, wanted, kinds):
                 yield f"{job}, pieces of up to {most}", [job, str(most), "script", *room.fonts], script
     if "list" in wanted:
         room.write("out.dvi", script.dvi)
-        yield "list", ["list", "out.dvi", *room.fonts], wanted["list"]
+        for call in listings:
+            yield call, [call, "out.dvi", *room.fonts], wanted["list"]
         yield "paint", ["paint", *ONE_SHEET, "out.dvi", *room.fonts], wanted["paint"]
 
 
@@ -70,7 +73,7 @@ def outcome(command, given, root, archive=None, *programs):
         return "the program does not give what the case file has"
     with tempfile.TemporaryDirectory(prefix="boxglue-library-") as path:
         room = Room(path, given)
-        for call, words, its in calls_of(room, wanted, KINDS[command]):
+        for call, words, its in calls_of(room, wanted, *KINDS[command]):
             words, env = command(root, archive, words)
             wrong = differs(call, printed(room.run(words, env=env)), its)
             if wrong:

@@ -8,7 +8,7 @@ from functools import partial
 TITLE = "the names of code in four documents are in the sources, as the clauses of PROVED.md; no comment writes the test attribute, no code has floating-point numbers; the job knows no crate of DVI"
 TRIES = False
 DOCUMENTS = ("PROVED", "ARCHITECTURE", "EVIDENCE", "DECISIONS")
-SOURCES = ("crates/*/src/**/*.rt", "crates/*/specs/*.antt", "crates/*/proofs/**/*.antt", "crates/rows_scripts/stdin", "tests/steps/*.py", "crates.txt")
+SOURCES = ("crates/*/src/**/*.rt", "crates/*/specs/*.antt", "crates/*/proofs/**/*.antt", "crates/rows_scripts/stdin", "tests/steps/*.py", "bindings/python/boxglue/*.py", "crates.txt")
 # These crates know pages, and no crate of DVI.
 BEFORE_DVI = ("page_core", "job_commands", "job_machine", "job_lists", "job_state")
 WORD = re.compile(r"[A-Za-z_][A-Za-z_0-9]*")

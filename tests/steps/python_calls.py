@@ -37,7 +37,7 @@ def run_pieces(boxglue, script, fonts, most):
             dvi.append(job.take())
         answers.append(job.finish())
         dvi.append(job.take())
-    return boxglue.Run("".join(it.answers for it in answers), b"".join(dvi), all(it.accepted for it in answers))
+    return int(not all(it.accepted for it in answers)), "".join(it.answers for it in answers), b"".join(dvi)
 
 
 def answer(boxglue, call, words):
@@ -46,10 +46,15 @@ def answer(boxglue, call, words):
     most = int(words.pop(0)) if call == "job" else 0
     data, fonts = data_of(words[0]), fonts_of(words[1:])
     if call in ("run", "job"):
-        ran = run_pieces(boxglue, data, fonts, most) if call == "job" else boxglue.run(data, fonts)
+        if call == "job":
+            return run_pieces(boxglue, data, fonts, most)
+        ran = boxglue.run(data, fonts)
         return int(not ran.accepted), ran.answers, ran.dvi
     if call == "fonts":
         return 0, "".join(f"{it.number} {it.size} {it.name} {it.design_size} {it.check_sum}\n" for it in boxglue.fonts(data)), b""
+    if call == "marks":
+        from tests.samples import listing_of  # beside the package, not this folder
+        return 0, listing_of(boxglue.marks(data, fonts)), b""
     return 0, boxglue.listing(data, fonts) if call == "list" else boxglue.paint(data, fonts, **sheet).pbm, b""
 
 

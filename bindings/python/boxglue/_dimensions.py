@@ -1,6 +1,7 @@
 """Dimensions as texts, exactly as scripts and answers have them (docs/FORMATS.md, section 1). In Python a dimension is a whole number of scaled points (sp)."""
 from __future__ import annotations
 
+import operator
 import re
 
 POINT = 65536
@@ -31,6 +32,7 @@ def scaled_points(text: str) -> int:
 
 def points(dimension: int) -> str:
     """The text of a dimension in points, such as "12.5pt" for 819,200: the fewest digits that `scaled_points` reads as the same number."""
+    dimension = operator.index(dimension)
     rest, delta, digits = 10 * (abs(dimension) % POINT) + 5, 10, ""
     while True:
         if delta > POINT:

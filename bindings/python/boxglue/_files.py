@@ -2,17 +2,21 @@
 from __future__ import annotations
 
 import ctypes
+import operator
+import re
+from collections.abc import Callable
 from ctypes import byref
 from dataclasses import dataclass
-from typing import Any, Callable, List, Tuple
+from typing import Any
 
 from ._fonts import FontFolder
 from ._library import DVI_ROOM, FONT_ROOM, TEXT_ROOM, Data, DviFontRow, Fonts, FontSizes, data_of, given_fonts, library, new_buffer, one_output, sized
-from ._runs import refusals_in
-from ._status import Refused, Status, fail
+from ._status import BoxglueError, Refused, Status, fail
+
+_REFUSAL = re.compile(r"refused (\d+) (\w+)(?: (.*))?\n")
 
 
-@dataclass(frozen=True)
+@dataclass(frozen=True, slots=True)
 class DviFont:
     """A font that a DVI file defines: its number, its name, its size and design size in DVI units (scaled points in boxglue's own files), and its check sum."""
     number: int
@@ -22,29 +26,44 @@ class DviFont:
     check_sum: int
 
 
-@dataclass(frozen=True)
+@dataclass(frozen=True, slots=True)
 class Bitmap:
     """A bitmap as plain PBM."""
     pbm: str
 
+    def __repr__(self) -> str:
+        return f"<a bitmap of {' by '.join(map(str, self.size))} pixels>"
+
     @property
-    def rows(self) -> List[str]:
+    def size(self) -> tuple[int, int]:
+        """Its width and its height in pixels."""
+        width, height = map(int, self.pbm.split(maxsplit=3)[1:3])
+        return width, height
+
+    @property
+    def rows(self) -> list[str]:
         """The rows from the top, each with a "1" for a black pixel and a "0" for a white one."""
-        _, size, *lines = self.pbm.splitlines()
-        width, pixels = int(size.split()[0]), "".join(lines)  # a wide row has several lines
+        (width, _), pixels = self.size, "".join(self.pbm.split()[3:])  # a wide row has several lines
         return [pixels[at:at + width] for at in range(0, len(pixels), width)]
+
+
+def refusal_in(line: bytes) -> Refused:
+    """The refusal of a file, in the line that a call writes for it."""
+    found = _REFUSAL.fullmatch(line.decode("ascii"))
+    if not found:
+        raise BoxglueError(f"no refusal: {line!r}")
+    return Refused(found[2], int(found[1]), None, found[3] or "")
 
 
 def _text(call: Callable[..., int], room: int) -> str:
     """The text of a call with one buffer. A refusal is raised."""
     status, output = one_output(call, room)
-    text = output.decode("ascii")
     if status == Status.REFUSED:
-        raise refusals_in(text)[0]
-    return text
+        raise refusal_in(output)
+    return output.decode("ascii")
 
 
-def _words(dvi: bytes, given: Fonts) -> Tuple[Any, ...]:
+def file_words(dvi: bytes, given: Fonts) -> tuple[Any, ...]:
     """A DVI file and fonts as a call takes them. Of a folder those are given that the file names; where it is refused, none, as the call refuses it too."""
     if isinstance(given, FontFolder):
         try:
@@ -56,7 +75,7 @@ def _words(dvi: bytes, given: Fonts) -> Tuple[Any, ...]:
 
 def listing(dvi: Data, fonts: Fonts = ()) -> str:
     """The listing of the marks of all pages of a DVI file. Raises Refused, OutOfMemory or BadFontName."""
-    words = _words(data_of(dvi, "a DVI file"), fonts)
+    words = file_words(data_of(dvi, "a DVI file"), fonts)
     return _text(lambda *room: library().boxglue_list(*words, *room), DVI_ROOM)
 
 
@@ -65,14 +84,15 @@ def paint(dvi: Data, fonts: Fonts = (), *, page: int = 1, dpi: int = 100, width:
 
     Raises Refused, NoSuchPage, OutOfRange, OutOfMemory or BadFontName.
     """
-    if not all(0 <= it < 1 << 32 for it in (page, dpi, width, height)):
+    numbers = [operator.index(it) for it in (page, dpi, width, height)]
+    if not all(0 <= it < 1 << 32 for it in numbers):
         fail(Status.OUT_OF_RANGE)  # ctypes would cut it to 32 bits
-    words = (*_words(data_of(dvi, "a DVI file"), fonts), page, dpi, width, height)
+    words = (*file_words(data_of(dvi, "a DVI file"), fonts), *numbers)
     room = len(f"P1\n{width} {height}\n") + (width + -(-width // 70)) * height if max(width, height) <= 10_000 else 0
     return Bitmap(_text(lambda *buffer: library().boxglue_paint(*words, *buffer), max(room, TEXT_ROOM)))
 
 
-def fonts(dvi: Data) -> List[DviFont]:
+def fonts(dvi: Data) -> list[DviFont]:
     """The fonts that a DVI file defines after its pages, in the order of the file: their names are those that the other calls need.
 
     It needs no metric files, and reads no page. Raises Refused or OutOfMemory.
@@ -88,7 +108,7 @@ def fonts(dvi: Data) -> List[DviFont]:
         fail(status)
     names = ctypes.string_at(text, sizes.text)
     if status == Status.REFUSED:
-        raise refusals_in(names.decode("ascii"))[0]
+        raise refusal_in(names)
     return [DviFont(it.number, _name(names, it), it.size, it.design_size, it.check_sum) for it in rows[:sizes.fonts]]
 
 

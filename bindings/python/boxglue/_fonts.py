@@ -5,7 +5,7 @@ import os
 import re
 import shutil
 import subprocess
-from typing import Dict, Iterable, Iterator, List, Mapping, Optional, Union
+from collections.abc import Iterable, Iterator, Mapping
 
 _NAME = re.compile(r"[A-Za-z0-9_.][A-Za-z0-9_.+-]*", re.ASCII)
 _FONT_LINE = re.compile(rb"^ *font +[^ \n]+ +([^ \r\n]+)", re.M)
@@ -23,10 +23,10 @@ class FontFolder(Mapping[str, bytes]):
         boxglue.run(script, folder)
     """
 
-    def __init__(self, *folders: Union[str, os.PathLike[str]], kpsewhich: bool = False) -> None:
+    def __init__(self, *folders: str | os.PathLike[str], kpsewhich: bool = False) -> None:
         self._folders = [os.fspath(it) for it in folders]
         self._kpsewhich = shutil.which("kpsewhich") if kpsewhich else None
-        self._files: Dict[str, Optional[bytes]] = {}
+        self._files: dict[str, bytes | None] = {}
 
     def __getitem__(self, name: str) -> bytes:
         if name not in self._files:
@@ -46,15 +46,15 @@ class FontFolder(Mapping[str, bytes]):
     def __repr__(self) -> str:
         return f"FontFolder({', '.join(map(repr, self._folders))}{', kpsewhich=True' if self._kpsewhich else ''})"
 
-    def choose(self, names: Iterable[str]) -> Dict[str, bytes]:
+    def choose(self, names: Iterable[str]) -> dict[str, bytes]:
         """The files of these names, without those that there are not: the typesetter refuses them as NoFont."""
         return {name: self[name] for name in names if name in self}
 
-    def _names(self) -> List[str]:
+    def _names(self) -> list[str]:
         files = {name for folder in self._folders for name in os.listdir(folder) if name.endswith(".tfm")}
         return sorted(it for it in (name[:-4] for name in files) if _NAME.fullmatch(it))
 
-    def _path(self, name: str) -> Optional[str]:
+    def _path(self, name: str) -> str | None:
         # A DVI file may name any bytes; a name is no path out of the folder, and no option of a program.
         if not isinstance(name, str) or not _NAME.fullmatch(name):
             return None
@@ -72,6 +72,6 @@ def _read(path: str) -> bytes:
         return it.read()
 
 
-def names_in_script(script: bytes) -> List[str]:
+def names_in_script(script: bytes) -> list[str]:
     """The names of the fonts that a script loads."""
     return [*dict.fromkeys(it.decode("utf-8", "surrogateescape") for it in _FONT_LINE.findall(script))]

@@ -1,13 +1,16 @@
 """Jobs that are kept between calls."""
 from __future__ import annotations
 
+import ctypes
 import threading
 import weakref
-from typing import Any, Callable, NoReturn
+from ctypes import byref, c_size_t
+from typing import Any, NoReturn
 
-from ._library import DVI_ROOM, TEXT_ROOM, Fonts, JobHandle, Text, given_fonts, library, one_output, sized, text_of
-from ._runs import Answers
+from ._library import DVI_ROOM, Fonts, JobHandle, ReplyRow, Text, given_fonts, library, new_buffer, sized, text_of
+from ._runs import HAS_RUN, Answers, replies_of
 from ._status import Status, fail
+from ._tables import new_table
 
 
 class Job:
@@ -17,7 +20,9 @@ class Job:
     """
 
     def __init__(self, fonts: Fonts = ()) -> None:
-        self._handle, self._lock, self._is_asked = JobHandle(), threading.Lock(), False
+        self._handle, self._lock = JobHandle(), threading.Lock()
+        # The buffers that calls of `take` filled, each with the size of what is in it: more than one where KeyboardInterrupt or MemoryError cut a call off.
+        self._filled: list[tuple[Any, c_size_t]] = []
         self._free = weakref.finalize(self, library().boxglue_job_free, self._handle)
         # When the program ends, a thread that is a daemon may still be inside a call on this job. Its memory goes with the process.
         self._free.atexit = False
@@ -28,51 +33,59 @@ class Job:
     def __reduce__(self) -> NoReturn:
         raise TypeError("a job cannot be copied")
 
+    def __repr__(self) -> str:
+        return f"<boxglue.Job{', closed' if self.closed else ''}>"
+
+    @property
+    def closed(self) -> bool:
+        """Whether its memory was freed."""
+        return not self._free.alive
+
     def __enter__(self) -> Job:
         return self
 
     def __exit__(self, *_error: object) -> None:
         self.close()
 
-    def _kept(self) -> str:
-        """Takes the answers that the job keeps. The caller has the lock."""
-        return one_output(lambda *room: library().boxglue_job_answers(self._handle, *room), TEXT_ROOM)[1].decode("ascii")
-
-    def _answered(self, call: Callable[[], Any]) -> Answers:
-        """Makes a call that gives answers, and takes them. The caller has the lock."""
-        if self._is_asked:
-            self._kept()  # the answers of a call that KeyboardInterrupt or MemoryError cut off: they are not those of this one
-        self._is_asked = True
-        status: int = call()
-        if status not in (Status.ACCEPTED, Status.REFUSED, Status.REFUSED_MEMORY):
-            self._is_asked = False
-            fail(status)
-        text = self._kept()
-        self._is_asked = False
-        return Answers(text, status == Status.ACCEPTED)
-
     def commands(self, script: Text) -> Answers:
-        """Runs a piece of a script, which is whole lines, and returns the answers to its commands. Lines are numbered on from piece to piece.
+        """Runs a piece of a script, which is whole lines, and returns the replies to its commands. Lines are numbered on from piece to piece.
 
-        A piece with a bad line is refused as a whole: its answer is the line of this refusal, nothing of it is run, and the job goes on.
-        Raises OutOfMemory, and then nothing was run, or AnswersLost.
+        A piece with a bad line is refused as a whole: its one reply is this refusal, nothing of it is run, and the job goes on.
+        Raises OutOfMemory, and then nothing was run.
         """
-        text = text_of(script, "a script")
+        text, count = text_of(script, "a script"), c_size_t()
+        room = text.count(b"\n") + 1
+        rows = new_table(ReplyRow, room)
         with self._lock:
-            return self._answered(lambda: library().boxglue_job_commands(self._handle, *sized(text)))
+            status = library().boxglue_job_run(self._handle, *sized(text), rows, room, byref(count))
+        if status not in HAS_RUN:
+            fail(status)
+        return Answers(replies_of(rows, count.value), status == Status.ACCEPTED)
 
     def take(self) -> bytes:
         """The bytes of the DVI file that went out since the last call: pages as they were shipped, and the end of the file after `finish`."""
         with self._lock:
-            return one_output(lambda *room: library().boxglue_job_take(self._handle, *room), DVI_ROOM)[1]
+            room, status = DVI_ROOM, Status.BUFFER_TOO_SMALL
+            while status == Status.BUFFER_TOO_SMALL:
+                buffer, size = new_buffer(room), c_size_t()
+                self._filled.append((buffer, size))
+                status = library().boxglue_job_take(self._handle, buffer, room, byref(size))
+                room = size.value
+            # A buffer that was too small has nothing.
+            taken = b"".join(ctypes.string_at(buffer, size.value) for buffer, size in self._filled if size.value <= len(buffer))
+            self._filled = []
+        if status != Status.ACCEPTED:
+            fail(status)
+        return taken
 
     def finish(self) -> Answers:
-        """Ends the job, and returns the line of its end. Take the last bytes then. A refusal is in the line, as ListsOpen, after which the job goes on.
-
-        Raises AnswersLost, and then the next call shows whether the job has ended: its answer is JobOver.
-        """
+        """Ends the job, and returns the reply to its end. Take the last bytes then. A refusal is the reply, as ListsOpen, after which the job goes on."""
+        rows = new_table(ReplyRow, 1)
         with self._lock:
-            return self._answered(lambda: library().boxglue_job_finish(self._handle))
+            status = library().boxglue_job_end(self._handle, rows[0])
+        if status not in HAS_RUN:
+            fail(status)
+        return Answers(replies_of(rows, 1), status == Status.ACCEPTED)
 
     def close(self) -> None:
         """Frees the memory of the job. What was not taken is lost. It may be closed twice."""

@@ -4,15 +4,16 @@ from __future__ import annotations
 import ctypes
 import functools
 import os
-from ctypes import POINTER, Structure, byref, c_char, c_char_p, c_int32, c_size_t, c_uint32, c_void_p
-from typing import Any, Callable, Iterable, Mapping, Tuple, Union
+from collections.abc import Callable, Iterable, Mapping
+from ctypes import POINTER, Structure, byref, c_char, c_char_p, c_int32, c_int64, c_size_t, c_uint32, c_uint64, c_void_p
+from typing import Any
 
 from ._status import BoxglueError, Status, fail
 
 # Anything that is like bytes, as bytearray, memoryview or mmap; Python before 3.12 has no name for all of them.
-Data = Union[bytes, bytearray, memoryview]
-Text = Union[str, Data]
-Fonts = Union[Mapping[str, Data], Mapping[bytes, Data], Iterable[Tuple[Text, Data]]]
+Data = bytes | bytearray | memoryview
+Text = str | Data
+Fonts = Mapping[str, Data] | Mapping[bytes, Data] | Iterable[tuple[Text, Data]]
 
 # The sizes of the first buffers. Where an output needs more, the call is made again with what it needs.
 TEXT_ROOM, DVI_ROOM, FONT_ROOM = 1 << 14, 1 << 16, 64
@@ -20,10 +21,6 @@ TEXT_ROOM, DVI_ROOM, FONT_ROOM = 1 << 14, 1 << 16, 64
 
 class Font(Structure):
     _fields_ = [("name", c_char_p), ("name_size", c_size_t), ("bytes", c_char_p), ("bytes_size", c_size_t)]
-
-
-class RunSizes(Structure):
-    _fields_ = [("answers", c_size_t), ("dvi", c_size_t)]
 
 
 class DviFontRow(Structure):
@@ -34,23 +31,50 @@ class FontSizes(Structure):
     _fields_ = [("fonts", c_size_t), ("text", c_size_t)]
 
 
+class PageRow(Structure):
+    _fields_ = [("counts", c_int32 * 10), ("first_mark", c_size_t), ("marks", c_size_t)]
+
+
+class MarkRow(Structure):
+    _fields_ = [*((name, c_uint32 if name == "kind" else c_int32) for name in ("kind", "font", "code", "h", "v", "height", "width")),
+                ("text_size", c_uint32), ("text_start", c_uint64)]
+
+
+class MarkSizes(Structure):
+    _fields_ = [("pages", c_size_t), ("marks", c_size_t), ("text", c_size_t), ("num", c_int32), ("den", c_int32), ("mag", c_int32)]
+
+
+class BoxSizes(Structure):
+    _fields_ = [("width", c_int32), ("height", c_int32), ("depth", c_int32)]
+
+
+class ReplyRow(Structure):
+    _fields_ = [("line", c_uint64), ("kind", c_uint32), ("refusal", c_uint32), ("cause", c_uint32), ("box_kind", c_uint32), ("box", BoxSizes), ("rest", BoxSizes),
+                ("has_rest", c_uint32), ("badness", c_uint32), ("pass_", c_uint32), ("missing", c_uint32), ("count", c_uint64), ("bytes", c_uint64),
+                ("overhang", c_int64), ("demerits", c_int64)]
+
+
+class ReplySizes(Structure):
+    _fields_ = [("replies", c_size_t), ("dvi", c_size_t)]
+
+
 class JobHandle(Structure):
     _fields_ = [("at", c_void_p)]
 
 
 _INPUT, _OUTPUT, _SIZE = [c_char_p, c_size_t], [POINTER(c_char), c_size_t], [POINTER(c_size_t)]
-_GIVEN = [POINTER(Font), c_size_t]
+_GIVEN, _REPLIES = [POINTER(Font), c_size_t], [POINTER(ReplyRow), c_size_t]
 _CALLS = {
     "version": [],
-    "run": [*_INPUT, *_GIVEN, *_OUTPUT, *_OUTPUT, POINTER(RunSizes)],
+    "run_replies": [*_INPUT, *_GIVEN, *_REPLIES, *_OUTPUT, POINTER(ReplySizes)],
     "list": [*_INPUT, *_GIVEN, *_OUTPUT, *_SIZE],
     "paint": [*_INPUT, *_GIVEN, *[c_uint32] * 4, *_OUTPUT, *_SIZE],
     "fonts": [*_INPUT, POINTER(DviFontRow), c_size_t, *_OUTPUT, POINTER(FontSizes)],
+    "marks": [*_INPUT, *_GIVEN, POINTER(PageRow), c_size_t, POINTER(MarkRow), c_size_t, *_OUTPUT, POINTER(MarkSizes)],
     "job_new": [POINTER(JobHandle), *_GIVEN],
-    "job_commands": [POINTER(JobHandle), *_INPUT],
-    "job_answers": [POINTER(JobHandle), *_OUTPUT, *_SIZE],
+    "job_run": [POINTER(JobHandle), *_INPUT, *_REPLIES, *_SIZE],
     "job_take": [POINTER(JobHandle), *_OUTPUT, *_SIZE],
-    "job_finish": [POINTER(JobHandle)],
+    "job_end": [POINTER(JobHandle), POINTER(ReplyRow)],
     "job_free": [POINTER(JobHandle)],
 }
 
@@ -102,20 +126,20 @@ def proved() -> bool:
     return not hasattr(library(), "boxglue_unproved")
 
 
-def data_of(given: Data, what: str) -> bytes:
+def data_of(given: Data, what: str, kinds: str = "bytes") -> bytes:
     """The bytes of what is like bytes. Nothing else is taken: bytes(7) would be seven zeros, and the name of a file is not the file."""
     try:
         return given if isinstance(given, bytes) else memoryview(given).tobytes()
     except TypeError:
-        raise TypeError(f"{what} must be bytes, not {type(given).__name__}") from None
+        raise TypeError(f"{what} must be {kinds}, not {type(given).__name__}") from None
 
 
 def text_of(given: Text, what: str) -> bytes:
     """The bytes of a text, a `str` as UTF-8."""
-    return given.encode("utf-8", "surrogateescape") if isinstance(given, str) else data_of(given, what)
+    return given.encode("utf-8", "surrogateescape") if isinstance(given, str) else data_of(given, what, "str or bytes")
 
 
-def sized(data: bytes) -> Tuple[bytes, int]:
+def sized(data: bytes) -> tuple[bytes, int]:
     """Bytes as a call takes them."""
     return data, len(data)
 
@@ -125,7 +149,7 @@ def new_buffer(room: int) -> Any:
     return (c_char * max(room, 1))()
 
 
-def given_fonts(given: Fonts) -> Tuple[Any, int]:
+def given_fonts(given: Fonts) -> tuple[Any, int]:
     """Fonts as a call takes them. The array keeps the bytes."""
     if isinstance(given, (str, bytes, bytearray, memoryview)):
         raise TypeError(f"fonts must be a mapping or pairs, not {type(given).__name__}")
@@ -138,7 +162,7 @@ def given_fonts(given: Fonts) -> Tuple[Any, int]:
     return array, len(pairs)
 
 
-def one_output(call: Callable[..., int], room: int) -> Tuple[int, bytes]:
+def one_output(call: Callable[..., int], room: int) -> tuple[int, bytes]:
     """The status and the output of a call with one buffer, which is made again where the buffer is too small."""
     size = c_size_t()
     while True:

@@ -1,34 +1,35 @@
-"""Runs of scripts, and their answers."""
+"""Runs of scripts."""
 from __future__ import annotations
 
 import ctypes
-import re
+import functools
 from ctypes import byref
-from dataclasses import dataclass
-from typing import List, TypeVar
+from dataclasses import dataclass, field
+from typing import TypeVar
 
 from ._fonts import FontFolder, names_in_script
-from ._library import DVI_ROOM, TEXT_ROOM, Fonts, RunSizes, Text, given_fonts, library, new_buffer, sized, text_of
+from ._library import DVI_ROOM, Fonts, ReplyRow, ReplySizes, Text, given_fonts, library, new_buffer, sized, text_of
+from ._replies import Replies
 from ._status import Refused, Status, fail
+from ._tables import new_table, part_of
 
-_REFUSAL = re.compile(r"^(?:(\d+|end): )?refused (\d+) (\w+)(?: (.*))?$", re.M)
-
-
-def refusals_in(text: str) -> List[Refused]:
-    """The refusals in a text of answers."""
-    found = _REFUSAL.finditer(text)
-    return [Refused(it[3], int(it[2]), int(it[1]) if it[1] and it[1] != "end" else None, it[4] or "") for it in found]
+HAS_RUN = Status.ACCEPTED, Status.REFUSED, Status.REFUSED_MEMORY
 
 
 class _Answered:
-    """What has answers."""
-    answers: str
+    """What has replies."""
+    replies: Replies
     accepted: bool
 
+    @functools.cached_property
+    def answers(self) -> str:
+        """The replies as texts, a line each (docs/FORMATS.md, section 3). They are made when they are asked for."""
+        return self.replies.answers
+
     @property
-    def refusals(self) -> List[Refused]:
-        """The refusals among the answers, in order."""
-        return refusals_in(self.answers)
+    def refusals(self) -> list[Refused]:
+        """The refusals among the replies, in order."""
+        return self.replies.refusals
 
     def check(self: _Given) -> _Given:
         """Returns this, or raises the first refusal."""
@@ -42,37 +43,42 @@ _Given = TypeVar("_Given", bound=_Answered)
 
 @dataclass(frozen=True)
 class Run(_Answered):
-    """A run: the answers to the commands, a line each, the bytes of the DVI file, and whether nothing was refused.
+    """A run: the replies to its commands, the last one that to its end, the bytes of the DVI file, and whether nothing was refused.
 
-    There are no bytes where no page was shipped. Where the end was refused they are no whole file.
+    There are no bytes where no page was shipped. Where the end was refused they are no whole file. A script with a bad line has one reply, and no bytes.
     """
-    answers: str
-    dvi: bytes
+    replies: Replies
+    dvi: bytes = field(repr=False)
     accepted: bool
 
 
 @dataclass(frozen=True)
 class Answers(_Answered):
-    """The answers to the commands of a piece, a line each, or the line of the end of a job; and whether nothing was refused."""
-    answers: str
+    """The replies to the commands of a piece, or to the end of a job; and whether nothing was refused."""
+    replies: Replies
     accepted: bool
 
 
 def run(script: Text, fonts: Fonts = ()) -> Run:
     """Runs a script with these fonts.
 
-    A refused command is among the answers, and `accepted` is false then; `run(..).check()` raises it. Raises OutOfMemory or BadFontName.
+    A refused command is among the replies, and `accepted` is false then; `run(..).check()` raises it. Raises OutOfMemory or BadFontName.
     """
-    text, sizes = text_of(script, "a script"), RunSizes()
+    text, sizes = text_of(script, "a script"), ReplySizes()
     given = given_fonts(fonts.choose(names_in_script(text)) if isinstance(fonts, FontFolder) else fonts)
-    rooms = TEXT_ROOM, DVI_ROOM
+    # A reply to each line and one to the end. The file is rarely longer than two times the script; where it is, the script is run again.
+    rooms = text.count(b"\n") + 2, max(DVI_ROOM, 2 * len(text))
     while True:
-        answers, dvi = map(new_buffer, rooms)
-        status = library().boxglue_run(*sized(text), *given, answers, rooms[0], dvi, rooms[1], byref(sizes))
+        rows, dvi = new_table(ReplyRow, rooms[0]), new_buffer(rooms[1])
+        status = library().boxglue_run_replies(*sized(text), *given, rows, rooms[0], dvi, rooms[1], byref(sizes))
         if status != Status.BUFFER_TOO_SMALL:
             break
-        rooms = sizes.answers, sizes.dvi
-    if status not in (Status.ACCEPTED, Status.REFUSED, Status.REFUSED_MEMORY):
+        rooms = sizes.replies, sizes.dvi
+    if status not in HAS_RUN:
         fail(status)
-    said = ctypes.string_at(answers, sizes.answers).decode("ascii")
-    return Run(said, ctypes.string_at(dvi, sizes.dvi), status == Status.ACCEPTED)
+    return Run(replies_of(rows, sizes.replies), ctypes.string_at(dvi, sizes.dvi), status == Status.ACCEPTED)
+
+
+def replies_of(table: ctypes.Array[ReplyRow], count: int) -> Replies:
+    """The first rows of a table."""
+    return Replies(part_of(table, 0, count))

@@ -2,7 +2,7 @@
 from __future__ import annotations
 
 import enum
-from typing import Dict, NoReturn, Optional, Tuple, Type
+from typing import NoReturn
 
 
 class Status(enum.IntEnum):
@@ -52,7 +52,7 @@ class Refused(BoxglueError):
     "BadScript"; each is None where there is none. `detail` is what follows the name, such as "74 Trailer" after "BadDvi".
     """
 
-    def __init__(self, name: str, number: int, line: Optional[int] = None, detail: str = "") -> None:
+    def __init__(self, name: str, number: int, line: int | None = None, detail: str = "") -> None:
         self.name, self.number, self.detail = name, number, detail
         where, _, cause = detail.rpartition(" ")
         self.line = int(where) if name == "BadScript" else line
@@ -68,7 +68,7 @@ class Refused(BoxglueError):
     def __hash__(self) -> int:
         return hash(self._parts)
 
-    def __reduce__(self) -> Tuple[Type[Refused], Tuple[str, int, Optional[int], str]]:
+    def __reduce__(self) -> tuple[type[Refused], tuple[str, int, int | None, str]]:
         # By default an exception is made again from its message alone, which fails; a worker of a process pool that raises it would hang the pool.
         return type(self), self._parts
 
@@ -94,10 +94,11 @@ class NoJob(BoxglueError, ValueError):
 
 
 class AnswersLost(BoxglueError, MemoryError):
-    """The commands were run, or the job was finished, and memory was refused for the text of the answers."""
+    """The commands were run, or the job was finished, and memory was refused for the text of the answers. No call of this package asks for such a text, and none
+    raises it."""
 
 
-_ERRORS: Dict[int, Type[BoxglueError]] = {
+_ERRORS: dict[int, type[BoxglueError]] = {
     Status.OUT_OF_MEMORY: OutOfMemory, Status.BAD_FONT_NAME: BadFontName, Status.NO_SUCH_PAGE: NoSuchPage, Status.OUT_OF_RANGE: OutOfRange, Status.NO_JOB: NoJob,
     Status.ANSWERS_LOST: AnswersLost,
 }

@@ -1,4 +1,4 @@
-"""Scripts and fonts of the tests."""
+"""Scripts and fonts of the tests, and what they compare."""
 import glob
 import os
 import re
@@ -33,3 +33,18 @@ def refusal_of(call, *words):
     except boxglue.Refused as refused:
         return refused
     raise AssertionError("nothing is refused")
+
+
+def line_of(mark):
+    """The line of a mark in a listing (docs/FORMATS.md, section 4)."""
+    if isinstance(mark, boxglue.Glyph):
+        return f"glyph {mark.font} {mark.code} {mark.h} {mark.v}\n"
+    if isinstance(mark, boxglue.Rule):
+        return f"rule {mark.h} {mark.v} {mark.height} {mark.width}\n"
+    return f"special {mark.h} {mark.v} " + "".join(chr(it) if 32 <= it < 127 and it != 92 else f"\\{it:02x}" for it in mark.text) + "\n"
+
+
+def listing_of(document):
+    """The listing of a document."""
+    heads = (f"page {number} counts {' '.join(map(str, page.counts))}\n" for number, page in enumerate(document.pages, 1))
+    return "".join(head + "".join(map(line_of, page.marks)) for head, page in zip(heads, document.pages))

@@ -1,4 +1,4 @@
-"""Tests of dimensions as texts: the tables of docs/FORMATS.md, section 1, and the library's own reading and printing."""
+"""Tests of dimensions as texts: the tables of docs/FORMATS.md, section 1, and the library's own reading. Its printing is compared by `tests/run library_python`."""
 import random
 import unittest
 
@@ -29,13 +29,12 @@ class Dimensions(unittest.TestCase):
             self.assertEqual(boxglue.scaled_points(boxglue.points(value)), value)
 
     def test_as_the_library_reads(self):
-        """Random texts in all units: the width of a kern is what is read here, and is printed as here."""
+        """Random texts in all units: the width of a kern is what is read here."""
         numbers = random.Random(2)
         units = "pt pc in bp cm mm dd cc sp".split()
         texts = [f"{numbers.choice(('', '-'))}{numbers.randint(0, 9)}.{''.join(numbers.choices('0123456789', k=numbers.randint(0, 20)))}{numbers.choice(units)}" for _ in range(500)]
         ran = boxglue.run("".join(f"hbox into 0\nkern {it}\nend\n" for it in texts)).check()
-        packed = [it.split()[2] for it in ran.answers.splitlines() if " packed " in it]
-        self.assertEqual(packed, [boxglue.points(boxglue.scaled_points(it)) for it in texts])
+        self.assertEqual([it.width for it in ran.replies if isinstance(it, boxglue.Packed)], [boxglue.scaled_points(it) for it in texts])
 
 
 if __name__ == "__main__":

@@ -29,6 +29,9 @@ class Pages(unittest.TestCase):
     def test_bitmap(self):
         bitmap = boxglue.paint(self.dvi, width=4, height=3)
         self.assertEqual((bitmap.pbm, bitmap.rows), ("P1\n4 3\n1100\n1100\n0000\n", ["1100", "1100", "0000"]))
+        self.assertEqual((bitmap.size, repr(bitmap)), ((4, 3), "<a bitmap of 4 by 3 pixels>"))
+        wide = boxglue.paint(self.dvi, width=150, height=2)
+        self.assertEqual([len(it) for it in wide.rows], [150, 150])
         self.assertEqual(len(boxglue.paint(self.dvi).rows), 1100)
 
     def test_missing_page(self):

@@ -6,7 +6,7 @@ import unittest
 
 import boxglue
 
-from .samples import TEXT, plain
+from .samples import TEXT, plain, refusal_of
 
 # A stand-in for TeX's program: it knows one font, and writes down each name that it is asked for.
 KPSEWHICH = """#!/bin/sh
@@ -53,14 +53,23 @@ class Folders(unittest.TestCase):
         dvi = boxglue.run(TEXT, plain()).check().dvi
         self.assertEqual(boxglue.listing(dvi, self.folder), boxglue.listing(dvi, plain()))
         self.assertEqual(boxglue.paint(dvi, self.folder), boxglue.paint(dvi, plain()))
-        self.assertRaises(boxglue.Refused, boxglue.listing, dvi[:50], self.folder)
+        self.assertEqual([*boxglue.marks(dvi, self.folder).marks], [*boxglue.marks(dvi, plain()).marks])
+        self.assertEqual(self.folder._files.keys(), {"plain"})
+
+    def test_refused_files(self):
+        """A file is refused as without the folder, also where its fonts alone are refused otherwise: here for a page, and else for a definition after it."""
+        dvi = bytearray(boxglue.run(TEXT, plain()).check().dvi)
+        dvi[dvi.index(b"\xf8") + 29] = dvi[dvi.index(b"\x8b") + 45] = 250
+        self.assertNotEqual(refusal_of(boxglue.fonts, dvi), refusal_of(boxglue.listing, dvi, plain()))
+        for given in (dvi, dvi[:50]):
+            self.assertEqual(refusal_of(boxglue.listing, given, self.folder), refusal_of(boxglue.listing, given, plain()))
 
     def test_font_that_there_is_not(self):
         self.assertEqual(boxglue.run("font 0 third\n", self.folder).refusals[0].name, "NoFont")
 
     def test_job(self):
         with boxglue.Job(self.folder) as job, boxglue.Job(self.folder.choose(["plain", "third"])) as other:
-            self.assertEqual(job.commands(TEXT), other.commands(TEXT))
+            self.assertEqual(job.commands(TEXT).check(), other.commands(TEXT))
             self.assertTrue(job.commands("font 9 both\n").accepted)
             self.assertFalse(other.commands("font 9 both\n").accepted)
 

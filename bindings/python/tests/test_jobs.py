@@ -36,31 +36,38 @@ def run_pieces(script, fonts, most):
             taken.append(job.take())
         answered.append(job.finish())
         taken.append(job.take())
-    return boxglue.Run("".join(it.answers for it in answered), b"".join(taken), all(it.accepted for it in answered))
+    return "".join(it.answers for it in answered), b"".join(taken), all(it.accepted for it in answered)
+
+
+def whole(script, fonts):
+    """The same of one run."""
+    ran = boxglue.run(script, fonts)
+    return ran.answers, ran.dvi, ran.accepted
 
 
 class Jobs(unittest.TestCase):
     def test_pieces_of_all_examples(self):
         names = []
         for name, script, fonts in examples():
-            whole = boxglue.run(script, fonts)
-            self.assertTrue(whole.dvi, name)
+            wanted = whole(script, fonts)
+            self.assertTrue(wanted[1], name)
             for most in (1, 2, 5, 40):
-                self.assertEqual(run_pieces(script, fonts, most), whole, name)
+                self.assertEqual(run_pieces(script, fonts, most), wanted, name)
             names.append(name)
         self.assertIn("paragraph.box", names)
 
     def test_refused_commands_in_pieces(self):
         script = "ship 3\nend\n% a note\n\n" + TEXT + RULE
-        self.assertEqual(run_pieces(script, {}, 3), boxglue.run(script))
+        self.assertEqual(run_pieces(script, {}, 3), whole(script, {}))
 
     def test_answers_of_a_piece(self):
         with boxglue.Job() as job:
-            self.assertEqual(job.commands("hbox into 0\n"), boxglue.Answers("1: ok\n", True))
+            answers = job.commands("hbox into 0\n")
+            self.assertEqual(([*answers.replies], answers.answers, answers.accepted), ([boxglue.Ok(1)], "1: ok\n", True))
             answers = job.commands("rule 1pt 1pt 0pt\nship 9")
             self.assertEqual((answers.answers, answers.accepted), ("2: ok\n3: refused 21 VoidBox\n", False))
             self.assertRaises(boxglue.Refused, answers.check)
-            self.assertEqual(job.commands(""), boxglue.Answers("", True))
+            self.assertEqual(([*job.commands("").replies], job.commands("").accepted), ([], True))
             self.assertEqual(job.commands("end\n").check().answers, "4: packed 1.0pt 1.0pt 0.0pt badness 0\n")
 
     def test_bad_piece_leaves_the_job(self):
@@ -88,7 +95,7 @@ class Jobs(unittest.TestCase):
         script = "".join(RULE.replace("1pt 0pt", f"{it}pt 0pt") for it in range(1, 3001))
         with boxglue.Job() as job:
             answers, end = job.commands(script).check(), job.finish().check()
-            self.assertEqual(boxglue.Run(answers.answers + end.answers, job.take(), True), boxglue.run(script))
+            self.assertEqual((answers.answers + end.answers, job.take(), True), whole(script, {}))
 
     def test_end_with_an_open_list(self):
         with boxglue.Job() as job:
@@ -96,7 +103,13 @@ class Jobs(unittest.TestCase):
             refused, = job.finish().refusals
             self.assertEqual(refused.name, "ListsOpen")
             job.commands("end\n").check()
-            self.assertEqual(job.finish(), boxglue.Answers("end: pages 0 bytes 0\n", True))
+            self.assertEqual([*job.finish().check().replies], [boxglue.End(0, 0)])
+
+    def test_closed(self):
+        job = boxglue.Job()
+        self.assertEqual((job.closed, repr(job)), (False, "<boxglue.Job>"))
+        job.close()
+        self.assertEqual((job.closed, repr(job)), (True, "<boxglue.Job, closed>"))
 
     def test_after_the_end(self):
         with boxglue.Job() as job:
@@ -150,7 +163,7 @@ class Slow:
     boxglue_job_new = library.boxglue_job_new
     boxglue_job_free = staticmethod(lambda handle: print("freed inside a call", flush=True))
     @staticmethod
-    def boxglue_job_commands(*words):
+    def boxglue_job_run(*words):
         inside.set()
         time.sleep(60)
 _job.library = lambda: Slow
@@ -161,16 +174,33 @@ inside.wait(60)
 
 
 class Ends(unittest.TestCase):
-    def test_cut_off_between_two_calls(self):
-        """The answers of a call that was cut off before they were taken are not those of the next call."""
+    def test_cut_off_after_a_call(self):
+        """The replies to a call that was cut off before they were taken are not those of the next call."""
         for error in (KeyboardInterrupt, MemoryError):
             with boxglue.Job() as job:
-                with mock.patch.object(_job, "one_output", side_effect=error):
+                with mock.patch.object(_job, "replies_of", side_effect=error):
                     self.assertRaises(error, job.commands, "ship 3\n")
-                self.assertEqual(job.commands("hbox into 0\n"), boxglue.Answers("2: ok\n", True))
-                with mock.patch.object(_job, "one_output", side_effect=error):
+                answers = job.commands("hbox into 0\n")
+                self.assertEqual((answers.answers, answers.accepted), ("2: ok\n", True))
+                with mock.patch.object(_job, "replies_of", side_effect=error):
                     self.assertRaises(error, job.finish)
                 self.assertEqual(job.commands("end\n").check().answers, "3: packed 0.0pt 0.0pt 0.0pt badness 0\n")
+
+    def test_bytes_that_were_cut_off(self):
+        """Bytes of the file that were not handed on are in those of the next call."""
+        script = RULE + RULE.replace("rule", "special " + "x" * 60_000 + "\nspecial " + "y" * 60_000 + "\nrule") + RULE
+        wanted, taken = boxglue.run(script).check().dvi, []
+        with boxglue.Job() as job:
+            for line in script.splitlines():
+                job.commands(line).check()
+                with mock.patch("ctypes.string_at", side_effect=MemoryError):
+                    self.assertRaises(MemoryError, job.take)
+                taken.append(job.take() if len(taken) % 2 else b"")
+            job.finish().check()
+            with mock.patch.object(_job, "new_buffer", side_effect=KeyboardInterrupt):
+                self.assertRaises(KeyboardInterrupt, job.take)
+            taken.append(job.take())
+            self.assertEqual((b"".join(taken), job.take()), (wanted, b""))
 
     def test_thread_inside_a_call(self):
         """A job is not freed while a thread is inside a call on it."""

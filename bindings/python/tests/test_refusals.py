@@ -58,6 +58,12 @@ class Inputs(unittest.TestCase):
             for call in (boxglue.run, boxglue.listing, boxglue.Job):
                 self.assertRaises(TypeError, *(call,) if call is boxglue.Job else (call, dvi), fonts)
         self.assertEqual(job.commands(RULE[:12]).answers, "1: ok\n")
+        self.assertRaisesRegex(TypeError, "^a script must be str or bytes, not list$", boxglue.run, [1])
+        self.assertRaisesRegex(TypeError, "^a DVI file must be bytes, not str$", boxglue.marks, "page.dvi")
+        for words in ({"page": 1.5}, {"dpi": "100"}, {"width": None}):
+            self.assertRaises(TypeError, boxglue.paint, dvi, **words)
+        for dimension in (1.5, "1pt", None):
+            self.assertRaises(TypeError, boxglue.points, dimension)
 
     def test_types_of_bytes(self):
         dvi = boxglue.run(RULE).dvi

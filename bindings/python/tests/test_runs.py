@@ -13,13 +13,15 @@ class Runs(unittest.TestCase):
         ran = boxglue.run(RULE)
         self.assertEqual((ran.answers, len(ran.dvi), ran.accepted), (ANSWERS, 116, True))
         self.assertIs(ran.check(), ran)
+        self.assertEqual(repr(ran), "Run(replies=<Replies: 5>, accepted=True)")
 
     def test_types_of_scripts(self):
         for script in (RULE.encode(), bytearray(RULE, "ascii"), memoryview(RULE.encode())):
             self.assertEqual(boxglue.run(script), boxglue.run(RULE))
 
     def test_empty_script(self):
-        self.assertEqual(boxglue.run(""), boxglue.Run("end: pages 0 bytes 0\n", b"", True))
+        ran = boxglue.run("")
+        self.assertEqual(([*ran.replies], ran.answers, ran.dvi, ran.accepted), ([boxglue.End(0, 0)], "end: pages 0 bytes 0\n", b"", True))
 
     def test_refused_command(self):
         ran = boxglue.run("ship 3\nend\n" + RULE)

@@ -3,7 +3,7 @@ use Rattle.dvi_scan.proofs.ErrLemmas.{handed_on}
 use Rattle.dvi_ops.specs.View.{postamble, units as units_of}
 use Rattle.dvi_scan.specs.View.{marked_page}
 use Rattle.dvi_read.specs.Opened.{Opened, IsReadFrom}
-use Rattle.dvi_read.specs.Opening.{IsDviFault}
+use Rattle.dvi_read.specs.Opening.{BeforeThePages, IsDviFault}
 use Rattle.dvi_read.proofs.FaultLemmas.{post_within}
 use Rattle.dvi_read.proofs.MarkLemmas.{kept_places, kept_room, kept_widths, reached_room}
 use Rattle.dvi_read.proofs.OpenLemmas.{IsRefused, finish_refused, read_kept, refused}
@@ -13,12 +13,12 @@ use Rattle.dvi_read.proofs.opening.read_dvi.Goals as goal
 
 pub returns-in_err-ending-clause-bad : goal.returns-in_err-ending-clause-bad
 returns-in_err-ending-clause-bad c =
-    handed_on (IsDviFault c.args.files.now c.args.bytes.now) c.from_residual.result c.in_err-ending.field-0.0 c.from_residual.ensures.1 (c.in_err-ending.ensures.bad c.args.files.now)
+    handed_on (IsDviFault c.args.files.now c.args.bytes.now) c.from_residual.result c.in_err-ending.field-0.0 c.from_residual.ensures.1 (BeforeThePages c.in_err-ending.ensures.bad)
 
 pub returns-in_err-ending-clause-refused : goal.returns-in_err-ending-clause-refused
 returns-in_err-ending-clause-refused c =
     let fault = c.in_err-ending.field-0.0 in
-    handed_on (IsRefused c.args.files.now c.args.bytes.now) c.from_residual.result fault c.from_residual.ensures.1 (refused c.args.files.now c.args.bytes.now fault (c.in_err-ending.ensures.bad c.args.files.now))
+    handed_on (IsRefused c.args.files.now c.args.bytes.now) c.from_residual.result fault c.from_residual.ensures.1 (refused c.args.files.now c.args.bytes.now fault (BeforeThePages c.in_err-ending.ensures.bad))
 
 pub returns-in_err-walk-clause-refused : goal.returns-in_err-walk-clause-refused
 returns-in_err-walk-clause-refused c =
