@@ -2,8 +2,8 @@
 
   n   `refused 1 OutOfMemory` alone, and no file: for the words, the input, the commands, the slots, the registers or the room for the replies; in a
       run on a device in memory, whose bytes are printed, also for the texts at the end
-  w   as without a refusal: a later growth replaces room that is asked for in advance, or a `ship` is refused HugePage, which is found without memory
-      after a refused growth
+  w   as without a refusal: a later growth replaces room that is asked for in advance; or a `ship` is refused HugePage, or a paragraph DimensionTooLarge
+      for one of its lines, which is found without memory after a refused growth
   c   a command answers OutOfMemory; all other answers, the status and the bytes are those of the script without this command
   d   the growth was one of the device in memory, so it failed in a `ship`: Device, then JobOver, and only the pages before it are in the file
   e   `end: refused 1 OutOfMemory`: all pages are in the file, and no end
@@ -22,9 +22,15 @@ NOTHING, WHOLE, COMMAND, DEVICE, END, END_DEVICE, TEXTS = "nwcdeft"
 # Only the room for the words, if there are any, is replaced later. The device grows only when its room is used up. A line is answered as soon as it was run,
 # so the texts grow between the commands; a run on a device in memory shows no difference between such a growth and one before the run.
 # In the scripts here at most one `ship` of a huge page grows before it is refused.
-ORDER_IN_MEMORY = re.compile("n+[cdn]*w?[cdn]*c[cdn]*d[cdn]*e+f?n+")
-ORDER_TO_A_FILE = re.compile("n+w?n+[ct]*w?[ct]*c[ct]*e+t*")
+# Where the last line of 61 does not fit, no growth for the lines before it hides this, and there is one at least for each of them.
+WHOLE_RUNS = {"a_line_too_large": "w{60,}"}
 ORDER_OF_A_READING = re.compile("n+w?n+")
+
+
+def order_of(name, to_file):
+    """The order of the kinds in runs of a script."""
+    whole = WHOLE_RUNS.get(name, "w?")
+    return re.compile(f"n+w?n+[ct]*{whole}[ct]*c[ct]*e+t*" if to_file else f"n+[cdn]*{whole}[cdn]*c[cdn]*d[cdn]*e+f?n+")
 
 
 class Wrong(Exception):

@@ -39,6 +39,7 @@ PAGES = {
         [down(13 * PT), set_rule(PT, 10 * PT), right(5 * PT), set_rule(PT, 25 * PT)],
         [down(25 * PT), set_rule(PT, 30 * PT)],
     ])], 25, 40),
+    "a_line_too_large": ([Page([[down((1 + 12 * at) * PT), set_rule(PT, 10 * PT)] for at in range(61)])], 721, 10),
     "fonts_in_nested_boxes": ([
         Page(NESTED_BOXES, new_fonts=(AT_10PT, AT_20PT)),
         Page([NESTED_BOXES, right(25 * PT), *NESTED_BOXES]),

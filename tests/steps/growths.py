@@ -113,7 +113,7 @@ def script_wrong(program, script):
     """Refuses each growth of a script's run, and says what is wrong, or returns None."""
     with tempfile.TemporaryDirectory(prefix="boxglue-growths-") as folder:
         kinds = kinds_of(Refusing(program, folder, FILES), script)
-    order = growth_kinds.ORDER_TO_A_FILE if script.words else growth_kinds.ORDER_IN_MEMORY
+    order = growth_kinds.order_of(script.name, bool(script.words))
     return order_wrong(kinds, order) or halfway_wrong(script, kinds)
 
 

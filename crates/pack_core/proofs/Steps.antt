@@ -17,7 +17,7 @@ use Rattle.pack_core.specs.Items.{advance, across, above, below, downward, bread
 use Rattle.scaled_core.specs.Dimensions.{fits, Within, dimension_of}
 use Rattle.pack_core.specs.Totals.{total, greatest, first_height}
 use Rattle.pack_core.specs.Glue.{highest, stretched, shrunk, setting_of, setting_badness, stretch_totals, shrink_totals, stretch_badness, shrink_badness}
-use Rattle.pack_core.specs.Boxes.{wanted, glue_totals, hbox_width, hbox_excess, hbox_badness, hbox_numbers, natural_height, vbox_depth, vbox_height, vbox_excess, vbox_badness, vbox_numbers, vtop_depth, vtop_numbers, some_if, vbox_shell}
+use Rattle.pack_core.specs.Boxes.{wanted, hbox_shell, glue_totals, hbox_width, hbox_excess, hbox_badness, hbox_numbers, natural_height, vbox_depth, vbox_height, vbox_excess, vbox_badness, vbox_numbers, vtop_depth, vtop_numbers, some_if, vbox_shell}
 use Rattle.pack_core.specs.declared.setting.GlueSet.{GlueSet}
 use Rattle.pack_core.specs.declared.pack.Target.{Target}
 use Rattle.pack_core.specs.declared.pack.Shell.{Shell}
@@ -25,7 +25,7 @@ use Rattle.std.proofs.Math.Bool.{and-true, and-false}
 use Rattle.scaled_core.proofs.Fitting.{dimension_fits, dimension_found, dimension_missing}
 use Rattle.std.proofs.lemmas.List.Folds.{list_all-append}
 use Rattle.pack_core.specs.Orders.{by_order, order_dimens, order_amounts, each_order}
-use Rattle.pack_core.specs.Steps.{dimens_of, shrink_ratio, shrink_setting, stretch_setting, set_to, stretching_badness, shrinking_badness, excess_badness, list_badness, glue_set, hbox_shell, vtop_shell}
+use Rattle.pack_core.specs.Steps.{dimens_of, shrink_ratio, shrink_setting, stretch_setting, set_to, stretching_badness, shrinking_badness, excess_badness, list_badness, glue_set, vtop_shell}
 
 -- A value under a test is there exactly when the test holds.
 pub some_if-true : {A : Type 0} (x : A) → some_if true x ≡ Some x

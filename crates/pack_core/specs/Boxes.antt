@@ -138,18 +138,25 @@ unfoldable pub some_if : {A : Type 0} → Bool → A → Option A
 some_if true x = Some x
 some_if false x = None
 
--- The result of packing a vertical list into a vbox, without the list: the sizes of its box, the setting of its glue, and its badness (own).
-unfoldable pub vbox_shell : Target → (limit : ℤ) → List Node → Shell
-vbox_shell target limit nodes =
-    let frame = vbox_frame target limit nodes in
+-- A box without its list: its frame and its badness (own).
+abbrev pub shell_of : BoxFrame → (badness : ℕ) → Shell
+shell_of frame badness =
     record {
       kind = frame.kind;
       width = frame.width;
       height = frame.height;
       depth = frame.depth;
       setting = frame.setting;
-      badness = vbox_badness target limit nodes;
+      badness = badness;
     }
+
+-- The result of packing a horizontal list, without the list (own).
+unfoldable pub hbox_shell : Target → List Node → Shell
+hbox_shell target nodes = shell_of (hbox_frame target nodes) (hbox_badness target nodes)
+
+-- The result of packing a vertical list into a vbox, without the list (own).
+unfoldable pub vbox_shell : Target → (limit : ℤ) → List Node → Shell
+vbox_shell target limit nodes = shell_of (vbox_frame target limit nodes) (vbox_badness target limit nodes)
 
 -- A list put into a box that was computed without it, with the badness of the box (own).
 unfoldable pub packed_of : Items → Shell → Packed

@@ -76,18 +76,6 @@ list_badness false excess stretch shrink = excess_badness excess stretch shrink
 unfoldable pub glue_set : (excess : ℤ) → List Node → GlueSet
 glue_set excess nodes = record { setting = setting_of excess nodes; badness = setting_badness excess nodes }
 
--- The hbox of a list, without the list.
-unfoldable pub hbox_shell : Target → List Node → Shell
-hbox_shell target nodes =
-    record {
-      kind = Horizontal;
-      width = hbox_width target nodes;
-      height = greatest above nodes;
-      depth = greatest below nodes;
-      setting = setting_of (hbox_excess target nodes) nodes;
-      badness = hbox_badness target nodes;
-    }
-
 -- A box without its list, with this height in place of its own; height and depth together stay the same.
 unfoldable pub vtop_shell : Shell → (height : ℤ) → Shell
 vtop_shell shell height = record shell { height = height; depth = (shell.depth +ℤ shell.height) -ℤ height }

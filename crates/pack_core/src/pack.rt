@@ -13,9 +13,9 @@ ghost use Rattle.pack_core.specs.Totals.{greatest, first_height};
 ghost use Rattle.pack_core.specs.ListTotals.{totals_of};
 ghost use Rattle.pack_core.specs.Boxes.{wanted, hbox, hbox_badness, hbox_numbers, hpacked};
 ghost use Rattle.pack_core.specs.Boxes.{vbox, vbox_badness, vbox_numbers, vpacked, vtop_box, vtop_numbers, vtopped};
-ghost use Rattle.pack_core.specs.Boxes.{some_if, vbox_shell, packed_of};
+ghost use Rattle.pack_core.specs.Boxes.{some_if, hbox_shell, vbox_shell, packed_of};
 ghost use Rattle.pack_core.specs.Places.{place_in};
-ghost use Rattle.pack_core.specs.Steps.{hbox_shell, vtop_shell, boxed_list};
+ghost use Rattle.pack_core.specs.Steps.{vtop_shell, boxed_list};
 
 use crate::across::Across;
 use crate::extents::{first_height, greatest_breadth};
@@ -136,9 +136,9 @@ fn height_above(depth: Dimen, totals: &Totals) -> Option<Dimen>
     Dimen::from_wide(totals.advance() - i128::from(depth.get()))
 }
 
-/// The hbox of a list, without the list, if its numbers fit.
+/// The box that `hpack` would make of these nodes, without the list; `None` exactly when one of their numbers does not fit. Does not allocate.
 #[tactic(auto, using(crate::proofs::Steps::steps))]
-fn hbox_shell(target: Target, nodes: &[Node]) -> Option<Shell>
+pub fn hbox_shell(target: Target, nodes: &[Node]) -> Option<Shell>
     requires { length nodes.now ≤ max_nodes }
     ensures { result ≡ some_if (list_all fits (hbox_numbers target nodes.now)) (hbox_shell target nodes.now) }
 {

@@ -1,5 +1,5 @@
 -- The box of a line has the badness of the line.
-use Rattle.std.proofs.Common.{◌≡◌, ◌≢◌, ◌∙◌, ℕ, zero, suc, ◌+◌, ◌||◌, Bool, true, false, not, cond, List, [], ◌∷◌, ◌++◌, take, drop, refl, ap, sym, Option, Some, None, Result, Ok, Err}
+use Rattle.std.proofs.Common.{◌≡◌, ◌≢◌, ◌∙◌, ℕ, zero, suc, ◌+◌, ◌||◌, Bool, true, false, not, cond, List, [], ◌∷◌, ◌++◌, take, drop, refl, ap, sym, Option, Some, None, Ok, Err}
 use Rattle.std.specs.Prelude.{ℤ, pos, negsuc, ◌+ℤ◌, ◌-ℤ◌, int_lt, slice_get}
 use Rattle.std.specs.List.{list_any, list_all}
 use Rattle.std.proofs.lemmas.List.{take-append-drop}
@@ -14,16 +14,14 @@ use Rattle.node_core.specs.declared.tree.Node.{Node}
 use Rattle.node_core.specs.declared.tree.Node.TheVariants as nodes
 use Rattle.node_core.specs.declared.tree.Order.{Order}
 use Rattle.node_core.specs.declared.tree.Order.TheVariants.{Normal, Fil, Fill, Filll}
-use Rattle.node_core.specs.Items.{Items}
 use Rattle.node_core.specs.Nodes.{items_of, nodes_of}
 use Rattle.node_core.proofs.NodeLemmas.{nodes_of-items_of}
 use Rattle.pack_core.specs.declared.pack.Packed.{Packed}
 use Rattle.pack_core.specs.declared.pack.Target.TheVariants.{To}
-use Rattle.pack_core.specs.Boxes.{Packing, packed_by, hbox_packing, hbox_excess, hbox_badness, hpacked}
-use Rattle.pack_core.specs.Glue.{is_zero, highest, is_finite, is_short, overfull, stretch_totals, shrink_totals, stretch_badness, shrink_badness, setting_badness}
-use Rattle.pack_core.specs.Items.{across, is_order, shrink_in}
+use Rattle.pack_core.specs.Boxes.{hbox_packing, hbox_badness, hpacked}
+use Rattle.pack_core.specs.Glue.{is_zero, highest, is_finite, overfull, stretch_totals, shrink_totals, stretch_badness, shrink_badness, setting_badness}
+use Rattle.pack_core.specs.Items.{across, shrink_in}
 use Rattle.pack_core.specs.Totals.{total}
-use Rattle.break_lines.specs.declared.sums.Sums.{Sums}
 use Rattle.break_lines.specs.declared.cost.LineFit.{LineFit}
 use Rattle.break_lines.specs.Costs.{stretches_forever, fit_short, fit_long, fit_by, line_fit}
 use Rattle.break_lines.specs.Sizes.{line_size}

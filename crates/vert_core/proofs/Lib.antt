@@ -2,6 +2,7 @@
 -- Lemmas on the items that lines keep and add.
 pub mod Shortened
 pub mod KeptItems
+pub mod Measured
 pub mod Stacks
 pub mod Endings
 pub mod FewLines

@@ -3,7 +3,6 @@ use Rattle.std.proofs.Common.{◌≡◌, ℕ, ℤ, List, [], ◌∷◌, length, 
 use Rattle.node_core.specs.declared.params.Params.{Params}
 use Rattle.node_core.specs.declared.tree.Glue.{Glue}
 use Rattle.node_core.specs.declared.tree.Node.{Node}
-use Rattle.break_core.specs.declared.broken.Pass.{Pass}
 use Rattle.break_lines.specs.Facts.{Facts}
 use Rattle.vert_core.specs.declared.paragraph.SetParagraph.{SetParagraph}
 use Rattle.vert_core.specs.Paragraphs.{set_empty, unbroken, IsSetParagraph}

@@ -26,7 +26,7 @@ use Rattle.vert_core.specs.declared.paragraph.ParagraphFault.TheVariants.{Infini
 use Rattle.vert_core.specs.LeastLists.{least_path}
 use Rattle.vert_core.specs.Lines.{lines_fit}
 use Rattle.vert_core.specs.Finished.{finished}
-use Rattle.vert_core.specs.Paragraphs.{with_breaks, unbroken, IsSet, IsSetParagraph, IsUnsetList, IsUnset}
+use Rattle.vert_core.specs.Paragraphs.{unbroken, IsSet, IsSetParagraph, IsUnsetList, IsUnset}
 use Rattle.vert_core.specs.Setting.{ChosenLines, chosen_or, chosen_lines, ends_by, lined, set_by, set_if_fit, set_or, list_setting, setting}
 use Rattle.vert_core.proofs.LeastLists.{none_least, least_chosen}
 use Rattle.vert_core.proofs.Unbroken.{not_for_memory}

@@ -1,5 +1,5 @@
 -- A list to which a node was appended, truncated to its old length.
-use Rattle.std.proofs.Common.{◌≡◌, ◌∙◌, ℕ, Result, Ok, Err, List, [], ◌∷◌, ◌++◌, length, take, false, ap}
+use Rattle.std.proofs.Common.{◌≡◌, ◌∙◌, ℕ, Result, Ok, Err, [], ◌∷◌, ◌++◌, length, take, false, ap}
 use Rattle.std.specs.Prelude.{OnOk}
 use Rattle.std.specs.Result.{is_err}
 use Rattle.node_core.specs.declared.tree.Node.{Node}

@@ -1,5 +1,5 @@
 -- The number of all trials, from those of each place.
-use Rattle.std.proofs.Common.{◌≡◌, ℕ, zero, suc, ◌+◌, ◌≤◌, List, arith}
+use Rattle.std.proofs.Common.{ℕ, zero, suc, ◌≤◌, List, arith}
 use Rattle.std.specs.Int.{sum_through}
 use Rattle.node_core.specs.declared.params.Params.{Params}
 use Rattle.break_core.specs.declared.broken.Pass.{Pass}

@@ -1,5 +1,6 @@
 -- Why a finished list is not set, by the fault of its breaks or of its lines.
-use Rattle.std.proofs.Common.{◌≡◌, Option, Some, None, List, ℤ, false, refl, ap, sym}
+use Rattle.std.proofs.Common.{◌≡◌, Option, Some, None, List, ℤ, Bool, true, false, refl, ap, sym}
+use Rattle.std.specs.Prelude.{if◌then◌else◌}
 use Rattle.std.specs.Option.{unwrap_or}
 use Rattle.node_core.specs.declared.params.Params.{Params}
 use Rattle.node_core.specs.declared.tree.Node.{Node}
@@ -28,9 +29,14 @@ unset_list list params previous breaking.InfiniteShrink is = endless (refusal li
 unset_list list params previous breaking.TooManyBreaks is = many (refusal list) is
 unset_list list params previous breaking.OutOfMemory is = free_at_memory list is
 
+large : (b : Bool) → stacking.DimensionTooLarge ≡ (if b then stacking.OutOfMemory else stacking.DimensionTooLarge) → b ≡ false
+large true is = absurd (cc)
+large false is = refl
+
 pub unstacked_list : (list : List Node) (params : Params) (previous : ℤ) (breaks : Breaks) (fault : LinesFault)
     → refusal list ≡ None → IsBroken (facts_of list) params breaks
-    → (fault ≡ stacking.DimensionTooLarge → lines_fit (with_breaks list params previous breaks) ≡ false)
+    → fault ≡ (if lines_fit (with_breaks list params previous breaks) then stacking.OutOfMemory else stacking.DimensionTooLarge)
     → IsUnsetList list params previous (unstacked_by fault)
-unstacked_list list params previous breaks stacking.DimensionTooLarge free broken refused = (free, (breaks, broken, refused refl))
-unstacked_list list params previous breaks stacking.OutOfMemory free broken refused = free
+unstacked_list list params previous breaks stacking.DimensionTooLarge free broken is =
+    (free, (breaks, broken, large (lines_fit (with_breaks list params previous breaks)) is))
+unstacked_list list params previous breaks stacking.OutOfMemory free broken is = free

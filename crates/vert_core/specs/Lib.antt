@@ -2,6 +2,7 @@
 -- The items that the lines of a paragraph add to a vertical list, and the finished list of a paragraph.
 pub mod Interline
 pub mod Lines
+pub mod Measuring
 pub mod Finished
 pub mod Paragraphs
 pub mod Rows

@@ -96,7 +96,7 @@ pub fn append_with_glue(
 
 /// Appends glue, if there is any, and a box to some nodes. If memory is refused, the error is the box, and the nodes are as they were before the
 /// call.
-fn push_with_glue(
+pub(crate) fn push_with_glue(
     nodes: &mut Vec<Node>,
     glue: Option<Glue>,
     shift: Dimen,

@@ -10,6 +10,7 @@ mod finishing;
 pub mod glue_laws;
 mod interline;
 mod line_boxes;
+mod measuring;
 mod paragraph;
 pub mod paragraph_laws;
 mod penalties;

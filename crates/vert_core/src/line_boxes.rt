@@ -1,15 +1,12 @@
-//! The boxes of the lines of a paragraph.
+//! The items in the boxes of the lines of a paragraph.
 
-ghost use Rattle.std.specs.Prelude.{◌≡◌, ◌≤◌, ◌+◌, ◌++◌, ◌∷◌, [], true, false, length, drop, slice_get, IfOk, IfErr, OnOk};
+ghost use Rattle.std.specs.Prelude.{◌≡◌, ◌≤◌, ◌+◌, ◌++◌, ◌∷◌, [], length, drop, slice_get, IfOk, OnOk};
 ghost use Rattle.std.specs.List.{cons_option};
-ghost use Rattle.std.specs.Result.{is_ok};
-ghost use Rattle.node_core.specs.Nodes.{max_nodes, items_of, nodes_of};
+ghost use Rattle.node_core.specs.Nodes.{max_nodes, items_of};
 ghost use Rattle.break_lines.specs.LineItems.{at_break, without_first, kept};
-ghost use Rattle.vert_core.specs.Lines.{boxed_line, items_fit};
 ghost use Rattle.vert_core.specs.declared.line_boxes.LinesFault.TheVariants.{OutOfMemory};
 
-use node_core::{BoxNode, Node, NodeList};
-use pack_core::{Target, hpack};
+use node_core::{Node, NodeList};
 use scaled_core::Dimen;
 use std::alloc::{AllocError, Global};
 use thiserror::Error;
@@ -56,7 +53,7 @@ fn after(nodes: &[Node], place: usize) -> &[Node]
 }
 
 /// The items that a line keeps before the place where it ends.
-fn front_of(nodes: &[Node], begin: Option<usize>, end: usize) -> &[Node]
+pub(crate) fn front_of(nodes: &[Node], begin: Option<usize>, end: usize) -> &[Node]
     ensures { result.now ++ at_break (slice_get nodes.now end) ≡ kept nodes.now begin end }
 {
     let front = &nodes[..end.min(nodes.len())];
@@ -67,7 +64,7 @@ fn front_of(nodes: &[Node], begin: Option<usize>, end: usize) -> &[Node]
 }
 
 /// What a line keeps of the item at its end, if anything.
-fn kept_at(nodes: &[Node], end: usize) -> Option<Node>
+pub(crate) fn kept_at(nodes: &[Node], end: usize) -> Option<Node>
     ensures { cons_option result [] ≡ at_break (slice_get nodes.now end) }
 {
     match nodes.get(end) {
@@ -90,11 +87,11 @@ fn push_copy(alloc: Global, nodes: &mut Vec<Node>, node: &Node) -> Result<(), Al
     Ok(())
 }
 
-/// Copies of the nodes.
-fn copies(alloc: Global, nodes: &[Node]) -> Result<Vec<Node>, AllocError>
+/// Copies of the nodes, with room for this number of nodes.
+fn copies(alloc: Global, nodes: &[Node], count: usize) -> Result<Vec<Node>, AllocError>
     ensures { IfOk result (λ copies. copies.items ≡ nodes.now) }
 {
-    let mut copies = Vec::with_capacity(alloc, nodes.len())?;
+    let mut copies = Vec::with_capacity(alloc, count)?;
     for node in nodes {
         push_copy(alloc, &mut copies, node)?;
     }
@@ -111,48 +108,19 @@ fn push_some(nodes: &mut Vec<Node>, node: Option<Node>) -> Result<(), AllocError
     Ok(())
 }
 
-/// Copies of the items that a line keeps.
+/// Copies of the items that a line keeps, with room for this number of items.
 #[tactic(auto, using(crate::proofs::KeptItems::length_kept))]
-fn line_list(
+pub(crate) fn line_list(
     alloc: Global,
     nodes: &[Node],
     begin: Option<usize>,
     end: usize,
+    count: usize,
 ) -> Result<NodeList, AllocError>
     requires { length nodes.now ≤ max_nodes }
     ensures { IfOk result (λ list. list ≡ items_of (kept nodes.now begin end)) }
 {
-    let mut items = copies(alloc, front_of(nodes, begin, end))?;
+    let mut items = copies(alloc, front_of(nodes, begin, end), count)?;
     push_some(&mut items, kept_at(nodes, end))?;
     Ok(NodeList::from_vec(items))
-}
-
-/// The box of a line of this width.
-#[tactic(auto, using(node_core::proofs::NodeLemmas::nodes), unfolding(crate::specs::Lines::boxed_line, crate::specs::Lines::items_fit))]
-fn pack_line(list: NodeList, size: Dimen) -> Result<BoxNode, LinesFault>
-    ensures ok { IfOk result (λ line. line ≡ boxed_line size (nodes_of list)) }
-    ensures fits { is_ok result ≡ items_fit size (nodes_of list) }
-    ensures fault { IfErr result (λ fault. fault ≡ LinesFault.DimensionTooLarge) }
-{
-    match hpack(list, Target::To(size)) {
-        Ok(packed) => Ok(packed.box_node),
-        Err(_) => Err(LinesFault::DimensionTooLarge),
-    }
-}
-
-/// The box of the line of this width from one place to another.
-#[tactic(auto, using(node_core::proofs::NodeLemmas::nodes))]
-pub fn set_line(
-    alloc: Global,
-    nodes: &[Node],
-    begin: Option<usize>,
-    end: usize,
-    size: Dimen,
-) -> Result<BoxNode, LinesFault>
-    requires { length nodes.now ≤ max_nodes }
-    ensures ok { IfOk result (λ line. line ≡ boxed_line size (kept nodes.now begin end)) }
-    ensures fits { OnOk result (items_fit size (kept nodes.now begin end) ≡ true) }
-    ensures refused { IfErr result (λ fault. fault ≡ LinesFault.DimensionTooLarge → items_fit size (kept nodes.now begin end) ≡ false) }
-{
-    pack_line(line_list(alloc, nodes, begin, end)?, size)
 }

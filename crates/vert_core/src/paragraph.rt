@@ -182,9 +182,9 @@ fn set_items(
 /// Sets a paragraph of at most 131,070 items after a previous depth, and leaves its list as it was.
 ///
 /// The fault is `InfiniteShrink` exactly when glue of the finished list shrinks in an infinite order, and `TooManyBreaks` exactly when there is no
-/// such glue but more than 8,192 legal places; refused memory hides neither. Otherwise it is `DimensionTooLarge` if a line does not fit, or
-/// `OutOfMemory` if an allocation is refused before all lines are packed. For a paragraph with items at least one line is tried, and at most as many
-/// lines as there are places after each place up to the place where trying stops.
+/// such glue but more than 8,192 legal places; refused memory hides neither. Otherwise it is `DimensionTooLarge` if a line does not fit, which refused
+/// memory hides only where the breaks were not found for it, or `OutOfMemory`. For a paragraph with items at least one line is tried, and at most as
+/// many lines as there are places after each place up to the place where trying stops.
 pub fn set_paragraph(
     alloc: Global,
     list: &mut NodeList,

@@ -1,18 +1,18 @@
 //! Stacking the lines of a paragraph as in a vertical list (TeX: The Program, part 39, §877 to §890).
 
-ghost use Rattle.std.specs.Prelude.{◌≡◌, ◌≤◌, ◌<◌, ◌++◌, pos, true, false, length, get_or, OnOk, OnErr, IfOk, IfErr};
-ghost use Rattle.std.specs.Result.{is_ok};
+ghost use Rattle.std.specs.Prelude.{◌≡◌, ◌≤◌, ◌<◌, ◌++◌, pos, true, length, if◌then◌else◌, OnOk, OnErr, IfOk, IfErr};
 ghost use Rattle.node_core.specs.Nodes.{max_nodes};
-ghost use Rattle.vert_core.specs.Interline.{interline};
-ghost use Rattle.break_lines.specs.Sizes.{line_size};
-ghost use Rattle.vert_core.specs.Lines.{line_places, broken_list, line_begin, line_items, boxed_line, line_brings, fits_after, vertical_items, last_depth, lines_fit};
+ghost use Rattle.vert_core.specs.Interline.{appended};
+ghost use Rattle.vert_core.specs.Lines.{broken_list, after_line, line_brings, vertical_items, last_depth, lines_fit};
+ghost use Rattle.vert_core.specs.Measuring.{paragraph_of, box_at, fits_at};
 
-use crate::append::{AppendFault, append_box};
-use crate::line_boxes::{LinesFault, set_line};
+use crate::append::push_with_glue;
+use crate::line_boxes::{LinesFault, line_list};
+use crate::measuring::{BrokenList, line_begin, line_end, lines_fit, measure_line};
 use crate::penalties::push_after_line;
-use break_core::{Breaks, LineEnd};
-use break_lines::line_size;
-use node_core::{BoxNode, Node, Params};
+use break_core::Breaks;
+use node_core::{BoxNode, Glue, Node, Params};
+use pack_core::packed_of;
 use scaled_core::Dimen;
 use std::alloc::Global;
 
@@ -23,58 +23,21 @@ pub struct VerticalItems {
     pub depth: Dimen,
 }
 
-/// A finished list, the ends of its lines, and the parameters by which they are stacked.
-#[derive(Clone, Copy)]
-struct BrokenList<'a> {
-    nodes: &'a [Node],
-    ends: &'a [LineEnd],
-    params: &'a Params,
-}
-
-/// The place where a line begins, or `None` for the start of the list.
-fn line_begin(ends: &[LineEnd], line: usize) -> Option<usize>
-    requires { line ≤ length ends.now }
-    ensures { result ≡ line_begin (line_places ends.now) line }
-{
-    if line == 0 {
-        return None;
-    }
-    Some(ends[line - 1].place)
-}
-
-/// The place where a line ends.
-fn line_end(ends: &[LineEnd], line: usize) -> usize
-    requires { line < length ends.now }
-    ensures { result ≡ get_or (line_places ends.now) line 0 }
-{
-    ends[line].place
-}
-
-/// Appends the box of line number `line` of `count` lines to a list, with the glue before it and the penalty after it, and returns its depth.
+/// Appends the box of line number `line` of a broken list, with the glue before it, if there is any, and the penalty after it.
 fn stack_line(
     list: &mut Vec<Node>,
+    glue: Option<Glue>,
     line_box: BoxNode,
-    previous_depth: Dimen,
-    params: &Params,
-    count: usize,
+    broken: &BrokenList,
     line: usize,
-) -> Result<Dimen, LinesFault>
-    requires { line < count }
-    ensures ok { OnOk result (list.new.items ≡ list.old.items ++ line_brings params.now count line previous_depth line_box) }
-    ensures depth { IfOk result (λ depth. depth ≡ line_box.depth) }
-    ensures fits { OnOk result (is_ok (interline params.now previous_depth line_box.height) ≡ true) }
-    ensures refused { IfErr result (λ fault. fault ≡ LinesFault.DimensionTooLarge → is_ok (interline params.now previous_depth line_box.height) ≡ false) }
-    ensures memory { IfErr result (λ fault. fault ≡ LinesFault.OutOfMemory → is_ok (interline params.now previous_depth line_box.height) ≡ true) }
+) -> Result<(), LinesFault>
+    requires { line < length broken.now.ends.now }
+    ensures { OnOk result (list.new.items ≡
+        list.old.items ++ (appended glue (pos 0) line_box ++ after_line broken.now.params.now (length broken.now.ends.now) line)) }
 {
-    match append_box(list, line_box, Dimen::ZERO, previous_depth, params) {
-        Err(unappended) => match unappended.fault {
-            AppendFault::DimensionTooLarge => Err(LinesFault::DimensionTooLarge),
-            AppendFault::OutOfMemory => Err(LinesFault::OutOfMemory),
-        },
-        Ok(depth) => match push_after_line(list, params, count, line) {
-            Err(_) => Err(LinesFault::OutOfMemory),
-            Ok(()) => Ok(depth),
-        },
+    match push_with_glue(list, glue, Dimen::ZERO, line_box) {
+        Err(_) => Err(LinesFault::OutOfMemory),
+        Ok(()) => Ok(push_after_line(list, broken.params, broken.ends.len(), line)?),
     }
 }
 
@@ -88,56 +51,42 @@ fn add_line(
 ) -> Result<Dimen, LinesFault>
     requires list_bounded { length broken.now.nodes.now ≤ max_nodes }
     requires line_bounded { line < length broken.now.ends.now }
-    ensures ok { OnOk result (list.new.items ≡ list.old.items
-        ++ line_brings broken.now.params.now (length broken.now.ends.now) line previous_depth (boxed_line (line_size broken.now.params.now line) (line_items (broken_list broken.now.nodes.now broken.now.ends.now broken.now.params.now previous_depth) line))) }
-    ensures depth { IfOk result (λ depth. depth ≡ (boxed_line (line_size broken.now.params.now line) (line_items (broken_list broken.now.nodes.now broken.now.ends.now broken.now.params.now previous_depth) line)).depth) }
-    ensures fits { OnOk result (fits_after broken.now.params.now (line_size broken.now.params.now line) previous_depth (line_items (broken_list broken.now.nodes.now broken.now.ends.now broken.now.params.now previous_depth) line) ≡ true) }
-    ensures refused { IfErr result (λ fault. fault ≡ LinesFault.DimensionTooLarge →
-        fits_after broken.now.params.now (line_size broken.now.params.now line) previous_depth (line_items (broken_list broken.now.nodes.now broken.now.ends.now broken.now.params.now previous_depth) line) ≡ false) }
+    ensures ok { OnOk result (list.new.items ≡
+        list.old.items ++ line_brings broken.now.params.now (length broken.now.ends.now) line previous_depth (box_at broken.now line)) }
+    ensures depth { IfOk result (λ depth. depth ≡ (box_at broken.now line).depth) }
+    ensures fits { OnOk result (fits_at broken.now line previous_depth ≡ true) }
 {
-    let ends = broken.ends;
-    let line_box = set_line(
+    let Some(measured) = measure_line(broken, previous_depth, line) else {
+        return Err(LinesFault::DimensionTooLarge);
+    };
+    let items = line_list(
         alloc,
         broken.nodes,
-        line_begin(ends, line),
-        line_end(ends, line),
-        line_size(broken.params, line),
+        line_begin(broken.ends, line),
+        line_end(broken.ends, line),
+        measured.count,
     )?;
-    stack_line(
-        list,
-        line_box,
-        previous_depth,
-        broken.params,
-        ends.len(),
-        line,
-    )
+    let line_box = packed_of(items, &measured.shell).box_node;
+    stack_line(list, measured.glue, line_box, broken, line)?;
+    Ok(measured.shell.depth)
 }
 
-/// The items that the lines with these ends add to a vertical list with this previous depth.
+/// The items that the lines of a broken list add to a vertical list with this previous depth.
 fn stack_lines(
     alloc: Global,
-    nodes: &[Node],
-    ends: &[LineEnd],
-    params: &Params,
+    broken: &BrokenList,
     previous_depth: Dimen,
 ) -> Result<VerticalItems, LinesFault>
-    requires { length nodes.now ≤ max_nodes }
-    ensures ok { IfOk result (λ items. items.nodes.items ≡ vertical_items (broken_list nodes.now ends.now params.now previous_depth)) }
-    ensures depth { IfOk result (λ items. items.depth ≡ last_depth (broken_list nodes.now ends.now params.now previous_depth)) }
-    ensures lines_present { OnErr result (0 < length ends.now) }
-    ensures fits { OnOk result (lines_fit (broken_list nodes.now ends.now params.now previous_depth) ≡ true) }
-    ensures refused { IfErr result (λ fault. fault ≡ LinesFault.DimensionTooLarge →
-        lines_fit (broken_list nodes.now ends.now params.now previous_depth) ≡ false) }
+    requires { length broken.now.nodes.now ≤ max_nodes }
+    ensures ok { IfOk result (λ items. items.nodes.items ≡ vertical_items (paragraph_of broken.now previous_depth)) }
+    ensures depth { IfOk result (λ items. items.depth ≡ last_depth (paragraph_of broken.now previous_depth)) }
+    ensures lines_present { OnErr result (0 < length broken.now.ends.now) }
+    ensures fits { OnOk result (lines_fit (paragraph_of broken.now previous_depth) ≡ true) }
 {
-    let broken = BrokenList {
-        nodes,
-        ends,
-        params,
-    };
     let mut list = Vec::new(alloc);
     let mut depth = previous_depth;
-    for line in 0..ends.len() {
-        depth = add_line(alloc, &mut list, &broken, depth, line)?;
+    for line in 0..broken.ends.len() {
+        depth = add_line(alloc, &mut list, broken, depth, line)?;
     }
     Ok(VerticalItems { nodes: list, depth })
 }
@@ -145,9 +94,8 @@ fn stack_lines(
 /// The items that the lines of a paragraph add to a vertical list with this previous depth. `nodes` is the finished list of at most 131,072 nodes,
 /// and the breaks are its breaks, or other places in order.
 ///
-/// The lines are handled one after another. For each line the fault is `OutOfMemory` if memory for its items is refused, then `DimensionTooLarge` if
-/// a number of its box does not fit, then the same if the glue before it does not fit, and then `OutOfMemory` if memory for the items that it adds is
-/// refused. Without lines nothing is allocated.
+/// The fault is `DimensionTooLarge` exactly if a number of the box of a line does not fit, or the glue before it does not; refused memory never hides
+/// it. Otherwise it is `OutOfMemory`. Without lines nothing is allocated.
 pub fn lines(
     alloc: Global,
     nodes: &[Node],
@@ -160,8 +108,29 @@ pub fn lines(
     ensures depth { IfOk result (λ items. items.depth ≡ last_depth (broken_list nodes.now breaks.now.lines.items params.now previous_depth)) }
     ensures lines_present { OnErr result (0 < length breaks.now.lines.items) }
     ensures fits { OnOk result (lines_fit (broken_list nodes.now breaks.now.lines.items params.now previous_depth) ≡ true) }
-    ensures refused { IfErr result (λ fault. fault ≡ LinesFault.DimensionTooLarge →
-        lines_fit (broken_list nodes.now breaks.now.lines.items params.now previous_depth) ≡ false) }
+    ensures fault { IfErr result (λ fault. fault ≡
+        (if lines_fit (broken_list nodes.now breaks.now.lines.items params.now previous_depth)
+        then LinesFault.OutOfMemory else LinesFault.DimensionTooLarge)) }
 {
-    stack_lines(alloc, nodes, &breaks.lines, params, previous_depth)
+    let broken = BrokenList {
+        nodes,
+        ends: &breaks.lines,
+        params,
+    };
+    match stack_lines(alloc, &broken, previous_depth) {
+        Ok(items) => Ok(items),
+        // A line after the one for which memory was refused may not fit, so all lines are measured. Lines that are stacked are measured only once.
+        Err(_) => Err(fault_of(&broken, previous_depth)),
+    }
+}
+
+/// Why the lines of a broken list are not stacked.
+fn fault_of(broken: &BrokenList, previous_depth: Dimen) -> LinesFault
+    requires { length broken.now.nodes.now ≤ max_nodes }
+    ensures { result ≡ (if lines_fit (paragraph_of broken.now previous_depth) then LinesFault.OutOfMemory else LinesFault.DimensionTooLarge) }
+{
+    if lines_fit(broken, previous_depth) {
+        return LinesFault::OutOfMemory;
+    }
+    LinesFault::DimensionTooLarge
 }

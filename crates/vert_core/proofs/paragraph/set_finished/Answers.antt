@@ -45,4 +45,4 @@ returns-in_err-stacked-clause-refused c =
     handed_on (IsUnsetList list c.args.params.now c.args.previous_depth) c.from_residual-in_err-stacked.result (unstacked_by fault)
     c.from_residual-in_err-stacked.ensures.1
     (unstacked_list list c.args.params.now c.args.previous_depth c.in_ok-breaks.breaks fault c.in_ok-breaks.ensures.fits c.in_ok-breaks.ensures.broken
-    c.in_err-stacked.ensures.refused)
+    c.in_err-stacked.ensures.fault)

@@ -7,7 +7,7 @@ use Rattle.vert_core.proofs.stacking.stack_lines.Given as goal
 
 abbrev pub invariant-loop-line : goal.invariant-loop-line
 invariant-loop-line l = record {
-  items : l.list.items ≡ flat_map (brought_by (broken_list l.nodes l.ends l.params l.fn.previous_depth)) (up_to l.line);
-  depth : l.depth ≡ depth_before (broken_list l.nodes l.ends l.params l.fn.previous_depth) l.line;
-  fit : list_all (line_fits (broken_list l.nodes l.ends l.params l.fn.previous_depth)) (up_to l.line) ≡ true;
+  items : l.list.items ≡ flat_map (brought_by (broken_list l.broken.nodes.now l.broken.ends.now l.broken.params.now l.fn.previous_depth)) (up_to l.line);
+  depth : l.depth ≡ depth_before (broken_list l.broken.nodes.now l.broken.ends.now l.broken.params.now l.fn.previous_depth) l.line;
+  fit : list_all (line_fits (broken_list l.broken.nodes.now l.broken.ends.now l.broken.params.now l.fn.previous_depth)) (up_to l.line) ≡ true;
 }

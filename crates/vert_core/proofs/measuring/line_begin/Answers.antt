@@ -1,6 +1,6 @@
 use Rattle.std.proofs.Common.{sym, arith, ◌<◌}
 use Rattle.vert_core.proofs.Stacks.{begin_after}
-use Rattle.vert_core.proofs.stacking.line_begin.Goals as goal
+use Rattle.vert_core.proofs.measuring.line_begin.Goals as goal
 
 pub returns : goal.returns
 returns c =
