@@ -71,22 +71,26 @@ def answered(ended):
     return Answered({int(number): reply for number, reply in replies}, end.decode(), ended.made + bytes.fromhex(digits.decode()))
 
 
-def boxes_into_registers(lines):
-    """The lines of the commands `end` that put their box into a register: these take no memory."""
+def boxes_into_registers(script):
+    """The lines of the commands `end` that put their box into a register: these take no memory. A refused one leaves its list open."""
+    refused = {int(line.partition(b":")[0]) for line in script.answers.splitlines() if re.match(rb"\d+: refused ", line)}
     opened, found = [], set()
-    for at, line in enumerate(lines, 1):
+    for at, line in enumerate(script.lines, 1):
         word = line.split()[0]
         if word in ("hbox", "vbox", "vtop", "par"):
             opened.append("into" in line)
-        elif word == "end" and opened and opened.pop():
-            found.add(at)
+        elif word == "end" and opened:
+            if opened[-1]:
+                found.add(at)
+            if at not in refused:
+                opened.pop()
     return found
 
 
 def of_command(script, line, run, without):
     """A command ran out of memory: all else is as in the script without it."""
     command = script.lines[line - 1]
-    if command.split()[0] not in MAY_TAKE_MEMORY or line in boxes_into_registers(script.lines):
+    if command.split()[0] not in MAY_TAKE_MEMORY or line in boxes_into_registers(script):
         raise Wrong(f"line {line}, {command}, takes no memory")
     others = {at: reply for at, reply in run.replies.items() if at != line}
     if Answered(others, run.end, run.data) != without(line):

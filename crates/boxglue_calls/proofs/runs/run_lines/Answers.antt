@@ -6,7 +6,7 @@ use Rattle.boxglue_program.proofs.RunLaws.{was_run, same_run}
 use Rattle.boxglue_program.proofs.SentParts.{said_part}
 use Rattle.boxglue_program.specs.Runs.{commands_of}
 use Rattle.boxglue_program.specs.Texts.{answers_text}
-use Rattle.boxglue_calls.specs.RunStatus.{replies_status, reply_status}
+use Rattle.boxglue_calls.specs.RunStatus.{replies_status}
 use Rattle.boxglue_calls.proofs.runs.run_lines.Goals as goal
 
 pub returns-in-Some : goal.returns-in-Some
