@@ -1,5 +1,5 @@
 -- The tasks that command lines ask for.
-use Rattle.std.proofs.Common.{◌≡◌, ◌∙◌, ◌<◌, ◌≤◌, ◌^◌, [], ◌∷◌, List, ℕ, true, false, Option, Some, None, Result, Ok, Err, IfErr, refl, sym, ap, ap₂, subst, inl, inr, arith, codes}
+use Rattle.std.proofs.Common.{◌≡◌, ◌==◌, ◌∙◌, ◌<◌, ◌≤◌, ◌^◌, [], ◌∷◌, List, ℕ, true, false, Option, Some, None, Result, Ok, Err, IfErr, refl, sym, ap, ap₂, subst, inl, inr, arith, codes, get_or}
 use Rattle.std.specs.Prelude.{option_map, is_some, unwrap_or}
 use Rattle.std.specs.Prelude.{Box}
 use Rattle.std.specs.Box.{box_value}
@@ -21,21 +21,28 @@ use Rattle.clap.proofs.WalkLemmas.{one_text-rows, raw_values-rows}
 use Rattle.boxglue_words.specs.declared.fonts.WordFault.{WordFault}
 use Rattle.boxglue_words.specs.declared.fonts.WordFault.TheVariants.{Line, Memory, NotPair, NameTwice}
 use Rattle.boxglue_words.specs.CommandLine.{boxglue}
-use Rattle.boxglue_words.specs.Pairs.{IsFaulty}
+use Rattle.boxglue_words.specs.Pairs.{IsFaulty, IsFirstFault}
 use Rattle.raster_core.specs.Sheets.{Sheet}
 use Rattle.boxglue_words.specs.declared.task.Task.{Task}
 use Rattle.boxglue_words.specs.declared.task.Task.TheVariants.{Version}
 use Rattle.boxglue_words.proofs.VersionLemmas.{alone_fault, has_version, only_version}
-use Rattle.boxglue_words.specs.Steps.{IsLine}
-use Rattle.boxglue_words.specs.Tasks.{Asks, AsksBy, IsNumber, IsRefused, IsRefusedBy, IsRequest, IsSheet, IsTask, IsTaskOf, Request, fonts_of, font_words, lists, nothing, paints, typesets, version}
+use Rattle.boxglue_words.specs.Steps.{IsFileFault, IsLine}
+use Rattle.boxglue_words.specs.Tasks.{Asks, AsksBy, IsNumber, IsRefused, IsRefusedBy, IsRequest, IsSheet, IsTask, IsTaskOf, Request, fonts_of, font_words, holds_session, lists, names_fonts, nothing, paints, typesets, version}
 
--- A faulty word NAME=TFM of a request.
-pub refused_fonts : (asked : Request → Type 0) (request : Request) (fault : WordFault) → asked request
-    → IsFaulty (fonts_of request) fault → IsRefusedBy asked fault
-refused_fonts asked request Memory h faulty = tt
-refused_fonts asked request (Line text) h faulty = absurd faulty.faulty
-refused_fonts asked request (NotPair word) h faulty = (request, h, faulty)
-refused_fonts asked request (NameTwice name) h faulty = (request, h, faulty)
+-- A faulty word NAME=TFM of a subcommand whose file is given.
+pub faulty_fonts : (id : Text) (rows : List Row) (path : Text) (fault : WordFault) → first_of id rows ≡ Some path
+    → IsFaulty (font_words rows) fault → IsFileFault id rows fault
+faulty_fonts id rows path Memory given faulty = tt
+faulty_fonts id rows path (Line text) given faulty = absurd faulty.faulty
+faulty_fonts id rows path (NotPair word) given faulty = (path, given, faulty)
+faulty_fonts id rows path (NameTwice name) given faulty = (path, given, faulty)
+
+-- Without its file a subcommand is no line.
+pub file_missing : (id : Text) (rows : List Row) (fault : WordFault) → IsLine fault → first_of id rows ≡ None → IsFileFault id rows fault
+file_missing id rows Memory h lacks = tt
+file_missing id rows (Line text) h lacks = lacks
+file_missing id rows (NotPair word) h lacks = absurd h
+file_missing id rows (NameTwice name) h lacks = absurd h
 
 -- Nothing is asked for.
 pub refused_line : (asked : Request → Type 0) (fault : WordFault) → IsLine fault → ((request : Request) → asked request → ⊥) → IsRefusedBy asked fault
@@ -49,29 +56,73 @@ pub no_typeset : (rows : List Row) → first_of (codes "OUT") rows ≡ None → 
 no_typeset rows lacks version h = h
 no_typeset rows lacks nothing h = h
 no_typeset rows lacks (typesets out fonts) h = absurd (cc (lacks, h.1))
+no_typeset rows lacks (holds_session out fonts) h = absurd (cc h.0)
 no_typeset rows lacks (lists dvi fonts) h = absurd (cc h.0)
+no_typeset rows lacks (names_fonts dvi) h = absurd (cc h.0)
 no_typeset rows lacks (paints sheet dvi fonts) h = absurd (cc h.0)
+
+pub no_session : (rows : List Row) → first_of (codes "OUT") rows ≡ None → (request : Request) → AsksBy (codes "session") rows request → ⊥
+no_session rows lacks version h = h
+no_session rows lacks nothing h = h
+no_session rows lacks (typesets out fonts) h = absurd (cc h.0)
+no_session rows lacks (holds_session out fonts) h = absurd (cc (lacks, h.1))
+no_session rows lacks (lists dvi fonts) h = absurd (cc h.0)
+no_session rows lacks (names_fonts dvi) h = absurd (cc h.0)
+no_session rows lacks (paints sheet dvi fonts) h = absurd (cc h.0)
 
 pub no_list : (rows : List Row) → first_of (codes "DVI") rows ≡ None → (request : Request) → AsksBy (codes "list") rows request → ⊥
 no_list rows lacks version h = h
 no_list rows lacks nothing h = h
 no_list rows lacks (typesets out fonts) h = absurd (cc h.0)
+no_list rows lacks (holds_session out fonts) h = absurd (cc h.0)
 no_list rows lacks (lists dvi fonts) h = absurd (cc (lacks, h.1))
+no_list rows lacks (names_fonts dvi) h = absurd (cc h.0)
 no_list rows lacks (paints sheet dvi fonts) h = absurd (cc h.0)
+
+pub no_fonts_named : (rows : List Row) → first_of (codes "DVI") rows ≡ None → (request : Request) → AsksBy (codes "fonts") rows request → ⊥
+no_fonts_named rows lacks version h = h
+no_fonts_named rows lacks nothing h = h
+no_fonts_named rows lacks (typesets out fonts) h = absurd (cc h.0)
+no_fonts_named rows lacks (holds_session out fonts) h = absurd (cc h.0)
+no_fonts_named rows lacks (lists dvi fonts) h = absurd (cc h.0)
+no_fonts_named rows lacks (names_fonts dvi) h = absurd (cc (lacks, h.1))
+no_fonts_named rows lacks (paints sheet dvi fonts) h = absurd (cc h.0)
 
 pub no_painting : (rows : List Row) → first_of (codes "DVI") rows ≡ None → (request : Request) → AsksBy (codes "paint") rows request → ⊥
 no_painting rows lacks version h = h
 no_painting rows lacks nothing h = h
 no_painting rows lacks (typesets out fonts) h = absurd (cc h.0)
+no_painting rows lacks (holds_session out fonts) h = absurd (cc h.0)
 no_painting rows lacks (lists dvi fonts) h = absurd (cc h.0)
+no_painting rows lacks (names_fonts dvi) h = absurd (cc h.0)
 no_painting rows lacks (paints sheet dvi fonts) h = absurd (cc (lacks, h.2))
+
+-- A subcommand with a file and words NAME=TFM is refused for just these.
+pub refused_file : (asked : Request → Type 0) (id : Text) (rows : List Row) (to : Text → Request)
+    → ((path : Text) → first_of id rows ≡ Some path → asked (to path)) → ((path : Text) → fonts_of (to path) ≡ font_words rows)
+    → (first_of id rows ≡ None → (request : Request) → asked request → ⊥)
+    → (fault : WordFault) → IsFileFault id rows fault → IsRefusedBy asked fault
+refused_file asked id rows to asks same none Memory h = tt
+refused_file asked id rows to asks same none (Line text) h = none h
+refused_file asked id rows to asks same none (NotPair word) h =
+    (to h.0, asks h.0 h.1, subst (λ words. IsFirstFault words (NotPair word)) (sym (same h.0)) h.2)
+refused_file asked id rows to asks same none (NameTwice name) h =
+    (to h.0, asks h.0 h.1, subst (λ words. IsFirstFault words (NameTwice name)) (sym (same h.0)) h.2)
+
+paint_is_not_fonts : codes "paint" ≡ codes "fonts" → ⊥
+paint_is_not_fonts is = not_both (ap (λ (text : List ℕ). get_or text 0 0 == 112) is)
+  where
+    not_both : true ≡ false → ⊥
+    not_both same = cc
 
 -- Without its numbers `paint` asks for nothing either.
 pub no_sheet : (rows : List Row) → ((sheet : Sheet) → IsSheet rows sheet → ⊥) → (request : Request) → AsksBy (codes "paint") rows request → ⊥
 no_sheet rows lacks version h = h
 no_sheet rows lacks nothing h = h
 no_sheet rows lacks (typesets out fonts) h = absurd (cc h.0)
+no_sheet rows lacks (holds_session out fonts) h = absurd (cc h.0)
 no_sheet rows lacks (lists dvi fonts) h = absurd (cc h.0)
+no_sheet rows lacks (names_fonts dvi) h = paint_is_not_fonts h.0
 no_sheet rows lacks (paints sheet dvi fonts) h = lacks sheet h.1
 
 -- The words NAME=TFM are the values of their argument.
@@ -150,7 +201,9 @@ words_ask : (m : ArgMatches) (words : List Text) → fault_of boxglue words ≡ 
 words_ask m words accepted same version h = absurd (none_asked (subcommand_rows_of m) h)
 words_ask m words accepted same nothing h = record { accepted = accepted; asked = subst (λ o. Asks o nothing) same h }
 words_ask m words accepted same (typesets out fonts) h = record { accepted = accepted; asked = subst (λ o. Asks o (typesets out fonts)) same h }
+words_ask m words accepted same (holds_session out fonts) h = record { accepted = accepted; asked = subst (λ o. Asks o (holds_session out fonts)) same h }
 words_ask m words accepted same (lists dvi fonts) h = record { accepted = accepted; asked = subst (λ o. Asks o (lists dvi fonts)) same h }
+words_ask m words accepted same (names_fonts dvi) h = record { accepted = accepted; asked = subst (λ o. Asks o (names_fonts dvi)) same h }
 words_ask m words accepted same (paints sheet dvi fonts) h = record { accepted = accepted; asked = subst (λ o. Asks o (paints sheet dvi fonts)) same h }
 
 matches_ask : (m : ArgMatches) (words : List Text) → fault_of boxglue words ≡ [] → subcommand_rows_of m ≡ subcommand_of boxglue words
@@ -158,7 +211,9 @@ matches_ask : (m : ArgMatches) (words : List Text) → fault_of boxglue words �
 matches_ask m words accepted same version h = absurd (cc (h, accepted))
 matches_ask m words accepted same nothing h = subst (λ o. Asks o nothing) (sym same) h.asked
 matches_ask m words accepted same (typesets out fonts) h = subst (λ o. Asks o (typesets out fonts)) (sym same) h.asked
+matches_ask m words accepted same (holds_session out fonts) h = subst (λ o. Asks o (holds_session out fonts)) (sym same) h.asked
 matches_ask m words accepted same (lists dvi fonts) h = subst (λ o. Asks o (lists dvi fonts)) (sym same) h.asked
+matches_ask m words accepted same (names_fonts dvi) h = subst (λ o. Asks o (names_fonts dvi)) (sym same) h.asked
 matches_ask m words accepted same (paints sheet dvi fonts) h = subst (λ o. Asks o (paints sheet dvi fonts)) (sym same) h.asked
 
 pub task_of : (m : ArgMatches) (words : List Text) (task : Task) → fault_of boxglue words ≡ [] → subcommand_rows_of m ≡ subcommand_of boxglue words
@@ -187,7 +242,9 @@ no_request : (words : List Text) (e : Error) → HasKind (fault_of boxglue words
 no_request words e h silent other version asked = other (only_version (fault_of boxglue words) e h silent asked)
 no_request words e h silent other nothing asked = has_fault (fault_of boxglue words) e h silent asked.accepted
 no_request words e h silent other (typesets out fonts) asked = has_fault (fault_of boxglue words) e h silent asked.accepted
+no_request words e h silent other (holds_session out fonts) asked = has_fault (fault_of boxglue words) e h silent asked.accepted
 no_request words e h silent other (lists dvi fonts) asked = has_fault (fault_of boxglue words) e h silent asked.accepted
+no_request words e h silent other (names_fonts dvi) asked = has_fault (fault_of boxglue words) e h silent asked.accepted
 no_request words e h silent other (paints sheet dvi fonts) asked = has_fault (fault_of boxglue words) e h silent asked.accepted
 
 pub line_refused : (words : List Text) (e : Error) (fault : WordFault) → HasKind (fault_of boxglue words) e → IsLine fault

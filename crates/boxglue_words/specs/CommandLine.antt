@@ -22,9 +22,17 @@ number_rule id most = record (new_rule id) { long = Some id; value_names = 1; pa
 abbrev pub typeset : App
 typeset = with_rule (with_rule (new_app (codes "typeset")) (path_rule (codes "OUT"))) fonts_rule
 
+-- `session OUT [NAME=TFM ..]`.
+abbrev pub session : App
+session = with_rule (with_rule (new_app (codes "session")) (path_rule (codes "OUT"))) fonts_rule
+
 -- `list DVI [NAME=TFM ..]`.
 abbrev pub lists : App
 lists = with_rule (with_rule (new_app (codes "list")) (path_rule (codes "DVI"))) fonts_rule
+
+-- `fonts DVI`.
+abbrev pub names_fonts : App
+names_fonts = with_rule (new_app (codes "fonts")) (path_rule (codes "DVI"))
 
 -- `paint --page N --dpi N --width N --height N DVI [NAME=TFM ..]`.
 abbrev pub paint : App
@@ -34,9 +42,13 @@ paint =
     (number_rule (codes "page") 4294967295)) (number_rule (codes "dpi") 10000)) (number_rule (codes "width") 10000)) (number_rule (codes "height") 10000))
     (path_rule (codes "DVI"))) fonts_rule
 
--- These three as subcommands, and a version. The words begin after the program's name.
+-- The program without a subcommand. It has a version, and the words begin after its name.
+abbrev pub alone : App
+alone =
+    let named = new_app (codes "boxglue") in
+    record named { top = record named.top { no_binary_name = true; disable_help_subcommand = true; has_version = true } }
+
+-- The program with these five as subcommands.
 abbrev pub boxglue : App
 boxglue =
-    let alone = new_app (codes "boxglue") in
-    with_subcommand (with_subcommand (with_subcommand (record alone { top = record alone.top { no_binary_name = true; disable_help_subcommand = true; has_version = true } })
-    typeset.top) lists.top) paint.top
+    with_subcommand (with_subcommand (with_subcommand (with_subcommand (with_subcommand alone typeset.top) session.top) lists.top) names_fonts.top) paint.top

@@ -4,22 +4,26 @@ ghost use Rattle.std.specs.Prelude.{◌≡◌, ◌≤◌, false, pos, IfOk};
 ghost use Rattle.clap.specs.Words.{app_of, rule_of};
 ghost use Rattle.clap.specs.declared.builder.Command.TheViews.{out-Command};
 ghost use Rattle.clap.specs.declared.builder.value_parser.ValueParser.TheVariants.{Signed};
-ghost use Rattle.boxglue_words.specs.CommandLine.{boxglue, fonts_rule, lists, number_rule, paint, path_rule, typeset};
+ghost use Rattle.boxglue_words.specs.CommandLine.{alone, boxglue, fonts_rule, lists, names_fonts, number_rule, paint, path_rule, session, typeset};
 
 use crate::task::VERSION_LINE;
 use clap::builder::ValueParser;
 use clap::{Arg, ArgAction, Command, value_parser};
 use std::alloc::{AllocError, Global};
 
-/// The four uses, each with an example; clap prints them at the end of the help.
+/// The six uses, each with an example; clap prints them at the end of the help.
 const USES: &str = "\
 Uses:
   boxglue < page.box
       runs a script; prints its answers, and then the bytes of its DVI file
   boxglue typeset page.dvi cmr10=cmr10.tfm < page.box
       runs a script that has the font cmr10; writes page.dvi and prints the answers
+  boxglue session page.dvi cmr10=cmr10.tfm
+      runs each line of standard input as it comes, and answers it at once; writes page.dvi
   boxglue list page.dvi cmr10=cmr10.tfm
       prints the pages of a DVI file and their marks
+  boxglue fonts page.dvi
+      prints the units of a DVI file, and the fonts that it defines
   boxglue paint --page 1 --dpi 100 --width 850 --height 1100 page.dvi cmr10=cmr10.tfm > page.pbm
       prints page 1 as a bitmap: its rules, without the shapes of glyphs";
 
@@ -73,6 +77,17 @@ fn typeset<'a>(alloc: Global) -> Result<Command<'a>, AllocError>
         .arg(fonts(alloc))
 }
 
+/// The subcommand `session`.
+fn session<'a>(alloc: Global) -> Result<Command<'a>, AllocError>
+    ensures shape { IfOk result (λ command. app_of command ≡ session) }
+    ensures local { IfOk result (λ command. (out-Command command).has_globals ≡ false) }
+{
+    Command::new(alloc, "session")
+        .about("runs the lines of standard input as they come and writes the DVI file")
+        .arg(path(alloc, "OUT", "the DVI file that is written"))?
+        .arg(fonts(alloc))
+}
+
 /// The subcommand `list`.
 fn lists<'a>(alloc: Global) -> Result<Command<'a>, AllocError>
     ensures shape { IfOk result (λ command. app_of command ≡ lists) }
@@ -82,6 +97,16 @@ fn lists<'a>(alloc: Global) -> Result<Command<'a>, AllocError>
         .about("prints the pages of a DVI file and their marks")
         .arg(path(alloc, "DVI", "the DVI file that is read"))?
         .arg(fonts(alloc))
+}
+
+/// The subcommand `fonts`.
+fn names_fonts<'a>(alloc: Global) -> Result<Command<'a>, AllocError>
+    ensures shape { IfOk result (λ command. app_of command ≡ names_fonts) }
+    ensures local { IfOk result (λ command. (out-Command command).has_globals ≡ false) }
+{
+    Command::new(alloc, "fonts")
+        .about("prints the units of a DVI file and the fonts that it defines")
+        .arg(path(alloc, "DVI", "the DVI file that is read"))
 }
 
 /// The subcommand `paint`.
@@ -99,19 +124,30 @@ fn paint<'a>(alloc: Global) -> Result<Command<'a>, AllocError>
         .arg(fonts(alloc))
 }
 
-/// The command line of boxglue, for clap: no words, or `typeset`, `list` or `paint` with its own words. It has a version, so that clap knows
-/// `--version` and `-V`. The error is a refused growth of memory.
+/// The command line without its subcommands.
+fn alone<'a>(alloc: Global) -> Result<Command<'a>, AllocError>
+    ensures { IfOk result (λ command. app_of command ≡ alone) }
+{
+    let command = Command::new(alloc, "boxglue").bin_name("boxglue")?;
+    Ok(
+        command
+            .about("typesets scripts of boxes and glue into DVI files, and reads such files")
+            .version(VERSION_LINE)
+            .after_help(USES)
+            .no_binary_name(true)
+            .disable_help_subcommand(true),
+    )
+}
+
+/// The command line of boxglue, for clap: no words, or `typeset`, `session`, `list`, `fonts` or `paint` with its own words. It has a version, so that
+/// clap knows `--version` and `-V`. The error is a refused growth of memory.
 pub fn command_line<'a>(alloc: Global) -> Result<Command<'a>, AllocError>
     ensures { IfOk result (λ command. app_of command ≡ boxglue) }
 {
-    Command::new(alloc, "boxglue")
-        .bin_name("boxglue")?
-        .about("typesets scripts of boxes and glue into DVI files, and reads such files")
-        .version(VERSION_LINE)
-        .after_help(USES)
-        .no_binary_name(true)
-        .disable_help_subcommand(true)
+    alone(alloc)?
         .subcommand(typeset(alloc)?)?
+        .subcommand(session(alloc)?)?
         .subcommand(lists(alloc)?)?
+        .subcommand(names_fonts(alloc)?)?
         .subcommand(paint(alloc)?)
 }

@@ -18,10 +18,19 @@ pub enum Task<'a> {
         out: &'a str,
         fonts: Vec<NamedPath<'a>>,
     },
+    /// Runs the lines of standard input as they come, and writes the DVI file at this path.
+    Session {
+        out: &'a str,
+        fonts: Vec<NamedPath<'a>>,
+    },
     /// Lists the pages of the DVI file at this path.
     Listing {
         dvi: &'a str,
         fonts: Vec<NamedPath<'a>>,
+    },
+    /// Prints the fonts that the DVI file at this path defines.
+    Fonts {
+        dvi: &'a str,
     },
     /// Paints a page of the DVI file at this path.
     Painting {

@@ -1,11 +1,11 @@
 //! Reading the words of a command line.
 
-ghost use Rattle.std.specs.Prelude.{◌≡◌, ◌≢◌, ℕ, None, IfOk, IfErr, IfSome, codes, map, string_bytes};
-ghost use Rattle.clap.specs.Words.{found_of, kind_of, rows_of, subcommand_rows_of};
+ghost use Rattle.std.specs.Prelude.{◌≡◌, ◌≢◌, ℕ, None, Some, IfOk, IfErr, IfSome, codes, map, string_bytes};
+ghost use Rattle.clap.specs.Words.{first_of, found_of, kind_of, rows_of, subcommand_rows_of};
 ghost use Rattle.clap.specs.declared.error.kind.ErrorKind.TheVariants.{DisplayVersion, OutOfMemory};
 ghost use Rattle.raster_core.specs.Sheets.{Sheet};
 ghost use Rattle.boxglue_words.specs.Pairs.{AreFonts, IsFaulty};
-ghost use Rattle.boxglue_words.specs.Steps.{IsLine, IsTaskBy};
+ghost use Rattle.boxglue_words.specs.Steps.{IsFileFault, IsLine, IsTaskBy};
 ghost use Rattle.boxglue_words.specs.Tasks.{Asks, AsksBy, IsNumber, IsRefused, IsRefusedBy, IsSheet, IsTask, IsTaskOf, Request, font_words};
 
 use crate::command::command_line;
@@ -52,16 +52,52 @@ fn fonts<'a>(alloc: Global, matches: &ArgMatches<'a>) -> Result<Vec<NamedPath<'a
     }
 }
 
+/// The file of a subcommand, and its fonts.
+#[derive(Drop)]
+struct FileWords<'a> {
+    path: &'a str,
+    fonts: Vec<NamedPath<'a>>,
+}
+
+/// The file of a subcommand, which is the argument `id`, and its fonts.
+fn file_words<'a>(
+    alloc: Global,
+    matches: &ArgMatches<'a>,
+    id: &str,
+) -> Result<FileWords<'a>, WordFault<'a>>
+    ensures path { IfOk result (λ file. first_of id.now (rows_of (found_of matches.now)) ≡ Some file.path.now) }
+    ensures fonts { IfOk result (λ file. AreFonts (font_words (rows_of (found_of matches.now))) file.fonts.items) }
+    ensures err { IfErr result (IsFileFault id.now (rows_of (found_of matches.now))) }
+{
+    let Some(path) = matches.get_str(id) else {
+        return Err(no_line(alloc));
+    };
+    let fonts = fonts(alloc, matches)?;
+    Ok(FileWords { path, fonts })
+}
+
 /// The task of `typeset`.
 fn typesets<'a>(alloc: Global, matches: &ArgMatches<'a>) -> Result<Task<'a>, WordFault<'a>>
     ensures ok { IfOk result (IsTaskBy (codes "typeset") (rows_of (found_of matches.now))) }
     ensures err { IfErr result (IsRefusedBy (AsksBy (codes "typeset") (rows_of (found_of matches.now)))) }
 {
-    let Some(out) = matches.get_str("OUT") else {
-        return Err(no_line(alloc));
-    };
-    let fonts = fonts(alloc, matches)?;
-    Ok(Task::Typeset { out, fonts })
+    let file = file_words(alloc, matches, "OUT")?;
+    Ok(Task::Typeset {
+        out: file.path,
+        fonts: file.fonts,
+    })
+}
+
+/// The task of `session`.
+fn holds_session<'a>(alloc: Global, matches: &ArgMatches<'a>) -> Result<Task<'a>, WordFault<'a>>
+    ensures ok { IfOk result (IsTaskBy (codes "session") (rows_of (found_of matches.now))) }
+    ensures err { IfErr result (IsRefusedBy (AsksBy (codes "session") (rows_of (found_of matches.now)))) }
+{
+    let file = file_words(alloc, matches, "OUT")?;
+    Ok(Task::Session {
+        out: file.path,
+        fonts: file.fonts,
+    })
 }
 
 /// The task of `list`.
@@ -69,11 +105,22 @@ fn lists<'a>(alloc: Global, matches: &ArgMatches<'a>) -> Result<Task<'a>, WordFa
     ensures ok { IfOk result (IsTaskBy (codes "list") (rows_of (found_of matches.now))) }
     ensures err { IfErr result (IsRefusedBy (AsksBy (codes "list") (rows_of (found_of matches.now)))) }
 {
-    let Some(dvi) = matches.get_str("DVI") else {
-        return Err(no_line(alloc));
-    };
-    let fonts = fonts(alloc, matches)?;
-    Ok(Task::Listing { dvi, fonts })
+    let file = file_words(alloc, matches, "DVI")?;
+    Ok(Task::Listing {
+        dvi: file.path,
+        fonts: file.fonts,
+    })
+}
+
+/// The task of `fonts`.
+fn names_fonts<'a>(alloc: Global, matches: &ArgMatches<'a>) -> Result<Task<'a>, WordFault<'a>>
+    ensures ok { IfOk result (IsTaskBy (codes "fonts") (rows_of (found_of matches.now))) }
+    ensures err { IfErr result (IsRefusedBy (AsksBy (codes "fonts") (rows_of (found_of matches.now)))) }
+{
+    match matches.get_str("DVI") {
+        Some(dvi) => Ok(Task::Fonts { dvi }),
+        None => Err(no_line(alloc)),
+    }
 }
 
 /// The task of `paint`.
@@ -84,11 +131,12 @@ fn paints<'a>(alloc: Global, matches: &ArgMatches<'a>) -> Result<Task<'a>, WordF
     let Some(sheet) = sheet(matches) else {
         return Err(no_line(alloc));
     };
-    let Some(dvi) = matches.get_str("DVI") else {
-        return Err(no_line(alloc));
-    };
-    let fonts = fonts(alloc, matches)?;
-    Ok(Task::Painting { sheet, dvi, fonts })
+    let file = file_words(alloc, matches, "DVI")?;
+    Ok(Task::Painting {
+        sheet,
+        dvi: file.path,
+        fonts: file.fonts,
+    })
 }
 
 /// The task of the subcommand with this name.
@@ -102,7 +150,9 @@ fn read_subcommand<'a>(
 {
     match name {
         "typeset" => typesets(alloc, matches),
+        "session" => holds_session(alloc, matches),
         "list" => lists(alloc, matches),
+        "fonts" => names_fonts(alloc, matches),
         "paint" => paints(alloc, matches),
         _ => Err(no_line(alloc)),
     }
