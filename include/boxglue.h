@@ -87,6 +87,9 @@ struct boxglue_dvi_font {
     int32_t number;
     /* The size at which it is used, in DVI units: 1 to 2^27 - 1. A DVI unit of boxglue's own files is a scaled point, 1/65536 of a point. */
     int32_t size;
+    /* Its design size in DVI units, and the check sum of its metric file, as the DVI file gives them. They are not compared with a metric file. */
+    int32_t design_size;
+    uint32_t check_sum;
     /* Where its name begins in the text, and how many bytes the name has, 0 to 255. */
     size_t name_start;
     size_t name_size;

@@ -30,12 +30,13 @@ static void print_outputs(uint32_t status, const uint8_t *first, size_t first_si
     fwrite(second, 1, second_size, stdout);
 }
 
-/* Prints the fonts of a DVI file, a line each: number, size, name. */
+/* Prints the fonts of a DVI file, a line each: number, size, name, design size, check sum. */
 static void print_fonts(const struct result *result) {
     const struct boxglue_dvi_font *fonts = (const struct boxglue_dvi_font *)result->outputs[0].bytes;
     size_t count = result->sizes[0] / sizeof *fonts;
     printf("%u %zu %zu\n", result->status, count, result->sizes[1]);
-    for (size_t at = 0; at < count; at++) printf("%d %d %.*s\n", fonts[at].number, fonts[at].size, (int)fonts[at].name_size, result->outputs[1].bytes + fonts[at].name_start);
+    for (size_t at = 0; at < count; at++)
+        printf("%d %d %.*s %d %u\n", fonts[at].number, fonts[at].size, (int)fonts[at].name_size, result->outputs[1].bytes + fonts[at].name_start, fonts[at].design_size, fonts[at].check_sum);
     if (!count) fwrite(result->outputs[1].bytes, 1, result->sizes[1], stdout);
 }
 

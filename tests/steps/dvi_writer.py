@@ -37,6 +37,7 @@ class Font:
     size: int = 655360
     design_size: int = 655360
     check_sum: int = 0
+    area: bytes = b""
 
 
 @dataclass(frozen=True)
@@ -118,7 +119,7 @@ def definition(font):
     """fnt_def1 to fnt_def4."""
     operand = unsigned(font.number)
     sizes = number(font.check_sum, 4) + number(font.size, 4) + number(font.design_size, 4)
-    return bytes([242 + len(operand)]) + operand + sizes + bytes([0, len(font.name)]) + font.name
+    return bytes([242 + len(operand)]) + operand + sizes + bytes([len(font.area), len(font.name)]) + font.area + font.name
 
 
 def pruned(body):

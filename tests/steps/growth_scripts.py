@@ -55,7 +55,7 @@ PAGES = {
 }
 FONTS = ("tiny=tiny.tfm",)
 WITH_FONTS = ("lig_and_kern_words", "fonts_in_nested_boxes")
-# The files that are listed and painted: those of the shorter scripts of the same names, without the pages after the first.
+# The files that are read: those of the shorter scripts of the same names, without the pages after the first.
 ONE_RULE_FILE = dvi_file([Page(ONE_RULE)], PT, PT).data
 NESTED_BOXES_FILE = dvi_file([Page(NESTED_BOXES, new_fonts=(AT_10PT, AT_20PT))], 15 * PT, 25 * PT).data
 PAINT = ("paint", "--page", "1", "--dpi", "72", "--width", "3", "--height", "3", "f.dvi")
@@ -63,11 +63,13 @@ BLANK, BLACK = b"P1\n3 3\n000\n000\n000\n", b"P1\n3 3\n000\n100\n000\n"
 LISTING = (
     b"page 1 counts 0 0 0 0 0 0 0 0 0 0\nglyph 0 99 0 655360\nglyph 1 98 327680 655360\nglyph 1 99 983040 655360\n"
 )
+NESTED_FONTS = b"units 25400000 473628672 1000\nfont 0 tiny 655360 655360 00000000\nfont 1 tiny 1310720 655360 00000000\n"
 # By name: the words, the DVI file, and the output.
 READINGS = {
     "list_one_rule_page": (("list", "f.dvi"), ONE_RULE_FILE, b"page 1 counts 0 0 0 0 0 0 0 0 0 0\nrule 0 65536 65536 65536\n"),
     "paint_one_rule_page": (PAINT, ONE_RULE_FILE, BLACK),
     "list_fonts_in_nested_boxes": (("list", "f.dvi", *FONTS), NESTED_BOXES_FILE, LISTING),
+    "fonts_in_nested_boxes_by_name": (("fonts", "f.dvi"), NESTED_BOXES_FILE, NESTED_FONTS),
     "paint_fonts_in_nested_boxes": ((*PAINT, *FONTS), NESTED_BOXES_FILE, BLANK),
 }
 # Commands of many growths, by script and line: copies that run out halfway. Each must have met more than one refused growth.

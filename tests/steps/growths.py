@@ -118,7 +118,7 @@ def script_wrong(program, script):
 
 
 def reading_kind(ended, printed, nth):
-    """The kind of a run of `list` or `paint` in which a growth was refused."""
+    """The kind of a run of `list`, `fonts` or `paint` in which a growth was refused."""
     if (ended.output, ended.errors, ended.status) == (ALONE, b"", 1):
         return Kind(NOTHING)
     if (ended.output, ended.errors, ended.status) == (printed, b"", 0):
@@ -127,7 +127,7 @@ def reading_kind(ended, printed, nth):
 
 
 def reading_wrong(program, words, data, printed):
-    """Refuses each growth of a run of `list` or `paint`, and says what is wrong, or returns None."""
+    """Refuses each growth of a run of `list`, `fonts` or `paint`, and says what is wrong, or returns None."""
     with tempfile.TemporaryDirectory(prefix="boxglue-growths-") as folder:
         refusing = Refusing(program, folder, {**FILES, "f.dvi": data})
         ended, count = refusing.run_whole(words, b"")
@@ -158,7 +158,7 @@ def of_script(root, name, to_file, program):
 
 
 def of_reading(reading, program):
-    """The call of a case of `list` or `paint`."""
+    """The call of a case of `list`, `fonts` or `paint`."""
     return reading_wrong(program, *reading)
 
 

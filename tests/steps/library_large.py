@@ -16,7 +16,7 @@ from steps.texts import first_difference, last_lines
 TITLE = "the library for C: many fonts and definitions, long answers, refused files"
 POST_SIZE = 29
 NOP, BOP, PUSH, POP, EOP, PRE = b"\x8a", b"\x8b", b"\x8d", b"\x8e", b"\x8c", b"\xf7"
-FIRST, SECOND = Font(0, b"tiny"), Font(1, b"tiny", 20 * PT)
+FIRST, SECOND = Font(0, b"tiny"), Font(1, b"tiny", 20 * PT, 5 * PT, -0x01234568)
 
 
 @dataclass(frozen=True)
@@ -48,7 +48,7 @@ def calls_of_work(make):
 
 def rows_of(fonts):
     """The lines that are printed for the fonts of a file."""
-    return b"".join(b"%d %d %s\n" % (it.number, it.size, it.name) for it in fonts)
+    return b"".join(b"%d %d %s %d %d\n" % (it.number, it.size, it.name, it.design_size, it.check_sum % (1 << 32)) for it in fonts)
 
 
 def all_slots():

@@ -49,7 +49,7 @@ def answer(boxglue, call, words):
         ran = run_pieces(boxglue, data, fonts, most) if call == "job" else boxglue.run(data, fonts)
         return int(not ran.accepted), ran.answers, ran.dvi
     if call == "fonts":
-        return 0, "".join(f"{it.number} {it.size} {it.name}\n" for it in boxglue.fonts(data)), b""
+        return 0, "".join(f"{it.number} {it.size} {it.name} {it.design_size} {it.check_sum}\n" for it in boxglue.fonts(data)), b""
     return 0, boxglue.listing(data, fonts) if call == "list" else boxglue.paint(data, fonts, **sheet).pbm, b""
 
 

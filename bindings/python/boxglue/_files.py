@@ -14,10 +14,12 @@ from ._status import Refused, Status, fail
 
 @dataclass(frozen=True)
 class DviFont:
-    """A font that a DVI file defines: its number, its name, and its size in DVI units (scaled points in boxglue's own files)."""
+    """A font that a DVI file defines: its number, its name, its size and design size in DVI units (scaled points in boxglue's own files), and its check sum."""
     number: int
     name: str
     size: int
+    design_size: int
+    check_sum: int
 
 
 @dataclass(frozen=True)
@@ -87,7 +89,7 @@ def fonts(dvi: Data) -> List[DviFont]:
     names = ctypes.string_at(text, sizes.text)
     if status == Status.REFUSED:
         raise refusals_in(names.decode("ascii"))[0]
-    return [DviFont(it.number, _name(names, it), it.size) for it in rows[:sizes.fonts]]
+    return [DviFont(it.number, _name(names, it), it.size, it.design_size, it.check_sum) for it in rows[:sizes.fonts]]
 
 
 def _name(names: bytes, row: DviFontRow) -> str:

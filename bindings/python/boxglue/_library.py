@@ -27,7 +27,7 @@ class RunSizes(Structure):
 
 
 class DviFontRow(Structure):
-    _fields_ = [("number", c_int32), ("size", c_int32), ("name_start", c_size_t), ("name_size", c_size_t)]
+    _fields_ = [("number", c_int32), ("size", c_int32), ("design_size", c_int32), ("check_sum", c_uint32), ("name_start", c_size_t), ("name_size", c_size_t)]
 
 
 class FontSizes(Structure):

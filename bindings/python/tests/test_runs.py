@@ -78,8 +78,8 @@ class Fonts(unittest.TestCase):
                 self.assertRaises(boxglue.BadFontName, call, RULE.encode(), {name: b""})
 
     def test_fonts_of_a_file(self):
-        dvi = boxglue.run(TEXT, plain()).check().dvi
-        self.assertEqual(boxglue.fonts(dvi), [boxglue.DviFont(0, "plain", 10 << 16), boxglue.DviFont(7, "plain", 5 << 16)])
+        dvi, check_sum = boxglue.run(TEXT, plain()).check().dvi, int.from_bytes(plain()["plain"][24:28], "big")
+        self.assertEqual(boxglue.fonts(dvi), [boxglue.DviFont(0, "plain", 10 << 16, 10 << 16, check_sum), boxglue.DviFont(7, "plain", 5 << 16, 10 << 16, check_sum)])
         self.assertEqual(boxglue.fonts(boxglue.run(RULE).dvi), [])
         with self.assertRaises(boxglue.Refused) as caught:
             boxglue.fonts(dvi[:100])

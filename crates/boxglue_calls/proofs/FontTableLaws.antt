@@ -1,32 +1,17 @@
--- The rows of fonts one after the other, and what a fault says of a file.
-use Rattle.std.proofs.Common.{◌≡◌, ◌≢◌, ◌<◌, ◌+◌, ◌-◌, ◌++◌, [], ◌∷◌, List, ℕ, Bool, false, get_or, length, map, take, inl, inr, Result, Ok, Err, IfOk, ap, ap₂, subst, ◌∙◌, sym, refl, arith, length-append, append-nil}
+-- The rows of fonts one after the other, and the table of a file.
+use Rattle.std.proofs.Common.{◌≡◌, ◌≢◌, ◌<◌, ◌+◌, ◌++◌, [], ◌∷◌, List, ℕ, Bool, false, get_or, length, map, take, inr, Result, Ok, Err, IfOk, ap, ap₂, subst, ◌∙◌, sym, refl, arith, length-append, append-nil}
 use Rattle.std.proofs.lemmas.Grind.{flat_map-append}
 use Rattle.std.proofs.lemmas.List.{map_more}
-use Rattle.dvi_fonts.specs.Closing.{Closes, ClosesTo, IsClosingFault}
-use Rattle.dvi_fonts.proofs.ClosingLemmas.{broken_closing}
-use Rattle.dvi_scan.specs.declared.fault.FrameFault.{FrameFault}
-use Rattle.dvi_scan.specs.declared.fault.FrameFault.TheVariants as frames
-use Rattle.dvi_ops.proofs.Appends.{fonts_back}
-use Rattle.dvi_ops.specs.Fonts.{known_after}
-use Rattle.dvi_ops.specs.Instruction.{Definition, Postamble}
-use Rattle.dvi_ops.specs.Tokens.{says}
-use Rattle.dvi_ops.specs.View.{definition, postamble}
+use Rattle.dvi_ops.specs.Instruction.{Definition}
+use Rattle.dvi_ops.specs.View.{definition}
 use Rattle.dvi_ops.specs.declared.op.FontDefinition.{FontDefinition}
-use Rattle.dvi_scan.proofs.KnownLemmas.{fonts_fewer, same_self}
-use Rattle.dvi_scan.proofs.PassedLemmas.{file_passed}
 use Rattle.boxglue_print.specs.Faults.{fault_line}
-use Rattle.dvi_read.proofs.FaultLemmas.{after_within, no_fault}
-use Rattle.dvi_read.specs.Opened.{IsNoFile}
-use Rattle.dvi_read.specs.Opening.{StartsAt}
-use Rattle.dvi_read.specs.OpeningParts.{HasFront}
-use Rattle.dvi_read.specs.declared.before_pages.BeforePages.{BeforePages}
-use Rattle.dvi_read.specs.Faults.{of_frame}
+use Rattle.boxglue_print.specs.Fonts.{BreaksFonts}
+use Rattle.boxglue_print.proofs.FontLemmas.{refuses_fonts}
 use Rattle.dvi_read.specs.declared.fault.DviFault.{DviFault}
 use Rattle.dvi_read.specs.declared.fault.DviFault.TheVariants.{OutOfMemory}
-use Rattle.tfm_core.specs.FileWidths.{file_widths}
-use Rattle.tfm_core.specs.NamedBytes.{NamedBytes}
 use Rattle.boxglue_calls.specs.Buffers.{HandsOverBoth}
-use Rattle.boxglue_calls.specs.FontTables.{BreaksFonts, DefinesFonts, HandsOverFonts, IsFontTable, names_of, row_at, rows_from}
+use Rattle.boxglue_calls.specs.FontTables.{HandsOverFonts, IsFontTable, names_of, row_at, rows_from}
 use Rattle.boxglue_calls.specs.Pages.{status_of}
 use Rattle.boxglue_calls.specs.declared.font_table.DviFont.{DviFont}
 use Rattle.boxglue_calls.specs.declared.font_table.FontSizes.{FontSizes}
@@ -68,55 +53,11 @@ table_step fonts i d below rows rows_new names names_new (rows_is, names_is) row
       name ∙ (ap (λ (text : List ℕ). text ++ here.name) names_is ∙ sym more.1),
     )
 
--- The definitions after post, of which none was known before.
-pub defines : (bytes : List ℕ) (front : BeforePages) (old known fonts : List Definition) → old ≡ [] → HasFront bytes front → ClosesTo bytes front.ending.after (front.ending.last - 5) old known → fonts ≡ known
-    → DefinesFonts bytes fonts
-defines bytes front old known fonts none starts closes same =
-    let all = subst (λ (ds : List Definition). ClosesTo bytes front.ending.after (front.ending.last - 5) ds known) none closes in
-    record {
-      post = front.ending.post;
-      after = front.ending.after;
-      last = front.ending.last;
-      stop = postamble front.ending.stop;
-      chain = front.chain.items;
-      from = front.from;
-      starts = starts;
-      closes = subst (λ (ds : List Definition). ClosesTo bytes front.ending.after (front.ending.last - 5) [] ds) (sym same) all;
-    }
-
-pub breaks : (bytes : List ℕ) (front : BeforePages) (old new : List Definition) (frame : FrameFault) → old ≡ [] → HasFront bytes front
-    → IsClosingFault bytes front.ending.after (front.ending.last - 5) old new frame → BreaksFonts bytes (of_frame frame)
-breaks bytes front old new frame none starts broken =
-    inr (front.ending.post, front.ending.after, front.ending.last, postamble front.ending.stop, front.chain.items, front.from, new, frame, starts, subst (λ (ds : List Definition). IsClosingFault bytes front.ending.after (front.ending.last - 5) ds new frame) none broken, refl)
-
--- What is wrong after post.
-tail_fault : (files : List NamedBytes) (bytes : List ℕ) (post after last : ℕ) (stop : Postamble) (chain : List ℕ) (from : ℕ) (new : List Definition) (frame : FrameFault) (fault : DviFault)
-    → fault ≢ OutOfMemory → StartsAt bytes post after last stop chain from → IsClosingFault bytes after (last - 5) [] new frame → fault ≡ of_frame frame → IsNoFile files bytes
-tail_fault files bytes post after last stop chain from new frames.OutOfMemory fault other starts broken is pages f = other is
-tail_fault files bytes post after last stop chain from new (frames.Bad bad) fault other starts broken is pages f =
-    let framed = starts.chained.framed in
-    let passed = file_passed bytes post after last stop chain framed (file_widths files) pages f in
-    let fonts = fonts_back [] (says passed.front) (says passed.tail) passed.fonts in
-    let closes : Closes bytes after (last - 5) [] passed.tail =
-    record {
-      spelled = passed.tail_spelled;
-      whole = passed.tail_whole;
-      idle = passed.tail_is;
-      fonts = fonts_fewer (known_after [] (says passed.front)) [] (says passed.tail) passed.tail_is (λ d among. absurd among) fonts;
-    } in
-    broken_closing bytes after (last - 5) [] new [] bad passed.tail (after_within files bytes post after last stop chain framed) (same_self []) broken closes
-
--- A fault that is none of memory.
-pub no_file : (files : List NamedBytes) (bytes : List ℕ) (fault : DviFault) → fault ≢ OutOfMemory → BreaksFonts bytes fault → IsNoFile files bytes
-no_file files bytes fault other (inl broken) pages f = no_fault files bytes fault pages other (broken files) f
-no_file files bytes fault other (inr (post, after, last, stop, chain, from, new, frame, starts, broken, is)) pages f =
-    tail_fault files bytes post after last stop chain from new frame fault other starts broken is pages f
-
 -- The table of a file that is refused.
 pub refuses : (bytes : List ℕ) (rows : List DviFont) (text : List ℕ) (accepted : Bool) (fault : DviFault) → fault ≢ OutOfMemory → text ≡ fault_line fault → accepted ≡ false → rows ≡ []
     → BreaksFonts bytes fault → IsFontTable bytes rows text accepted
 refuses bytes rows text accepted fault other text_is accepted_is rows_is broken =
-    inr (record { fault = fault; other = other; broken = broken; none = λ files. no_file files bytes fault other broken; text_is = text_is }, rows_is, accepted_is)
+    inr (refuses_fonts bytes text accepted fault other text_is accepted_is broken, rows_is)
 
 -- A table that is handed over.
 pub handed_fonts : (bytes : List ℕ) (old new : List DviFont) (text_old text_new : List ℕ) (sizes : FontSizes) (done status : ℕ) (rows put : List DviFont) (text sent : List ℕ) (accepted : Bool)

@@ -1,16 +1,15 @@
 //! The fonts that a DVI file defines after its pages.
 
-ghost use Rattle.std.specs.Prelude.{◌≡◌, ◌++◌, ◌∷◌, ◌⊎◌, ℕ, List, [], length, map, true, IfErr, IfOk, OnOk};
-ghost use Rattle.boxglue_calls.specs.FontTables.{BreaksFonts, DefinesFonts, HandsOverFonts, IsFontTable, names_of, row_at, rows_from};
+ghost use Rattle.std.specs.Prelude.{◌≡◌, ◌++◌, ◌∷◌, ◌⊎◌, ℕ, List, [], length, map, true, IfOk, OnOk};
+ghost use Rattle.boxglue_calls.specs.FontTables.{HandsOverFonts, IsFontTable, names_of, row_at, rows_from};
+ghost use Rattle.boxglue_print.specs.Fonts.{BreaksFonts};
 ghost use Rattle.dvi_ops.specs.View.{definition};
 
 use crate::buffers::hand_over_both;
 use crate::pages::file_status;
 use crate::status::OUT_OF_MEMORY;
-use boxglue_print::{DviFault, Output, refusal};
-use dvi_fonts::{KnownFonts, read_trailing_definitions};
+use boxglue_print::{DefinedFonts, DviFault, Output, defined_fonts, refusal};
 use dvi_ops::FontDefinition;
-use dvi_read::{BeforePages, find_front};
 use std::alloc::{AllocError, Global};
 
 /// A font that a DVI file defines.
@@ -21,6 +20,10 @@ pub struct DviFont {
     pub number: i32,
     /// The size at which it is used, in DVI units: 1 to 2^27 - 1.
     pub size: i32,
+    /// Its design size in DVI units, as the file gives it.
+    pub design_size: i32,
+    /// The check sum of its metric file, as the file gives it: four bytes, the highest first.
+    pub check_sum: u32,
     /// Where its name begins among the names.
     pub name_start: usize,
     /// How many bytes its name has.
@@ -43,17 +46,6 @@ struct FontTable {
     accepted: bool,
 }
 
-/// The fonts that are defined after post, in order. The pages are not read.
-fn defined_fonts<'a>(alloc: Global, dvi: &'a [u8]) -> Result<Vec<FontDefinition<'a>>, DviFault>
-    ensures ok { IfOk result (λ fonts. DefinesFonts dvi.now (map definition fonts.items)) }
-    ensures bad { IfErr result (BreaksFonts dvi.now) }
-{
-    let BeforePages { ending, .. } = find_front(alloc, dvi)?;
-    let mut known = KnownFonts::new(alloc);
-    read_trailing_definitions(dvi, ending.after, ending.last - 5, &mut known)?;
-    Ok(known.into_all())
-}
-
 /// Appends the row of a font, and its name.
 fn push_row(
     font: &FontDefinition<'_>,
@@ -66,6 +58,8 @@ fn push_row(
     fonts.push(DviFont {
         number: font.number,
         size: font.size,
+        design_size: font.design_size,
+        check_sum: font.check_sum.cast_unsigned(),
         name_start: text.len(),
         name_size: font.name.len(),
     })?;
@@ -107,7 +101,7 @@ fn font_table(alloc: Global, dvi: &[u8]) -> Result<FontTable, AllocError>
     ensures { IfOk result (λ table. IsFontTable dvi.now table.fonts.items table.text.items table.accepted) }
 {
     match defined_fonts(alloc, dvi) {
-        Ok(definitions) => table_of(alloc, &definitions),
+        Ok(DefinedFonts { fonts, .. }) => table_of(alloc, &fonts),
         Err(fault) => refused_table(alloc, fault),
     }
 }

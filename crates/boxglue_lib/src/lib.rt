@@ -1,8 +1,9 @@
 //! The tasks of the program: a command line is read, its task is done with the files of a host, and answers and messages are written to an output and to
-//! errors. Every caller has `typeset`, `list` and `paint` as single calls, and the whole program. The crate `boxglue`, above this one, adds the real host,
+//! errors. Every caller has `typeset`, `list`, `fonts` and `paint` as single calls, and the whole program. The crate `boxglue`, above this one, adds the real host,
 //! standard output and the exit status.
 #![tactic(auto)]
 
+mod font_listing;
 mod inputs;
 pub mod laws;
 mod printing;
@@ -16,6 +17,7 @@ pub use boxglue_host::{
     CreatedPaths, FailureCount, FileDevice, HeldFile, Host, HostFault, MemoryHost, READ_LIMIT,
     Unread, read_all, read_fonts, write_some,
 };
+pub use boxglue_print::fonts_text;
 pub use boxglue_program::{
     Cause, Device, DeviceFault, FontFile, FontName, Line, Memory, RunFault, ScriptFault, Unwritten,
     read_script, refuse_memory, run_memory, run_script, write_text,

@@ -4,6 +4,7 @@ ghost use Rattle.std.specs.Prelude.{map, string_bytes};
 ghost use Rattle.boxglue_lib.specs.Programs.{HasDone, HasRun, RefusesWords};
 ghost use Rattle.boxglue_lib.specs.Views.{streams_of, view_of};
 
+use crate::font_listing::list_fonts;
 use crate::tasks::{list, paint, run_input, typeset};
 use crate::telling::{finish, print_version, say, say_out_of_memory, tell};
 use boxglue_host::Host;
@@ -53,6 +54,10 @@ fn do_task<H: Host, W: Write, E: Write>(
         Task::Typeset { out, fonts } => typeset(alloc, host, out, &fonts, output, errors),
         Task::Listing { dvi, fonts } => {
             let end = list(alloc, &host, dvi, &fonts, output);
+            (finish(alloc, end, output, errors), host)
+        }
+        Task::Fonts { dvi } => {
+            let end = list_fonts(alloc, &host, dvi, output);
             (finish(alloc, end, output, errors), host)
         }
         Task::Painting { sheet, dvi, fonts } => {

@@ -1,1 +1,3 @@
+pub mod FontLemmas
 pub mod PrintLemmas
+pub mod TextLemmas

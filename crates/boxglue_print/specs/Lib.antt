@@ -1,2 +1,4 @@
 pub mod Faults
+pub mod FontLines
+pub mod Fonts
 pub mod Outputs

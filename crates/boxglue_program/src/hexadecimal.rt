@@ -30,8 +30,8 @@ fn push_byte(count: usize, index: usize, byte: u8, text: &mut Vec<u8>) -> Result
     Ok(())
 }
 
-/// The digit of a number below 16.
-fn hexadecimal_digit(number: u8) -> u8
+/// The lower case hexadecimal digit of a number below 16.
+pub fn hexadecimal_digit(number: u8) -> u8
     requires { number < 16 }
     ensures { result ≡ hexadecimal_digit number }
 {

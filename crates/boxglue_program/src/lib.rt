@@ -12,9 +12,10 @@ mod texts;
 mod writing;
 
 pub use boxglue_script::{Cause, Line, ScriptFault, read_script};
+pub use hexadecimal::hexadecimal_digit;
 pub use job_core::{Device, DeviceFault, FontFile, FontName, Fuse, Memory, Rest};
 pub use memory_run::run_memory;
 pub use refusals::{push_number, push_refusal_line, push_text};
 pub use run::{RunFault, run_lines, run_rest, run_script};
-pub use texts::{script_refusal_text, with_end};
+pub use texts::{push_signed, script_refusal_text, with_end};
 pub use writing::{Unwritten, refuse_memory, write_text};

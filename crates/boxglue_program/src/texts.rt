@@ -38,7 +38,7 @@ fn kind_name(kind: Kind) -> &'static str
 }
 
 /// Appends a number in decimal, with a minus sign if it is negative. If memory is refused, nothing was appended.
-fn push_signed(number: i64, out: &mut Vec<u8>) -> Result<(), AllocError>
+pub fn push_signed(number: i64, out: &mut Vec<u8>) -> Result<(), AllocError>
     ensures ok { OnOk result (out.new.items ≡ out.old.items ++ signed_decimal number) }
     ensures err { OnErr result (out.new.items ≡ out.old.items) }
 {

@@ -1,18 +1,20 @@
 -- Where the rule that a fault names is broken, the bytes are no file.
-use Rattle.std.proofs.Common.{◌≡◌, ◌≢◌, ◌≤◌, ◌-◌, [], ◌∷◌, List, length, take, ℕ, ℤ, refl, subst, inl, inr, arith}
+use Rattle.std.proofs.Common.{◌≡◌, ◌≢◌, ◌≤◌, ◌-◌, ◌%◌, [], ◌∷◌, List, length, take, ℕ, ℤ, refl, sym, ◌∙◌, ap, subst, subst₂, inl, inr, arith}
 use Rattle.std.specs.Prelude.{◌⊎◌}
 use Rattle.std.specs.List.{AllByRecursion}
 use Rattle.dvi_fonts.specs.Ahead.{IsLookedAhead}
 use Rattle.dvi_fonts.specs.Closing.{Closes, IsClosingFault}
 use Rattle.dvi_fonts.proofs.AheadLemmas.{looked}
 use Rattle.dvi_fonts.proofs.ClosingLemmas.{broken_closing, first_stands}
+use Rattle.dvi_scan.specs.Chain.{Links}
 use Rattle.dvi_scan.specs.Ends.{StandsAt}
 use Rattle.dvi_scan.specs.Preamble.{IsPreambleFault}
 use Rattle.dvi_scan.specs.declared.fault.BadDvi.{BadDvi}
 use Rattle.dvi_scan.specs.declared.fault.DviCause.TheVariants.{Opcode, Pointer}
 use Rattle.dvi_scan.specs.declared.fault.FrameFault.TheVariants as frames
-use Rattle.dvi_scan.proofs.FaultLemmas.{chain_fault, end_fault}
-use Rattle.dvi_ops.specs.File.{IsFile, MarkedPage}
+use Rattle.dvi_scan.proofs.EndLemmas.{one_end}
+use Rattle.dvi_scan.proofs.FaultLemmas.{breaks_chain, breaks_end, chain_fault, end_fault}
+use Rattle.dvi_ops.specs.File.{AreUnits, IsFile, MarkedPage}
 use Rattle.dvi_ops.specs.Fonts.{definitions, known_after}
 use Rattle.dvi_ops.specs.Instruction.{Definition, Instruction, Postamble, Pre}
 use Rattle.dvi_ops.specs.Tokens.{Token, IsSpelled, says, written}
@@ -23,7 +25,7 @@ use Rattle.dvi_scan.specs.Reached.{AreNumbersOf, ReadSoFar, all_left}
 use Rattle.dvi_scan.proofs.KnownLemmas.{same_self}
 use Rattle.dvi_scan.proofs.PassedLemmas.{file_passed}
 use Rattle.dvi_scan.proofs.ReachedLemmas.{end_right, tail_right}
-use Rattle.dvi_read.specs.Opening.{HasPages, IsDviFault, ForPlaces, LookingAhead, AtTheEnd, InTheChain, InThePreamble, InThePages, AtPost, AfterPost, ForDefinitions}
+use Rattle.dvi_read.specs.Opening.{HasPages, IsDviFault, IsFrontFault, StartsAt, BeforeThePages, ForPlaces, LookingAhead, AtTheEnd, InTheChain, InThePreamble, InThePages, AtPost, AfterPost, ForDefinitions}
 use Rattle.dvi_read.specs.Stops.{IsUnended}
 use Rattle.dvi_read.specs.declared.fault.DviFault.{DviFault}
 use Rattle.dvi_read.specs.declared.fault.DviFault.TheVariants.{OutOfMemory}
@@ -81,14 +83,36 @@ module _ (files : List NamedBytes) (bytes : List ℕ) (post after last : ℕ) (s
         let closes : Closes bytes after (last - 5) seen.known f.tail = record { spelled = tail.spelled; whole = tail.whole; idle = tail.idle; fonts = tail.fonts } in
         broken_closing bytes after (last - 5) seen.known new seen.known bad f.tail after_within (same_self seen.known) broken closes
 
+-- A fault before the pages, other than refused memory, where the rules of the parts before the pages hold.
+pub no_front_fault : (bytes : List ℕ) (fault : DviFault) (post after last : ℕ) (stop : Postamble) (chain : List ℕ) (from : ℕ) → fault ≢ OutOfMemory → IsFrontFault bytes fault
+    → StartsAt bytes post after last stop chain from → ⊥
+no_front_fault bytes fault post after last stop chain from other (ForPlaces post' e stop' is ends named) starts = other is
+no_front_fault bytes fault post after last stop chain from other (AtTheEnd bad is broken) starts = breaks_end bytes bad.place bad.cause post last stop starts.chained.framed.ends broken
+no_front_fault bytes fault post after last stop chain from other (InTheChain bad post' e stop' is ends broken) starts =
+    let framed = starts.chained.framed in
+    let (lasts, posts, stops) = one_end bytes post' e post last stop' stop ends framed.ends in
+    let links : Links bytes post' stop'.last_bop chain = subst₂ (λ (n : ℕ) (s : Postamble). Links bytes n s.last_bop chain) (sym posts) (sym stops) framed.links in
+    let count : stop'.pages ≡ length chain % 65536 = ap (λ (s : Postamble). s.pages) stops ∙ starts.chained.count in
+    breaks_chain bytes post' bad.place stop' bad.cause chain broken links count
+no_front_fault bytes fault post after last stop chain from other (InThePreamble bad post' after' last' stop' chain' is chained broken) starts =
+    let preamble = starts.preamble in
+    let (lasts, posts, stops) = one_end bytes post' last' post last stop' stop chained.framed.ends starts.chained.framed.ends in
+    let none : (comment : List ℕ) → StandsAt bytes 0 post (Pre 2 stop.units comment) → AreUnits stop.units → ⊥ =
+    subst₂ (λ (n : ℕ) (s : Postamble). (comment : List ℕ) → StandsAt bytes 0 n (Pre 2 s.units comment) → AreUnits s.units → ⊥) posts stops broken.none in
+    let within = preamble.within in none preamble.comment (from, omega arith, preamble.spelled) preamble.units
+
+-- A fault before the pages, other than refused memory, in a file.
+front_fault : (files : List NamedBytes) (bytes : List ℕ) (fault : DviFault) (pages : List MarkedPage) → fault ≢ OutOfMemory → IsFrontFault bytes fault → IsFile (file_widths files) bytes pages → ⊥
+front_fault files bytes fault pages other (ForPlaces post e stop is ends named) f = other is
+front_fault files bytes fault pages other (AtTheEnd bad e broken) f = end_fault bytes bad.place bad.cause broken f.frame
+front_fault files bytes fault pages other (InTheChain bad post e stop is ends broken) f = chain_fault (file_widths files) bytes pages post e bad.place stop bad.cause ends broken f
+front_fault files bytes fault pages other (InThePreamble bad post after last stop chain is chained broken) f =
+    preamble_there files bytes post after last stop chain chained.framed pages (file_passed bytes post after last stop chain chained.framed (file_widths files) pages f) bad broken
+
 -- A fault other than refused memory.
 pub no_fault : (files : List NamedBytes) (bytes : List ℕ) (fault : DviFault) (pages : List MarkedPage) → fault ≢ OutOfMemory → IsDviFault files bytes fault → IsFile (file_widths files) bytes pages → ⊥
-no_fault files bytes fault pages other (ForPlaces post e stop is ends named) f = other is
+no_fault files bytes fault pages other (BeforeThePages broken) f = front_fault files bytes fault pages other broken f
 no_fault files bytes fault pages other (LookingAhead post after last stop chain from is starts wants) f = other is
-no_fault files bytes fault pages other (AtTheEnd bad e broken) f = end_fault bytes bad.place bad.cause broken f.frame
-no_fault files bytes fault pages other (InTheChain bad post e stop is ends broken) f = chain_fault (file_widths files) bytes pages post e bad.place stop bad.cause ends broken f
-no_fault files bytes fault pages other (InThePreamble bad post after last stop chain is chained broken) f =
-    preamble_there files bytes post after last stop chain chained.framed pages (file_passed bytes post after last stop chain chained.framed (file_widths files) pages f) bad broken
 no_fault files bytes fault pages other (InThePages post after last stop chain from ahead starts look broken stray) f =
     let framed = starts.chained.framed in
     let passed = file_passed bytes post after last stop chain framed (file_widths files) pages f in

@@ -20,7 +20,7 @@ use Rattle.dvi_scan.specs.Reached.{IsReached, IsTail, Left, ReadSoFar, before_pa
 use Rattle.dvi_scan.proofs.PassedLemmas.{frame_parts, passed_file}
 use Rattle.dvi_scan.proofs.ReachedLemmas.{reached_end, reached_first}
 use Rattle.dvi_read.specs.Opened.{Opened, GivesPages, HasFontsOf, HasUnitsOf, IsExact, IsNoFile, IsReadFrom}
-use Rattle.dvi_read.specs.Opening.{HasPages, IsDviFault, IsStray, StartsAt, ForPlaces, InTheChain, AtPost, AfterPost, ForDefinitions}
+use Rattle.dvi_read.specs.Opening.{HasPages, IsDviFault, IsFrontFault, IsStray, StartsAt, ForPlaces, InTheChain, AtPost, AfterPost, ForDefinitions}
 use Rattle.dvi_read.specs.OpeningParts.{IsFinishFault}
 use Rattle.dvi_read.proofs.FaultLemmas.{after_within, no_fault, post_within}
 use Rattle.dvi_read.specs.Faults.{of_frame}
@@ -32,10 +32,10 @@ use Rattle.tfm_core.specs.FileWidths.{file_widths}
 use Rattle.tfm_core.specs.NamedBytes.{NamedBytes}
 
 -- A refusal of the chain.
-pub chain_refused : (files : List NamedBytes) (bytes : List ℕ) (post e : ℕ) (stop : Postamble) (fault : FrameFault) → HasPostamble bytes post e stop → IsChainRefusal bytes post stop fault
-    → IsDviFault files bytes (of_frame fault)
-chain_refused files bytes post e stop frames.OutOfMemory ends named = ForPlaces post e stop refl ends named
-chain_refused files bytes post e stop (frames.Bad fault) ends broken = InTheChain fault post e stop refl ends broken
+pub chain_refused : (bytes : List ℕ) (post e : ℕ) (stop : Postamble) (fault : FrameFault) → HasPostamble bytes post e stop → IsChainRefusal bytes post stop fault
+    → IsFrontFault bytes (of_frame fault)
+chain_refused bytes post e stop frames.OutOfMemory ends named = ForPlaces post e stop refl ends named
+chain_refused bytes post e stop (frames.Bad fault) ends broken = InTheChain fault post e stop refl ends broken
 
 -- The place after the preamble begins the walk.
 pub starts_reached : (files : List NamedBytes) (bytes : List ℕ) (post after last : ℕ) (stop : Postamble) (chain : List ℕ) (from : ℕ) (ahead : List ℤ) → StartsAt bytes post after last stop chain from

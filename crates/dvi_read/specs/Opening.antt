@@ -43,18 +43,22 @@ IsStray bytes post chain fault = (bad : BadDvi) → fault ≡ Bad bad → bad.ca
 abbrev pub IsUnmet : (before : List Token) → (chain : List ℕ) → BadDvi → Type 0
 IsUnmet before chain bad = bad.cause ≡ Pointer → places 0 before ≢ reverse chain
 
--- Why a file is refused. In each case the rules of the earlier checks hold, and a rule is broken at the place that the fault names: of the end; of
--- the chain of pages; of the preamble; of the pages; of the place of post, where no page is open and each place of the chain was a bop; or of the
--- part after post. Memory may be refused for the places of the chain, where post names a page; for a number that is defined after post; for an
--- instruction of the pages; or for a right definition after post.
+-- Why a file is refused before its pages are read. In each case the rules of the earlier checks hold, and a rule is broken at the place that the fault
+-- names: of the end, of the chain of pages, or of the preamble. Memory may be refused for the places of the chain, where post names a page.
+pub data IsFrontFault (bytes : List ℕ) (fault : DviFault) : Type 0 where
+  ForPlaces : (post e : ℕ) (stop : Postamble) → fault ≡ OutOfMemory → HasPostamble bytes post e stop → NamesPage bytes post stop.last_bop → IsFrontFault bytes fault
+  AtTheEnd : (bad : BadDvi) → fault ≡ Bad bad → BreaksEnd bytes bad.place bad.cause → IsFrontFault bytes fault
+  InTheChain : (bad : BadDvi) (post e : ℕ) (stop : Postamble) → fault ≡ Bad bad → HasPostamble bytes post e stop → BreaksChain bytes post stop bad.place bad.cause → IsFrontFault bytes fault
+  InThePreamble : (bad : BadDvi) (post after last : ℕ) (stop : Postamble) (chain : List ℕ) → fault ≡ Bad bad → HasChain bytes post after last stop chain
+      → IsPreambleFault bytes post stop bad → IsFrontFault bytes fault
+
+-- Why a file is refused: before its pages are read; or the rules of the earlier checks hold, and a rule is broken at the place that the fault names: of
+-- the pages; of the place of post, where no page is open and each place of the chain was a bop; or of the part after post. Memory may be refused for a
+-- number that is defined after post; for an instruction of the pages; or for a right definition after post.
 pub data IsDviFault (files : List NamedBytes) (bytes : List ℕ) (fault : DviFault) : Type 0 where
-  ForPlaces : (post e : ℕ) (stop : Postamble) → fault ≡ OutOfMemory → HasPostamble bytes post e stop → NamesPage bytes post stop.last_bop → IsDviFault files bytes fault
+  BeforeThePages : IsFrontFault bytes fault → IsDviFault files bytes fault
   LookingAhead : (post after last : ℕ) (stop : Postamble) (chain : List ℕ) (from : ℕ) → fault ≡ OutOfMemory → StartsAt bytes post after last stop chain from
       → IsUnlooked bytes after (last - 5) → IsDviFault files bytes fault
-  AtTheEnd : (bad : BadDvi) → fault ≡ Bad bad → BreaksEnd bytes bad.place bad.cause → IsDviFault files bytes fault
-  InTheChain : (bad : BadDvi) (post e : ℕ) (stop : Postamble) → fault ≡ Bad bad → HasPostamble bytes post e stop → BreaksChain bytes post stop bad.place bad.cause → IsDviFault files bytes fault
-  InThePreamble : (bad : BadDvi) (post after last : ℕ) (stop : Postamble) (chain : List ℕ) → fault ≡ Bad bad → HasChain bytes post after last stop chain
-      → IsPreambleFault bytes post stop bad → IsDviFault files bytes fault
   InThePages : (post after last : ℕ) (stop : Postamble) (chain : List ℕ) (from : ℕ) (ahead : List ℤ) → StartsAt bytes post after last stop chain from
       → IsLookedAhead bytes after (last - 5) ahead → IsWalkFault files ahead bytes stop chain post fault → IsStray bytes post chain fault
       → IsDviFault files bytes fault

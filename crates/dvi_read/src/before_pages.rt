@@ -1,9 +1,8 @@
 //! The parts of a file that are found before the pages are read: its end, the places of its pages, its preamble (DVItype, 15 to 20).
 
-ghost use Rattle.std.specs.Prelude.{List, IfErr, IfOk};
-ghost use Rattle.dvi_read.specs.Opening.{IsDviFault};
+ghost use Rattle.std.specs.Prelude.{IfErr, IfOk};
+ghost use Rattle.dvi_read.specs.Opening.{IsFrontFault};
 ghost use Rattle.dvi_read.specs.OpeningParts.{HasFront};
-ghost use Rattle.tfm_core.specs.NamedBytes.{NamedBytes};
 
 use crate::fault::DviFault;
 use dvi_scan::{FileEnd, find_postamble, page_offsets, preamble};
@@ -23,7 +22,7 @@ pub struct BeforePages {
 /// Finds the end of a file, the places of its pages, and its preamble, in this order. It takes memory for the places.
 pub fn find_front(alloc: Global, bytes: &[u8]) -> Result<BeforePages, DviFault>
     ensures ok { IfOk result (HasFront bytes.now) }
-    ensures bad { IfErr result (λ fault. (files : List NamedBytes) → IsDviFault files bytes.now fault) }
+    ensures bad { IfErr result (IsFrontFault bytes.now) }
 {
     let ending = find_postamble(bytes)?;
     let chain = page_offsets(alloc, bytes, &ending)?;

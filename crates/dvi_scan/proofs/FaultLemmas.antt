@@ -17,7 +17,7 @@ use Rattle.dvi_scan.proofs.EndLemmas.{one_trail, one_end, frame_ends}
 use Rattle.dvi_scan.proofs.LinkLemmas.{linked_from, chained_from, one_chain, broken_chain}
 
 -- A broken rule of the end.
-breaks_end : (bytes : List ℕ) (place : ℕ) (cause : DviCause) (post e : ℕ) (stop : Postamble) → HasPostamble bytes post e stop → BreaksEnd bytes place cause → ⊥
+pub breaks_end : (bytes : List ℕ) (place : ℕ) (cause : DviCause) (post e : ℕ) (stop : Postamble) → HasPostamble bytes post e stop → BreaksEnd bytes place cause → ⊥
 breaks_end bytes place Trailer post e stop ends (at, none) = none e ends.closed.trailed
 breaks_end bytes place Version post e stop ends (trailed, other) =
     let same : place ≡ e = one_trail bytes place e trailed ends.closed.trailed in
@@ -65,6 +65,15 @@ file_count metrics bytes pages f =
     f.count ∙ ap (λ n. n % 65536) (sym same)
 
 -- A broken rule of the chain.
+pub breaks_chain : (bytes : List ℕ) (post place : ℕ) (stop : Postamble) (cause : DviCause) (chain : List ℕ) → BreaksChain bytes post stop place cause → Links bytes post stop.last_bop chain
+    → stop.pages ≡ length chain % 65536 → ⊥
+breaks_chain bytes post place stop Pointer chain broken links count = broken_chain bytes (post + 1) post stop.last_bop place chain broken links
+breaks_chain bytes post place stop Count chain (at, other_chain, links', other) links count =
+    let same : other_chain ≡ chain = one_chain bytes post post stop.last_bop other_chain chain links' links in
+    other (count ∙ ap (λ (c : List ℕ). length c % 65536) (sym same))
+breaks_chain bytes post place stop cause chain broken links count = absurd broken
+
+-- The same in a file.
 pub chain_fault : (metrics : WidthsByName) (bytes : List ℕ) (pages : List MarkedPage) (post e place : ℕ) (stop : Postamble) (cause : DviCause)
     → HasPostamble bytes post e stop → BreaksChain bytes post stop place cause → IsFile metrics bytes pages → ⊥
 chain_fault metrics bytes pages post e place stop cause ends broken f =
@@ -72,12 +81,6 @@ chain_fault metrics bytes pages post e place stop cause ends broken f =
     let (last, posts, stops) = one_end bytes post e (length (written f.frame.front)) found.0 stop f.frame.stop ends found.1 in
     let links : Links bytes post stop.last_bop (reverse (places 0 f.frame.front)) =
     subst₂ (λ (n : ℕ) (s : Postamble). Links bytes n s.last_bop (reverse (places 0 f.frame.front))) (sym posts) (sym stops) (file_chain metrics bytes pages f) in
-    let count : stop.pages ≡ length (places 0 f.frame.front) % 65536 = ap (λ (s : Postamble). s.pages) stops ∙ file_count metrics bytes pages f in
-    by_cause cause broken links count
-  where
-    by_cause : (cause : DviCause) → BreaksChain bytes post stop place cause → Links bytes post stop.last_bop (reverse (places 0 f.frame.front)) → stop.pages ≡ length (places 0 f.frame.front) % 65536 → ⊥
-    by_cause Pointer broken links count = broken_chain bytes (post + 1) post stop.last_bop place (reverse (places 0 f.frame.front)) broken links
-    by_cause Count (at, chain, links', other) links count =
-        let same : chain ≡ reverse (places 0 f.frame.front) = one_chain bytes post post stop.last_bop chain (reverse (places 0 f.frame.front)) links' links in
-        other (count ∙ ap (λ n. n % 65536) (sym (ap (λ (c : List ℕ). length c) same ∙ length-reverse (places 0 f.frame.front))))
-    by_cause cause broken links count = absurd broken
+    let count : stop.pages ≡ length (reverse (places 0 f.frame.front)) % 65536 =
+    ap (λ (s : Postamble). s.pages) stops ∙ (file_count metrics bytes pages f ∙ ap (λ n. n % 65536) (sym (length-reverse (places 0 f.frame.front)))) in
+    breaks_chain bytes post place stop cause (reverse (places 0 f.frame.front)) broken links count

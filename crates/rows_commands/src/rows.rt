@@ -17,8 +17,9 @@ struct Row {
     file: &'static str,
 }
 
-/// A page that goes to its file; a job without pages, which makes no file; a page as text and as a bitmap; a missing file; a missing page; the version.
-const ROWS: [Row; 7] = [
+/// A page that goes to its file; a job without pages, which makes no file; a page as text, the units of its file without fonts, and the page as a bitmap; a
+/// missing file; a missing page; the version.
+const ROWS: [Row; 8] = [
     Row {
         words: &["typeset", "out.dvi"],
         script: ONE_RULE,
@@ -40,6 +41,14 @@ const ROWS: [Row; 7] = [
         script: "",
         status: 0,
         output: "page 1 counts 0 0 0 0 0 0 0 0 0 0\nrule 0 65536 65536 65536\n",
+        errors: "",
+        file: "",
+    },
+    Row {
+        words: &["fonts", "f.dvi"],
+        script: "",
+        status: 0,
+        output: "units 25400000 473628672 1000\n",
         errors: "",
         file: "",
     },

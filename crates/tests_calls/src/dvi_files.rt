@@ -69,6 +69,8 @@ fn the_fonts_of_a_file(rt: HostRuntime) {
     let none = DviFont {
         number: -1,
         size: 0,
+        design_size: 0,
+        check_sum: 0,
         name_start: 0,
         name_size: 0,
     };
@@ -80,6 +82,8 @@ fn the_fonts_of_a_file(rt: HostRuntime) {
     let second = DviFont {
         number: 1,
         size: 1_310_720,
+        design_size: 655_360,
+        check_sum: 0,
         name_start: 4,
         name_size: 4,
     };

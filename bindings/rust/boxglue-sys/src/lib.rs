@@ -40,6 +40,8 @@ pub struct boxglue_lengths {
 pub struct boxglue_dvi_font {
     pub number: i32,
     pub size: i32,
+    pub design_size: i32,
+    pub check_sum: u32,
     pub name_start: usize,
     pub name_size: usize,
 }

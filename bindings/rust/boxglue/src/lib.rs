@@ -173,6 +173,10 @@ pub struct DviFont {
     pub name: Vec<u8>,
     /// Its size in DVI units, which are scaled points in boxglue's own files.
     pub size: i32,
+    /// Its design size in DVI units.
+    pub design_size: i32,
+    /// The check sum of its metric file, as the writer of the file saw it.
+    pub check_sum: u32,
 }
 
 /// The fonts that a DVI file defines after its pages, in the order of the file: their names are those that the other calls need. No page is read.
@@ -198,7 +202,10 @@ pub fn fonts(dvi: &[u8]) -> Result<Vec<DviFont>, Error> {
             sys::BOXGLUE_BUFFER_TOO_SMALL => {}
             sys::BOXGLUE_ACCEPTED => {
                 let name = |it: &sys::boxglue_dvi_font| names[it.name_start..it.name_start + it.name_size].to_vec();
-                return Ok(rows[..sizes.fonts].iter().map(|it| DviFont { number: it.number, name: name(it), size: it.size }).collect());
+                return Ok(rows[..sizes.fonts]
+                    .iter()
+                    .map(|it| DviFont { number: it.number, name: name(it), size: it.size, design_size: it.design_size, check_sum: it.check_sum })
+                    .collect());
             }
             sys::BOXGLUE_REFUSED => return Err(Error::refused(&text(names))),
             other => return Err(Error::of(other)),

@@ -23,6 +23,11 @@ returns-in-Listing g c =
     rw c.in-Listing.is
     (refl, has_ended _ c.list-end.result _ _ _ _ done memory c.finish-in-Listing.ensures.output c.finish-in-Listing.ensures.errors c.finish-in-Listing.ensures.status)
 
+pub returns-in-Fonts : goal.returns-in-Fonts
+returns-in-Fonts g c =
+    rw c.in-Fonts.is
+    (refl, has_ended _ c.list_fonts-end.result _ _ _ _ c.list_fonts-end.ensures.ended c.list_fonts-end.ensures.memory c.finish-in-Fonts.ensures.output c.finish-in-Fonts.ensures.errors c.finish-in-Fonts.ensures.status)
+
 pub returns-in-Painting : goal.returns-in-Painting
 returns-in-Painting g c =
     let done = rw c.deref-in-Painting.ensures.value at c.paint-end.ensures.ended in

@@ -3,14 +3,14 @@ use Rattle.dvi_scan.proofs.ErrLemmas.{handed_on}
 use Rattle.dvi_ops.specs.View.{postamble}
 use Rattle.dvi_scan.specs.View.{marked_page}
 use Rattle.dvi_read.specs.Opened.{Opened, IsReadFrom}
-use Rattle.dvi_read.specs.Opening.{IsDviFault}
+use Rattle.dvi_read.specs.Opening.{BeforeThePages, IsDviFault}
 use Rattle.dvi_read.proofs.OpenLemmas.{finish_refused, read_kept}
 use Rattle.dvi_read.specs.Steps.{so_far}
 use Rattle.dvi_read.proofs.opening.read_file.Goals as goal
 
 pub returns-in_err-ending-clause-bad : goal.returns-in_err-ending-clause-bad
 returns-in_err-ending-clause-bad c =
-    handed_on (IsDviFault c.args.files.now c.args.bytes.now) c.from_residual.result c.in_err-ending.field-0.0 c.from_residual.ensures.1 (c.in_err-ending.ensures.bad c.args.files.now)
+    handed_on (IsDviFault c.args.files.now c.args.bytes.now) c.from_residual.result c.in_err-ending.field-0.0 c.from_residual.ensures.1 (BeforeThePages c.in_err-ending.ensures.bad)
 
 pub kept-requires : goal.kept-requires
 kept-requires c = let (ahead, selected, has) = c.in_ok-walk.ensures.ok in has.starts.preamble.units
