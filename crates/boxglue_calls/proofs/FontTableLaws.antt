@@ -1,12 +1,12 @@
 -- The rows of fonts one after the other, and the table of a file.
-use Rattle.std.proofs.Common.{◌≡◌, ◌≢◌, ◌<◌, ◌+◌, ◌++◌, [], ◌∷◌, List, ℕ, Bool, false, get_or, length, map, take, inr, Result, Ok, Err, IfOk, ap, ap₂, subst, ◌∙◌, sym, refl, arith, length-append, append-nil}
+use Rattle.std.proofs.Common.{◌≡◌, ◌≢◌, ◌<◌, ◌+◌, ◌++◌, [], ◌∷◌, List, ℕ, Bool, true, false, get_or, length, map, take, inl, inr, Result, Ok, Err, IfOk, ap, ap₂, subst, ◌∙◌, sym, refl, arith, length-append, append-nil}
 use Rattle.std.proofs.lemmas.Grind.{flat_map-append}
 use Rattle.std.proofs.lemmas.List.{map_more}
-use Rattle.dvi_ops.specs.Instruction.{Definition}
+use Rattle.dvi_ops.specs.Instruction.{Definition, Units}
 use Rattle.dvi_ops.specs.View.{definition}
 use Rattle.dvi_ops.specs.declared.op.FontDefinition.{FontDefinition}
 use Rattle.boxglue_print.specs.Faults.{fault_line}
-use Rattle.boxglue_print.specs.Fonts.{BreaksFonts}
+use Rattle.boxglue_print.specs.Fonts.{BreaksFonts, DefinesFonts}
 use Rattle.boxglue_print.proofs.FontLemmas.{refuses_fonts}
 use Rattle.dvi_read.specs.declared.fault.DviFault.{DviFault}
 use Rattle.dvi_read.specs.declared.fault.DviFault.TheVariants.{OutOfMemory}
@@ -76,6 +76,16 @@ handed_fonts bytes old new text_old text_new sizes done status rows put text sen
       fonts_size = fonts_size;
       text_size = text_size;
     }
+
+-- The table of fonts that are defined.
+pub accepts : (bytes : List ℕ) (units : Units) (fonts : List Definition) (rows : List DviFont) (text : List ℕ) (accepted : Bool) → DefinesFonts bytes units fonts
+    → rows ≡ rows_from 0 fonts → text ≡ names_of fonts → accepted ≡ true → IsFontTable bytes rows text accepted
+accepts bytes units fonts rows text accepted defined rows_is text_is accepted_is = inl (units, fonts, defined, rows_is, text_is, accepted_is)
+
+-- What follows from three facts of the value in an Ok.
+pub then_of_three : {A E : Type 0} (r : Result A E) (P Q R S : A → Type 0) → ((x : A) → P x → Q x → R x → S x) → IfOk r P → IfOk r Q → IfOk r R → IfOk r S
+then_of_three (Ok x) P Q R S f p q s = f x p q s
+then_of_three (Err e) P Q R S f p q s = tt
 
 -- What follows from what holds of the value in an Ok.
 pub then_of : {A E : Type 0} (r : Result A E) (P Q : A → Type 0) → ((x : A) → P x → Q x) → IfOk r P → IfOk r Q

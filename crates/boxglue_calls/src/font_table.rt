@@ -8,7 +8,7 @@ ghost use Rattle.dvi_ops.specs.View.{definition};
 use crate::buffers::hand_over_both;
 use crate::pages::file_status;
 use crate::status::OUT_OF_MEMORY;
-use boxglue_print::{DefinedFonts, DviFault, Output, defined_fonts, refusal};
+use boxglue_print::{DviFault, Output, defined_fonts, refusal};
 use dvi_ops::FontDefinition;
 use std::alloc::{AllocError, Global};
 
@@ -101,7 +101,7 @@ fn font_table(alloc: Global, dvi: &[u8]) -> Result<FontTable, AllocError>
     ensures { IfOk result (λ table. IsFontTable dvi.now table.fonts.items table.text.items table.accepted) }
 {
     match defined_fonts(alloc, dvi) {
-        Ok(DefinedFonts { fonts, .. }) => table_of(alloc, &fonts),
+        Ok(defined) => table_of(alloc, &defined.fonts),
         Err(fault) => refused_table(alloc, fault),
     }
 }
