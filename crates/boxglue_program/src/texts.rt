@@ -223,7 +223,7 @@ fn push_reply(reply: &Reply, out: &mut Vec<u8>) -> Result<(), AllocError>
 
 /// Appends the line that answers the line of a script with this number. Most answers are `ok`, so this one is appended as one piece.
 #[tactic(auto, unfolding(crate::specs::Texts::answer_line, crate::specs::Texts::answer_text))]
-fn push_answer_line(number: usize, reply: &Reply, out: &mut Vec<u8>) -> Result<(), AllocError>
+pub(crate) fn push_answer_line(number: usize, reply: &Reply, out: &mut Vec<u8>) -> Result<(), AllocError>
     ensures { OnOk result (out.new.items ≡ out.old.items ++ answer_line number reply.now) }
 {
     push_number(number as u64, out)?;
@@ -252,7 +252,7 @@ fn push_summary(end: &Result<Summary, Refusal>, out: &mut Vec<u8>) -> Result<(),
 
 /// Appends the last line of the answers.
 #[tactic(auto, unfolding(crate::specs::Texts::end_line))]
-fn push_end_line(end: &Result<Summary, Refusal>, out: &mut Vec<u8>) -> Result<(), AllocError>
+pub(crate) fn push_end_line(end: &Result<Summary, Refusal>, out: &mut Vec<u8>) -> Result<(), AllocError>
     ensures { OnOk result (out.new.items ≡ out.old.items ++ end_line end.now) }
 {
     push_text("end: ", out)?;
@@ -279,7 +279,6 @@ pub fn with_end(text: Option<Vec<u8>>, end: &Result<Summary, Refusal>) -> Option
 }
 
 /// The text for a bad script: the number of its first bad line, and the cause.
-#[tactic(auto, unfolding(crate::specs::Texts::script_refusal_text))]
 pub fn script_refusal_text(
     alloc: Global,
     number: usize,
@@ -288,10 +287,22 @@ pub fn script_refusal_text(
     ensures { IfOk result (λ text. text.items ≡ script_refusal_text number cause) }
 {
     let mut text = Vec::new(alloc);
-    push_text("refused 2 BadScript ", &mut text)?;
-    push_number(number as u64, &mut text)?;
-    push_text(" ", &mut text)?;
-    push_text(cause_name(cause), &mut text)?;
-    push_text("\n", &mut text)?;
+    push_script_refusal(number, cause, &mut text)?;
     Ok(text)
+}
+
+/// Appends the text for a bad line: its number, and the cause. If memory is refused, nothing was appended.
+#[tactic(auto, unfolding(crate::specs::Texts::script_refusal_text))]
+pub(crate) fn push_script_refusal(
+    number: usize,
+    cause: Cause,
+    out: &mut Vec<u8>,
+) -> Result<(), AllocError>
+    ensures { OnOk result (out.new.items ≡ out.old.items ++ script_refusal_text number cause) }
+{
+    push_text("refused 2 BadScript ", out)?;
+    push_number(number as u64, out)?;
+    push_text(" ", out)?;
+    push_text(cause_name(cause), out)?;
+    push_text("\n", out)
 }

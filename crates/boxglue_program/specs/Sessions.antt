@@ -1,0 +1,134 @@
+-- Sessions: a script that is run as it comes (own).
+use Rattle.std.specs.Prelude.{◌≡◌, ◌≢◌, ◌⊎◌, ◌≤◌, ◌<◌, ◌+◌, ◌++◌, ◌&&◌, ℕ, Bool, true, false, List, [], ◌∷◌, length, Option, Result}
+use Rattle.std.specs.List.{list_all, Contains}
+use Rattle.std.specs.Str.Lines.{lines}
+use Rattle.std.specs.Io.KnownBytes.{Appends, Keeps, Consumes, IsAtEnd}
+use Rattle.job_commands.specs.declared.replies.Refusal.{Refusal}
+use Rattle.job_commands.specs.declared.replies.Summary.{Summary}
+use Rattle.job_commands.specs.Reply.{Reply}
+use Rattle.std.specs.Prelude.{is_ok}
+use Rattle.tfm_core.specs.NamedBytes.{NamedBytes}
+use Rattle.dvi_device.specs.Written.{written_then}
+use Rattle.job_machine.specs.Machine.{Machine, first_machine}
+use Rattle.job_machine.specs.Runs.{Run}
+use Rattle.job_core.specs.Jobs.{JobView, Represents, RunsTo}
+use Rattle.boxglue_script.specs.declared.said.Said.{Said}
+use Rattle.boxglue_script.specs.declared.said.Said.TheVariants.{Nothing, Command, Bad}
+use Rattle.boxglue_script.specs.SaidLines.{SayEach, IsWhole, lines_said, has_no_bad}
+use Rattle.boxglue_program.specs.Texts.{answer_line, script_refusal_text, end_line}
+use Rattle.boxglue_program.specs.Runs.{commands_of, is_accepted, WasRun, IsUntouched, WritesFront}
+
+-- The answers to lines, of which the first has this number: a line for each command, and one for each bad line.
+abbrev pub session_text : ℕ → List Said → List Reply → List ℕ
+session_text number [] replies = []
+session_text number (Nothing ∷ more) replies = session_text (number + 1) more replies
+session_text number (Bad cause ∷ more) replies = script_refusal_text number cause ++ session_text (number + 1) more replies
+session_text number (Command command ∷ more) [] = session_text (number + 1) more []
+session_text number (Command command ∷ more) (reply ∷ replies) = answer_line number reply ++ session_text (number + 1) more replies
+
+-- Whether nothing was refused, neither a line nor a command.
+abbrev pub are_accepted : List Said → List Reply → Bool
+are_accepted said replies = has_no_bad said && list_all is_ok replies
+
+-- A text was sent to a client that reads, or does not read any longer. All of it went out; or a beginning of it, and the client does not read any longer.
+abbrev pub IsSent : (read reads : Bool) → (old new : Option (List ℕ)) → List ℕ → Type 0
+IsSent true true old new text = Appends old new text
+IsSent true false old new text = WritesFront old new text
+IsSent false true old new text = ⊥
+IsSent false false old new text = Keeps old new
+
+-- What contracts see of a session: its job; how many lines were run; whether nothing was refused; whether the client reads; the bytes after the last line
+-- feed; and how many bytes may still be read.
+pub record SessionView : Type 0 where
+  pub job : JobView
+  pub lines : ℕ
+  pub accepted : Bool
+  pub reads : Bool
+  pub kept : List ℕ
+  pub left : ℕ
+
+-- Lines were run, and these are their answers.
+pub record AnswersLines (old : SessionView) (all : List (List ℕ)) (answers : List ℕ) (new : SessionView) : Type 0 where
+  pub said : List Said
+  pub replies : List Reply
+  pub says : SayEach all said
+  pub ran : RunsTo old.job (commands_of (lines_said (old.lines + 1) said)) replies new.job
+  pub each : length replies ≡ length (lines_said (old.lines + 1) said)
+  pub answers_are : answers ≡ session_text (old.lines + 1) said replies
+  pub counted : new.lines ≡ old.lines + length all
+  pub accepted : new.accepted ≡ (old.accepted && are_accepted said replies)
+  pub grows : (more : List ℕ) × (new.job.bytes_written ≡ written_then old.job.bytes_written more)
+  pub began : new.job.began ≡ old.job.began
+
+-- One reading brought a piece. The lines that end in it were run and answered, and what follows the last line feed is kept.
+pub record Exchanges (old : SessionView) (piece : List ℕ) (new : SessionView) (before after : Option (List ℕ)) : Type 0 where
+  pub whole : List ℕ
+  pub split : old.kept ++ piece ≡ whole ++ new.kept
+  pub ends : IsWhole whole
+  pub rest : Contains new.kept 10 → ⊥
+  pub answers : List ℕ
+  pub ran : AnswersLines old (lines whole) answers new
+  pub sent : IsSent old.reads new.reads before after answers
+  pub left : new.left + length piece ≡ old.left
+
+-- Memory was refused after a piece was read. Some lines were run and answered, and of what follows them nothing.
+pub record LacksRoom (old : SessionView) (piece : List ℕ) (new : SessionView) (before after : Option (List ℕ)) : Type 0 where
+  pub whole : List ℕ
+  pub rest : List ℕ
+  pub split : old.kept ++ piece ≡ whole ++ rest
+  pub ends : IsWhole whole
+  pub some : rest ≢ []
+  pub answers : List ℕ
+  pub ran : AnswersLines old (lines whole) answers new
+  pub sent : IsSent old.reads new.reads before after answers
+
+-- A session that was begun with these font files on a device that had failed n times.
+pub record IsNewSession (files : List NamedBytes) (n : ℕ) (new : SessionView) : Type 0 where
+  pub represents : Represents new.job (first_machine files)
+  pub failed : new.job.failed ≡ n
+  pub lines : new.lines ≡ 0
+  pub accepted : new.accepted ≡ true
+  pub reads : new.reads ≡ true
+  pub kept : new.kept ≡ []
+
+-- The whole input was run, and the job was finished. This is the text of all answers, and whether nothing was refused.
+pub record RanSession (text : List ℕ) (files : List NamedBytes) (n k : ℕ) (bytes_written : Option (List ℕ)) (answer : List ℕ) (accepted : Bool) : Type 0 where
+  pub said : List Said
+  pub replies : List Reply
+  pub end : Result Summary Refusal
+  pub says : SayEach (lines text) said
+  pub run : WasRun files n (commands_of (lines_said 1 said)) replies end k bytes_written
+  pub answer_is : answer ≡ session_text 1 said replies ++ end_line end
+  pub accepted_is : accepted ≡ (has_no_bad said && is_accepted replies end)
+
+-- A session stopped: the lines of a beginning of its input were run and answered, and the job was not finished. Nothing of what follows was run.
+pub record StoppedSession (text : List ℕ) (files : List NamedBytes) (n k : ℕ) (bytes_written : Option (List ℕ)) (answer : List ℕ) : Type 0 where
+  pub whole : List ℕ
+  pub rest : List ℕ
+  pub split : text ≡ whole ++ rest
+  pub ends : IsWhole whole
+  pub said : List Said
+  pub replies : List Reply
+  pub says : SayEach (lines whole) said
+  pub middle : Machine
+  pub ran : Run (first_machine files) n (commands_of (lines_said 1 said)) replies middle k
+  pub job : JobView
+  pub holds : Represents job middle
+  pub bytes_written_is : bytes_written ≡ job.bytes_written
+  pub answer_is : answer ≡ session_text 1 said replies
+
+-- Memory was refused: before anything was run, or at something that came, of which nothing was run.
+abbrev pub LacksSessionMemory : (text : List ℕ) → (files : List NamedBytes) → (n k : ℕ) → (bytes_written : Option (List ℕ)) → (answer : List ℕ) → Type 0
+LacksSessionMemory text files n k bytes_written answer =
+    (IsUntouched n k bytes_written × (text ≡ []) × (answer ≡ [])) ⊎ ((stopped : StoppedSession text files n k bytes_written answer) × (stopped.rest ≢ []))
+
+-- What was read of an input before a reading failed, and what was lost by it: nothing, or one piece that is over the limit.
+pub record IsUnread (limit : ℕ) (text lost : List ℕ) : Type 0 where
+  pub within : length text ≤ limit
+  pub piece : length lost ≤ 65536
+  pub over : lost ≢ [] → limit < length text + length lost
+
+-- A session stopped at the end of what could be read: all whole lines of it were run and answered.
+abbrev pub IsCutOff : (text : List ℕ) → (files : List NamedBytes) → (n k : ℕ) → (bytes_written : Option (List ℕ)) → (answer : List ℕ) → Type 0
+IsCutOff text files n k bytes_written answer =
+    (stopped : StoppedSession text files n k bytes_written answer) × (Contains stopped.rest 10 → ⊥)
