@@ -1,131 +1,173 @@
 //! A job that is given lines as they come, and the answers that wait for a client.
 
+ghost use Rattle.std.specs.Prelude.{◌≡◌, ◌++◌, ◌∷◌, ◌<◌, ◌≤◌, ◌+◌, ◌^◌, ◌&&◌, true, [], ℕ, List, length, Result, is_ok, IfOk, OnOk, OnErr, vec_len, vec_capacity};
+ghost use Rattle.std.specs.Str.Lines.{lines};
+ghost use Rattle.job_commands.specs.declared.replies.Refusal.{Refusal as ARefusal};
+ghost use Rattle.job_commands.specs.declared.replies.Summary.{Summary as ASummary};
+ghost use Rattle.job_commands.specs.Reply.{Reply as AReply};
+ghost use Rattle.dvi_device.specs.Written.{written_then};
+ghost use Rattle.job_core.specs.Jobs.{KeepsTo};
+ghost use Rattle.boxglue_program.specs.Texts.{answer_line, end_line, script_refusal_text};
+ghost use Rattle.boxglue_program.specs.Sessions.{AnswersLines, EndsRun, IsSent, RunsUnanswered, StopsIn};
+ghost use Rattle.boxglue_program.specs.Dialogs.{dialog_of, outbox_of, Sends};
+
 use crate::texts::{push_answer_line, push_end_line, push_script_refusal};
 use crate::writing::write_text;
-use boxglue_script::{Said, first_line, read_line};
-use job_core::{Command, Device, FontFile, Job};
+use boxglue_script::{Cause, Said, first_line, read_line};
+use job_core::{Command, Device, Job};
 use std::alloc::{AllocError, Global};
 use std::io::Write;
 
-/// The greatest number of bytes of one answer.
-pub(crate) const ANSWER_SIZE: usize = 256;
+/// Room for one answer.
+const ANSWER_SIZE: usize = 256;
 
-/// How many bytes of answers wait at most.
-const OUTBOX_SIZE: usize = 65_536;
+/// Room for the answers that wait.
+pub(crate) const OUTBOX_SIZE: usize = 65_536;
 
 /// Runs a command on a job, and appends the line that answers it. Returns whether the command was accepted.
 ///
-/// Room for the answer is taken first. The error is that it was refused: nothing was run, and nothing is appended.
+/// Room for the answer is taken first. The error is a refused growth: nothing is appended, and the command was not run, or its answer did not fit into that room.
 pub fn answer_command<D: Device>(
     job: &mut Job<D>,
     number: usize,
     command: &Command,
     answers: &mut Vec<u8>,
-) -> Result<bool, AllocError> {
+) -> Result<bool, AllocError>
+    ensures ok { IfOk result (λ accepted. (reply : AReply) × KeepsTo job.old command.now reply job.new × (answers.new.items ≡ answers.old.items ++ answer_line number reply)
+        × (accepted ≡ is_ok reply)) }
+    ensures unanswered { OnErr result (RunsUnanswered job.old job.new) }
+    ensures cut { OnErr result (answers.new.items ≡ answers.old.items) }
+    ensures room { vec_capacity answers.old ≤ vec_capacity answers.new }
+    ensures idle { job.old.state.over ≡ true → job.new ≡ job.old }
+    ensures grows { (more : List ℕ) × (job.new.bytes_written ≡ written_then job.old.bytes_written more) }
+    ensures began { job.new.began ≡ job.old.began }
+{
     answers.reserve(ANSWER_SIZE)?;
+    let held = answers.len();
     let reply = job.step(command);
-    let Ok(()) = push_answer_line(number, &reply, answers) else {
+    if push_answer_line(number, &reply, answers).is_err() {
+        answers.truncate(held);
+        return Err(AllocError);
+    }
+    Ok(reply.is_ok())
+}
+
+/// Runs a line on a job after so many lines, and appends its answer, if it has one. Returns whether it was not refused. If memory is refused, nothing is
+/// appended.
+fn answer_line<D: Device>(
+    alloc: Global,
+    job: &mut Job<D>,
+    before: usize,
+    line: &[u8],
+    answers: &mut Vec<u8>,
+) -> Result<bool, AllocError>
+    requires countable { before + 1 < 2 ^ 64 }
+    ensures ok { IfOk result (λ accepted. (text : List ℕ) × (answers.new.items ≡ answers.old.items ++ text)
+        × AnswersLines (dialog_of job.old before true) (line.now ∷ []) text (dialog_of job.new (before + 1) accepted)) }
+    ensures unanswered { OnErr result (RunsUnanswered job.old job.new) }
+    ensures cut { OnErr result (answers.new.items ≡ answers.old.items) }
+    ensures room { vec_capacity answers.old ≤ vec_capacity answers.new }
+{
+    match read_line(alloc, line)? {
+        Said::Nothing => Ok(true),
+        Said::Command(command) => answer_command(job, before + 1, &command, answers),
+        Said::Bad(cause) => {
+            refuse_line(before + 1, cause, answers)?;
+            Ok(false)
+        }
+    }
+}
+
+/// Appends the answer to a bad line. If memory is refused, nothing is appended.
+fn refuse_line(number: usize, cause: Cause, answers: &mut Vec<u8>) -> Result<(), AllocError>
+    ensures ok { OnOk result (answers.new.items ≡ answers.old.items ++ script_refusal_text number cause) }
+    ensures cut { OnErr result (answers.new.items ≡ answers.old.items) }
+    ensures room { vec_capacity answers.old ≤ vec_capacity answers.new }
+{
+    answers.reserve(ANSWER_SIZE)?;
+    let Ok(()) = push_script_refusal(number, cause, answers) else {
         unreachable!()
     };
-    Ok(reply.is_ok())
+    Ok(())
 }
 
 /// A job, how many lines of its input were run, and whether nothing was refused.
 #[derive(Drop)]
 pub(crate) struct Dialog<D: Device> {
-    alloc: Global,
-    job: Job<D>,
-    lines: usize,
-    accepted: bool,
+    pub(crate) alloc: Global,
+    pub(crate) job: Job<D>,
+    pub(crate) lines: usize,
+    pub(crate) accepted: bool,
 }
 
 impl<D: Device> Dialog<D> {
-    /// A new job with these font files, before its first line. If memory is refused, the error is the device, unchanged.
-    pub(crate) fn new(alloc: Global, files: &[FontFile], device: D) -> Result<Dialog<D>, D> {
-        Ok(Dialog {
-            alloc,
-            job: Job::new(alloc, device, files)?,
-            lines: 0,
-            accepted: true,
-        })
-    }
-
-    /// Runs the next line, and appends its answer, if it has one. If memory is refused, nothing of the line was run, and nothing is appended.
-    fn answer(&mut self, line: &[u8], answers: &mut Vec<u8>) -> Result<(), AllocError> {
-        let number = self.lines + 1;
-        let accepted = match read_line(self.alloc, line)? {
-            Said::Nothing => true,
-            Said::Command(command) => answer_command(&mut self.job, number, &command, answers)?,
-            Said::Bad(cause) => {
-                push_script_refusal(number, cause, answers)?;
-                false
-            }
-        };
-        self.lines = number;
+    /// Runs the next line, and appends its answer, if it has one. If memory is refused, nothing is appended.
+    fn answer(&mut self, line: &[u8], answers: &mut Vec<u8>) -> Result<(), AllocError>
+        requires countable { self.old.lines + 1 < 2 ^ 64 }
+        ensures ok { OnOk result ((text : List ℕ) × (answers.new.items ≡ answers.old.items ++ text)
+            × AnswersLines (dialog_of self.old.job self.old.lines self.old.accepted) (line.now ∷ []) text (dialog_of self.new.job self.new.lines self.new.accepted)) }
+        ensures unanswered { OnErr result (RunsUnanswered self.old.job self.new.job) }
+        ensures cut { OnErr result (answers.new.items ≡ answers.old.items) }
+        ensures counted { self.new.lines ≤ self.old.lines + 1 }
+        ensures room { vec_capacity answers.old ≤ vec_capacity answers.new }
+    {
+        let accepted = answer_line(self.alloc, &mut self.job, self.lines, line, answers)?;
+        self.lines += 1;
         self.accepted &= accepted;
         Ok(())
     }
 
-    /// Finishes the job, and appends the last line. Returns whether nothing was refused.
-    fn finish(&mut self, answers: &mut Vec<u8>) -> bool {
+    /// Finishes the job, and appends the last line. Returns whether nothing was refused in all.
+    fn finish(&mut self, answers: &mut Vec<u8>) -> bool
+        requires room { vec_len answers.old + 110 ≤ vec_capacity answers.old }
+        ensures ended { (end : Result ASummary ARefusal) × EndsRun self.old.job end self.new.job.failed self.new.job.bytes_written
+            × (answers.new.items ≡ answers.old.items ++ end_line end) × (result ≡ (self.old.accepted && is_ok end)) }
+        ensures began { self.new.job.began ≡ self.old.job.began }
+    {
         let end = self.job.finish();
         let Ok(()) = push_end_line(&end, answers) else {
             unreachable!()
         };
         self.accepted & end.is_ok()
     }
-
-    /// Returns the device.
-    pub(crate) fn into_device(self) -> D {
-        let Dialog {
-            alloc: _alloc,
-            job,
-            lines: _lines,
-            accepted: _accepted,
-        } = self;
-        job.into_device()
-    }
 }
 
-/// Answers that wait to be written, and whether the client still reads.
+/// Answers that wait to be written, and whether the client reads.
 #[derive(Drop)]
 pub(crate) struct Outbox {
-    waiting: Vec<u8>,
-    reads: bool,
+    pub(crate) waiting: Vec<u8>,
+    pub(crate) reads: bool,
+}
+
+/// Writes a text if the client reads, and returns whether it still does.
+fn tell<W: Write>(reads: bool, text: &[u8], writer: &mut W) -> bool
+    ensures { IsSent reads result (W.contents writer.old) (W.contents writer.new) text.now }
+{
+    if !reads {
+        return false;
+    }
+    write_text(writer, text).is_ok()
 }
 
 impl Outbox {
-    /// No answer waits, and there is room.
-    pub(crate) fn new(alloc: Global) -> Result<Outbox, AllocError> {
-        Ok(Outbox {
-            waiting: Vec::with_capacity(alloc, OUTBOX_SIZE)?,
-            reads: true,
-        })
-    }
-
-    /// Whether the client took all that was sent.
-    pub(crate) fn reads(&self) -> bool {
-        self.reads
-    }
-
-    /// Writes the answers that wait, if the client still reads.
-    fn send<W: Write>(&mut self, writer: &mut W) {
-        if self.reads && write_text(writer, &self.waiting).is_err() {
-            self.reads = false;
-        }
+    /// Writes the answers that wait, if the client reads.
+    fn send<W: Write>(&mut self, writer: &mut W)
+        ensures sent { IsSent self.old.reads self.new.reads (W.contents writer.old) (W.contents writer.new) self.old.waiting.items }
+        ensures empty { self.new.waiting.items ≡ [] }
+        ensures room { vec_capacity self.new.waiting ≡ vec_capacity self.old.waiting }
+    {
+        self.reads = tell(self.reads, &self.waiting, writer);
         self.waiting.clear();
     }
 
-    /// Runs the lines of a text, and writes their answers. If memory is refused, the lines before were run, and their answers are written.
-    pub(crate) fn answer<D: Device, W: Write>(
-        &mut self,
-        dialog: &mut Dialog<D>,
-        text: &[u8],
-        writer: &mut W,
-    ) -> Result<(), AllocError> {
-        let ran = self.answer_lines(dialog, text, writer);
-        self.send(writer);
-        ran
+    /// Writes the answers that wait if the room for another one is not there.
+    fn make_room<W: Write>(&mut self, writer: &mut W)
+        ensures sent { Sends (outbox_of self.old.waiting.items self.old.reads) (outbox_of self.new.waiting.items self.new.reads) (W.contents writer.old) (W.contents writer.new) [] }
+        ensures room { vec_capacity self.new.waiting ≡ vec_capacity self.old.waiting }
+    {
+        if self.waiting.len() > OUTBOX_SIZE - ANSWER_SIZE {
+            self.send(writer);
+        }
     }
 
     /// Runs the lines of a text. Answers are written whenever the room for another one is not there.
@@ -134,25 +176,63 @@ impl Outbox {
         dialog: &mut Dialog<D>,
         text: &[u8],
         writer: &mut W,
-    ) -> Result<(), AllocError> {
+    ) -> Result<(), AllocError>
+        requires countable { dialog.old.lines + length text.now < 2 ^ 64 }
+        ensures ok { OnOk result ((answers : List ℕ)
+            × AnswersLines (dialog_of dialog.old.job dialog.old.lines dialog.old.accepted) (lines text.now) answers (dialog_of dialog.new.job dialog.new.lines dialog.new.accepted)
+            × Sends (outbox_of self.old.waiting.items self.old.reads) (outbox_of self.new.waiting.items self.new.reads) (W.contents writer.old) (W.contents writer.new) answers) }
+        ensures stopped { OnErr result ((answers : List ℕ)
+            × StopsIn text.now (dialog_of dialog.old.job dialog.old.lines dialog.old.accepted) answers dialog.new.job
+            × Sends (outbox_of self.old.waiting.items self.old.reads) (outbox_of self.new.waiting.items self.new.reads) (W.contents writer.old) (W.contents writer.new) answers) }
+        ensures counted { dialog.new.lines ≤ dialog.old.lines + length text.now }
+        ensures room { vec_capacity self.old.waiting ≤ vec_capacity self.new.waiting }
+    {
         let mut rest = text;
         while !rest.is_empty() {
             let (line, after) = first_line(rest);
-            if self.waiting.len() > OUTBOX_SIZE - ANSWER_SIZE {
-                self.send(writer);
-            }
+            self.make_room(writer);
             dialog.answer(line, &mut self.waiting)?;
             rest = after;
         }
         Ok(())
     }
 
-    /// Finishes the job, and writes the last line. Returns whether nothing was refused.
+    /// Runs the lines of a text, and writes their answers.
+    pub(crate) fn answer<D: Device, W: Write>(
+        &mut self,
+        dialog: &mut Dialog<D>,
+        text: &[u8],
+        writer: &mut W,
+    ) -> Result<(), AllocError>
+        requires countable { dialog.old.lines + length text.now < 2 ^ 64 }
+        requires empty { self.old.waiting.items ≡ [] }
+        ensures ok { OnOk result ((answers : List ℕ)
+            × AnswersLines (dialog_of dialog.old.job dialog.old.lines dialog.old.accepted) (lines text.now) answers (dialog_of dialog.new.job dialog.new.lines dialog.new.accepted)
+            × IsSent self.old.reads self.new.reads (W.contents writer.old) (W.contents writer.new) answers) }
+        ensures stopped { OnErr result ((answers : List ℕ)
+            × StopsIn text.now (dialog_of dialog.old.job dialog.old.lines dialog.old.accepted) answers dialog.new.job
+            × IsSent self.old.reads self.new.reads (W.contents writer.old) (W.contents writer.new) answers) }
+        ensures emptied { self.new.waiting.items ≡ [] }
+        ensures counted { dialog.new.lines ≤ dialog.old.lines + length text.now }
+        ensures room { vec_capacity self.old.waiting ≤ vec_capacity self.new.waiting }
+    {
+        let ran = self.answer_lines(dialog, text, writer);
+        self.send(writer);
+        ran
+    }
+
+    /// Finishes the job, and writes the last line. Returns whether nothing was refused in all.
     pub(crate) fn finish<D: Device, W: Write>(
         &mut self,
         dialog: &mut Dialog<D>,
         writer: &mut W,
-    ) -> bool {
+    ) -> bool
+        requires empty { self.old.waiting.items ≡ [] }
+        requires room { 110 ≤ vec_capacity self.old.waiting }
+        ensures ended { (end : Result ASummary ARefusal) × EndsRun dialog.old.job end dialog.new.job.failed dialog.new.job.bytes_written
+            × IsSent self.old.reads self.new.reads (W.contents writer.old) (W.contents writer.new) (end_line end) × (result ≡ (dialog.old.accepted && is_ok end)) }
+        ensures began { dialog.new.job.began ≡ dialog.old.job.began }
+    {
         let accepted = dialog.finish(&mut self.waiting);
         self.send(writer);
         accepted

@@ -1,11 +1,14 @@
 //! A session: a script that is run as it comes. Each reading brings some bytes, the lines that end in them are run, and their answers are written before
 //! the next reading.
 
-ghost use Rattle.std.specs.Prelude.{◌≡◌, ◌≢◌, ◌≤◌, ◌<◌, ◌+◌, ◌++◌, ◌^◌, ◌⊎◌, ℕ, true, false, List, [], length, Err, IfOk, IfSome, OnOk, OnErr};
+ghost use Rattle.std.specs.Prelude.{◌≡◌, ◌≤◌, ◌<◌, ◌+◌, ◌++◌, ◌^◌, ℕ, true, List, [], length, take, drop, Contains, None, Ok, Err, IfOk, IfErr, IfSome, OnOk, OnErr, vec_len, vec_capacity};
+ghost use Rattle.std.specs.Str.Lines.{lines};
 ghost use Rattle.std.specs.Io.KnownBytes.{Consumes, IsAtEnd, Keeps};
-ghost use Rattle.boxglue_program.specs.Sessions.{RanSession, LacksSessionMemory, IsUnread, IsCutOff, IsSent};
+ghost use Rattle.boxglue_script.specs.SaidLines.{IsWhole};
+ghost use Rattle.boxglue_program.specs.Sessions.{AnswersLines, RanSession, LacksSessionMemory, IsUnread, IsCutOff, IsSent, StopsIn};
+ghost use Rattle.boxglue_program.specs.Dialogs.{dialog_of};
 
-use crate::dialog::{Dialog, Outbox};
+use crate::dialog::{Dialog, OUTBOX_SIZE, Outbox};
 use job_core::{Device, FontFile, Job};
 use std::alloc::{AllocError, Global};
 use std::io::{ErrorKind, Read, Write};
@@ -57,20 +60,125 @@ pub struct Session<D: Device> {
     left: usize,
 }
 
+impl<D: Device> Model for Session<D> {
+    ghost use Rattle.std.specs.Prelude.{◌≡◌, ◌≤◌, ◌<◌, ◌+◌, ◌^◌, [], length, Contains, vec_len, vec_capacity};
+    ghost use Rattle.boxglue_program.specs.Sessions.{SessionView};
+    ghost use Rattle.boxglue_program.specs.Dialogs.{dialog_of, coded_session};
+
+    ghost Value = { SessionView };
+
+    ghost coded = { coded_session };
+
+    ghost view = { λ s. record { dialog = dialog_of s.dialog.job s.dialog.lines s.dialog.accepted; reads = s.outbox.reads; kept = s.kept.items; left = s.left } };
+
+    ghost invariant = { λ s. (s.outbox.waiting.items ≡ []) × (110 ≤ vec_capacity s.outbox.waiting) × (vec_len s.buffer ≡ 65536) × (Contains s.kept.items 10 → ⊥)
+        × (s.dialog.lines + length s.kept.items + s.left < 2 ^ 64) };
+}
+
+/// Reads once into a buffer, and returns how many bytes came, 0 at the end of the input, or None if the call was interrupted.
+fn read_once<R: Read>(
+    reader: &mut R,
+    buffer: &mut Vec<u8>,
+) -> Result<Option<usize>, SessionFault>
+    requires some { 0 < vec_len buffer.old }
+    ensures size { vec_len buffer.new ≡ vec_len buffer.old }
+    ensures bytes { IfOk result (λ read. IfSome read (λ count. (count ≤ vec_len buffer.new) × Consumes (R.remaining reader.old) (R.remaining reader.new) (take count buffer.new.items))) }
+    ensures end { IfOk result (λ read. IfSome read (λ count. count ≡ 0 → IsAtEnd (R.remaining reader.new))) }
+    ensures none { result ≡ Ok None → Keeps (R.remaining reader.old) (R.remaining reader.new) }
+    ensures unread { IfErr result (λ fault. (fault ≡ SessionFault.Unreadable) × Keeps (R.remaining reader.old) (R.remaining reader.new)) }
+{
+    match reader.read(buffer) {
+        Ok(count) => Ok(Some(count)),
+        Err(fault) if fault.kind() == ErrorKind::Interrupted => Ok(None),
+        Err(_) => Err(SessionFault::Unreadable),
+    }
+}
+
+/// How many bytes the lines have that end in a piece: those up to its last line feed.
+fn whole_size(piece: &[u8]) -> usize
+    ensures within { result ≤ length piece.now }
+    ensures whole { IsWhole (take result piece.now) }
+    ensures rest { Contains (drop result piece.now) 10 → ⊥ }
+{
+    let mut size = piece.len();
+    while size > 0 && piece[size - 1] != b'\n' {
+        size -= 1;
+    }
+    size
+}
+
+/// Runs the lines that end in a piece, with the bytes kept before it, and keeps what follows the last line feed.
+fn take_piece<D: Device, W: Write>(
+    dialog: &mut Dialog<D>,
+    outbox: &mut Outbox,
+    kept: &mut Vec<u8>,
+    piece: &[u8],
+    writer: &mut W,
+) -> Result<(), AllocError>
+    requires empty { outbox.old.waiting.items ≡ [] }
+    requires unended { Contains kept.old.items 10 → ⊥ }
+    requires countable { dialog.old.lines + length kept.old.items + length piece.now < 2 ^ 64 }
+    ensures ok { OnOk result ((whole answers : List ℕ) × (kept.old.items ++ piece.now ≡ whole ++ kept.new.items) × IsWhole whole
+        × AnswersLines (dialog_of dialog.old.job dialog.old.lines dialog.old.accepted) (lines whole) answers (dialog_of dialog.new.job dialog.new.lines dialog.new.accepted)
+        × IsSent outbox.old.reads outbox.new.reads (W.contents writer.old) (W.contents writer.new) answers) }
+    ensures stopped { OnErr result ((answers : List ℕ)
+        × StopsIn (kept.old.items ++ piece.now) (dialog_of dialog.old.job dialog.old.lines dialog.old.accepted) answers dialog.new.job
+        × IsSent outbox.old.reads outbox.new.reads (W.contents writer.old) (W.contents writer.new) answers) }
+    ensures emptied { outbox.new.waiting.items ≡ [] }
+    ensures rest { Contains kept.new.items 10 → ⊥ }
+    ensures counted { dialog.new.lines + length kept.new.items ≤ dialog.old.lines + length kept.old.items + length piece.now }
+    ensures room { vec_capacity outbox.old.waiting ≤ vec_capacity outbox.new.waiting }
+{
+    let (whole, rest) = piece.split_at(whole_size(piece));
+    if whole.is_empty() {
+        return kept.extend_from_slice(rest);
+    }
+    kept.extend_from_slice(whole)?;
+    let ran = outbox.answer(dialog, kept, writer);
+    kept.clear();
+    ran?;
+    kept.extend_from_slice(rest)
+}
+
 impl<D: Device> Session<D> {
-    /// A new session with these font files, which may read `limit` bytes in all. If memory is refused, the error is the device, unchanged.
+    ghost use Rattle.std.specs.Prelude.{◌≡◌, ◌≤◌, ◌<◌, ◌+◌, ◌≢◌, ◌^◌, ℕ, List, [], length, Ok, Err, IfOk, IfErr, IfSome};
+    ghost use Rattle.std.specs.Io.KnownBytes.{Consumes, IsAtEnd, Keeps};
+    ghost use Rattle.job_core.specs.Jobs.{JobView};
+    ghost use Rattle.boxglue_program.specs.Sessions.{EndsSession, Exchanges, IsNewSession, IsSent, LacksRoom, StopsIn};
+
+    /// A new session with these font files, which may read `limit` bytes in all. The device must have reported no byte yet. If memory is refused, the error is
+    /// the device, unchanged.
     pub fn new(
         alloc: Global,
         files: &[FontFile],
         device: D,
         limit: usize,
-    ) -> Result<Session<D>, D> {
-        let (Ok(outbox), Ok(buffer)) = (Outbox::new(alloc), Vec::from_elem(alloc, 0, BUFFER)) else {
+    ) -> Result<Session<D>, D>
+        requires countable { D.failed device + 1 < 2 ^ 64 }
+        requires fresh { IfSome (D.bytes_written device) (λ bytes. bytes ≡ []) }
+        ensures new { IfOk result (IsNewSession files.now (D.failed device)) }
+        ensures limited { IfOk result (λ session. session.left ≡ limit) }
+        ensures began { IfOk result (λ session. session.dialog.job.began ≡ D.began device) }
+        ensures device_returned { IfErr result (λ back. back ≡ device) }
+    {
+        let Ok(waiting) = Vec::with_capacity(alloc, OUTBOX_SIZE) else {
             return Err(device);
         };
+        let Ok(buffer) = Vec::from_elem(alloc, 0, BUFFER) else {
+            return Err(device);
+        };
+        let job = Job::new(alloc, device, files)?;
         Ok(Session {
-            dialog: Dialog::new(alloc, files, device)?,
-            outbox,
+            dialog: Dialog {
+                alloc,
+                job,
+                lines: 0,
+                accepted: true,
+            },
+            outbox: Outbox {
+                waiting,
+                reads: true,
+            },
             buffer,
             kept: Vec::new(alloc),
             left: limit,
@@ -81,47 +189,50 @@ impl<D: Device> Session<D> {
     ///
     /// Once the writer does not take an answer, nothing more is written, and the lines are run without answers.
     ///
-    /// Errors: Unreadable if the call fails, or if more bytes came than may still be read; nothing was run then. OutOfMemory for a refused growth: the lines
-    /// before it were run and answered, and no command was run whose answer was not.
+    /// Errors: Unreadable if the call fails, or if more bytes came than may still be read; nothing was run then. OutOfMemory for a refused growth.
     pub fn exchange<R: Read, W: Write>(
         &mut self,
         reader: &mut R,
         writer: &mut W,
-    ) -> Result<Reading, SessionFault> {
-        let count = match reader.read(&mut self.buffer) {
-            Ok(0) => return Ok(Reading::End),
-            Ok(count) => count,
-            Err(fault) if fault.kind() == ErrorKind::Interrupted => {
-                return Ok(Reading::Interrupted);
-            }
-            Err(_) => return Err(SessionFault::Unreadable),
+    ) -> Result<Reading, SessionFault>
+        ensures piece { result ≡ Ok Reading.Piece → (piece : List ℕ) × Consumes (R.remaining reader.old) (R.remaining reader.new) piece
+            × Exchanges self.old piece self.new (W.contents writer.old) (W.contents writer.new) }
+        ensures nothing { result ≡ Ok Reading.Interrupted → (self.new ≡ self.old) × Keeps (R.remaining reader.old) (R.remaining reader.new)
+            × Keeps (W.contents writer.old) (W.contents writer.new) }
+        ensures end { result ≡ Ok Reading.End → (self.new ≡ self.old) × Consumes (R.remaining reader.old) (R.remaining reader.new) [] × IsAtEnd (R.remaining reader.new)
+            × Keeps (W.contents writer.old) (W.contents writer.new) }
+        ensures memory { result ≡ Err SessionFault.OutOfMemory → (piece : List ℕ) × Consumes (R.remaining reader.old) (R.remaining reader.new) piece
+            × LacksRoom self.old piece self.new (W.contents writer.old) (W.contents writer.new) }
+        ensures unread { result ≡ Err SessionFault.Unreadable → (self.new ≡ self.old) × (lost : List ℕ) × Consumes (R.remaining reader.old) (R.remaining reader.new) lost
+            × (length lost ≤ 65536) × (lost ≢ [] → self.old.left < length lost) × Keeps (W.contents writer.old) (W.contents writer.new) }
+    {
+        let Some(count) = read_once(reader, &mut self.buffer)? else {
+            return Ok(Reading::Interrupted);
         };
+        if count == 0 {
+            return Ok(Reading::End);
+        }
         if count > self.left {
             return Err(SessionFault::Unreadable);
         }
         self.left -= count;
-        match self.take(count, writer) {
-            Ok(()) => Ok(Reading::Piece),
-            Err(AllocError) => Err(SessionFault::OutOfMemory),
-        }
-    }
-
-    /// Takes the piece at the front of the buffer: runs the lines that end in it, and keeps the rest.
-    fn take<W: Write>(&mut self, count: usize, writer: &mut W) -> Result<(), AllocError> {
         let piece = &self.buffer[..count];
-        let (whole, rest) = piece.split_at(whole_size(piece));
-        if whole.is_empty() {
-            return self.kept.extend_from_slice(rest);
+        match take_piece(&mut self.dialog, &mut self.outbox, &mut self.kept, piece, writer) {
+            Ok(()) => Ok(Reading::Piece),
+            Err(_) => Err(SessionFault::OutOfMemory),
         }
-        self.kept.extend_from_slice(whole)?;
-        let ran = self.outbox.answer(&mut self.dialog, &self.kept, writer);
-        self.kept.clear();
-        ran?;
-        self.kept.extend_from_slice(rest)
     }
 
     /// Ends the session at the end of its input: runs a last line without a line feed, finishes the job, and writes the last answers.
-    pub fn finish<W: Write>(self, writer: &mut W) -> SessionEnd<D> {
+    pub fn finish<W: Write>(self, writer: &mut W) -> SessionEnd<D>
+        ensures ended { IfOk result.outcome (λ accepted. (answer : List ℕ)
+            × EndsSession self (D.failed result.device) (D.bytes_written result.device) answer accepted
+            × IsSent self.reads result.written (W.contents writer.old) (W.contents writer.new) answer) }
+        ensures memory { IfErr result.outcome (λ fault. (fault ≡ SessionFault.OutOfMemory) × (answers : List ℕ) × (job : JobView)
+            × StopsIn self.kept self.dialog answers job × IsSent self.reads result.written (W.contents writer.old) (W.contents writer.new) answers
+            × (D.failed result.device ≡ job.failed) × (D.bytes_written result.device ≡ job.bytes_written)) }
+        ensures began { D.began result.device ≡ self.dialog.job.began }
+    {
         let Session {
             mut dialog,
             mut outbox,
@@ -129,20 +240,21 @@ impl<D: Device> Session<D> {
             buffer: _buffer,
             left: _left,
         } = self;
-        let ran = outbox.answer(&mut dialog, &kept, writer);
-        let outcome = match ran {
+        let outcome = match outbox.answer(&mut dialog, &kept, writer) {
             Ok(()) => Ok(outbox.finish(&mut dialog, writer)),
-            Err(AllocError) => Err(SessionFault::OutOfMemory),
+            Err(_) => Err(SessionFault::OutOfMemory),
         };
-        SessionEnd {
-            outcome,
-            written: outbox.reads(),
-            device: dialog.into_device(),
-        }
+        close(outcome, dialog, &outbox)
     }
 
     /// Stops the session. The job is not finished.
-    pub fn stop(self, fault: SessionFault) -> SessionEnd<D> {
+    pub fn stop(self, fault: SessionFault) -> SessionEnd<D>
+        ensures outcome { result.outcome ≡ Err fault }
+        ensures written { result.written ≡ self.reads }
+        ensures bytes_written { D.bytes_written result.device ≡ self.dialog.job.bytes_written }
+        ensures failed { D.failed result.device ≡ self.dialog.job.failed }
+        ensures began { D.began result.device ≡ self.dialog.job.began }
+    {
         let Session {
             dialog,
             outbox,
@@ -150,19 +262,32 @@ impl<D: Device> Session<D> {
             buffer: _buffer,
             left: _left,
         } = self;
-        SessionEnd {
-            outcome: Err(fault),
-            written: outbox.reads(),
-            device: dialog.into_device(),
-        }
+        close(Err(fault), dialog, &outbox)
     }
 }
 
-/// How many bytes of a piece the lines have that end in it: those up to the last line feed.
-fn whole_size(piece: &[u8]) -> usize {
-    match piece.iter().rposition(|byte| *byte == b'\n') {
-        Some(place) => place + 1,
-        None => 0,
+/// The end of a session with its device.
+fn close<D: Device>(
+    outcome: Result<bool, SessionFault>,
+    dialog: Dialog<D>,
+    outbox: &Outbox,
+) -> SessionEnd<D>
+    ensures outcome { result.outcome ≡ outcome }
+    ensures written { result.written ≡ outbox.now.reads }
+    ensures bytes_written { D.bytes_written result.device ≡ dialog.job.bytes_written }
+    ensures failed { D.failed result.device ≡ dialog.job.failed }
+    ensures began { D.began result.device ≡ dialog.job.began }
+{
+    let Dialog {
+        alloc: _alloc,
+        job,
+        lines: _lines,
+        accepted: _accepted,
+    } = dialog;
+    SessionEnd {
+        outcome,
+        written: outbox.reads,
+        device: job.into_device(),
     }
 }
 

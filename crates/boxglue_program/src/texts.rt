@@ -1,7 +1,8 @@
 //! The texts of answers.
 
-ghost use Rattle.std.specs.Prelude.{◌≡◌, ◌++◌, ◌+◌, ◌*◌, ◌<◌, ℕ, List, decimal, OnOk, OnErr, IfOk, IfSome};
+ghost use Rattle.std.specs.Prelude.{◌≡◌, ◌++◌, ◌+◌, ◌*◌, ◌<◌, ◌≤◌, length, ℕ, List, decimal, OnOk, OnErr, IfOk, IfSome};
 ghost use Rattle.std.specs.Fmt.{signed_decimal};
+ghost use Rattle.boxglue_program.specs.Rooms.{TakesRoom};
 ghost use Rattle.boxglue_program.specs.Texts.{cause_name, kind_name, points_text, sizes_text, rest_text, lines_text, costs_text, answer_text, reply_text, answer_line, summary_text, end_line, script_refusal_text};
 
 use crate::refusals::{push_number, push_refusal, push_text};
@@ -14,7 +15,8 @@ use std::alloc::{AllocError, Global};
 
 /// The name of the cause that makes a script bad.
 fn cause_name(cause: Cause) -> &'static str
-    ensures { result.now ≡ cause_name cause }
+    ensures name { result.now ≡ cause_name cause }
+    ensures short { length result.now ≤ 9 }
 {
     match cause {
         Cause::Byte => "Byte",
@@ -237,7 +239,8 @@ pub(crate) fn push_answer_line(number: usize, reply: &Reply, out: &mut Vec<u8>) 
 
 /// Appends the result of the end of a job.
 fn push_summary(end: &Result<Summary, Refusal>, out: &mut Vec<u8>) -> Result<(), AllocError>
-    ensures { OnOk result (out.new.items ≡ out.old.items ++ summary_text end.now) }
+    ensures ok { OnOk result (out.new.items ≡ out.old.items ++ summary_text end.now) }
+    ensures room { TakesRoom 100 out.old out.new result }
 {
     match end {
         Ok(summary) => {
@@ -253,7 +256,8 @@ fn push_summary(end: &Result<Summary, Refusal>, out: &mut Vec<u8>) -> Result<(),
 /// Appends the last line of the answers.
 #[tactic(auto, unfolding(crate::specs::Texts::end_line))]
 pub(crate) fn push_end_line(end: &Result<Summary, Refusal>, out: &mut Vec<u8>) -> Result<(), AllocError>
-    ensures { OnOk result (out.new.items ≡ out.old.items ++ end_line end.now) }
+    ensures ok { OnOk result (out.new.items ≡ out.old.items ++ end_line end.now) }
+    ensures room { TakesRoom 110 out.old out.new result }
 {
     push_text("end: ", out)?;
     push_summary(end, out)?;
@@ -291,17 +295,18 @@ pub fn script_refusal_text(
     Ok(text)
 }
 
-/// Appends the text for a bad line: its number, and the cause. If memory is refused, nothing was appended.
+/// Appends the text for a bad line: its number, and the cause.
 #[tactic(auto, unfolding(crate::specs::Texts::script_refusal_text))]
 pub(crate) fn push_script_refusal(
-    number: usize,
+    line: usize,
     cause: Cause,
     out: &mut Vec<u8>,
 ) -> Result<(), AllocError>
-    ensures { OnOk result (out.new.items ≡ out.old.items ++ script_refusal_text number cause) }
+    ensures ok { OnOk result (out.new.items ≡ out.old.items ++ script_refusal_text line cause) }
+    ensures room { TakesRoom 80 out.old out.new result }
 {
     push_text("refused 2 BadScript ", out)?;
-    push_number(number as u64, out)?;
+    push_number(line as u64, out)?;
     push_text(" ", out)?;
     push_text(cause_name(cause), out)?;
     push_text("\n", out)
