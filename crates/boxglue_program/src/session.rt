@@ -29,14 +29,12 @@ pub enum SessionFault {
     Unreadable,
 }
 
-/// What one reading brought.
+/// Whether an input goes on after one reading.
 #[derive(Clone, Copy, Debug, PartialEq, Eq)]
 pub enum Reading {
-    /// Some bytes.
-    Piece,
-    /// Nothing: the call was interrupted.
-    Interrupted,
-    /// Nothing: the input is at its end.
+    /// Some bytes came, or none since the call was interrupted. More may come.
+    More,
+    /// The input is at its end.
     End,
 }
 
@@ -195,10 +193,8 @@ impl<D: Device> Session<D> {
         reader: &mut R,
         writer: &mut W,
     ) -> Result<Reading, SessionFault>
-        ensures piece { result ≡ Ok Reading.Piece → (piece : List ℕ) × Consumes (R.remaining reader.old) (R.remaining reader.new) piece
+        ensures more { result ≡ Ok Reading.More → (piece : List ℕ) × Consumes (R.remaining reader.old) (R.remaining reader.new) piece
             × Exchanges self.old piece self.new (W.contents writer.old) (W.contents writer.new) }
-        ensures nothing { result ≡ Ok Reading.Interrupted → (self.new ≡ self.old) × Keeps (R.remaining reader.old) (R.remaining reader.new)
-            × Keeps (W.contents writer.old) (W.contents writer.new) }
         ensures end { result ≡ Ok Reading.End → (self.new ≡ self.old) × Consumes (R.remaining reader.old) (R.remaining reader.new) [] × IsAtEnd (R.remaining reader.new)
             × Keeps (W.contents writer.old) (W.contents writer.new) }
         ensures memory { result ≡ Err SessionFault.OutOfMemory → (piece : List ℕ) × Consumes (R.remaining reader.old) (R.remaining reader.new) piece
@@ -207,7 +203,7 @@ impl<D: Device> Session<D> {
             × (length lost ≤ 65536) × (lost ≢ [] → self.old.left < length lost) × Keeps (W.contents writer.old) (W.contents writer.new) }
     {
         let Some(count) = read_once(reader, &mut self.buffer)? else {
-            return Ok(Reading::Interrupted);
+            return Ok(Reading::More);
         };
         if count == 0 {
             return Ok(Reading::End);
@@ -218,7 +214,7 @@ impl<D: Device> Session<D> {
         self.left -= count;
         let piece = &self.buffer[..count];
         match take_piece(&mut self.dialog, &mut self.outbox, &mut self.kept, piece, writer) {
-            Ok(()) => Ok(Reading::Piece),
+            Ok(()) => Ok(Reading::More),
             Err(_) => Err(SessionFault::OutOfMemory),
         }
     }
@@ -332,7 +328,7 @@ pub fn run_session<D: Device, R: Read, W: Write>(
     };
     for _ in 0..limit {
         match session.exchange(reader, writer) {
-            Ok(Reading::Piece | Reading::Interrupted) => {}
+            Ok(Reading::More) => {}
             Ok(Reading::End) => return session.finish(writer),
             Err(fault) => return session.stop(fault),
         }
