@@ -147,7 +147,7 @@ whole_of : (whole rest : List ℕ) → 0 < length rest → IsWhole whole ⊎ (re
 whole_of whole rest some (inl ends) = ends
 whole_of whole rest some (inr none) = absurd (filled rest none some)
 
-both_whole : (whole front : List ℕ) → IsWhole whole → IsWhole front → IsWhole (whole ++ front)
+pub both_whole : (whole front : List ℕ) → IsWhole whole → IsWhole front → IsWhole (whole ++ front)
 both_whole whole front first (inl none) = subst IsWhole (sym (ap (λ (l : List ℕ). whole ++ l) none ∙ append-nil whole)) first
 both_whole whole front first (inr (before, is)) = inr (whole ++ before, ap (λ (l : List ℕ). whole ++ l) is ∙ sym (append_assoc whole before (10 ∷ [])))
 

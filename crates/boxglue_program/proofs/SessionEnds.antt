@@ -1,9 +1,9 @@
 -- A session from its beginning to its end.
-use Rattle.std.proofs.Common.{◌≡◌, ◌≢◌, ◌<◌, ◌≤◌, ◌+◌, ◌&&◌, ◌∷◌, inl, inr, ℕ, Bool, true, false, List, [], ◌++◌, length, Option, Result, refl, sym, append_assoc, arith, ◌∙◌, ap, subst}
+use Rattle.std.proofs.Common.{◌≡◌, ◌<◌, ◌≤◌, ◌+◌, ◌-◌, ◌&&◌, ◌∷◌, inl, inr, ℕ, zero, suc, get_or, take, drop, drop-cons, Bool, true, false, List, [], ◌++◌, length, Option, Result, refl, sym, append_assoc, arith, ◌∙◌, ap, subst}
 use Rattle.std.specs.Prelude.{is_ok, Contains}
 use Rattle.std.specs.List.{list_all}
 use Rattle.std.specs.Str.Lines.{lines}
-use Rattle.std.proofs.lemmas.List.{append-nil, length-append}
+use Rattle.std.proofs.lemmas.List.{append-nil, length-append, take_more}
 use Rattle.job_commands.specs.declared.command.Command.{Command as ACommand}
 use Rattle.job_commands.specs.Reply.{Reply}
 use Rattle.tfm_core.specs.NamedBytes.{NamedBytes}
@@ -166,3 +166,22 @@ session_cut_off files n start now text answers before after new done =
       refl,
       done.rest,
     )
+
+contains_no : (byte : ℕ) (bytes : List ℕ) → (byte ≡ 10 → ⊥) → (Contains bytes 10 → ⊥) → Contains (byte ∷ bytes) 10 → ⊥
+contains_no byte bytes other none (zero, inside, is) = other is
+contains_no byte bytes other none (suc k, inside, is) = none (k, omega (arith, inside), is)
+
+-- The byte before the bytes that were looked at is no line feed.
+pub none_before : (piece : List ℕ) (size : ℕ) → 0 < size → size ≤ length piece → (get_or piece (size - 1) 0 ≡ 10 → ⊥) → (Contains (drop size piece) 10 → ⊥) → Contains (drop (size - 1) piece) 10 → ⊥
+none_before piece size some within other none =
+    let next : suc (size - 1) ≡ size = omega (arith, some) in
+    let is : drop (size - 1) piece ≡ get_or piece (size - 1) 0 ∷ drop size piece =
+    drop-cons piece (size - 1) 0 (omega (arith, some, within)) ∙ ap (λ (k : ℕ). get_or piece (size - 1) 0 ∷ drop k piece) next in
+    subst (λ (bytes : List ℕ). Contains bytes 10 → ⊥) (sym is) (contains_no (get_or piece (size - 1) 0) (drop size piece) other none)
+
+-- The bytes up to a line feed are whole lines.
+pub whole_to : (piece : List ℕ) (size : ℕ) → 0 < size → size ≤ length piece → get_or piece (size - 1) 0 ≡ 10 → IsWhole (take size piece)
+whole_to piece size some within is =
+    let next : size - 1 + 1 ≡ size = omega (arith, some) in
+    let split : take (size - 1 + 1) piece ≡ take (size - 1) piece ++ get_or piece (size - 1) 0 ∷ [] = take_more piece (size - 1) 0 (omega (arith, some, within)) in
+    inr (take (size - 1) piece, ap (λ (k : ℕ). take k piece) (sym next) ∙ (split ∙ ap (λ (byte : ℕ). take (size - 1) piece ++ byte ∷ []) is))

@@ -99,10 +99,13 @@ fn whole_size(piece: &[u8]) -> usize
     ensures rest { Contains (drop result piece.now) 10 → ⊥ }
 {
     let mut size = piece.len();
-    while size > 0 && piece[size - 1] != b'\n' {
+    while size > 0 {
+        if piece[size - 1] == b'\n' {
+            return size;
+        }
         size -= 1;
     }
-    size
+    0
 }
 
 /// Runs the lines that end in a piece, with the bytes kept before it, and keeps what follows the last line feed.

@@ -75,12 +75,15 @@ pub fn lines_say_one_thing()
 
 /// What the lines of an input say in pieces is what they say at once.
 pub fn reading_in_pieces()
-    ensures { (text more : List ℕ) (first second : List Said) → IsWhole text → SayEach (lines text) first → SayEach (lines more) second → SayEach (lines (text ++ more)) (first ++ second) }
+    ensures { (text more : List ℕ) (first second : List Said) → IsWhole text → SayEach (lines text) first → SayEach (lines more) second
+        → SayEach (lines (text ++ more)) (first ++ second) }
 {}
 
 /// The lines of a good script say just its commands, and no line is bad. An input without a bad line is a good script.
 pub fn a_good_script_has_no_bad_line()
-    ensures commands { (text : List ℕ) (found : List Line) (said : List Said) → IsScript text found → SayEach (lines text) said → lines_said 1 said ≡ found }
-    ensures none { (text : List ℕ) (found : List Line) (said : List Said) → IsScript text found → SayEach (lines text) said → has_no_bad said ≡ true }
+    ensures commands { (text : List ℕ) (found : List Line) (said : List Said) → IsScript text found → SayEach (lines text) said
+        → lines_said 1 said ≡ found }
+    ensures none { (text : List ℕ) (found : List Line) (said : List Said) → IsScript text found → SayEach (lines text) said
+        → has_no_bad said ≡ true }
     ensures good { (text : List ℕ) (said : List Said) → SayEach (lines text) said → has_no_bad said ≡ true → IsScript text (lines_said 1 said) }
 {}

@@ -7,8 +7,8 @@ ghost use Rattle.boxglue_script.specs.ScriptLines.{is_passed_over, is_printable,
 ghost use Rattle.boxglue_script.specs.SaidLines.{IsWhole};
 ghost use Rattle.boxglue_script.specs.Reading.{in_line, in_field, front_field, after_field, kept_text};
 
-/// The first line of a text that is not empty, without its end, and the text after it. A line ends with a line feed, which the last one need not have. What
-/// follows begins right after that end.
+/// The first line of a text that is not empty, without its end, and the text after it. A line ends with a line feed, which the last one need not have.
+/// What follows begins right after that end.
 #[tactic(auto, using(crate::proofs::LineLemmas::splitting))]
 pub fn first_line(text: &[u8]) -> (&[u8], &[u8])
     requires { 0 < length text.now }
