@@ -1,6 +1,6 @@
 -- One line that is run and answered, and what is sent.
 use Rattle.std.proofs.Common.{◌≡◌, ◌<◌, ◌⊎◌, ◌+◌, ◌&&◌, ◌∷◌, inl, inr, ℕ, Bool, true, false, List, [], ◌++◌, length, Option, refl, sym, append_assoc, arith, ◌∙◌, ap, subst}
-use Rattle.std.specs.Prelude.{is_ok, Result, Ok, Err, OnOk, OnErr}
+use Rattle.std.specs.Prelude.{is_ok, Result, Ok, Err, IfOk, OnOk, OnErr}
 use Rattle.std.specs.Io.KnownBytes.{Appends}
 use Rattle.std.specs.Str.Lines.{lines}
 use Rattle.std.proofs.lemmas.List.{append-nil}
@@ -151,7 +151,7 @@ pub both_whole : (whole front : List ℕ) → IsWhole whole → IsWhole front �
 both_whole whole front first (inl none) = subst IsWhole (sym (ap (λ (l : List ℕ). whole ++ l) none ∙ append-nil whole)) first
 both_whole whole front first (inr (before, is)) = inr (whole ++ before, ap (λ (l : List ℕ). whole ++ l) is ∙ sym (append_assoc whole before (10 ∷ [])))
 
-ends_on : (whole front after : List ℕ) → IsWhole whole → IsWhole front ⊎ (after ≡ []) → IsWhole (whole ++ front) ⊎ (after ≡ [])
+pub ends_on : (whole front after : List ℕ) → IsWhole whole → IsWhole front ⊎ (after ≡ []) → IsWhole (whole ++ front) ⊎ (after ≡ [])
 ends_on whole front after first (inl ends) = inl (both_whole whole front first ends)
 ends_on whole front after first (inr none) = inr none
 
@@ -176,24 +176,28 @@ up_to_end text [] answers old now none before =
 up_to_end text (byte ∷ rest) answers old now none before = absurd (omega (arith, none))
 
 -- The lines up to the rest were run, and then it stopped.
-pub stops_after : (text rest answers : List ℕ) (old now : DialogView) (new : JobView) → 0 < length rest → RunsUpTo text rest old answers now → RunsUnanswered now.job new → StopsIn text old answers new
-stops_after text rest answers old now new some before last = record {
+pub stops_after : (text rest answers : List ℕ) (old now : DialogView) (new : JobView) → RunsUpTo text rest old answers now → RunsUnanswered now.job new → StopsIn text old answers new
+stops_after text rest answers old now new before last = record {
   whole = before.whole;
   rest = rest;
   split = before.split;
-  ends = whole_of before.whole rest some before.ends;
+  ends = before.ends;
   middle = now;
   ran = before.ran;
   last = last;
 }
 
--- What follows a text in which it stopped.
-pub stops_further : (text more answers : List ℕ) (old : DialogView) (new : JobView) → StopsIn text old answers new → StopsIn (text ++ more) old answers new
-stops_further text more answers old new stops = record {
+whole_text : (text whole rest : List ℕ) → IsWhole text → text ≡ whole ++ rest → IsWhole whole ⊎ (rest ≡ []) → IsWhole whole
+whole_text text whole rest all split (inl ends) = ends
+whole_text text whole rest all split (inr none) = subst IsWhole (split ∙ (ap (λ (l : List ℕ). whole ++ l) none ∙ append-nil whole)) all
+
+-- What follows whole lines in which it stopped.
+pub stops_further : (text more answers : List ℕ) (old : DialogView) (new : JobView) → IsWhole text → StopsIn text old answers new → StopsIn (text ++ more) old answers new
+stops_further text more answers old new all stops = record {
   whole = stops.whole;
   rest = stops.rest ++ more;
   split = ap (λ (l : List ℕ). l ++ more) stops.split ∙ append_assoc stops.whole stops.rest more;
-  ends = stops.ends;
+  ends = inl (whole_text text stops.whole stops.rest all stops.split stops.ends);
   middle = stops.middle;
   ran = stops.ran;
   last = stops.last;
@@ -201,12 +205,12 @@ stops_further text more answers old new stops = record {
 
 -- Nothing of a text was run.
 pub stops_at_once : (text : List ℕ) (old : DialogView) → StopsIn text old [] old.job
-stops_at_once text old = record { whole = []; rest = text; split = refl; ends = inl refl; middle = old; ran = none_answered old; last = nothing_unanswered old.job }
+stops_at_once text old = record { whole = []; rest = text; split = refl; ends = inl (inl refl); middle = old; ran = none_answered old; last = nothing_unanswered old.job }
 
 -- All whole lines were run, and what follows was not kept.
 pub stops_at_rest : (whole rest answers : List ℕ) (old now : DialogView) → IsWhole whole → AnswersLines old (lines whole) answers now → StopsIn (whole ++ rest) old answers now.job
 stops_at_rest whole rest answers old now ends ran =
-    record { whole = whole; rest = rest; split = refl; ends = ends; middle = now; ran = ran; last = nothing_unanswered now.job }
+    record { whole = whole; rest = rest; split = refl; ends = inl ends; middle = now; ran = ran; last = nothing_unanswered now.job }
 
 -- A text was written to a client that reads, or a beginning of it.
 pub told : {A E : Type 0} (r : Result A E) (ok : Bool) (old new : Option (List ℕ)) (text : List ℕ) → ok ≡ is_ok r → OnOk r (Appends old new text) → OnErr r (WritesFront old new text) → IsSent true ok old new text
@@ -220,3 +224,28 @@ map_ok (Err e) f p = p
 pub map_err : {A E : Type 0} {P Q : Type 0} (r : Result A E) → (P → Q) → OnErr r P → OnErr r Q
 map_err (Ok x) f p = p
 map_err (Err e) f p = f p
+
+pub map_if : {A E : Type 0} {P Q : A → Type 0} (r : Result A E) → ((a : A) → P a → Q a) → IfOk r P → IfOk r Q
+map_if (Ok x) f p = f x p
+map_if (Err e) f p = p
+
+-- What waited was sent or stayed, and a line was added.
+pub sends_line : (a b c : OutboxView) (old middle new : Option (List ℕ)) (text more now : List ℕ) → Sends a b old middle text → Sends b c middle new [] → now ≡ c.waiting ++ more
+    → Sends a (outbox_of now c.reads) old new (text ++ more)
+sends_line a b c old middle new text more now first second is =
+    let here = sends_both a b c old middle new text [] first second in
+    let there = sends_both a c (outbox_of now c.reads) old new new (text ++ []) more here (sends_later c.waiting now more c.reads new is) in
+    subst (λ (l : List ℕ). Sends a (outbox_of now c.reads) old new (l ++ more)) (append-nil text) there
+
+-- What waited was sent or stayed, and nothing was added.
+pub sends_no_line : (a b c : OutboxView) (old middle new : Option (List ℕ)) (text now : List ℕ) → Sends a b old middle text → Sends b c middle new [] → now ≡ c.waiting
+    → Sends a (outbox_of now c.reads) old new text
+sends_no_line a b c old middle new text now first second is =
+    subst (λ (l : List ℕ). Sends a (outbox_of now c.reads) old new l) (append-nil text)
+    (sends_line a b c old middle new text [] now first second (is ∙ sym (append-nil c.waiting)))
+
+-- Where nothing waited at first and all that waited was sent at last, the text was sent.
+pub sent_all : (a b : OutboxView) (reads : Bool) (old middle new : Option (List ℕ)) (text : List ℕ) → a.waiting ≡ [] → Sends a b old middle text → IsSent b.reads reads middle new b.waiting → IsSent a.reads reads old new text
+sent_all a b reads old middle new text none sends sent =
+    let same : text ≡ sends.sent ++ b.waiting = ap (λ (l : List ℕ). l ++ text) (sym none) ∙ sends.split in
+    subst (λ (l : List ℕ). IsSent a.reads reads old new l) (sym same) (sent_both a.reads b.reads reads old middle new sends.sent b.waiting sends.is_sent sent)

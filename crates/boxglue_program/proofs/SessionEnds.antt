@@ -17,7 +17,7 @@ use Rattle.boxglue_program.specs.Texts.{end_line}
 use Rattle.boxglue_program.specs.Runs.{commands_of, is_accepted, WasRun}
 use Rattle.boxglue_program.specs.Sessions.{session_text, are_accepted, IsSent, DialogView, AnswersLines, SessionView, Exchanges, StopsIn, IsNewSession, EndsSession, RanSession, StoppedSession, IsCutOff}
 use Rattle.boxglue_program.proofs.SessionLaws.{answered_both, none_answered, same_answered, sent_both, sent_none, and_grouped}
-use Rattle.boxglue_program.proofs.DialogLaws.{both_whole, nothing_unanswered, stops_at_rest}
+use Rattle.boxglue_program.proofs.DialogLaws.{both_whole, ends_on}
 
 -- What a session has done with what it has read so far.
 pub record DoneSoFar (start now : SessionView) (text answers : List ℕ) (before after : Option (List ℕ)) : Type 0 where
@@ -116,7 +116,7 @@ session_stopped files n start now text piece answers others before after job new
           ∙ (append_assoc done.whole now.kept piece
           ∙ (ap (λ (l : List ℕ). done.whole ++ l) stops.split
           ∙ sym (append_assoc done.whole stops.whole stops.rest)));
-      ends = both_whole done.whole stops.whole done.ends stops.ends;
+      ends = ends_on done.whole stops.whole stops.rest done.ends stops.ends;
       said = all.said;
       replies = all.replies;
       says = all.says;
@@ -149,7 +149,7 @@ session_cut_off files n start now text answers before after new done =
         whole = done.whole;
         rest = now.kept;
         split = done.split;
-        ends = done.ends;
+        ends = inl done.ends;
         said = done.ran.said;
         replies = done.ran.replies;
         says = done.ran.says;

@@ -95,7 +95,7 @@ pub record StopsIn (text : List ℕ) (old : DialogView) (answers : List ℕ) (ne
   pub whole : List ℕ
   pub rest : List ℕ
   pub split : text ≡ whole ++ rest
-  pub ends : IsWhole whole
+  pub ends : IsWhole whole ⊎ (rest ≡ [])
   pub middle : DialogView
   pub ran : AnswersLines old (lines whole) answers middle
   pub last : RunsUnanswered middle.job new
@@ -141,7 +141,7 @@ pub record StoppedSession (text : List ℕ) (files : List NamedBytes) (n k : ℕ
   pub whole : List ℕ
   pub rest : List ℕ
   pub split : text ≡ whole ++ rest
-  pub ends : IsWhole whole
+  pub ends : IsWhole whole ⊎ (rest ≡ [])
   pub said : List Said
   pub replies : List Reply
   pub says : SayEach (lines whole) said

@@ -1,7 +1,7 @@
 //! A session: a script that is run as it comes. Each reading brings some bytes, the lines that end in them are run, and their answers are written before
 //! the next reading.
 
-ghost use Rattle.std.specs.Prelude.{◌≡◌, ◌≤◌, ◌<◌, ◌+◌, ◌++◌, ◌^◌, ℕ, true, List, [], length, take, drop, Contains, None, Ok, Err, IfOk, IfErr, IfSome, OnOk, OnErr, vec_len, vec_capacity};
+ghost use Rattle.std.specs.Prelude.{◌≡◌, ◌≤◌, ◌<◌, ◌+◌, ◌++◌, ◌^◌, ℕ, true, List, [], length, take, drop, Contains, None, Ok, Err, IfOk, IfErr, IfSome, OnOk, OnErr, vec_len};
 ghost use Rattle.std.specs.Str.Lines.{lines};
 ghost use Rattle.std.specs.Io.KnownBytes.{Consumes, IsAtEnd, Keeps};
 ghost use Rattle.boxglue_script.specs.SaidLines.{IsWhole};
@@ -59,7 +59,7 @@ pub struct Session<D: Device> {
 }
 
 impl<D: Device> Model for Session<D> {
-    ghost use Rattle.std.specs.Prelude.{◌≡◌, ◌≤◌, ◌<◌, ◌+◌, ◌^◌, [], length, Contains, vec_len, vec_capacity};
+    ghost use Rattle.std.specs.Prelude.{◌≡◌, ◌≤◌, ◌<◌, ◌+◌, ◌^◌, [], length, Contains, vec_len};
     ghost use Rattle.boxglue_program.specs.Sessions.{SessionView};
     ghost use Rattle.boxglue_program.specs.Dialogs.{dialog_of, coded_session};
 
@@ -69,7 +69,7 @@ impl<D: Device> Model for Session<D> {
 
     ghost view = { λ s. record { dialog = dialog_of s.dialog.job s.dialog.lines s.dialog.accepted; reads = s.outbox.reads; kept = s.kept.items; left = s.left } };
 
-    ghost invariant = { λ s. (s.outbox.waiting.items ≡ []) × (110 ≤ vec_capacity s.outbox.waiting) × (vec_len s.buffer ≡ 65536) × (Contains s.kept.items 10 → ⊥)
+    ghost invariant = { λ s. (s.outbox.waiting.items ≡ []) × (vec_len s.buffer ≡ 65536) × (Contains s.kept.items 10 → ⊥)
         × (s.dialog.lines + length s.kept.items + s.left < 2 ^ 64) };
 }
 
@@ -128,7 +128,6 @@ fn take_piece<D: Device, W: Write>(
     ensures emptied { outbox.new.waiting.items ≡ [] }
     ensures rest { Contains kept.new.items 10 → ⊥ }
     ensures counted { dialog.new.lines + length kept.new.items ≤ dialog.old.lines + length kept.old.items + length piece.now }
-    ensures room { vec_capacity outbox.old.waiting ≤ vec_capacity outbox.new.waiting }
 {
     let (whole, rest) = piece.split_at(whole_size(piece));
     if whole.is_empty() {
@@ -239,11 +238,10 @@ impl<D: Device> Session<D> {
             buffer: _buffer,
             left: _left,
         } = self;
-        let outcome = match outbox.answer(&mut dialog, &kept, writer) {
-            Ok(()) => Ok(outbox.finish(&mut dialog, writer)),
-            Err(_) => Err(SessionFault::OutOfMemory),
-        };
-        close(outcome, dialog, &outbox)
+        match outbox.answer_last(&mut dialog, &kept, writer) {
+            Ok(accepted) => close(Ok(accepted), dialog, &outbox),
+            Err(_) => close(Err(SessionFault::OutOfMemory), dialog, &outbox),
+        }
     }
 
     /// Stops the session. The job is not finished.

@@ -1,9 +1,9 @@
 //! The texts of answers.
 
-ghost use Rattle.std.specs.Prelude.{◌≡◌, ◌++◌, ◌+◌, ◌*◌, ◌<◌, ◌≤◌, length, ℕ, List, decimal, OnOk, OnErr, IfOk, IfSome};
+ghost use Rattle.std.specs.Prelude.{◌≡◌, ◌++◌, ◌+◌, ◌*◌, ◌<◌, ◌≤◌, length, ℕ, List, codes, decimal, OnOk, OnErr, IfOk, IfSome};
 ghost use Rattle.std.specs.Fmt.{signed_decimal};
 ghost use Rattle.boxglue_program.specs.Rooms.{TakesRoom};
-ghost use Rattle.boxglue_program.specs.Texts.{cause_name, kind_name, points_text, sizes_text, rest_text, lines_text, costs_text, answer_text, reply_text, answer_line, summary_text, end_line, script_refusal_text};
+ghost use Rattle.boxglue_program.specs.Texts.{cause_name, kind_name, points_text, sizes_text, rest_text, lines_text, costs_text, answer_text, reply_text, answer_line, summary_text, end_line, line_feed, script_refusal_text};
 
 use crate::refusals::{push_number, push_refusal, push_text};
 use boxglue_script::Cause;
@@ -307,6 +307,14 @@ pub(crate) fn push_script_refusal(
 {
     push_text("refused 2 BadScript ", out)?;
     push_number(line as u64, out)?;
+    push_cause(cause, out)
+}
+
+/// Appends a space, the name of a cause, and the end of the line.
+fn push_cause(cause: Cause, out: &mut Vec<u8>) -> Result<(), AllocError>
+    ensures ok { OnOk result (out.new.items ≡ out.old.items ++ (codes " " ++ (cause_name cause ++ line_feed))) }
+    ensures room { TakesRoom 11 out.old out.new result }
+{
     push_text(" ", out)?;
     push_text(cause_name(cause), out)?;
     push_text("\n", out)

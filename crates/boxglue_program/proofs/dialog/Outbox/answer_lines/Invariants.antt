@@ -1,6 +1,5 @@
 -- The lines before the rest were run, and their answers were sent or wait.
 use Rattle.std.proofs.Common.{ℕ, List, ◌≤◌, ◌+◌, length}
-use Rattle.std.specs.Prelude.{vec_capacity}
 use Rattle.boxglue_program.specs.Dialogs.{dialog_of, outbox_of, Sends}
 use Rattle.boxglue_program.proofs.DialogLaws.{RunsUpTo}
 use Rattle.boxglue_program.proofs.dialog.Outbox.answer_lines.Given as goal
@@ -11,7 +10,6 @@ invariant-loop-rest g l = record {
       × RunsUpTo l.text l.rest (dialog_of l.initial.dialog.job l.initial.dialog.lines l.initial.dialog.accepted) answers (dialog_of l.dialog.job l.dialog.lines l.dialog.accepted)
       × Sends (outbox_of l.initial.self.waiting.items l.initial.self.reads) (outbox_of l.self.waiting.items l.self.reads) (g.W.Write.contents l.initial.writer) (g.W.Write.contents l.writer) answers;
   counted : l.dialog.lines + length l.rest ≤ l.initial.dialog.lines + length l.text;
-  room : vec_capacity l.initial.self.waiting ≤ vec_capacity l.self.waiting;
 }
 
 abbrev pub decreases-loop-rest : goal.decreases-loop-rest
