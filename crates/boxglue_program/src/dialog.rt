@@ -107,7 +107,7 @@ impl<D: Device> Dialog<D> {
         ensures unanswered { OnErr result (RunsUnanswered self.old.job self.new.job) }
         ensures cut { OnErr result (answers.new.items ≡ answers.old.items) }
         ensures counted { self.new.lines ≤ self.old.lines + 1 }
-        {
+    {
         let accepted = answer_line(self.alloc, &mut self.job, self.lines, line, answers)?;
         self.lines += 1;
         self.accepted &= accepted;

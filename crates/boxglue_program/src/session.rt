@@ -74,10 +74,7 @@ impl<D: Device> Model for Session<D> {
 }
 
 /// Reads once into a buffer, and returns how many bytes came, 0 at the end of the input, or None if the call was interrupted.
-fn read_once<R: Read>(
-    reader: &mut R,
-    buffer: &mut Vec<u8>,
-) -> Result<Option<usize>, SessionFault>
+fn read_once<R: Read>(reader: &mut R, buffer: &mut Vec<u8>) -> Result<Option<usize>, SessionFault>
     requires some { 0 < vec_len buffer.old }
     ensures size { vec_len buffer.new ≡ vec_len buffer.old }
     ensures bytes { IfOk result (λ read. IfSome read (λ count. (count ≤ vec_len buffer.new) × Consumes (R.remaining reader.old) (R.remaining reader.new) (take count buffer.new.items))) }
@@ -148,12 +145,7 @@ impl<D: Device> Session<D> {
 
     /// A new session with these font files, which may read `limit` bytes in all. The device must have reported no byte yet. If memory is refused, the error is
     /// the device, unchanged.
-    pub fn new(
-        alloc: Global,
-        files: &[FontFile],
-        device: D,
-        limit: usize,
-    ) -> Result<Session<D>, D>
+    pub fn new(alloc: Global, files: &[FontFile], device: D, limit: usize) -> Result<Session<D>, D>
         requires countable { D.failed device + 1 < 2 ^ 64 }
         requires fresh { IfSome (D.bytes_written device) (λ bytes. bytes ≡ []) }
         ensures new { IfOk result (IsNewSession files.now (D.failed device)) }
@@ -215,7 +207,13 @@ impl<D: Device> Session<D> {
         }
         self.left -= count;
         let piece = &self.buffer[..count];
-        match take_piece(&mut self.dialog, &mut self.outbox, &mut self.kept, piece, writer) {
+        match take_piece(
+            &mut self.dialog,
+            &mut self.outbox,
+            &mut self.kept,
+            piece,
+            writer,
+        ) {
             Ok(()) => Ok(Reading::More),
             Err(_) => Err(SessionFault::OutOfMemory),
         }

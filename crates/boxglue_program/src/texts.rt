@@ -225,7 +225,11 @@ fn push_reply(reply: &Reply, out: &mut Vec<u8>) -> Result<(), AllocError>
 
 /// Appends the line that answers the line of a script with this number. Most answers are `ok`, so this one is appended as one piece.
 #[tactic(auto, unfolding(crate::specs::Texts::answer_line, crate::specs::Texts::answer_text))]
-pub(crate) fn push_answer_line(number: usize, reply: &Reply, out: &mut Vec<u8>) -> Result<(), AllocError>
+pub(crate) fn push_answer_line(
+    number: usize,
+    reply: &Reply,
+    out: &mut Vec<u8>,
+) -> Result<(), AllocError>
     ensures { OnOk result (out.new.items ≡ out.old.items ++ answer_line number reply.now) }
 {
     push_number(number as u64, out)?;
@@ -255,7 +259,10 @@ fn push_summary(end: &Result<Summary, Refusal>, out: &mut Vec<u8>) -> Result<(),
 
 /// Appends the last line of the answers.
 #[tactic(auto, unfolding(crate::specs::Texts::end_line))]
-pub(crate) fn push_end_line(end: &Result<Summary, Refusal>, out: &mut Vec<u8>) -> Result<(), AllocError>
+pub(crate) fn push_end_line(
+    end: &Result<Summary, Refusal>,
+    out: &mut Vec<u8>,
+) -> Result<(), AllocError>
     ensures ok { OnOk result (out.new.items ≡ out.old.items ++ end_line end.now) }
     ensures room { TakesRoom 110 out.old out.new result }
 {
