@@ -1,3 +1,6 @@
+pub mod Rooms
 pub mod Texts
 pub mod Runs
 pub mod Rows
+pub mod Sessions
+pub mod Dialogs

@@ -1,8 +1,9 @@
 //! The texts of answers.
 
-ghost use Rattle.std.specs.Prelude.{◌≡◌, ◌++◌, ◌+◌, ◌*◌, ◌<◌, ℕ, List, decimal, OnOk, OnErr, IfOk, IfSome};
+ghost use Rattle.std.specs.Prelude.{◌≡◌, ◌++◌, ◌+◌, ◌*◌, ◌<◌, ◌≤◌, length, ℕ, List, codes, decimal, OnOk, OnErr, IfOk, IfSome};
 ghost use Rattle.std.specs.Fmt.{signed_decimal};
-ghost use Rattle.boxglue_program.specs.Texts.{cause_name, kind_name, points_text, sizes_text, rest_text, lines_text, costs_text, answer_text, reply_text, answer_line, summary_text, end_line, script_refusal_text};
+ghost use Rattle.boxglue_program.specs.Rooms.{TakesRoom};
+ghost use Rattle.boxglue_program.specs.Texts.{cause_name, kind_name, points_text, sizes_text, rest_text, lines_text, costs_text, answer_text, reply_text, answer_line, summary_text, end_line, line_feed, script_refusal_text};
 
 use crate::refusals::{push_number, push_refusal, push_text};
 use boxglue_script::Cause;
@@ -14,7 +15,8 @@ use std::alloc::{AllocError, Global};
 
 /// The name of the cause that makes a script bad.
 fn cause_name(cause: Cause) -> &'static str
-    ensures { result.now ≡ cause_name cause }
+    ensures name { result.now ≡ cause_name cause }
+    ensures short { length result.now ≤ 9 }
 {
     match cause {
         Cause::Byte => "Byte",
@@ -223,7 +225,11 @@ fn push_reply(reply: &Reply, out: &mut Vec<u8>) -> Result<(), AllocError>
 
 /// Appends the line that answers the line of a script with this number. Most answers are `ok`, so this one is appended as one piece.
 #[tactic(auto, unfolding(crate::specs::Texts::answer_line, crate::specs::Texts::answer_text))]
-fn push_answer_line(number: usize, reply: &Reply, out: &mut Vec<u8>) -> Result<(), AllocError>
+pub(crate) fn push_answer_line(
+    number: usize,
+    reply: &Reply,
+    out: &mut Vec<u8>,
+) -> Result<(), AllocError>
     ensures { OnOk result (out.new.items ≡ out.old.items ++ answer_line number reply.now) }
 {
     push_number(number as u64, out)?;
@@ -237,7 +243,8 @@ fn push_answer_line(number: usize, reply: &Reply, out: &mut Vec<u8>) -> Result<(
 
 /// Appends the result of the end of a job.
 fn push_summary(end: &Result<Summary, Refusal>, out: &mut Vec<u8>) -> Result<(), AllocError>
-    ensures { OnOk result (out.new.items ≡ out.old.items ++ summary_text end.now) }
+    ensures ok { OnOk result (out.new.items ≡ out.old.items ++ summary_text end.now) }
+    ensures room { TakesRoom 100 out.old out.new result }
 {
     match end {
         Ok(summary) => {
@@ -252,8 +259,12 @@ fn push_summary(end: &Result<Summary, Refusal>, out: &mut Vec<u8>) -> Result<(),
 
 /// Appends the last line of the answers.
 #[tactic(auto, unfolding(crate::specs::Texts::end_line))]
-fn push_end_line(end: &Result<Summary, Refusal>, out: &mut Vec<u8>) -> Result<(), AllocError>
-    ensures { OnOk result (out.new.items ≡ out.old.items ++ end_line end.now) }
+pub(crate) fn push_end_line(
+    end: &Result<Summary, Refusal>,
+    out: &mut Vec<u8>,
+) -> Result<(), AllocError>
+    ensures ok { OnOk result (out.new.items ≡ out.old.items ++ end_line end.now) }
+    ensures room { TakesRoom 110 out.old out.new result }
 {
     push_text("end: ", out)?;
     push_summary(end, out)?;
@@ -279,7 +290,6 @@ pub fn with_end(text: Option<Vec<u8>>, end: &Result<Summary, Refusal>) -> Option
 }
 
 /// The text for a bad script: the number of its first bad line, and the cause.
-#[tactic(auto, unfolding(crate::specs::Texts::script_refusal_text))]
 pub fn script_refusal_text(
     alloc: Global,
     number: usize,
@@ -288,10 +298,31 @@ pub fn script_refusal_text(
     ensures { IfOk result (λ text. text.items ≡ script_refusal_text number cause) }
 {
     let mut text = Vec::new(alloc);
-    push_text("refused 2 BadScript ", &mut text)?;
-    push_number(number as u64, &mut text)?;
-    push_text(" ", &mut text)?;
-    push_text(cause_name(cause), &mut text)?;
-    push_text("\n", &mut text)?;
+    push_script_refusal(number, cause, &mut text)?;
     Ok(text)
+}
+
+/// Appends the text for a bad line: its number, and the cause.
+#[tactic(auto, unfolding(crate::specs::Texts::script_refusal_text))]
+pub(crate) fn push_script_refusal(
+    line: usize,
+    cause: Cause,
+    out: &mut Vec<u8>,
+) -> Result<(), AllocError>
+    ensures ok { OnOk result (out.new.items ≡ out.old.items ++ script_refusal_text line cause) }
+    ensures room { TakesRoom 80 out.old out.new result }
+{
+    push_text("refused 2 BadScript ", out)?;
+    push_number(line as u64, out)?;
+    push_cause(cause, out)
+}
+
+/// Appends a space, the name of a cause, and the end of the line.
+fn push_cause(cause: Cause, out: &mut Vec<u8>) -> Result<(), AllocError>
+    ensures ok { OnOk result (out.new.items ≡ out.old.items ++ (codes " " ++ (cause_name cause ++ line_feed))) }
+    ensures room { TakesRoom 11 out.old out.new result }
+{
+    push_text(" ", out)?;
+    push_text(cause_name(cause), out)?;
+    push_text("\n", out)
 }

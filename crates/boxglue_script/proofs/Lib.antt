@@ -24,4 +24,5 @@ pub mod FieldPlaces
 pub mod OneCause
 pub mod TextLines
 pub mod ScriptLaws
+pub mod SaidLaws
 pub mod RowLaws

@@ -221,7 +221,7 @@ text_or_fields line (Special text) h = inl (text, inr h)
 text_or_fields line command h = inr h
 
 -- A line with a cause is not right.
-not_said : (line : List ℕ) (cause : Cause) (command : Command) → IsCause cause line → SaysLine line command → ⊥
+pub not_said : (line : List ℕ) (cause : Cause) (command : Command) → IsCause cause line → SaysLine line command → ⊥
 not_said line cause command (inl (e, bytes)) said = true_or_false (list_all is_printable line) said.printable bytes
 not_said line cause command (inr (printable, no_text, h)) said = ⊎_elim
     (λ (has : (text : List ℕ) × HasText line text). no_text has.0 has.1)

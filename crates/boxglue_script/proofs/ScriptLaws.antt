@@ -78,12 +78,12 @@ unfolding line_of
 line_by line command true e h = (e, given_in line command _ _ refl refl (rw e at h))
 line_by line command false e h = let s : Err Byte ≡ Ok command = rw e at h in absurd (cc)
 
-line_said : (line : List ℕ) (command : Command) → is_passed_over line ≡ false → line_of line ≡ Ok command → SaysLine line command
+pub line_said : (line : List ℕ) (command : Command) → is_passed_over line ≡ false → line_of line ≡ Ok command → SaysLine line command
 line_said line command counted h =
     let said = line_by line command _ refl h in
     record { counted = counted; printable = said.0; says = said.1 }
 
-line_read : (line : List ℕ) (command : Command) → SaysLine line command → line_of line ≡ Ok command
+pub line_read : (line : List ℕ) (command : Command) → SaysLine line command → line_of line ≡ Ok command
 unfolding line_of
 line_read line command h = rw h.printable (given_read line command h.says)
 
@@ -99,7 +99,7 @@ given_fault line cause true c e f h = let s : Ok (Text (kept_text line)) ≡ Err
 given_fault line cause false true e f h = let s : Ok (Special (kept_text line)) ≡ Err cause = rw (e, f) at h in absurd (cc)
 given_fault line cause false false e f h = (λ text said. no_text_line line text e f said, cause_holds (fields_of line) cause (rw (e, f) at h))
 
-line_fault : (line : List ℕ) (cause : Cause) (b : Bool) → list_all is_printable line ≡ b → line_of line ≡ Err cause → IsCause cause line
+pub line_fault : (line : List ℕ) (cause : Cause) (b : Bool) → list_all is_printable line ≡ b → line_of line ≡ Err cause → IsCause cause line
 unfolding line_of
 line_fault line cause true e h =
     let fault = given_fault line cause _ _ refl refl (rw e at h) in

@@ -4,5 +4,6 @@ pub mod ParameterNames
 pub mod Grammar
 pub mod Causes
 pub mod Script
+pub mod SaidLines
 pub mod Reading
 pub mod Rows

@@ -1,6 +1,11 @@
 //! Laws of the definitions, and known scripts that the definitions are compared with.
 
-ghost use Rattle.std.specs.Prelude.{◌≡◌, ℕ, List};
+ghost use Rattle.std.specs.Prelude.{◌≡◌, ◌++◌, ℕ, true, List};
+ghost use Rattle.std.specs.Str.Lines.{lines};
+ghost use Rattle.boxglue_script.specs.declared.said.Said.{Said};
+ghost use Rattle.boxglue_script.specs.declared.script.Line.{Line};
+ghost use Rattle.boxglue_script.specs.Script.{IsScript};
+ghost use Rattle.boxglue_script.specs.SaidLines.{SayEach, SayOne, IsWhole, lines_said, has_no_bad};
 ghost use Rattle.boxglue_script.specs.declared.cause.Cause.{Cause};
 ghost use Rattle.boxglue_script.specs.declared.cause.Cause.TheVariants as causes;
 ghost use Rattle.boxglue_script.specs.Causes.{IsFieldCause, IsCause};
@@ -56,4 +61,29 @@ pub fn name_is_the_one_cause()
 /// Of a line one cause holds at most: the byte that is not printable, or that of the first bad field from the left.
 pub fn a_line_has_one_cause()
     ensures { (line : List ℕ) (cause other : Cause) → IsCause cause line → IsCause other line → cause ≡ other }
+{}
+
+/// The lines of a text whose lines are whole, and of what follows it, are those of the one and then those of the other.
+pub fn lines_of_two_texts()
+    ensures { (text more : List ℕ) → IsWhole text → lines (text ++ more) ≡ lines text ++ lines more }
+{}
+
+/// What the lines of an input say is one.
+pub fn lines_say_one_thing()
+    ensures { (all : List (List ℕ)) → SayOne all }
+{}
+
+/// What the lines of an input say in pieces is what they say at once.
+pub fn reading_in_pieces()
+    ensures { (text more : List ℕ) (first second : List Said) → IsWhole text → SayEach (lines text) first → SayEach (lines more) second
+        → SayEach (lines (text ++ more)) (first ++ second) }
+{}
+
+/// The lines of a good script say just its commands, and no line is bad. An input without a bad line is a good script.
+pub fn a_good_script_has_no_bad_line()
+    ensures commands { (text : List ℕ) (found : List Line) (said : List Said) → IsScript text found → SayEach (lines text) said
+        → lines_said 1 said ≡ found }
+    ensures none { (text : List ℕ) (found : List Line) (said : List Said) → IsScript text found → SayEach (lines text) said
+        → has_no_bad said ≡ true }
+    ensures good { (text : List ℕ) (said : List Said) → SayEach (lines text) said → has_no_bad said ≡ true → IsScript text (lines_said 1 said) }
 {}

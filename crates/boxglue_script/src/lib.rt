@@ -13,8 +13,11 @@ pub mod laws;
 mod lines;
 mod name;
 mod parameter;
+mod said;
 mod script;
 mod values;
 
 pub use cause::Cause;
+pub use lines::first_line;
+pub use said::{Said, read_line};
 pub use script::{Line, ScriptFault, read_script};

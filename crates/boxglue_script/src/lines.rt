@@ -1,17 +1,20 @@
 //! Lines of a text and fields of a line.
 
-ghost use Rattle.std.specs.Prelude.{◌≡◌, ◌∷◌, ◌<◌, ◌≤◌, length};
+ghost use Rattle.std.specs.Prelude.{◌≡◌, ◌⊎◌, ◌∷◌, ◌++◌, ◌<◌, ◌≤◌, ℕ, List, [], length};
 ghost use Rattle.std.specs.List.{list_all, prefix_len};
 ghost use Rattle.std.specs.Str.Lines.{lines, strip_carriage_return};
 ghost use Rattle.boxglue_script.specs.ScriptLines.{is_passed_over, is_printable, is_space};
+ghost use Rattle.boxglue_script.specs.SaidLines.{IsWhole};
 ghost use Rattle.boxglue_script.specs.Reading.{in_line, in_field, front_field, after_field, kept_text};
 
 /// The first line of a text that is not empty, without its end, and the text after it. A line ends with a line feed, which the last one need not have.
+/// What follows begins right after that end.
 #[tactic(auto, using(crate::proofs::LineLemmas::splitting))]
 pub fn first_line(text: &[u8]) -> (&[u8], &[u8])
     requires { 0 < length text.now }
     ensures lines { lines text.now ≡ result.0.now ∷ lines result.1.now }
     ensures shorter { length result.1.now < length text.now }
+    ensures split { (front : List ℕ) × (text.now ≡ front ++ result.1.now) × (lines front ≡ result.0.now ∷ []) × (IsWhole front ⊎ (result.1.now ≡ [])) }
 {
     let (line, after) = text.split_at(line_size(text));
     match after {

@@ -1,14 +1,14 @@
 //! Reading a script.
 
-ghost use Rattle.std.specs.Prelude.{◌≡◌, ◌⊎◌, List, Err, IfOk, OnOk, IfErr, IsOk, OnErr};
+ghost use Rattle.std.specs.Prelude.{◌≡◌, ◌⊎◌, List, Err, IfOk, OnOk, IfErr};
 ghost use Rattle.boxglue_script.specs.Script.{IsScript, Explains, IsOneFault, IsRightSoFar};
-ghost use Rattle.boxglue_script.specs.Reading.{line_of, GivesCommand, ReadsOn, StopsAtLine};
+ghost use Rattle.boxglue_script.specs.Reading.{GivesCommand, ReadsOn, StopsAtLine};
 ghost use Rattle.boxglue_script.specs.declared.script.ScriptFault.TheVariants.{OutOfMemory};
 
 use crate::cause::Cause;
-use crate::fields::Fields;
-use crate::lines::{field_and_text, first_line, is_passed_over, is_printable};
-use job_commands::{Characters, Command};
+use crate::lines::first_line;
+use crate::said::{Said, read_line};
+use job_commands::Command;
 use std::alloc::{AllocError, AllocFailed, Global};
 use thiserror::Error;
 
@@ -64,14 +64,14 @@ pub fn read_script(alloc: Global, text: &[u8]) -> Result<Vec<Line>, ScriptFault>
     while !rest.is_empty() {
         let (line, after) = first_line(rest);
         number += 1;
-        read_line(alloc, number, line, &mut found)?;
+        take_line(alloc, number, line, &mut found)?;
         rest = after;
     }
     Ok(found)
 }
 
-/// Reads a line, and appends its command, if it has one, to those of the lines before it. OutOfMemory only if it has one.
-fn read_line(
+/// Takes what a line says: appends its command, if it has one, to those of the lines before it. OutOfMemory only if it has one.
+fn take_line(
     alloc: Global,
     number: usize,
     line: &[u8],
@@ -81,35 +81,12 @@ fn read_line(
     ensures bad { IfErr result (λ fault. (fault ≡ ScriptFault.OutOfMemory) ⊎ StopsAtLine number line.now found.old.items fault) }
     ensures memory { result ≡ Err ScriptFault.OutOfMemory → GivesCommand line.now }
 {
-    if is_passed_over(line) {
-        return Ok(());
-    }
-    match command_of(alloc, line)? {
-        Ok(command) => Ok(found.push(Line { number, command })?),
-        Err(cause) => Err(ScriptFault::BadScript {
+    match read_line(alloc, line)? {
+        Said::Nothing => Ok(()),
+        Said::Command(command) => Ok(found.push(Line { number, command })?),
+        Said::Bad(cause) => Err(ScriptFault::BadScript {
             line: number,
             cause,
         }),
     }
-}
-
-/// The command of a line, or the cause why it has none. Byte comes first, since a line with a byte that is not printable is not cut into fields. A text
-/// may have any length here: how long a special may be is a limit of the job, so the other commands run. The error is a refused growth, only where the line
-/// gives a command.
-#[tactic(auto, unfolding(crate::specs::Reading::line_of, crate::specs::Reading::given))]
-fn command_of(alloc: Global, line: &[u8]) -> Result<Result<Command, Cause>, AllocError>
-    ensures read { IfOk result (λ read. read ≡ line_of line.now) }
-    ensures memory { OnErr result (IsOk (line_of line.now)) }
-{
-    if !is_printable(line) {
-        return Ok(Err(Cause::Byte));
-    }
-    let (word, text) = field_and_text(line);
-    if word == b"text".as_slice() {
-        return Ok(Ok(Command::Text(Characters::new(text.to_vec(alloc)?))));
-    }
-    if word == b"special".as_slice() {
-        return Ok(Ok(Command::Special(Characters::new(text.to_vec(alloc)?))));
-    }
-    Fields::new(line).command(alloc)
 }

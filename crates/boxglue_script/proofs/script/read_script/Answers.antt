@@ -14,18 +14,18 @@ returns-clause-only c =
     script_one c.args.text.now c.loop-rest.found.items
     (read_whole _ c.args.text.now c.loop-rest.rest.now c.loop-rest.found.items (grind (arith, nat_tests)) c.loop-rest.invariant.reading)
 
-pub returns-in_err-read_line-clause-memory : goal.returns-in_err-read_line-clause-memory
-returns-in_err-read_line-clause-memory c = λ wants.
-    let is = handed_is c.from_residual.result c.in_err-read_line.field-0.0 _ c.from_residual.ensures.1 wants in
+pub returns-in_err-take_line-clause-memory : goal.returns-in_err-take_line-clause-memory
+returns-in_err-take_line-clause-memory c = λ wants.
+    let is = handed_is c.from_residual.result c.in_err-take_line.field-0.0 _ c.from_residual.ensures.1 wants in
     right_so_far c.args.text.now c.loop-rest.rest.now c.first_line.result.0.now c.first_line.result.1.now c.loop-rest.invariant.right c.first_line.ensures.lines
-    (c.in_err-read_line.ensures.memory (ap Err is))
+    (c.in_err-take_line.ensures.memory (ap Err is))
 
 pub loop-rest-preserved : goal.loop-rest-preserved
 loop-rest-preserved c =
     let lines = c.first_line.ensures.lines in
-    let on = c.in_ok-read_line.ensures.ok in
+    let on = c.in_ok-take_line.ensures.ok in
     record {
-      reading = read_more c.loop-rest.number c.args.text.now c.loop-rest.rest.now c.first_line.result.0.now c.first_line.result.1.now c.loop-rest.found.items c.read_line.new.found.items c.loop-rest.invariant.reading lines on;
-      right = right_up_to (c.loop-rest.number + 1) c.args.text.now c.loop-rest.rest.now c.first_line.result.0.now c.first_line.result.1.now c.loop-rest.found.items c.read_line.new.found.items c.loop-rest.invariant.right lines on;
+      reading = read_more c.loop-rest.number c.args.text.now c.loop-rest.rest.now c.first_line.result.0.now c.first_line.result.1.now c.loop-rest.found.items c.take_line.new.found.items c.loop-rest.invariant.reading lines on;
+      right = right_up_to (c.loop-rest.number + 1) c.args.text.now c.loop-rest.rest.now c.first_line.result.0.now c.first_line.result.1.now c.loop-rest.found.items c.take_line.new.found.items c.loop-rest.invariant.right lines on;
       counted = omega (arith, c.loop-rest.invariant.counted, c.first_line.ensures.shorter);
     }

@@ -1,0 +1,5 @@
+use Rattle.boxglue_script.proofs.SaidLaws.{say_one}
+use Rattle.boxglue_script.proofs.laws.lines_say_one_thing.Goals as goal
+
+pub returns : goal.returns
+returns c = say_one

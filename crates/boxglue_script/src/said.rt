@@ -1,0 +1,61 @@
+//! What one line of an input says.
+
+ghost use Rattle.std.specs.Prelude.{◌≡◌, IfOk, OnErr, IsOk};
+ghost use Rattle.job_commands.specs.declared.command.Command.{Command as ACommand};
+ghost use Rattle.boxglue_script.specs.declared.said.Said.{Said as ASaid};
+ghost use Rattle.boxglue_script.specs.Script.{SaysLine};
+ghost use Rattle.boxglue_script.specs.SaidLines.{Says};
+ghost use Rattle.boxglue_script.specs.Reading.{line_of};
+
+use crate::cause::Cause;
+use crate::fields::Fields;
+use crate::lines::{field_and_text, is_passed_over, is_printable};
+use job_commands::{Characters, Command};
+use std::alloc::{AllocError, Global};
+
+/// What a line of an input says.
+#[derive(Debug, Drop)]
+pub enum Said {
+    /// The line is empty or begins with `%`.
+    Nothing,
+    /// The line gives this command.
+    Command(Command),
+    /// The line should give a command and does not, for this cause.
+    Bad(Cause),
+}
+
+/// Reads one line, without its end. The error is a refused growth, only where the line gives a command.
+pub fn read_line(alloc: Global, line: &[u8]) -> Result<Said, AllocError>
+    ensures said { IfOk result (Says line.now) }
+    ensures only { IfOk result (λ said. (other : ASaid) → Says line.now other → other ≡ said) }
+    ensures memory { OnErr result ((command : ACommand) × SaysLine line.now command) }
+{
+    if is_passed_over(line) {
+        return Ok(Said::Nothing);
+    }
+    match command_of(alloc, line)? {
+        Ok(command) => Ok(Said::Command(command)),
+        Err(cause) => Ok(Said::Bad(cause)),
+    }
+}
+
+/// The command of a line, or the cause why it has none. Byte comes first, since a line with a byte that is not printable is not cut into fields. A text
+/// may have any length here: how long a special may be is a limit of the job, so the other commands run. The error is a refused growth, only where the line
+/// gives a command.
+#[tactic(auto, unfolding(crate::specs::Reading::line_of, crate::specs::Reading::given))]
+fn command_of(alloc: Global, line: &[u8]) -> Result<Result<Command, Cause>, AllocError>
+    ensures read { IfOk result (λ read. read ≡ line_of line.now) }
+    ensures memory { OnErr result (IsOk (line_of line.now)) }
+{
+    if !is_printable(line) {
+        return Ok(Err(Cause::Byte));
+    }
+    let (word, text) = field_and_text(line);
+    if word == b"text".as_slice() {
+        return Ok(Ok(Command::Text(Characters::new(text.to_vec(alloc)?))));
+    }
+    if word == b"special".as_slice() {
+        return Ok(Ok(Command::Special(Characters::new(text.to_vec(alloc)?))));
+    }
+    Fields::new(line).command(alloc)
+}
