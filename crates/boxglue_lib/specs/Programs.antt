@@ -62,10 +62,10 @@ HasDone (tasks.Fonts dvi) old new before after status = IsSame old new × TaskHa
 HasDone (tasks.Painting sheet dvi fonts) old new before after status =
     IsSame old new × TaskHasEnded (painting_rules old.files sheet dvi.now fonts.items) before after status
 
--- The program was run with these words: `old` is the host that it was given and `new` the one that it returned, `before` and `after` are what the
--- output and the errors had taken, and this is its status. There are two cases. Its words are refused, for a fault that `IsRefused` allows: then the
--- host was returned as it was, and one message was written (`RefusesWords`). Or its words are a command line, and `IsTask` names its task: then this
--- was done (`HasDone`).
+-- The program was run with these words: `old` is the host that it was given and `new` the one that it returned, which has handed out its standard
+-- input, `before` and `after` are what the output and the errors had taken, and this is its status. There are two cases. Its words are refused, for a
+-- fault that `IsRefused` allows: then the host was returned as it was, and one message was written (`RefusesWords`). Or its words are a command line,
+-- and `IsTask` names its task: then this was done (`HasDone`).
 abbrev pub HasRun : {H : Type 0} → (words : List (List ℕ)) → (old new : HostView H) → (before after : Streams) → (status : ℕ) → Type 0
 HasRun words old new before after status =
     ((fault : WordFault) × IsRefused words fault × IsSame old new × RefusesWords fault before after status)
