@@ -11,6 +11,8 @@ CRATE, LINE = 55, 0.022
 READING = 80
 # What takes no longer was not proved anew.
 SHORT = 10
+# For how many seconds of proofs it trusts these numbers more than what it has seen. The first crates were under way before `rt` told of it.
+TRUSTED = 600
 
 
 def sections(text):
@@ -73,7 +75,7 @@ class Progress:
     def seconds_left(self):
         """About how long it goes on: the rest in the order of `rt all`, where all takes as much longer than its lines say as it did so far."""
         now, anew = time.monotonic(), [it for it, took in self.took.items() if took > SHORT]
-        pace = sum(map(self.took.get, anew)) / sum(map(self.cost.get, anew)) if anew else 1
+        pace = (TRUSTED + sum(map(self.took.get, anew))) / (TRUSTED + sum(map(self.cost.get, anew)))
         ends, workers = dict.fromkeys(self.took, 0), [0] * self.jobs
         for crate in [it for it in self.order if it not in self.took]:
             seconds = 0 if self.is_kept(crate) else max(pace * self.cost[crate] - now + self.since.get(crate, now), 1)
