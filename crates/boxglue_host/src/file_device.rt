@@ -117,13 +117,14 @@ fn put<H: Host>(
 
 impl<H: Host> Device for FileDevice<'_, H> {
     ghost use Rattle.std.specs.Prelude.{◌≡◌, ◌≤◌, ◌<◌, ◌+◌, ◌^◌, true, length, take, IfOk, OnOk, OnErr};
+    ghost use Rattle.dvi_device.specs.Pasts.{plain_past};
     ghost use Rattle.boxglue_host.specs.Hosts.{begun_for};
 
     ghost bytes_written = { λ device. written_to_file device.is_open (H.written device.host) };
 
     ghost failed = { λ device. device.failures };
 
-    ghost began = { λ device. begun_for device.path.now (H.row.coded.code device.start.seen) (H.written device.start.seen) (H.failures device.start.seen) };
+    ghost past = { λ device. plain_past (begun_for device.path.now (H.row.coded.code device.start.seen) (H.written device.start.seen) (H.failures device.start.seen)) };
 
     /// Fails exactly when its host does in this call: when it creates the file, or in the write. Until the file is created, the host reports of it what it
     /// reported before.

@@ -1,5 +1,5 @@
 -- A job that runs the commands of a script and is finished.
-use Rattle.std.proofs.Common.{◌≡◌, ◌+◌, ◌&&◌, ◌∷◌, inl, inr, ℕ, Bool, true, false, List, [], ◌++◌, length, take, Option, Some, None, IfSome, Result, Ok, Err, IfOk, OnOk, OnErr, is_err, is_ok, refl, sym, append_assoc, arith, ◌∙◌, ap, subst, ⊎_elim}
+use Rattle.std.proofs.Common.{◌≡◌, ◌⊎◌, ◌+◌, ◌&&◌, ◌∷◌, inl, inr, ℕ, Bool, true, false, List, [], ◌++◌, length, take, drop, Option, Some, None, IfSome, Result, Ok, Err, IfOk, OnOk, OnErr, is_err, is_ok, refl, sym, append_assoc, arith, ◌∙◌, ap, subst, ⊎_elim}
 use Rattle.job_commands.specs.declared.command.Command.{Command}
 use Rattle.job_commands.specs.declared.replies.Refusal.{Refusal}
 use Rattle.job_commands.specs.declared.replies.Refusal.TheVariants as refusals
@@ -9,18 +9,21 @@ use Rattle.tfm_core.specs.NamedBytes.{NamedBytes}
 use Rattle.dvi_device.specs.Written.{written_then, IsFrontOf}
 use Rattle.dvi_device.proofs.Tellings.{grown-grown}
 use Rattle.dvi_device.specs.Beginnings.{Beginning}
-use Rattle.dvi_device.specs.Resumed.{Resumed, written_by, began_by, GoesOnAs, PassesOn}
+use Rattle.dvi_device.specs.Pasts.{Past, Differs, KeepsPast, no_past}
+use Rattle.dvi_device.specs.Resumed.{Resumed, written_by, began_by, past_by, GoesOnAs, PassesOn}
+use Rattle.dvi_device.proofs.PastLaws.{no_difference}
 use Rattle.dvi_layout.specs.Layout.{front, whole}
 use Rattle.job_core.specs.Shown.{GivesFiles, FilesPages}
 use Rattle.job_core.specs.Closing.{ClosesFile}
 use Rattle.job_machine.specs.Machine.{Machine, first_machine}
-use Rattle.job_core.specs.Jobs.{JobView, Represents, KeepsTo, RunsTo, FinishesTo}
+use Rattle.job_core.specs.Jobs.{JobView, due, Represents, KeepsTo, RunsTo, FinishesTo}
 use Rattle.job_core.proofs.Moves.{runs_more}
 use Rattle.dvi_device.specs.Held.{MemoryState}
 use Rattle.job_machine.proofs.RunLaws.{files_kept}
 use Rattle.job_core.proofs.Endings.{said}
 use Rattle.job_core.proofs.NewJobs.{front_none}
-use Rattle.job_core.proofs.RestsOfFiles.{beginning, completed, passed_on}
+use Rattle.job_core.proofs.RestsOfFiles.{beginning, completed, rest_completed, passed_on}
+use Rattle.job_core.proofs.LosslessRuns.{run_rises, end_rises, run_kept, end_kept}
 use Rattle.std.specs.Io.KnownBytes.{Keeps}
 use Rattle.std.proofs.lemmas.List.{append-nil, length-append}
 use Rattle.std.proofs.Math.Bool.{and-true}
@@ -29,7 +32,7 @@ use Rattle.std.proofs.lemmas.List.Folds.{list_all-append}
 use Rattle.std.specs.List.{list_all}
 use Rattle.boxglue_script.specs.declared.script.Line.{Line}
 use Rattle.boxglue_program.specs.Texts.{hexadecimal_text, answer_line, answer_lines}
-use Rattle.boxglue_program.specs.Runs.{DeviceView, device_view, commands_of, line_numbers, IsProperFrontOf, WasRun, IsUntouched, IsAnswered, RanScript, RefusedScript, IsAnsweredInMemory, LacksMemory, CompletesFile, IsAnswerOfRest, IsAnsweredOverRest, IsLeftOverRest}
+use Rattle.boxglue_program.specs.Runs.{DeviceView, device_view, commands_of, line_numbers, IsProperFrontOf, WasRun, IsUntouched, IsAnswered, RanScript, RefusedScript, IsAnsweredInMemory, LacksMemory, CompletesFile, IsAnswerOfRest, RanOverRest, NeverLost, IsAnsweredOverRest, IsLeftOverRest}
 use Rattle.boxglue_program.specs.declared.run.RunFault.TheVariants.{Memory}
 use Rattle.boxglue_program.proofs.SentParts.{sent_part, pages_held}
 
@@ -41,6 +44,10 @@ pub on_ok : {A E : Type 0} {P : Type 0} (r : Result A E) → is_err r ≡ false 
 on_ok (Ok x) e h = h
 on_ok (Err x) e h = absurd (cc)
 
+-- What holds of the value that is there.
+pub if_some : {A : Type 0} (o : Option A) (x : A) (P : A → Type 0) → o ≡ Some x → IfSome o P → P x
+if_some {A = A} o x P is holds = subst (λ (o : Option A). IfSome o P) is holds
+
 -- A new job has reported nothing.
 pub new_untouched : (files : List NamedBytes) (job : JobView) (n k : ℕ) (bytes_written : Option (List ℕ)) → Represents job (first_machine files) → job.failed ≡ n → k ≡ job.failed → bytes_written ≡ job.bytes_written → IsUntouched n k bytes_written
 new_untouched files job n k bytes_written holds f g t = record {
@@ -49,16 +56,16 @@ new_untouched files job n k bytes_written holds f g t = record {
   failed_is = g ∙ f;
 }
 
-size_at : (end : Result Summary Refusal) (bytes_written : Option (List ℕ)) (run : JobView) (m : Machine) → Represents run m → IfOk end (λ summary. (m : Machine) → Represents run m → IfSome bytes_written (λ bytes. summary.bytes ≡ length bytes)) → IfOk end (λ summary. IfSome bytes_written (λ bytes. summary.bytes ≡ length bytes))
+pub size_at : (end : Result Summary Refusal) (bytes_written : Option (List ℕ)) (run : JobView) (m : Machine) → Represents run m → IfOk end (λ summary. (m : Machine) → Represents run m → IfSome bytes_written (λ bytes. summary.bytes ≡ length bytes)) → IfOk end (λ summary. IfSome bytes_written (λ bytes. summary.bytes ≡ length bytes))
 size_at (Ok summary) bytes_written run m holds h = h m holds
 size_at (Err refusal) bytes_written run m holds h = h
 
-count_at : (end : Result Summary Refusal) (run : JobView) (m : Machine) → Represents run m
+pub count_at : (end : Result Summary Refusal) (run : JobView) (m : Machine) → Represents run m
     → IfOk end (λ summary. (m : Machine) → Represents run m → summary.bytes ≡ length (whole m.state.fonts m.pages)) → IfOk end (λ summary. summary.bytes ≡ length (whole m.state.fonts m.pages))
 count_at (Ok summary) run m holds h = h m holds
 count_at (Err refusal) run m holds h = h
 
-pub was_run : (files : List NamedBytes) (commands : List Command) (replies : List Reply) (end : Result Summary Refusal) (job run done : JobView)
+abbrev pub was_run : (files : List NamedBytes) (commands : List Command) (replies : List Reply) (end : Result Summary Refusal) (job run done : JobView)
     → Represents job (first_machine files) → RunsTo job commands replies run → FinishesTo run end done
     → FilesPages run end done
     → ((m : Machine) → Represents run m → OnOk end (IfSome done.bytes_written (λ bytes. bytes ≡ whole m.state.fonts m.pages)))
@@ -88,6 +95,21 @@ was_run files commands replies end job run done holds runs finishes dvi file siz
       sent = λ running. said done.bytes_written done.bytes_written (front last.0.state.fonts last.0.pages) (λ bytes. bytes ≡ front last.0.state.fonts last.0.pages) (last.2.written running).bytes_written refl;
     }
 
+-- What its device made of the bytes that it was to meet.
+pub was_run_past : (files : List NamedBytes) (commands : List Command) (replies : List Reply) (end : Result Summary Refusal) (job run done : JobView)
+    → (holds : Represents job (first_machine files)) → (runs : RunsTo job commands replies run) → (finishes : FinishesTo run end done) → done.began ≡ job.began
+    → KeepsPast job.began (due (finishes (runs (first_machine files) holds).0 (runs (first_machine files) holds).2).0) done.past
+was_run_past files commands replies end job run done holds runs finishes began =
+    let middle = runs (first_machine files) holds in
+    let last = finishes middle.0 middle.2 in
+    subst (λ (p : Past). KeepsPast p (due last.0) done.past) began last.2.past
+
+-- A run of which this is known stays one if the numbers and bytes of its device are replaced by equal ones.
+pub same_run_with : (files : List NamedBytes) (n n' : ℕ) (commands : List Command) (replies : List Reply) (end : Result Summary Refusal) (k k' : ℕ) (bytes_written bytes_written' : Option (List ℕ))
+    (P : Machine → Type 0) → n' ≡ n → k' ≡ k → bytes_written' ≡ bytes_written → (run : WasRun files n commands replies end k bytes_written) → P run.last
+    → (run : WasRun files n' commands replies end k' bytes_written') × P run.last
+same_run_with files n n' commands replies end k k' bytes_written bytes_written' P a b c run known = rw (a, b, c) (run, known)
+
 -- A run stays one if its numbers, lists and bytes are replaced by equal ones.
 pub same_run : (files : List NamedBytes) (n n' : ℕ) (commands commands' : List Command) (replies replies' : List Reply) (end : Result Summary Refusal) (k k' : ℕ) (bytes_written bytes_written' : Option (List ℕ))
     → n' ≡ n → commands' ≡ commands → replies' ≡ replies → k' ≡ k → bytes_written' ≡ bytes_written → WasRun files n commands replies end k bytes_written → WasRun files n' commands' replies' end k' bytes_written'
@@ -103,7 +125,13 @@ no_lines = refl
 
 -- A device in memory as contracts see it.
 abbrev pub memory_view : MemoryState → DeviceView MemoryState
-memory_view = device_view (λ m. Some m.bytes) (λ m. m.failures)
+memory_view = device_view (λ m. Some m.bytes) (λ m. m.failures) (λ m. no_past)
+
+-- An answer without the past of the device.
+pub answered_alone : {D : Type 0} (text : List ℕ) (files : List NamedBytes) (device back : DeviceView D) (answer : List ℕ) (fine : Bool) → IsAnswered text files device back answer fine
+    → RanScript text files device.failed back.failed back.bytes_written answer fine ⊎ (RefusedScript text answer fine × (back.itself ≡ device.itself))
+answered_alone text files device back answer fine (inl on) = inl on.ran
+answered_alone text files device back answer fine (inr refused) = inr refused
 
 -- The answers, and then the bytes of the memory.
 pub answered_in_memory : (text : List ℕ) (files : List NamedBytes) (start memory : MemoryState) (answer whole : List ℕ) (fine : Bool) → start ≡ record { bytes = []; capacity = 0; failures = 0 }
@@ -117,7 +145,7 @@ answered_in_memory text files start memory answer whole fine fresh answered is =
     let nothing : hexadecimal_text memory.bytes ≡ [] = ap (λ (m : MemoryState). hexadecimal_text m.bytes) (refused.1 ∙ fresh) ∙ no_lines in
     let same : whole ≡ answer = is ∙ (ap (λ (more : List ℕ). answer ++ more) nothing ∙ append-nil answer) in
     inr (record { number = refused.0.number; cause = refused.0.cause; bad = refused.0.bad; answer_is = same ∙ refused.0.answer_is; fine_is = refused.0.fine_is }))
-    answered
+    (answered_alone text files (memory_view start) (memory_view memory) answer fine answered)
 
 -- If memory is refused after the run, the whole script was run, or it is bad and the device is new.
 pub lacking_in_memory : (text : List ℕ) (files : List NamedBytes) (start memory : MemoryState) (answer : List ℕ) (fine : Bool) (old : Option (List ℕ)) → start ≡ record { bytes = []; capacity = 0; failures = 0 }
@@ -131,7 +159,7 @@ lacking_in_memory text files start memory answer fine old fresh answered =
           inr (ran.lines, ran.replies, ran.end, ran.script, subst P (ap (λ (m : MemoryState). m.failures) fresh) ran.run))
           (λ (refused : RefusedScript text answer fine × (memory ≡ start)).
           inl (record { silent = ap (λ (m : MemoryState). m.bytes) (refused.1 ∙ fresh); failed_is = ap (λ (m : MemoryState). m.failures) (refused.1 ∙ fresh) }))
-          answered;
+          (answered_alone text files (memory_view start) (memory_view memory) answer fine answered);
       silent = keeps_same old;
     }
   where
@@ -180,68 +208,115 @@ script_completes text files n k start_failed at_first sent before start bytes_wr
 
 -- A device for the rest of a file as contracts see it.
 abbrev pub rest_view : {D : Type 0} → (D → Option (List ℕ)) → (D → ℕ) → Resumed D → DeviceView (Resumed D)
-rest_view bytes_written failed = device_view (written_by bytes_written) (λ r. failed r.device + r.failures)
+rest_view bytes_written failed = device_view (written_by bytes_written) (λ r. failed r.device + r.failures) (past_by bytes_written failed)
 
--- The answer to a script that was run over a new device for the rest of a file.
-pub resumed : {D : Type 0} (bytes_written : D → Option (List ℕ)) (failed : D → ℕ) (text : List ℕ) (files : List NamedBytes) (device : D) (sent : List ℕ) (start rest : Resumed D) (inner : D)
-    (answer : List ℕ) (fine : Bool) → start ≡ record { device = device; start = device; sent = sent; met = 0; failures = 0 }
-    → IsAnswered text files (rest_view bytes_written failed start) (rest_view bytes_written failed rest) answer fine → began_by bytes_written failed rest ≡ began_by bytes_written failed start → bytes_written device ≡ Some sent
-    → inner ≡ rest.device
-    → ((whole : List ℕ) → IfSome (written_by bytes_written rest) (λ bytes. bytes ≡ whole) → IsFrontOf rest.sent whole → bytes_written rest.start ≡ Some rest.sent → bytes_written inner ≡ Some whole)
-    → PassesOn rest.sent (bytes_written rest.start) (bytes_written inner) (written_by bytes_written rest) → IsAnswerOfRest text files sent (bytes_written inner) answer fine
-resumed bytes_written failed text files device sent start rest inner answer fine new (inl ran) began had same got passes =
-    let began_so : began_by bytes_written failed start ≡ beginning sent (Some sent) (failed device) =
-    ap (began_by bytes_written failed) new ∙ ap (λ (t : Option (List ℕ)). beginning sent t (failed device)) had in
-    inl (script_completes text files _ _ (failed rest.start) (failed device) rest.sent sent (bytes_written rest.start) (written_by bytes_written rest) (bytes_written inner) answer fine (began_by bytes_written failed start) ran
-    began began_so got passes)
-resumed {D = D} bytes_written failed text files device sent start rest inner answer fine new (inr (bad, back)) began had same got passes =
-    inr (bad, ap bytes_written (same ∙ ap (λ (r : Resumed D). r.device) (back ∙ new)) ∙ had)
+-- A run over a new device for the rest of a file, around a device that reports and counts so: that device, the one around it before and after the run, and the
+-- inner device that was returned.
+module _ {D : Type 0} (bytes_written : D → Option (List ℕ)) (failed : D → ℕ) (past : D → Past) (device : D) (sent : List ℕ) (start rest : Resumed D) (inner : D)
+    (new : start ≡ record { device = device; start = device; sent = sent; met = 0; failures = 0 })
+    (began : began_by bytes_written failed rest ≡ began_by bytes_written failed start) (same : inner ≡ rest.device)
+    (passes : PassesOn rest.sent (bytes_written rest.start) (bytes_written inner) (written_by bytes_written rest)) where
+  abbrev seen : D → DeviceView D
+  seen = device_view bytes_written failed past
 
--- What a run over the rest of a file passed on, by what was sent before.
-over_rest : {D : Type 0} (bytes_written : D → Option (List ℕ)) (failed : D → ℕ) (device : D) (sent : List ℕ) (start rest : Resumed D) (inner : D)
-    → start ≡ record { device = device; start = device; sent = sent; met = 0; failures = 0 } → began_by bytes_written failed rest ≡ began_by bytes_written failed start
-    → PassesOn rest.sent (bytes_written rest.start) (bytes_written inner) (written_by bytes_written rest) → PassesOn sent (bytes_written device) (bytes_written inner) (written_by bytes_written rest)
-over_rest bytes_written failed device sent start rest inner new began passes =
-    subst (λ (b : Beginning). PassesOn b.sent b.bytes_written (bytes_written inner) (written_by bytes_written rest)) (began ∙ ap (began_by bytes_written failed) new) passes
+  began_so : began_by bytes_written failed rest ≡ beginning sent (bytes_written device) (failed device)
+  began_so = began ∙ ap (began_by bytes_written failed) new
 
--- A new device around another one has failed as often as that one, and later as often as that one and by itself.
-counts_over_rest : {D : Type 0} (failed : D → ℕ) (P : ℕ → ℕ → Type 0) (device : D) (sent : List ℕ) (start rest : Resumed D) (inner : D)
-    → start ≡ record { device = device; start = device; sent = sent; met = 0; failures = 0 } → inner ≡ rest.device
-    → P (failed start.device + start.failures) (failed rest.device + rest.failures) → P (failed device) (failed inner + rest.failures)
-counts_over_rest {D = D} failed P device sent start rest inner new same holds =
-    let none : failed start.device + start.failures ≡ failed device + 0 = ap (λ (r : Resumed D). failed r.device + r.failures) new in
-    let first : failed start.device + start.failures ≡ failed device = omega (arith, none) in
-    let last : failed rest.device + rest.failures ≡ failed inner + rest.failures = ap (λ (d : D). failed d + rest.failures) (sym same) in
-    subst (λ (n : ℕ). P n (failed inner + rest.failures)) first (subst (P (failed start.device + start.failures)) last holds)
+  -- What a run over the rest of a file passed on, by what was sent before.
+  over_rest : PassesOn sent (bytes_written device) (bytes_written inner) (written_by bytes_written rest)
+  over_rest = subst (λ (b : Beginning). PassesOn b.sent b.bytes_written (bytes_written inner) (written_by bytes_written rest)) began_so passes
 
--- The answer to a script that was run over a new device for the rest of a file, whatever the inner device reports.
-pub answered_over_rest : {D : Type 0} (bytes_written : D → Option (List ℕ)) (failed : D → ℕ) (text : List ℕ) (files : List NamedBytes) (device : D) (sent : List ℕ) (start rest : Resumed D) (inner : D)
-    (answer : List ℕ) (fine : Bool) → start ≡ record { device = device; start = device; sent = sent; met = 0; failures = 0 }
-    → IsAnswered text files (rest_view bytes_written failed start) (rest_view bytes_written failed rest) answer fine → began_by bytes_written failed rest ≡ began_by bytes_written failed start
-    → inner ≡ rest.device → PassesOn rest.sent (bytes_written rest.start) (bytes_written inner) (written_by bytes_written rest)
-    → IsAnsweredOverRest text files sent (device_view bytes_written failed device) (device_view bytes_written failed inner) answer fine
-answered_over_rest bytes_written failed text files device sent start rest inner answer fine new (inl ran) began same passes = inl (
-  written_by bytes_written rest,
-  rest.failures,
-  over_rest bytes_written failed device sent start rest inner new began passes,
-  counts_over_rest failed (λ n k. RanScript text files n k (written_by bytes_written rest) answer fine) device sent start rest inner new same ran,
-)
-answered_over_rest {D = D} bytes_written failed text files device sent start rest inner answer fine new (inr (bad, back)) began same passes =
-    inr (bad, same ∙ ap (λ (r : Resumed D). r.device) (back ∙ new))
+  -- A new device around another one has failed as often as that one.
+  first_count : failed start.device + start.failures ≡ failed device
+  first_count =
+      let none : failed start.device + start.failures ≡ failed device + 0 = ap (λ (r : Resumed D). failed r.device + r.failures) new in
+      omega (arith, none)
 
--- A run over a new device for the rest of a file, to which memory was refused.
-pub lacking_over_rest : {D : Type 0} (bytes_written : D → Option (List ℕ)) (failed : D → ℕ) (text : List ℕ) (files : List NamedBytes) (device : D) (sent : List ℕ) (start rest : Resumed D) (inner : D)
-    (before after : Option (List ℕ)) → start ≡ record { device = device; start = device; sent = sent; met = 0; failures = 0 }
-    → LacksMemory text files (failed start.device + start.failures) (failed rest.device + rest.failures) (written_by bytes_written rest) before after
-    → began_by bytes_written failed rest ≡ began_by bytes_written failed start → inner ≡ rest.device
-    → PassesOn rest.sent (bytes_written rest.start) (bytes_written inner) (written_by bytes_written rest)
-    → IsLeftOverRest text files sent (device_view bytes_written failed device) (Memory (device_view bytes_written failed inner)) before after
-lacking_over_rest bytes_written failed text files device sent start rest inner before after new lacks began same passes = (
-  written_by bytes_written rest,
-  rest.failures,
-  over_rest bytes_written failed device sent start rest inner new began passes,
-  counts_over_rest failed (λ n k. LacksMemory text files n k (written_by bytes_written rest) before after) device sent start rest inner new same lacks,
-)
+  -- Later it has failed as often as that one and by itself.
+  last_count : failed rest.device + rest.failures ≡ failed inner + rest.failures
+  last_count = ap (λ (d : D). failed d + rest.failures) (sym same)
+
+  counts_over_rest : (P : ℕ → ℕ → Type 0) → P (failed start.device + start.failures) (failed rest.device + rest.failures) → P (failed device) (failed inner + rest.failures)
+  counts_over_rest P holds =
+      subst (λ (n : ℕ). P n (failed inner + rest.failures)) first_count (subst (P (failed start.device + start.failures)) last_count holds)
+
+  -- Its own failures, if all bytes of the run are these.
+  own_failures : (bytes : List ℕ) → KeepsPast (past_by bytes_written failed start) bytes (past_by bytes_written failed rest) → (rest.failures ≡ 0) ⊎ ((rest.failures ≡ 1) × Differs sent bytes)
+  own_failures bytes keeps =
+      by_case (subst (λ (r : Resumed D). (rest.failures ≡ r.failures) ⊎ ((rest.failures ≡ r.failures + 1) × Differs (drop r.met r.sent) bytes)) new keeps.own)
+    where
+      by_case : (rest.failures ≡ 0) ⊎ ((rest.failures ≡ 0 + 1) × Differs (drop 0 sent) bytes) → (rest.failures ≡ 0) ⊎ ((rest.failures ≡ 1) × Differs sent bytes)
+      by_case (inl none) = inl none
+      by_case (inr (one, apart)) = inr (omega (arith, one), apart)
+
+  -- If the bytes sent before and those of the run begin one file, there is no such failure.
+  none_own : (bytes file : List ℕ) → (rest.failures ≡ 0) ⊎ ((rest.failures ≡ 1) × Differs sent bytes) → IsFrontOf sent file → IsFrontOf bytes file → rest.failures ≡ 0
+  none_own bytes file (inl none) front goes = none
+  none_own bytes file (inr (one, apart)) front goes = absurd (no_difference sent bytes file front goes apart)
+
+  -- A script that was run over it.
+  ran_over_rest : (text : List ℕ) (files : List NamedBytes) (answer : List ℕ) (fine : Bool)
+      → ((all : List ℕ) → IfSome (written_by bytes_written rest) (λ bytes. bytes ≡ all) → IsFrontOf rest.sent all
+      → bytes_written inner ≡ written_then (bytes_written rest.start) (drop (length rest.sent) all))
+      → (ran : RanScript text files (failed device) (failed inner + rest.failures) (written_by bytes_written rest) answer fine)
+      → KeepsPast (past_by bytes_written failed start) (due ran.run.last) (past_by bytes_written failed rest) → RanOverRest text files sent (seen device) (seen inner) answer fine
+  ran_over_rest text files answer fine got ran keeps =
+      let own = own_failures (due ran.run.last) keeps in
+      let m = ran.run.middle in
+      let all = whole m.state.fonts m.pages in
+      record {
+        reported = written_by bytes_written rest;
+        differing = rest.failures;
+        passes_on = over_rest;
+        ran = ran;
+        own = own;
+        lossless = λ file front goes unfailed.
+            let none = none_own (due ran.run.last) file own front goes in
+            let first = run_rises (first_machine files) (failed device) (commands_of ran.lines) ran.replies m ran.run.failed ran.run.ran in
+            let last = end_rises m ran.run.failed ran.end ran.run.last (failed inner + rest.failures) ran.run.finished in
+            let runs = run_kept (first_machine files) (failed device) (commands_of ran.lines) ran.replies m ran.run.failed ran.run.ran (omega (arith, last, none, unfailed)) refl in
+            (runs.0, end_kept m ran.run.failed ran.end ran.run.last (failed inner + rest.failures) ran.run.finished (omega (arith, first, none, unfailed)) runs.1);
+        rest = λ front. rest_completed ran.end (written_by bytes_written rest) (written_by bytes_written rest) (bytes_written rest.start) (bytes_written inner) rest.sent all (failed rest.start)
+            (beginning sent (bytes_written device) (failed device)) ran.run.file refl began_so front (got all);
+      }
+
+  -- The same for a run whose device counts from n to k.
+  abbrev Counted : (text : List ℕ) → (files : List NamedBytes) → (answer : List ℕ) → (fine : Bool) → (n k : ℕ) → Type 0
+  Counted text files answer fine n k = (ran : RanScript text files n k (written_by bytes_written rest) answer fine)
+      → KeepsPast (past_by bytes_written failed start) (due ran.run.last) (past_by bytes_written failed rest) → RanOverRest text files sent (seen device) (seen inner) answer fine
+
+  -- The answer to a script that was run over it, whatever the inner device reports.
+  pub answered_over_rest : (text : List ℕ) (files : List NamedBytes) (answer : List ℕ) (fine : Bool)
+      → IsAnswered text files (rest_view bytes_written failed start) (rest_view bytes_written failed rest) answer fine
+      → ((all : List ℕ) → IfSome (written_by bytes_written rest) (λ bytes. bytes ≡ all) → IsFrontOf rest.sent all
+      → bytes_written inner ≡ written_then (bytes_written rest.start) (drop (length rest.sent) all))
+      → IsAnsweredOverRest text files sent (seen device) (seen inner) answer fine
+  answered_over_rest text files answer fine (inl on) got =
+      let last = subst (λ (k : ℕ). Counted text files answer fine (failed device) k) (sym last_count) (ran_over_rest text files answer fine got) in
+      let counted = subst (λ (n : ℕ). Counted text files answer fine n (failed rest.device + rest.failures)) (sym first_count) last in
+      inl (counted on.ran on.past)
+  answered_over_rest text files answer fine (inr (bad, back)) got = inr (bad, same ∙ ap (λ (r : Resumed D). r.device) (back ∙ new))
+
+  -- The same where the inner device had reported exactly what was sent before.
+  pub resumed : (text : List ℕ) (files : List NamedBytes) (answer : List ℕ) (fine : Bool)
+      → IsAnswered text files (rest_view bytes_written failed start) (rest_view bytes_written failed rest) answer fine → bytes_written device ≡ Some sent
+      → ((whole : List ℕ) → IfSome (written_by bytes_written rest) (λ bytes. bytes ≡ whole) → IsFrontOf rest.sent whole → bytes_written rest.start ≡ Some rest.sent → bytes_written inner ≡ Some whole)
+      → IsAnswerOfRest text files sent (bytes_written inner) answer fine
+  resumed text files answer fine (inl on) had got =
+      inl (script_completes text files _ _ (failed rest.start) (failed device) rest.sent sent (bytes_written rest.start) (written_by bytes_written rest) (bytes_written inner) answer fine
+      (beginning sent (Some sent) (failed device)) on.ran (began_so ∙ ap (λ (t : Option (List ℕ)). beginning sent t (failed device)) had) refl got passes)
+  resumed text files answer fine (inr (bad, back)) had got = inr (bad, ap bytes_written (same ∙ ap (λ (r : Resumed D). r.device) (back ∙ new)) ∙ had)
+
+  -- A run over it, to which memory was refused.
+  pub lacking_over_rest : (text : List ℕ) (files : List NamedBytes) (before after : Option (List ℕ))
+      → LacksMemory text files (failed start.device + start.failures) (failed rest.device + rest.failures) (written_by bytes_written rest) before after
+      → IsLeftOverRest text files sent (seen device) (Memory (seen inner)) before after
+  lacking_over_rest text files before after lacks = (
+    written_by bytes_written rest,
+    rest.failures,
+    over_rest,
+    counts_over_rest (λ n k. LacksMemory text files n k (written_by bytes_written rest) before after) lacks,
+  )
 
 -- The file of no pages is empty.
 no_whole : (m : Machine) → m.pages ≡ [] → whole m.state.fonts m.pages ≡ []

@@ -1,6 +1,6 @@
 -- Runs of a script, and what is written of them (own).
-use Rattle.std.specs.Prelude.{◌≡◌, ◌≢◌, ◌<◌, ◌+◌, ◌⊎◌, ◌&&◌, ◌++◌, ℕ, Bool, false, true, List, [], length, map, take, codes, Option, Some, IfSome, Result, Err, IfOk, OnOk, is_ok}
-use Rattle.std.specs.List.{list_all}
+use Rattle.std.specs.Prelude.{◌≡◌, ◌≢◌, ◌<◌, ◌+◌, ◌⊎◌, ◌&&◌, ◌++◌, ℕ, Bool, false, true, List, [], length, map, take, drop, codes, Option, Some, IfSome, Result, Err, IfOk, IfErr, OnOk, is_ok}
+use Rattle.std.specs.List.{list_all, AllByRecursion}
 use Rattle.std.specs.Io.KnownBytes.{Appends, Keeps}
 use Rattle.job_commands.specs.declared.command.Command.{Command}
 use Rattle.job_commands.specs.declared.replies.Refusal.{Refusal}
@@ -8,11 +8,13 @@ use Rattle.job_commands.specs.declared.replies.Refusal.TheVariants as refusals
 use Rattle.job_commands.specs.declared.replies.Summary.{Summary}
 use Rattle.job_commands.specs.Reply.{Reply}
 use Rattle.tfm_core.specs.NamedBytes.{NamedBytes}
-use Rattle.dvi_device.specs.Written.{IsFrontOf}
+use Rattle.dvi_device.specs.Written.{written_then, IsFrontOf}
+use Rattle.dvi_device.specs.Pasts.{Past, Differs, KeepsPast}
 use Rattle.dvi_device.specs.Resumed.{PassesOn}
 use Rattle.dvi_ops.specs.Fonts.{WidthsByName}
 use Rattle.dvi_layout.specs.Layout.{front, whole}
 use Rattle.dvi_layout.specs.Shippable.{IsFileOfPages}
+use Rattle.job_core.specs.Jobs.{due}
 use Rattle.job_core.specs.Shown.{GivesFiles}
 use Rattle.dvi_layout.specs.Closing.{IsClosedFor}
 use Rattle.dvi_device.specs.Held.{MemoryState}
@@ -88,26 +90,31 @@ pub record RefusedScript (text answer : List ℕ) (fine : Bool) : Type 0 where
   pub answer_is : answer ≡ script_refusal_text number cause
   pub fine_is : fine ≡ false
 
--- A device as contracts see it: the device itself; the bytes that it reports, if they are known; and how often it has failed.
+-- A device as contracts see it: the device itself; the bytes that it reports, if they are known; how often it has failed; and its past.
 pub record DeviceView (D : Type 0) : Type 0 where
   pub itself : D
   pub bytes_written : Option (List ℕ)
   pub failed : ℕ
+  pub past : Past
 
 -- A device as contracts see it, by what they know of each device of its kind.
-abbrev pub device_view : {D : Type 0} → (bytes_written : D → Option (List ℕ)) → (failed : D → ℕ) → D → DeviceView D
-device_view bytes_written failed device = record { itself = device; bytes_written = bytes_written device; failed = failed device }
+abbrev pub device_view : {D : Type 0} → (bytes_written : D → Option (List ℕ)) → (failed : D → ℕ) → (past : D → Past) → D → DeviceView D
+device_view bytes_written failed past device = record { itself = device; bytes_written = bytes_written device; failed = failed device; past = past device }
 
 -- The fault of a run, with its device as contracts see it.
 abbrev pub fault_view : {D : Type 0} → (D → DeviceView D) → RunFault D → RunFault (DeviceView D)
 fault_view seen (Memory back) = Memory (seen back)
 fault_view seen (Answers back) = Answers (seen back)
 
+-- A script was run on a device. If this has one more failure of its own, the bytes of the run differ from those that it was to meet.
+pub record RanOn {D : Type 0} (text : List ℕ) (files : List NamedBytes) (device back : DeviceView D) (answer : List ℕ) (fine : Bool) : Type 0 where
+  pub ran : RanScript text files device.failed back.failed back.bytes_written answer fine
+  pub past : KeepsPast device.past (due ran.run.last) back.past
+
 -- The answer to a script, and the device after it: the answers and the device on which the script was run; or the one line and the device as it was.
 abbrev pub IsAnswered : {D : Type 0} → List ℕ → List NamedBytes → (device back : DeviceView D) → (answer : List ℕ) → (fine : Bool) → Type 0
 IsAnswered text files device back answer fine =
-    RanScript text files device.failed back.failed back.bytes_written answer fine
-    ⊎ (RefusedScript text answer fine × (back.itself ≡ device.itself))
+    RanOn text files device back answer fine ⊎ (RefusedScript text answer fine × (back.itself ≡ device.itself))
 
 -- A device that has reported no byte and failed as often as before: nothing was run on it.
 pub record IsUntouched (n k : ℕ) (bytes_written : Option (List ℕ)) : Type 0 where
@@ -178,15 +185,30 @@ pub record CompletesFile (text : List ℕ) (files : List NamedBytes) (sent : Lis
 abbrev pub IsAnswerOfRest : List ℕ → List NamedBytes → (sent : List ℕ) → (bytes_written : Option (List ℕ)) → (answer : List ℕ) → (fine : Bool) → Type 0
 IsAnswerOfRest text files sent bytes_written answer fine = CompletesFile text files sent bytes_written answer fine ⊎ (RefusedScript text answer fine × (bytes_written ≡ Some sent))
 
--- The answer to a script that is run again over the rest of a file, whatever the inner device reports. The run's device reported these bytes, those sent
--- before among them, which were not sent again; and of its failures some were bytes that differ. A bad script has its one line, and the inner device is
+-- No reply is Device, and the end succeeded, unless memory was refused or a list is open.
+abbrev pub NeverLost : List Reply → Result Summary Refusal → Type 0
+NeverLost replies end =
+    AllByRecursion (λ reply. reply ≢ Err refusals.Device) replies × IfErr end (λ refusal. (refusal ≡ refusals.OutOfMemory) ⊎ (refusal ≡ refusals.ListsOpen))
+
+-- A script was run again over the rest of a file, whatever the inner device reports. The run's device reported these bytes, those sent before among them, which
+-- were not sent again. Its failures are those of the inner device and its own: none, or one, and then the bytes sent before differ from those of the run.
+-- Where both begin one file and the inner device did not fail, no failure was met, and the inner device has got exactly the rest of the file of the pages.
+pub record RanOverRest {D : Type 0} (text : List ℕ) (files : List NamedBytes) (sent : List ℕ) (device back : DeviceView D) (answer : List ℕ) (fine : Bool) : Type 0 where
+  pub reported : Option (List ℕ)
+  pub differing : ℕ
+  pub passes_on : PassesOn sent device.bytes_written back.bytes_written reported
+  pub ran : RanScript text files device.failed (back.failed + differing) reported answer fine
+  pub own : (differing ≡ 0) ⊎ ((differing ≡ 1) × Differs sent (due ran.run.last))
+  pub lossless : (file : List ℕ) → IsFrontOf sent file → IsFrontOf (due ran.run.last) file → back.failed ≡ device.failed → NeverLost ran.replies ran.end
+  pub rest : let all = whole ran.run.middle.state.fonts ran.run.middle.pages in
+      IsFrontOf sent all → OnOk ran.end (back.bytes_written ≡ written_then device.bytes_written (drop (length sent) all))
+
+-- The answer to a script that is run again over the rest of a file, whatever the inner device reports. A bad script has its one line, and the inner device is
 -- as it was.
 abbrev pub IsAnsweredOverRest : {D : Type 0} → List ℕ → List NamedBytes → (sent : List ℕ) → (device back : DeviceView D)
     → (answer : List ℕ) → (fine : Bool) → Type 0
 IsAnsweredOverRest text files sent device back answer fine =
-    ((reported : Option (List ℕ)) × (differing : ℕ) × PassesOn sent device.bytes_written back.bytes_written reported
-    × RanScript text files device.failed (back.failed + differing) reported answer fine)
-    ⊎ (RefusedScript text answer fine × (back.itself ≡ device.itself))
+    RanOverRest text files sent device back answer fine ⊎ (RefusedScript text answer fine × (back.itself ≡ device.itself))
 
 -- What is known if a run over the rest of a file failed: memory was refused; or the writer took a beginning of the answer, once, and not all of it.
 abbrev pub IsLeftOverRest : {D : Type 0} → List ℕ → List NamedBytes → (sent : List ℕ) → (device : DeviceView D) → RunFault (DeviceView D)

@@ -7,7 +7,8 @@ ghost use Rattle.job_commands.specs.declared.replies.Refusal.{Refusal};
 ghost use Rattle.job_commands.specs.declared.replies.Summary.{Summary};
 ghost use Rattle.job_commands.specs.Reply.{Reply};
 ghost use Rattle.dvi_device.specs.Written.{written_then};
-ghost use Rattle.job_core.specs.Jobs.{RunsTo};
+ghost use Rattle.dvi_device.specs.Pasts.{KeepsPast};
+ghost use Rattle.job_core.specs.Jobs.{RunsTo, due};
 ghost use Rattle.boxglue_program.specs.Texts.{answer_lines, answers_text};
 ghost use Rattle.boxglue_program.specs.Runs.{commands_of, line_numbers, is_accepted, device_of, device_view, fault_view, WasRun, IsAnswered, IsUntouched, WasRunWhole, IsLeft, IsAnswerOfRest, IsAnsweredOverRest, IsLeftOverRest};
 
@@ -48,12 +49,12 @@ pub fn answer_script<D: Device>(
 ) -> Result<Answered<D>, D>
     requires countable { D.failed device + 1 < 2 ^ 64 }
     requires fresh { IfSome (D.bytes_written device) (λ bytes. bytes ≡ []) }
-    ensures answers { let seen = device_view D.bytes_written D.failed in
+    ensures answers { let seen = device_view D.bytes_written D.failed D.past in
         IfOk result (λ done. IsAnswered text.now files.now (seen device) (seen done.device) done.text.items done.accepted) }
     ensures left { IfErr result (λ back. IsUntouched (D.failed device) (D.failed back) (D.bytes_written back)
         ⊎ WasRunWhole text.now files.now (D.failed device) (D.failed back) (D.bytes_written back)) }
-    ensures began { IfOk result (λ done. D.began done.device ≡ D.began device) }
-    ensures kept { IfErr result (λ back. D.began back ≡ D.began device) }
+    ensures began { IfOk result (λ done. (D.past done.device).made ≡ (D.past device).made) }
+    ensures kept { IfErr result (λ back. (D.past back).made ≡ (D.past device).made) }
 {
     let lines = match read_script(alloc, text) {
         Ok(lines) => lines,
@@ -100,13 +101,13 @@ pub fn run_script<D: Device, W: Write>(
 ) -> Result<(bool, D), RunFault<D>>
     requires countable { D.failed device + 1 < 2 ^ 64 }
     requires fresh { IfSome (D.bytes_written device) (λ bytes. bytes ≡ []) }
-    ensures answers { let seen = device_view D.bytes_written D.failed in
+    ensures answers { let seen = device_view D.bytes_written D.failed D.past in
         IfOk result (λ done. (answer : List ℕ) × IsAnswered text.now files.now (seen device) (seen done.1) answer done.0
         × Appends (W.contents writer.old) (W.contents writer.new) answer) }
-    ensures left { let seen = device_view D.bytes_written D.failed in
+    ensures left { let seen = device_view D.bytes_written D.failed D.past in
         IfErr result (λ fault. IsLeft text.now files.now (seen device) (fault_view seen fault) (W.contents writer.old) (W.contents writer.new)) }
-    ensures began { IfOk result (λ done. D.began done.1 ≡ D.began device) }
-    ensures kept { IfErr result (λ fault. D.began (device_of fault) ≡ D.began device) }
+    ensures began { IfOk result (λ done. (D.past done.1).made ≡ (D.past device).made) }
+    ensures kept { IfErr result (λ fault. (D.past (device_of fault)).made ≡ (D.past device).made) }
 {
     let done = match answer_script(alloc, text, files, device) {
         Ok(done) => done,
@@ -128,6 +129,9 @@ pub fn run_script<D: Device, W: Write>(
 /// Suppose that the device had reported exactly these bytes, and that the end succeeds. If they are a beginning of the file of the script's pages, the
 /// device then reports exactly that file; if not, nothing was sent. The errors are those of `run_script`. In each case the device keeps what it had
 /// reported, and only bytes after those sent before follow it.
+///
+/// If these bytes and those of the run begin one file, and the device does not fail, no answer is Device, and the end succeeds unless memory is refused or a
+/// list is open.
 pub fn run_rest<D: Device, W: Write>(
     alloc: Global,
     text: &[u8],
@@ -139,10 +143,10 @@ pub fn run_rest<D: Device, W: Write>(
     requires { D.failed device + 1 < 2 ^ 64 }
     ensures whole { D.bytes_written device ≡ Some sent.items → IfOk result (λ done. (answer : List ℕ) × IsAnswerOfRest text.now files.now sent.items (D.bytes_written done.1) answer done.0
         × Appends (W.contents writer.old) (W.contents writer.new) answer) }
-    ensures answers { let seen = device_view D.bytes_written D.failed in
+    ensures answers { let seen = device_view D.bytes_written D.failed D.past in
         IfOk result (λ done. (answer : List ℕ) × IsAnsweredOverRest text.now files.now sent.items (seen device) (seen done.1) answer done.0
         × Appends (W.contents writer.old) (W.contents writer.new) answer) }
-    ensures left { let seen = device_view D.bytes_written D.failed in
+    ensures left { let seen = device_view D.bytes_written D.failed D.past in
         IfErr result (λ fault. IsLeftOverRest text.now files.now sent.items (seen device) (fault_view seen fault) (W.contents writer.old)
         (W.contents writer.new)) }
 {
@@ -172,11 +176,11 @@ fn run_whole<D: Device>(
     requires countable { D.failed device + 1 < 2 ^ 64 }
     requires fresh { IfSome (D.bytes_written device) (λ bytes. bytes ≡ []) }
     ensures ran { IfOk result (λ ran. (replies : List Reply) × (end : Result Summary Refusal)
-        × WasRun files.now (D.failed device) (commands_of lines.now) replies end (D.failed ran.device) (D.bytes_written ran.device)
-        × IfSome ran.text (λ text. text.items ≡ answers_text (line_numbers lines.now) replies end) × (ran.accepted ≡ is_accepted replies end)) }
+        × (run : WasRun files.now (D.failed device) (commands_of lines.now) replies end (D.failed ran.device) (D.bytes_written ran.device))
+        × KeepsPast (D.past device) (due run.last) (D.past ran.device) × IfSome ran.text (λ text. text.items ≡ answers_text (line_numbers lines.now) replies end) × (ran.accepted ≡ is_accepted replies end)) }
     ensures none { IfErr result (λ back. IsUntouched (D.failed device) (D.failed back) (D.bytes_written back)) }
-    ensures began { IfOk result (λ ran. D.began ran.device ≡ D.began device) }
-    ensures kept { IfErr result (λ back. D.began back ≡ D.began device) }
+    ensures began { IfOk result (λ ran. (D.past ran.device).made ≡ (D.past device).made) }
+    ensures kept { IfErr result (λ back. (D.past back).made ≡ (D.past device).made) }
 {
     let mut job = Job::new(alloc, device, files)?;
     let (text, accepted) = run_lines(alloc, &mut job, lines);

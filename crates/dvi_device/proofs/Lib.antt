@@ -1,3 +1,4 @@
 pub mod Tellings
 mod Walks
 pub mod Resumptions
+pub mod PastLaws

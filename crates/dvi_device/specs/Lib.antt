@@ -3,3 +3,4 @@ pub mod Held
 pub mod Fused
 pub mod Resumed
 pub mod Beginnings
+pub mod Pasts

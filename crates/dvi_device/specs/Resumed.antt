@@ -2,6 +2,7 @@
 use Rattle.std.specs.Prelude.{◌≡◌, ◌≤◌, ◌<◌, ◌⊎◌, ◌++◌, [], ℕ, List, length, take, drop, Option, Some, None}
 use Rattle.dvi_device.specs.Written.{written_then, IsFrontOf}
 use Rattle.dvi_device.specs.Beginnings.{Beginning}
+use Rattle.dvi_device.specs.Pasts.{Past}
 
 -- The state of such a device: the inner device, and its state at the start; the bytes that were sent before; how many of them were met; and the
 -- number of its own failures.
@@ -25,6 +26,10 @@ written_by bytes_written r = written_since (take r.met r.sent) (bytes_written r.
 -- The bytes that were sent before, what the inner device reported then, and the number of its failures.
 abbrev pub began_by : {D : Type 0} → (D → Option (List ℕ)) → (D → ℕ) → Resumed D → Beginning
 began_by bytes_written failed r = record { sent = r.sent; bytes_written = bytes_written r.start; failed = failed r.start }
+
+-- The past of such a device.
+abbrev pub past_by : {D : Type 0} → (D → Option (List ℕ)) → (D → ℕ) → Resumed D → Past
+past_by bytes_written failed r = record { made = began_by bytes_written failed r; left = drop r.met r.sent; differing = r.failures }
 
 -- The inner device got bytes since the start, and none before all of `sent` was met.
 pub record IsResumed (before now : Option (List ℕ)) (sent : List ℕ) (met : ℕ) : Type 0 where

@@ -2,6 +2,7 @@
 
 ghost use Rattle.std.specs.Prelude.{◌≡◌, ◌≤◌, ◌<◌, ◌+◌, ◌^◌, [], length, take, Option, Some, IfOk, OnOk, OnErr};
 ghost use Rattle.dvi_device.specs.Written.{written_then, GrowsByFront};
+ghost use Rattle.dvi_device.specs.Pasts.{Passes};
 
 use std::alloc::Global;
 use std::marker::Model;
@@ -14,9 +15,10 @@ pub struct DeviceFault;
 
 /// A device takes bytes in order, a whole piece or the beginning of one at each call, and counts the calls that failed.
 pub trait Device {
-    ghost use Rattle.std.specs.Prelude.{◌≡◌, ◌≤◌, ◌<◌, ◌+◌, ◌^◌, ℕ, List, Option, length, take, IfOk, OnOk, OnErr};
+    ghost use Rattle.std.specs.Prelude.{◌≡◌, ◌≤◌, ◌<◌, ◌+◌, ◌^◌, ⊤, ℕ, List, Option, Result, length, take, IfOk, OnOk, OnErr};
+    ghost use Rattle.dvi_device.specs.declared.device.DeviceFault.{DeviceFault};
     ghost use Rattle.dvi_device.specs.Written.{written_then};
-    ghost use Rattle.dvi_device.specs.Beginnings.{Beginning};
+    ghost use Rattle.dvi_device.specs.Pasts.{Past, Compares, no_past};
 
     /// The bytes that it took since it was made, in order, or None where the device does not report them.
     ghost bytes_written: { Self → Option (List ℕ) };
@@ -24,8 +26,12 @@ pub trait Device {
     /// The number of writes that have failed.
     ghost failed: { Self → ℕ };
 
-    /// The bytes that were sent before the device was made, and the state of the device around which it was made, at that time. No write changes it.
-    ghost began: { Self → Beginning };
+    /// What the device was made with, which no write changes; the bytes sent before that it has still to meet; and the number of its own failures. A device
+    /// that passes its bytes to no other has no past.
+    ghost past: { Self → Past } = { λ _. no_past };
+
+    /// What is known of a call of `write` beyond its clauses: of the device before it, the piece, the result and the device after it.
+    ghost write_gives: { Self → List ℕ → Result ℕ DeviceFault → Self → Type 0 } = { λ _ _ _ _. ⊤ };
 
     /// Takes the piece or a beginning of it, and returns how many bytes it took, at least one. Where it fails, it took nothing, and the failure is
     /// counted.
@@ -37,7 +43,8 @@ pub trait Device {
         ensures stands { OnOk result (failed self.new ≡ failed self.old) }
         ensures none_taken { OnErr result (bytes_written self.new ≡ bytes_written self.old) }
         ensures counted { OnErr result (failed self.new ≡ failed self.old + 1) }
-        ensures began { began self.new ≡ began self.old };
+        ensures past { Compares (past self.old).left piece.now result (past self.old) (past self.new) }
+        ensures gives { write_gives self.old piece.now result self.new };
 
     /// The number of writes that have failed.
     fn failures(&self) -> u64
@@ -81,13 +88,10 @@ impl Memory {
 
 impl Device for Memory {
     ghost use Rattle.std.specs.Prelude.{◌≡◌, ◌<◌, ◌+◌, ◌^◌, ◌++◌, length, Some, IfOk, OnOk, OnErr};
-    ghost use Rattle.dvi_device.specs.Beginnings.{no_beginning};
 
     ghost bytes_written = { λ memory. Some memory.bytes };
 
     ghost failed = { λ memory. memory.failures };
-
-    ghost began = { λ memory. no_beginning };
 
     /// Takes the whole piece. It fails only where its capacity is too small and a growth is refused.
     fn write(&mut self, piece: &[u8]) -> Result<usize, DeviceFault>
@@ -122,7 +126,7 @@ pub fn write_all<D: Device>(device: &mut D, bytes: &[u8]) -> Result<(), DeviceFa
     ensures stands { OnOk result (D.failed device.new ≡ D.failed device.old) }
     ensures front { OnErr result (GrowsByFront (D.bytes_written device.old) (D.bytes_written device.new) bytes.now) }
     ensures counted { OnErr result (D.failed device.new ≡ D.failed device.old + 1) }
-    ensures began { D.began device.new ≡ D.began device.old }
+    ensures past { Passes result (D.past device.old) bytes.now (D.past device.new) }
 {
     let mut sent = 0;
     while sent < bytes.len() {

@@ -52,13 +52,10 @@ impl Fuse {
 
 impl Device for Fuse {
     ghost use Rattle.std.specs.Prelude.{◌≡◌, ◌≢◌, ◌≤◌, ◌<◌, ◌+◌, ◌-◌, ◌^◌, ◌++◌, ◌⊎◌, length, take, Some, IfOk, OnOk, OnErr, min};
-    ghost use Rattle.dvi_device.specs.Beginnings.{no_beginning};
 
     ghost bytes_written = { λ fuse. Some fuse.bytes };
 
     ghost failed = { λ fuse. fuse.failures };
-
-    ghost began = { λ fuse. no_beginning };
 
     /// Fails at its chosen call. At each other call it takes as many bytes of the piece as it may, unless its capacity is too small and a growth is
     /// refused.

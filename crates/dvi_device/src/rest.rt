@@ -87,13 +87,16 @@ impl<D: Device> Rest<D> {
 impl<D: Device> Device for Rest<D> {
     ghost use Rattle.std.specs.Prelude.{◌≡◌, ◌≢◌, ◌≤◌, ◌<◌, ◌+◌, ◌^◌, ◌++◌, length, take, drop, slice_index, IfOk, IsOk, IsErr, OnOk, OnErr};
     ghost use Rattle.dvi_device.specs.Written.{written_then};
-    ghost use Rattle.dvi_device.specs.Resumed.{written_by, began_by};
+    ghost use Rattle.dvi_device.specs.Resumed.{written_by, past_by};
+    ghost use Rattle.dvi_device.specs.Pasts.{Compares};
 
     ghost bytes_written = { written_by D.bytes_written };
 
     ghost failed = { λ r. D.failed r.device + r.failures };
 
-    ghost began = { began_by D.bytes_written D.failed };
+    ghost past = { past_by D.bytes_written D.failed };
+
+    ghost write_gives = { λ old piece result new. old.met ≡ length old.sent → D.write_gives old.device piece result new.device };
 
     fn write(&mut self, piece: &[u8]) -> Result<usize, DeviceFault>
         requires piece_not_empty { 0 < length piece.now }
@@ -107,7 +110,10 @@ impl<D: Device> Device for Rest<D> {
         // Until all of `sent` was met, the inner device is unchanged, each byte that is taken is the next one of `sent`, and only a byte that differs is a
         // failure. After that, only failures of the inner device are. This holds too where the inner device does not report what it took.
         ensures sent { (self.new.sent ≡ self.old.sent) × (self.new.start ≡ self.old.start) }
-        ensures began { began_by D.bytes_written D.failed self.new ≡ began_by D.bytes_written D.failed self.old }
+        ensures past { Compares (drop self.old.met self.old.sent) piece.now result (past_by D.bytes_written D.failed self.old) (past_by D.bytes_written D.failed self.new) }
+
+        // Once all of `sent` was met, a call is one call of the inner device with the whole piece.
+        ensures gives { self.old.met ≡ length self.old.sent → D.write_gives self.old.device piece.now result self.new.device }
         ensures apart { self.old.met < length self.old.sent → self.new.device ≡ self.old.device }
         ensures own { self.old.met ≡ length self.old.sent → self.new.failures ≡ self.old.failures }
         ensures met { IfOk result (λ n. self.old.met < length self.old.sent → (self.new.met ≡ self.old.met + n) × (take n piece.now ≡ take n (drop self.old.met self.old.sent))) }

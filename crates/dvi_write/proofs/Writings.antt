@@ -1,11 +1,13 @@
 -- A writer, and the pages that it has written.
-use Rattle.std.proofs.Common.{◌≡◌, ◌≢◌, ℕ, ◌+◌, ◌<◌, ◌^◌, List, [], ◌∷◌, ◌++◌, length, take, inl, inr, refl, ap, sym, ◌∙◌, arith, append-nil, length-append}
+use Rattle.std.proofs.Common.{◌≡◌, ◌≢◌, ℕ, ◌+◌, ◌<◌, ◌^◌, List, [], ◌∷◌, ◌++◌, length, take, inl, inr, refl, ap, sym, subst, ◌∙◌, arith, append-nil, length-append}
 use Rattle.std.specs.Prelude.{Bool, true, false, if◌then◌else◌, ◌⊎◌, Option, Some, None, Result, Ok, Err, OnOk, OnErr}
 use Rattle.std.proofs.Math.Seq.{take-append-add}
 use Rattle.std.proofs.lemmas.List.{nil_from_length}
 use Rattle.scaled_core.proofs.EachOf.{all_append}
 use Rattle.dvi_device.specs.Written.{written_then, GrowsByFront}
+use Rattle.dvi_device.specs.Pasts.{Past, past_after, KeepsPast}
 use Rattle.dvi_device.proofs.Tellings.{grown-grown}
+use Rattle.dvi_device.proofs.PastLaws.{keeps_both, past_after_both}
 use Rattle.page_core.specs.Marks.{ShippedPage, is_huge}
 use Rattle.dvi_layout.specs.declared.fault.WriteFault.{WriteFault}
 use Rattle.dvi_layout.specs.declared.fault.WriteFault.TheVariants.{Device, HugePage, JobOver, OutOfMemory}
@@ -25,9 +27,9 @@ grown-none None = refl
 grown-none (Some bytes) = ap Some (sym (append-nil bytes))
 
 -- A new writer has written no page.
-pub written_none : (fonts : Slots) (w : Writing) → w.so_far ≡ nothing_so_far → w.over ≡ false → HasWritten fonts w.bytes_written w []
+pub written_none : (fonts : Slots) (w : Writing) → w.so_far ≡ nothing_so_far → w.over ≡ false → w.past ≡ w.began → HasWritten fonts w.bytes_written w []
 unfolding front
-written_none fonts w nothing running = record { bytes_written = grown-none w.bytes_written; so_far = nothing; right = tt; running = running }
+written_none fonts w nothing running new = record { bytes_written = grown-none w.bytes_written; past = new; so_far = nothing; right = tt; running = running }
 
 -- The bytes sent for a page after others are the end of the front of all of them.
 sent_front : (fonts : Slots) (before : Option (List ℕ)) (w : Writing) (pages : List ShippedPage) (page : ShippedPage) (more : List ℕ) → HasWritten fonts before w pages
@@ -38,6 +40,13 @@ next-same : (fonts : Slots) (before : Option (List ℕ)) (w : Writing) (pages : 
     → front fonts pages ++ next_bytes fonts w.so_far page ≡ front fonts (pages ++ page ∷ [])
 next-same fonts before w pages page written =
     ap (λ s. front fonts pages ++ next_bytes fonts s page) written.so_far ∙ sym (front-append fonts pages page)
+
+-- The past of a device after one more page.
+past_after_front : (fonts : Slots) (before : Option (List ℕ)) (old : Writing) (new : Past) (pages : List ShippedPage) (page : ShippedPage) → HasWritten fonts before old pages
+    → new ≡ past_after old.past (next_bytes fonts old.so_far page) → new ≡ past_after old.began (front fonts (pages ++ page ∷ []))
+past_after_front fonts before old new pages page written past =
+    past_after_both old.began old.past new (front fonts pages) (next_bytes fonts old.so_far page) written.past past
+    ∙ ap (past_after old.began) (next-same fonts before old pages page written)
 
 -- Why a page is refused while the file is not over.
 unrefused : (w : Writing) (page : ShippedPage) → w.over ≡ false → refusal_of w page ≡ limit_of w.so_far page
@@ -57,10 +66,11 @@ refused_by w page fault running limit is = by_test (is_huge page) limit is
 
 -- A writer that has sent a page has written it after the others.
 pub written_more : (fonts : Slots) (before : Option (List ℕ)) (old new : Writing) (pages : List ShippedPage) (page : ShippedPage) → HasWritten fonts before old pages
-    → IsRightPage fonts page → new.so_far ≡ with_next fonts old.so_far page → new.bytes_written ≡ written_then old.bytes_written (next_bytes fonts old.so_far page) → new.over ≡ false
-    → HasWritten fonts before new (pages ++ page ∷ [])
-written_more fonts before old new pages page written right kept bytes_written running =
+    → IsRightPage fonts page → new.so_far ≡ with_next fonts old.so_far page → new.bytes_written ≡ written_then old.bytes_written (next_bytes fonts old.so_far page)
+    → new.past ≡ past_after old.past (next_bytes fonts old.so_far page) → new.began ≡ old.began → new.over ≡ false → HasWritten fonts before new (pages ++ page ∷ [])
+written_more fonts before old new pages page written right kept bytes_written past began running =
     record {
+      past = past_after_front fonts before old new.past pages page written past ∙ ap (λ (p : Past). past_after p (front fonts (pages ++ page ∷ []))) (sym began);
       bytes_written =
           bytes_written ∙ (sent_front fonts before old pages page (next_bytes fonts old.so_far page) written ∙ ap (written_then before) (next-same fonts before old pages page written));
       so_far = kept ∙ (ap (λ s. with_next fonts s page) written.so_far ∙ sym (so_far-append fonts pages page));
@@ -87,6 +97,13 @@ part_more fonts before new old pages page written grows =
     front_after before old.bytes_written new (front fonts pages) (next_bytes fonts old.so_far page) (front fonts (pages ++ page ∷ [])) written.bytes_written
     (next-same fonts before old pages page written) grows
 
+-- What the device makes of a page in which it failed.
+pub past_part : (fonts : Slots) (before : Option (List ℕ)) (old : Writing) (new : Past) (pages : List ShippedPage) (page : ShippedPage) → HasWritten fonts before old pages
+    → KeepsPast old.past (next_bytes fonts old.so_far page) new → KeepsPast old.began (front fonts (pages ++ page ∷ [])) new
+past_part fonts before old new pages page written keeps =
+    subst (λ (bytes : List ℕ). KeepsPast old.began bytes new) (next-same fonts before old pages page written)
+    (keeps_both old.began old.past new (front fonts pages) (next_bytes fonts old.so_far page) written.past keeps)
+
 -- The pages are not empty where their number is not 0.
 pub some_pages : (fonts : Slots) (before : Option (List ℕ)) (w : Writing) (pages : List ShippedPage) → HasWritten fonts before w pages → w.so_far.pages ≢ 0 → pages ≢ []
 some_pages fonts before w pages written some none = some (ap (λ (s : ProgressView). s.pages) written.so_far ∙ ap length none)
@@ -106,6 +123,26 @@ ended_all fonts before new old pages written some bytes_written =
     bytes_written
     ∙ (ap (λ bytes_written. written_then bytes_written (last_bytes fonts old.so_far)) written.bytes_written
     ∙ (grown-grown before (front fonts pages) (last_bytes fonts old.so_far) ∙ ap (written_then before) (whole-same fonts before old pages written some)))
+
+pub past_all : (fonts : Slots) (before : Option (List ℕ)) (old : Writing) (new : Past) (pages : List ShippedPage) → HasWritten fonts before old pages → old.so_far.pages ≢ 0
+    → new ≡ past_after old.past (last_bytes fonts old.so_far) → new ≡ past_after old.began (whole fonts pages)
+past_all fonts before old new pages written some past =
+    past_after_both old.began old.past new (front fonts pages) (last_bytes fonts old.so_far) written.past past ∙ ap (past_after old.began) (whole-same fonts before old pages written some)
+
+-- What the device makes of the end of a file in which it failed.
+pub past_lost : (fonts : Slots) (before : Option (List ℕ)) (old : Writing) (new : Past) (pages : List ShippedPage) → HasWritten fonts before old pages → old.so_far.pages ≢ 0
+    → KeepsPast old.past (last_bytes fonts old.so_far) new → KeepsPast old.began (whole fonts pages) new
+past_lost fonts before old new pages written some keeps =
+    subst (λ (bytes : List ℕ). KeepsPast old.began bytes new) (whole-same fonts before old pages written some)
+    (keeps_both old.began old.past new (front fonts pages) (last_bytes fonts old.so_far) written.past keeps)
+
+-- Without pages, it has met nothing.
+pub past_none : (fonts : Slots) (before : Option (List ℕ)) (old : Writing) (pages : List ShippedPage) → HasWritten fonts before old pages → old.so_far.pages ≡ 0
+    → old.past ≡ past_after old.began (whole fonts pages)
+unfolding front whole
+past_none fonts before old pages written none =
+    let empty = no_pages fonts before old pages written none in
+    written.past ∙ (ap (λ pages. past_after old.began (front fonts pages)) empty ∙ sym (ap (λ pages. past_after old.began (whole fonts pages)) empty))
 
 -- Without pages, it has taken nothing.
 pub ended_none : (fonts : Slots) (before : Option (List ℕ)) (old : Writing) (pages : List ShippedPage) → HasWritten fonts before old pages → old.so_far.pages ≡ 0
@@ -155,6 +192,7 @@ pub written_with_more : (fonts more : Slots) (before : Option (List ℕ)) (w : W
 written_with_more fonts more before w pages extends written =
     record {
       bytes_written = written.bytes_written ∙ ap (written_then before) (front_more fonts more extends pages written.right);
+      past = written.past ∙ ap (past_after w.began) (front_more fonts more extends pages written.right);
       so_far = written.so_far ∙ so_far_more fonts more extends pages written.right;
       right = pages_more fonts more extends pages written.right;
       running = written.running;

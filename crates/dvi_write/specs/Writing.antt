@@ -3,7 +3,7 @@ use Rattle.std.specs.Prelude.{◌≡◌, ◌≢◌, ◌⊎◌, ℕ, Bool, true, 
 use Rattle.std.specs.List.{AllByRecursion}
 use Rattle.page_core.specs.Marks.{ShippedPage}
 use Rattle.dvi_device.specs.Written.{written_then}
-use Rattle.dvi_device.specs.Beginnings.{Beginning}
+use Rattle.dvi_device.specs.Pasts.{Past, past_after}
 use Rattle.dvi_layout.specs.declared.fault.WriteFault.{WriteFault}
 use Rattle.dvi_layout.specs.declared.fault.WriteFault.TheVariants.{JobOver, OutOfMemory, Device}
 use Rattle.tfm_core.specs.Slots.{Slots}
@@ -12,19 +12,21 @@ use Rattle.dvi_layout.specs.Layout.{front}
 use Rattle.dvi_layout.specs.SoFar.{ProgressView, so_far_of}
 use Rattle.dvi_layout.specs.Shippable.{IsRightPage}
 
--- The state of a writer: the numbers that it keeps of the pages so far; of its device, the bytes that it reports, the number of its failures, and
--- what was sent before it was made; and whether the file is over.
+-- The state of a writer: the numbers that it keeps of the pages so far; of its device, the bytes that it reports, the number of its failures, its past, and
+-- its past when the writer was made; and whether the file is over.
 pub record Writing : Type 0 where
   pub so_far : ProgressView
   pub bytes_written : Option (List ℕ)
   pub failed : ℕ
-  pub began : Beginning
+  pub past : Past
+  pub began : Past
   pub over : Bool
 
 -- The writer has written these pages with these fonts to a device that reported `before` at the start: all their bytes up to the last eop were sent,
--- once and in order, and no others.
+-- once and in order, and no others. The device has met as many of the bytes that it was to meet.
 pub record HasWritten (fonts : Slots) (before : Option (List ℕ)) (w : Writing) (pages : List ShippedPage) : Type 0 where
   pub bytes_written : w.bytes_written ≡ written_then before (front fonts pages)
+  pub past : w.past ≡ past_after w.began (front fonts pages)
   pub so_far : w.so_far ≡ so_far_of fonts pages
   pub right : AllByRecursion (IsRightPage fonts) pages
   pub running : w.over ≡ false

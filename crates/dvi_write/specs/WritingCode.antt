@@ -2,6 +2,7 @@
 use Rattle.std.specs.Prelude.{ℕ, ℤ, Bool, List, Option, refl}
 use Rattle.std.specs.Coded.{Coded, code_by, coded×, coded_ℕ, coded_ℤ, coded_bool, coded_list, coded_option}
 use Rattle.dvi_device.specs.Beginnings.{Beginning}
+use Rattle.dvi_device.specs.Pasts.{Past}
 use Rattle.dvi_layout.specs.SoFar.{ProgressView}
 use Rattle.dvi_write.specs.Writing.{Writing}
 
@@ -20,11 +21,17 @@ coded_beginning =
     code_by ((List ℕ × Option (List ℕ)) × ℕ) (coded× (coded× (coded_list coded_ℕ) (coded_option (coded_list coded_ℕ))) coded_ℕ)
     (λ b. ((b.sent, b.bytes_written), b.failed)) (λ p. record { sent = p.0.0; bytes_written = p.0.1; failed = p.1 }) (λ _. refl)
 
--- The coding of a writer: the kept numbers, and what its device reports; the number of its failures, and what was sent before; and whether it is
+-- The coding of the past of a device: what it was made with, the bytes that are left to meet, and the number of its own failures.
+abbrev pub coded_past : Coded Past
+coded_past =
+    code_by ((Beginning × List ℕ) × ℕ) (coded× (coded× coded_beginning (coded_list coded_ℕ)) coded_ℕ)
+    (λ p. ((p.made, p.left), p.differing)) (λ p. record { made = p.0.0; left = p.0.1; differing = p.1 }) (λ _. refl)
+
+-- The coding of a writer: the kept numbers, and what its device reports; the number of its failures, its past and that at the start; and whether it is
 -- over.
 abbrev pub coded_writing : Coded Writing
 coded_writing =
-    code_by ((ProgressView × Option (List ℕ)) × ((ℕ × Beginning) × Bool))
-    (coded× (coded× coded_so_far (coded_option (coded_list coded_ℕ))) (coded× (coded× coded_ℕ coded_beginning) coded_bool))
-    (λ w. ((w.so_far, w.bytes_written), ((w.failed, w.began), w.over)))
-    (λ p. record { so_far = p.0.0; bytes_written = p.0.1; failed = p.1.0.0; began = p.1.0.1; over = p.1.1 }) (λ _. refl)
+    code_by ((ProgressView × Option (List ℕ)) × ((ℕ × (Past × Past)) × Bool))
+    (coded× (coded× coded_so_far (coded_option (coded_list coded_ℕ))) (coded× (coded× coded_ℕ (coded× coded_past coded_past)) coded_bool))
+    (λ w. ((w.so_far, w.bytes_written), ((w.failed, (w.past, w.began)), w.over)))
+    (λ p. record { so_far = p.0.0; bytes_written = p.0.1; failed = p.1.0.0; past = p.1.0.1.0; began = p.1.0.1.1; over = p.1.1 }) (λ _. refl)

@@ -1,6 +1,6 @@
 //! The writer of a DVI file: each page goes to a device as it comes, and the end after the last (DVItype, 13 to 20).
 
-use dvi_device::{Device, write_all};
+use dvi_device::{Device, Snapshot, write_all};
 use dvi_layout::{AdmittedPage, Fonts, NextPage, Offsets, Progress, WriteFault};
 use dvi_ops::counts_fit;
 use node_core::BoxNode;
@@ -19,6 +19,7 @@ pub struct WrittenFile {
 pub struct DviWriter<D: Device> {
     progress: Progress,
     device: D,
+    start: Snapshot<D>,
     over: bool,
 }
 
@@ -32,14 +33,15 @@ impl<D: Device> Model for DviWriter<D> {
 
     ghost coded = { coded_writing };
 
-    ghost view = { λ w. record { so_far = w.progress; bytes_written = D.bytes_written w.device; failed = D.failed w.device; began = D.began w.device; over = w.over } };
+    ghost view = { λ w. record { so_far = w.progress; bytes_written = D.bytes_written w.device; failed = D.failed w.device; past = D.past w.device; began = D.past w.start.seen; over = w.over } };
 
-    ghost invariant = { λ w. HasRoom w.progress × (w.over ≡ false → D.failed w.device + 1 < 2 ^ 64) };
+    ghost invariant = { λ w. HasRoom w.progress × (w.over ≡ false → D.failed w.device + 1 < 2 ^ 64) × ((D.past w.device).made ≡ (D.past w.start.seen).made) };
 }
 
 impl<D: Device> DviWriter<D> {
     ghost use Rattle.std.specs.Prelude.{◌≡◌, ◌≢◌, ◌<◌, ◌+◌, ◌^◌, ◌++◌, ◌⊎◌, ◌∷◌, [], true, false, ℕ, List, Option, Some, None, length, IfOk, IfErr, OnOk, OnErr, Err, Result, nat_eq};
     ghost use Rattle.dvi_device.specs.Written.{written_then, GrowsByFront};
+    ghost use Rattle.dvi_device.specs.Pasts.{KeepsPast, Passes, past_after};
     ghost use Rattle.dvi_ops.specs.Fonts.{WidthsByName};
     ghost use Rattle.page_core.specs.Marks.{ShippedPage};
     ghost use Rattle.dvi_layout.specs.declared.fault.WriteFault.{WriteFault};
@@ -58,10 +60,11 @@ impl<D: Device> DviWriter<D> {
         requires { D.failed device + 1 < 2 ^ 64 }
         ensures written { (fonts : Slots) → HasWritten fonts (D.bytes_written device) result [] }
         ensures failed { result.failed ≡ D.failed device }
-        ensures began { result.began ≡ D.began device }
+        ensures began { result.began ≡ D.past device }
     {
         DviWriter {
             progress: Progress::new(),
+            start: Snapshot::of(&device),
             device,
             over: false,
         }
@@ -85,20 +88,22 @@ impl<D: Device> DviWriter<D> {
     pub fn device(&self) -> &D
         ensures bytes_written { D.bytes_written result.now ≡ self.now.bytes_written }
         ensures failed { D.failed result.now ≡ self.now.failed }
-        ensures began { D.began result.now ≡ self.now.began }
+        ensures past { D.past result.now ≡ self.now.past }
     {
         &self.device
     }
 
-    /// Returns the device.
+    /// Returns the device, which was made with what it was made with when the writer was.
     pub fn into_device(self) -> D
         ensures bytes_written { D.bytes_written result ≡ self.bytes_written }
         ensures failed { D.failed result ≡ self.failed }
-        ensures began { D.began result ≡ self.began }
+        ensures past { D.past result ≡ self.past }
+        ensures made { (D.past result).made ≡ self.began.made }
     {
         let DviWriter {
             progress: _progress,
             device,
+            start: _start,
             over: _over,
         } = self;
         device
@@ -115,6 +120,7 @@ impl<D: Device> DviWriter<D> {
         ensures front { OnErr result (GrowsByFront self.old.bytes_written self.new.bytes_written bytes.now) }
         ensures counted { OnErr result (self.new.failed ≡ self.old.failed + 1) }
         ensures over { OnErr result (self.new.over ≡ true) }
+        ensures past { Passes result self.old.past bytes.now self.new.past }
         ensures began { self.new.began ≡ self.old.began }
     {
         if write_all(&mut self.device, bytes).is_err() {
@@ -177,6 +183,8 @@ impl<D: Device> DviWriter<D> {
             → HasWritten fonts.now before self.new (pages ++ page_with counts.now offsets box_node.now ∷ [])) }
         ensures part { result ≡ Err WriteFault.Device → (before : Option (List ℕ)) (pages : List ShippedPage) → HasWritten fonts.now before self.old pages
             → GrowsByFront before self.new.bytes_written (front fonts.now (pages ++ page_with counts.now offsets box_node.now ∷ [])) }
+        ensures past { result ≡ Err WriteFault.Device → (before : Option (List ℕ)) (pages : List ShippedPage) → HasWritten fonts.now before self.old pages
+            → KeepsPast self.old.began (front fonts.now (pages ++ page_with counts.now offsets box_node.now ∷ [])) self.new.past }
         ensures sent { OnOk result (self.new.bytes_written ≡ written_then self.old.bytes_written (next_bytes fonts.now self.old.so_far (page_with counts.now offsets box_node.now))) }
         ensures since { result ≡ Err WriteFault.Device → GrowsByFront self.old.bytes_written self.new.bytes_written (next_bytes fonts.now self.old.so_far (page_with counts.now offsets box_node.now)) }
         ensures kept { OnOk result (self.new.so_far ≡ with_next fonts.now self.old.so_far (page_with counts.now offsets box_node.now)) }
@@ -207,6 +215,10 @@ impl<D: Device> DviWriter<D> {
             → self.new.bytes_written ≡ written_then before (whole fonts.now pages)) }
         ensures part { result ≡ Err WriteFault.Device → (before : Option (List ℕ)) (pages : List ShippedPage) → HasWritten fonts.now before self.old pages
             → GrowsByFront before self.new.bytes_written (whole fonts.now pages) }
+        ensures past { OnOk result ((before : Option (List ℕ)) (pages : List ShippedPage) → HasWritten fonts.now before self.old pages
+            → self.new.past ≡ past_after self.old.began (whole fonts.now pages)) }
+        ensures past_lost { result ≡ Err WriteFault.Device → (before : Option (List ℕ)) (pages : List ShippedPage) → HasWritten fonts.now before self.old pages
+            → KeepsPast self.old.began (whole fonts.now pages) self.new.past }
         ensures since { result ≡ Err WriteFault.Device → GrowsByFront self.old.bytes_written self.new.bytes_written (last_bytes fonts.now self.old.so_far) }
         ensures file { OnOk result ((before : Option (List ℕ)) (pages : List ShippedPage) (metrics : WidthsByName) → HasWritten fonts.now before self.old pages
             → GivesFonts metrics fonts.now → IsFileOfPages metrics (whole fonts.now pages) pages) }

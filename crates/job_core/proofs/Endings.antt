@@ -4,6 +4,7 @@ use Rattle.std.specs.Prelude.{◌==◌, not, IfSome}
 use Rattle.job_commands.specs.declared.replies.Refusal.TheVariants.{OutOfMemory, Device, JobOver, ListsOpen}
 use Rattle.job_commands.specs.declared.replies.Summary.{Summary}
 use Rattle.dvi_device.specs.Written.{written_then, GrowsByFront, IsFrontOf}
+use Rattle.dvi_device.specs.Pasts.{Past, KeepsPast}
 use Rattle.dvi_ops.specs.Fonts.{WidthsByName}
 use Rattle.tfm_core.specs.Slots.{Slots}
 use Rattle.dvi_layout.specs.Layout.{whole}
@@ -19,10 +20,10 @@ use Rattle.job_state.specs.JobStateView.{JobStateView, state_of}
 use Rattle.job_state.specs.Loaded.{AreLoaded}
 use Rattle.job_state.proofs.LoadedFonts.{loaded_in, widths-loaded}
 use Rattle.tfm_core.specs.NamedBytes.{NamedBytes}
-use Rattle.job_core.specs.Jobs.{JobView, writing_of, before_writing, Represents, FinishesTo}
+use Rattle.job_core.specs.Jobs.{JobView, writing_of, before_writing, due, Represents, FinishesTo}
 use Rattle.job_core.specs.Sound.{view_of}
 use Rattle.job_core.specs.Shown.{GivesFiles}
-use Rattle.job_core.proofs.Moves.{stops, written_on, grows_on}
+use Rattle.job_core.proofs.Moves.{stops, due_landed, written_on, grows_on}
 
 -- If the job is not over and no list is open, no check refuses the end.
 pub may_finish : (s : State) → s.over ≡ false → not (length s.nest == 0) ≡ false → first_refusal (finish_checks s) ≡ None
@@ -53,6 +54,12 @@ pub part_by : (old : JobView) (m : Machine) (fonts : Slots) (bytes_written : Opt
     → GrowsByFront (before_writing old.bytes_written) bytes_written (whole m.state.fonts m.pages)
 part_by old m fonts bytes_written holds same part = subst (λ (f : Slots). GrowsByFront (before_writing old.bytes_written) bytes_written (whole f m.pages)) (fonts_are old m fonts holds same) part
 
+-- What the device made of the end of a file, by the fonts of the machine.
+pub kept_by : (old : JobView) (m : Machine) (fonts : Slots) (began new past : Past) → Represents old m → fonts ≡ old.state.fonts → new ≡ began → KeepsPast began (whole fonts m.pages) past
+    → KeepsPast new (whole m.state.fonts m.pages) past
+kept_by old m fonts began new past holds same is keeps =
+    subst (λ (p : Past). KeepsPast p (whole m.state.fonts m.pages) past) (sym is) (subst (λ (f : Slots). KeepsPast began (whole f m.pages) past) (fonts_are old m fonts holds same) keeps)
+
 -- If the end of a file that is not over fails, there are pages.
 pub some_where : (w : Writing) (fault : WriteFault) → w.over ≡ false → MayFail w fault → w.so_far.pages ≢ 0
 some_where w fault running (inl h) = absurd (true_and_false h.0 running)
@@ -77,7 +84,7 @@ accepted : (old : JobView) (m : Machine) → Represents old m → first_refusal 
 accepted old m holds may = sym (ap (λ s. first_refusal (finish_checks s)) holds.state) ∙ may
 
 -- If the end is not refused, the job is not over, so no page is being sent.
-runs_by : (s : State) (over : Bool) → s.over ≡ over → first_refusal (finish_checks s) ≡ None → over ≡ false
+pub runs_by : (s : State) (over : Bool) → s.over ≡ over → first_refusal (finish_checks s) ≡ None → over ≡ false
 runs_by s true is may =
     let refused : first_refusal (finish_checks s) ≡ Some JobOver = rw is refl in
     cc
@@ -85,6 +92,11 @@ runs_by s false is may = refl
 
 none_flies : (old : JobView) (m : Machine) → Represents old m → first_refusal (finish_checks old.state) ≡ None → m.flight ≡ []
 none_flies old m holds may = holds.none (runs_by m.state m.state.over refl (accepted old m holds may))
+
+-- What the device made of the end, by all bytes of the machine.
+ended_past : (old new : JobView) (m : Machine) → Represents old m → first_refusal (finish_checks old.state) ≡ None → KeepsPast new.began (whole m.state.fonts m.pages) new.past
+    → KeepsPast new.began (due (record (stopped_machine m) { flight = m.flight })) new.past
+ended_past old new m holds may keeps = subst (λ (bytes : List ℕ). KeepsPast new.began bytes new.past) (due_landed m m.flight (none_flies old m holds may)) keeps
 
 pub finished :
     (old new : JobView) (summary : Summary)
@@ -94,11 +106,13 @@ pub finished :
     → new.failed ≡ old.failed
     → ((more : List ℕ) × (new.bytes_written ≡ written_then old.bytes_written more))
     → ((m : Machine) → Represents old m → new.bytes_written ≡ written_then (before_writing old.bytes_written) (whole m.state.fonts m.pages))
+    → ((m : Machine) → Represents old m → KeepsPast new.began (whole m.state.fonts m.pages) new.past)
     → FinishesTo old (Ok summary) new
-finished old new summary may goes counts fails grows sent m holds = (
+finished old new summary may goes counts fails grows sent keeps m holds = (
   stopped_machine m,
   Finished summary refl (accepted old m holds may) (counts m holds) refl fails,
-  stops old new m m.flight holds goes grows (inl (none_flies old m holds may, inl (written_on old.bytes_written new.bytes_written (whole m.state.fonts m.pages) (sent m holds)))),
+  stops old new m m.flight holds goes grows (inl (none_flies old m holds may, inl (written_on old.bytes_written new.bytes_written (whole m.state.fonts m.pages) (sent m holds))))
+      (ended_past old new m holds may (keeps m holds)),
 )
 
 pub wanting : (old : JobView) → first_refusal (finish_checks old.state) ≡ None → old.state.over ≡ false → old.so_far.pages ≢ 0 → FinishesTo old (Err OutOfMemory) old
@@ -113,11 +127,13 @@ pub losing :
     → new.failed ≡ old.failed + 1
     → ((more : List ℕ) × (new.bytes_written ≡ written_then old.bytes_written more))
     → ((m : Machine) → Represents old m → GrowsByFront (before_writing old.bytes_written) new.bytes_written (whole m.state.fonts m.pages))
+    → ((m : Machine) → Represents old m → KeepsPast new.began (whole m.state.fonts m.pages) new.past)
     → FinishesTo old (Err Device) new
-losing old new may running some goes fails grows part m holds = (
+losing old new may running some goes fails grows part keeps m holds = (
   stopped_machine m,
   LostDevice refl (accepted old m holds may) (some_pages old m holds running some) refl fails,
-  stops old new m m.flight holds goes grows (inl (none_flies old m holds may, inr (grows_on old.bytes_written new.bytes_written (whole m.state.fonts m.pages) (part m holds)))),
+  stops old new m m.flight holds goes grows (inl (none_flies old m holds may, inr (grows_on old.bytes_written new.bytes_written (whole m.state.fonts m.pages) (part m holds))))
+      (ended_past old new m holds may (keeps m holds)),
 )
 
 -- A job whose writer has ended is stopped.

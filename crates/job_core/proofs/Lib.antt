@@ -7,3 +7,4 @@ pub mod Ships
 pub mod WholeRuns
 pub mod MeasuredPages
 pub mod RestsOfFiles
+pub mod LosslessRuns

@@ -11,8 +11,10 @@ use Rattle.job_commands.specs.Reply.{Reply}
 use Rattle.page_core.specs.Marks.{ShippedPage}
 use Rattle.tfm_core.specs.Slots.{Slots}
 use Rattle.dvi_device.specs.Written.{written_then, GrowsByFront}
+use Rattle.dvi_device.specs.Pasts.{Past, past_after, KeepsPast}
 use Rattle.dvi_device.proofs.Tellings.{grown-grown}
-use Rattle.dvi_layout.specs.Layout.{front}
+use Rattle.dvi_device.proofs.PastLaws.{keeps_taken}
+use Rattle.dvi_layout.specs.Layout.{front, whole}
 use Rattle.dvi_write.specs.Writing.{Writing, HasWritten}
 use Rattle.dvi_write.proofs.Writings.{written_with_more}
 use Rattle.job_machine.specs.State.{State, held_in}
@@ -22,7 +24,7 @@ use Rattle.job_machine.specs.Answers.{answer_of}
 use Rattle.job_machine.specs.Effects.{after, new_pages}
 use Rattle.job_machine.specs.Machine.{Machine, reply_by, reply_to, state_by, state_after, step, stopped_machine, lost_machine}
 use Rattle.job_machine.specs.Runs.{IsShip, MayRunOutOfMemory, early_checks, StepsTo, Replies, LacksMemory, LosesDevice, Run}
-use Rattle.job_core.specs.Jobs.{AppendsPagesOf, JobView, writing_of, before_writing, pages_after, HasPages, HasSent, Represents, KeepsTo, RunsTo}
+use Rattle.job_core.specs.Jobs.{AppendsPagesOf, JobView, writing_of, before_writing, pages_after, HasPages, HasSent, due, Represents, KeepsTo, RunsTo}
 use Rattle.job_core.specs.Sound.{IsSound, IsBoundedFile, view_of}
 use Rattle.job_state.specs.Loaded.{GivesNumbersFor}
 use Rattle.job_state.specs.JobStateView.{JobStateView, state_of, before_shipping}
@@ -98,22 +100,31 @@ next_has_pages m command old new false runs exact stays held = has_pages (step m
 next_has_pages m command old new true over exact stays held =
     subst (λ (r : Option Refusal). HasPages (step_by m command r) new) (sym (over_refuses m.state command over)) (subst (HasPages m) (sym (stays over)) held)
 
+-- A device has met the bytes of the next machine, until the job is over; and then nothing changes.
+next_past : (m : Machine) (command : Command) (old new began : Past) (over : Bool) → m.state.over ≡ over
+    → (m.state.over ≡ false → new ≡ past_after began (front (step m command).state.fonts (step m command).pages))
+    → (m.state.over ≡ true → new ≡ old) → KeepsPast began (due m) old → KeepsPast began (due (step m command)) new
+next_past m command old new began false runs exact stays holds = keeps_taken began new (front (step m command).state.fonts (step m command).pages) (due (step m command)) (exact runs)
+next_past m command old new began true over exact stays holds =
+    subst (λ (r : Option Refusal). KeepsPast began (due (step_by m command r)) new) (sym (over_refuses m.state command over)) (subst (KeepsPast began (due m)) (sym (stays over)) holds)
+
 -- A job that replies as the machine's table follows the machine.
 pub replied :
     (old new : JobView) (command : Command) (reply : Reply)
     → reply ≡ reply_to old.state command
     → new.state ≡ state_after old.state command
     → (old.state.over ≡ false → AppendsPagesOf old.state command (writing_of old) (writing_of new))
-    → (old.state.over ≡ true → new.bytes_written ≡ old.bytes_written)
+    → (old.state.over ≡ true → (new.bytes_written ≡ old.bytes_written) × (new.past ≡ old.past))
     → new.failed ≡ old.failed
+    → new.began ≡ old.began
     → KeepsTo old command reply new
-replied old new command reply says goes writes stays fails m holds =
+replied old new command reply says goes writes stays fails began m holds =
     let on = subst (λ (s : State). s.over ≡ false → AppendsPagesOf s command (writing_of old) (writing_of new)) holds.state writes in
     let written : m.state.over ≡ false → HasWritten (state_after m.state command).fonts (before_writing new.bytes_written) (writing_of new) (pages_after m.state m.pages command) =
     λ ran. written_before (state_after m.state command).fonts old.bytes_written (writing_of new) (pages_after m.state m.pages command)
     (with_fonts m.state command (first_refusal (checks m.state command)) refl (before_writing old.bytes_written) (writing_of new) (pages_after m.state m.pages command)
     (on ran (before_writing old.bytes_written) m.pages (holds.written ran))) in
-    let same : m.state.over ≡ true → new.bytes_written ≡ old.bytes_written = λ over. stays (ap (λ (s : State). s.over) holds.state ∙ over) in (
+    let same : m.state.over ≡ true → (new.bytes_written ≡ old.bytes_written) × (new.past ≡ old.past) = λ over. stays (ap (λ (s : State). s.over) holds.state ∙ over) in (
       step m command,
       Replies (says ∙ ap (λ s. reply_to s command) holds.state) refl fails,
       record {
@@ -121,10 +132,13 @@ replied old new command reply says goes writes stays fails m holds =
         count = counted m.state command m.pages (first_refusal (checks m.state command)) refl holds.count;
         written = λ running. written (sym (job_kept m.state command).over ∙ running);
         none = λ running. holds.none (sym (job_kept m.state command).over ∙ running);
-        held = next_has_pages m command old.bytes_written new.bytes_written m.state.over refl (λ ran. (written ran).bytes_written) same holds.held;
+        held = next_has_pages m command old.bytes_written new.bytes_written m.state.over refl (λ ran. (written ran).bytes_written) (λ over. (same over).0) holds.held;
         sent = λ ended.
             let over : m.state.over ≡ true = sym (job_kept m.state command).over ∙ ended in
-            sent_stays m command old.bytes_written new.bytes_written over (same over) (holds.sent over);
+            sent_stays m command old.bytes_written new.bytes_written over (same over).0 (holds.sent over);
+        past =
+            next_past m command old.past new.past new.began m.state.over refl (λ ran. (written ran).past) (λ over. (same over).1)
+            (subst (λ (p : Past). KeepsPast p (due m) old.past) (sym began) holds.past);
       },
     )
 
@@ -156,7 +170,8 @@ refuses old command refusal is =
     let s = old.state in
     replied old old command (Err refusal) (sym (ap (λ refused. reply_by refused (answer_of s command)) is))
     (sym (ap (λ refused. state_by refused s (after s command)) is))
-    (λ running before pages written. subst (HasWritten s.fonts before (writing_of old)) (sym (ap (λ refused. state_by refused pages (pages ++ new_pages s command)) is)) written) (λ over. refl) refl
+    (λ running before pages written. subst (HasWritten s.fonts before (writing_of old)) (sym (ap (λ refused. state_by refused pages (pages ++ new_pages s command)) is)) written)
+    (λ over. (refl, refl)) refl refl
 
 -- A job that is over stays as it is.
 pub over_replies : (old : JobView) (command : Command) → old.state.over ≡ true → KeepsTo old command (Err JobOver) old
@@ -165,8 +180,9 @@ over_replies old command over = refuses old command JobOver (ap (λ over. if ove
 -- A job that is stopped represents the stopped machine.
 pub stops : (old new : JobView) (m : Machine) (flight : List ShippedPage) → Represents old m → new.state ≡ record (old.state) { over = true }
     → ((more : List ℕ) × (new.bytes_written ≡ written_then old.bytes_written more))
-    → HasSent (record (stopped_machine m) { flight = flight }) new.bytes_written → Represents new (record (stopped_machine m) { flight = flight })
-stops old new m flight holds goes grows sent =
+    → HasSent (record (stopped_machine m) { flight = flight }) new.bytes_written → KeepsPast new.began (due (record (stopped_machine m) { flight = flight })) new.past
+    → Represents new (record (stopped_machine m) { flight = flight })
+stops old new m flight holds goes grows sent past =
     record {
       state = goes ∙ ap (λ (s : State). record s { over = true }) holds.state;
       count = holds.count;
@@ -174,7 +190,18 @@ stops old new m flight holds goes grows sent =
       none = λ running. absurd (true_or_false refl running);
       held = has_pages_on m old.bytes_written new.bytes_written holds.held grows;
       sent = λ over. sent;
+      past = past;
     }
+
+-- The bytes of a machine whose page is being sent.
+due_flying : (m : Machine) (flight : List ShippedPage) → flight ≢ [] → front m.state.fonts (m.pages ++ flight) ≡ due (record (stopped_machine m) { flight = flight })
+due_flying m [] some = absurd (some refl)
+due_flying m (page ∷ more) some = refl
+
+-- The bytes of a machine without such a page.
+pub due_landed : (m : Machine) (flight : List ShippedPage) → flight ≡ [] → whole m.state.fonts m.pages ≡ due (record (stopped_machine m) { flight = flight })
+due_landed m [] none = refl
+due_landed m (page ∷ more) none = cc
 
 -- A ship that is accepted makes a page.
 some_page : (s : State) (r : ℕ) → first_refusal (checks s (Ship r)) ≡ None → new_pages s (Ship r) ≢ []
@@ -192,22 +219,25 @@ pub losing_page :
     → new.failed ≡ old.failed + 1
     → ((more : List ℕ) × (new.bytes_written ≡ written_then old.bytes_written more))
     → ((m : Machine) → Represents old m → GrowsByFront (before_writing old.bytes_written) new.bytes_written (front m.state.fonts (m.pages ++ new_pages m.state (Ship r))))
+    → ((m : Machine) → Represents old m → KeepsPast new.began (front m.state.fonts (m.pages ++ new_pages m.state (Ship r))) new.past)
     → KeepsTo old (Ship r) (Err Device) new
-losing_page old new r accepted goes fails grows part m holds =
+losing_page old new r accepted goes fails grows part keeps m holds =
     let s = m.state in
     let taken : first_refusal (checks s (Ship r)) ≡ None = sym (ap (λ s. first_refusal (checks s (Ship r))) holds.state) ∙ accepted in
     let sent = grows_on old.bytes_written new.bytes_written (front s.fonts (m.pages ++ new_pages s (Ship r))) (part m holds) in
-    (lost_machine m (Ship r), LosesDevice refl tt taken refl fails, stops old new m (new_pages s (Ship r)) holds goes grows (inr (some_page s r taken, sent)))
+    let past = subst (λ (bytes : List ℕ). KeepsPast new.began bytes new.past) (due_flying m (new_pages s (Ship r)) (some_page s r taken)) (keeps m holds) in
+    (lost_machine m (Ship r), LosesDevice refl tt taken refl fails, stops old new m (new_pages s (Ship r)) holds goes grows (inr (some_page s r taken, sent)) past)
 
 -- What was written stays after a command that ships nothing.
 pub goes_on_without : (old new : JobView) (command : Command) → (IsShip command → ⊥) → new.state ≡ state_after old.state command → new.so_far ≡ old.so_far → new.bytes_written ≡ old.bytes_written
-    → new.failed ≡ old.failed → AppendsPagesOf old.state command (writing_of old) (writing_of new)
-goes_on_without old new command other goes keeps tells fails before pages written =
+    → new.past ≡ old.past → new.began ≡ old.began → AppendsPagesOf old.state command (writing_of old) (writing_of new)
+goes_on_without old new command other goes keeps tells past began before pages written =
     let same : pages ≡ pages_after old.state pages command = kept_pages (first_refusal (checks old.state command)) in
     let over : old.state.over ≡ new.state.over = sym (ap (λ (s : State). s.over) goes ∙ (job_kept old.state command).over) in
     subst (HasWritten old.state.fonts before (writing_of new)) same
     (record {
       bytes_written = tells ∙ written.bytes_written;
+      past = past ∙ (written.past ∙ ap (λ (p : Past). past_after p (front old.state.fonts pages)) (sym began));
       so_far = keeps ∙ written.so_far;
       right = written.right;
       running = sym over ∙ written.running;
@@ -246,6 +276,7 @@ view_at w s =
       so_far = w.so_far;
       bytes_written = w.bytes_written;
       failed = w.failed;
+      past = w.past;
       began = w.began;
     }
 
@@ -302,7 +333,7 @@ module _ (kept : JobStateView) (w : Writing) (command : Command) (other : IsShip
   obeyed now reply says goes =
       let old = view_of kept w in
       let new = view_of now w in
-      replied old new command reply (seen_reply reply says) (seen_state now goes) (λ runs. goes_on_without old new command other (seen_state now goes) refl refl refl) (λ over. refl) refl
+      replied old new command reply (seen_reply reply says) (seen_state now goes) (λ runs. goes_on_without old new command other (seen_state now goes) refl refl refl refl) (λ over. (refl, refl)) refl refl
 
   -- So does a job that runs out of memory.
   pub wants : MayRunOutOfMemory (before_shipping kept) command → first_refusal (early_checks (before_shipping kept) command) ≡ None → KeepsTo (view_of kept w) command (Err OutOfMemory) (view_of kept w)

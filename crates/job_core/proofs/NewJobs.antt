@@ -3,6 +3,7 @@ use Rattle.std.proofs.Common.{◌≡◌, ℕ, List, [], Option, Some, None, refl
 use Rattle.std.specs.Prelude.{IfSome}
 use Rattle.tfm_core.specs.NamedBytes.{NamedBytes}
 use Rattle.dvi_device.specs.Written.{written_then}
+use Rattle.dvi_device.proofs.PastLaws.{keeps_taken}
 use Rattle.tfm_core.specs.Slots.{Slots}
 use Rattle.dvi_layout.specs.Layout.{front}
 use Rattle.dvi_layout.specs.SoFar.{ProgressView}
@@ -12,7 +13,7 @@ use Rattle.job_machine.specs.Machine.{first_machine}
 use Rattle.job_state.specs.JobStateView.{JobStateView, state_of, before_shipping}
 use Rattle.job_state.proofs.SizedGlyphs.{sized_first}
 use Rattle.job_state.proofs.LoadedFonts.{loaded_first}
-use Rattle.job_core.specs.Jobs.{before_writing, Represents}
+use Rattle.job_core.specs.Jobs.{before_writing, due, Represents}
 use Rattle.job_core.specs.Sound.{IsSound, view_of}
 use Rattle.job_core.proofs.Moves.{true_or_false, has_pages}
 
@@ -46,6 +47,7 @@ new_holds files device kept w fresh is written =
       none = λ running. refl;
       held = has_pages (first_machine files) w.bytes_written all.bytes_written;
       sent = λ over. absurd (true_or_false over refl);
+      past = keeps_taken w.began w.past (front fonts []) (due (first_machine files)) all.past;
     }
 
 -- The state of a new job is sound.

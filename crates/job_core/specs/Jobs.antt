@@ -1,12 +1,12 @@
 -- A job, and the machine that it represents (own).
-use Rattle.std.specs.Prelude.{◌≡◌, ◌≢◌, ◌⊎◌, ◌++◌, [], ℕ, false, true, List, length, Option, Some, None, Result}
+use Rattle.std.specs.Prelude.{◌≡◌, ◌≢◌, ◌⊎◌, ◌++◌, [], ◌∷◌, ℕ, false, true, List, length, Option, Some, None, Result}
 use Rattle.job_commands.specs.declared.command.Command.{Command}
 use Rattle.job_commands.specs.declared.replies.Refusal.{Refusal}
 use Rattle.job_commands.specs.declared.replies.Summary.{Summary}
 use Rattle.job_commands.specs.Reply.{Reply}
 use Rattle.page_core.specs.Marks.{ShippedPage}
 use Rattle.dvi_device.specs.Written.{written_then, GrowsByFront}
-use Rattle.dvi_device.specs.Beginnings.{Beginning}
+use Rattle.dvi_device.specs.Pasts.{Past, KeepsPast}
 use Rattle.dvi_layout.specs.Layout.{front, whole}
 use Rattle.dvi_layout.specs.SoFar.{ProgressView}
 use Rattle.dvi_write.specs.Writing.{Writing, HasWritten}
@@ -17,17 +17,18 @@ use Rattle.job_machine.specs.Machine.{Machine, state_by}
 use Rattle.job_machine.specs.Runs.{StepsTo, Run, Finishes}
 
 -- The view of a job: its state; what its writer keeps of the pages that were sent; and of its device the bytes that it has reported, the number of its
--- failures, and what was sent before the device was made.
+-- failures, its past, and its past when the job was made.
 pub record JobView : Type 0 where
   pub state : State
   pub so_far : ProgressView
   pub bytes_written : Option (List ℕ)
   pub failed : ℕ
-  pub began : Beginning
+  pub past : Past
+  pub began : Past
 
 -- The writer of a job. Its file is over if and only if the job is.
 abbrev pub writing_of : JobView → Writing
-writing_of job = record { so_far = job.so_far; bytes_written = job.bytes_written; failed = job.failed; began = job.began; over = job.state.over }
+writing_of job = record { so_far = job.so_far; bytes_written = job.bytes_written; failed = job.failed; past = job.past; began = job.began; over = job.state.over }
 
 -- What a device had reported before it took a byte, if it reports these bytes now.
 abbrev pub before_writing : Option (List ℕ) → Option (List ℕ)
@@ -54,9 +55,19 @@ HasSent m bytes_written =
 abbrev pub HasPages : Machine → Option (List ℕ) → Type 0
 HasPages m bytes_written = (more : List ℕ) × (bytes_written ≡ written_then (before_writing bytes_written) (front m.state.fonts m.pages ++ more))
 
+-- The bytes that a machine with this page being sent gives to its device: the file of its pages; or, up to its eop, the file with that page.
+abbrev pub due_with : Machine → (flight : List ShippedPage) → List ℕ
+due_with m [] = whole m.state.fonts m.pages
+due_with m (page ∷ more) = front m.state.fonts (m.pages ++ page ∷ more)
+
+-- All bytes that a machine gives to its device.
+abbrev pub due : Machine → List ℕ
+due m = due_with m m.flight
+
 -- A job represents a machine: it has the machine's state, and until it is over it has written the machine's pages: its device reports all bytes of
 -- them up to the last eop, and no others. Once the job is over, it reports the file of the pages or a beginning of it, or a beginning of the file with
--- the page that was being sent. Whatever failed, it has all bytes of the machine's pages.
+-- the page that was being sent. Whatever failed, it has all bytes of the machine's pages. In the job the device has no failure of its own; or one, and the
+-- machine's bytes differ from those that it was to meet.
 pub record Represents (job : JobView) (m : Machine) : Type 0 where
   pub state : job.state ≡ m.state
   pub count : m.state.pages ≡ length m.pages
@@ -64,6 +75,7 @@ pub record Represents (job : JobView) (m : Machine) : Type 0 where
   pub none : m.state.over ≡ false → m.flight ≡ []
   pub held : HasPages m job.bytes_written
   pub sent : m.state.over ≡ true → HasSent m job.bytes_written
+  pub past : KeepsPast job.began (due m) job.past
 
 -- Each machine that the job represented has stepped to one that it represents.
 abbrev pub KeepsTo : JobView → Command → Reply → JobView → Type 0

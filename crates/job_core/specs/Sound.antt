@@ -18,7 +18,7 @@ use Rattle.job_core.specs.Jobs.{JobView}
 -- The view of a job with this state and this writer. The writer alone keeps how much was sent, and whether the job is over.
 abbrev pub view_of : JobStateView → Writing → JobView
 view_of kept w =
-    record { state = state_of kept w.so_far.load w.so_far.pages w.over; so_far = w.so_far; bytes_written = w.bytes_written; failed = w.failed; began = w.began }
+    record { state = state_of kept w.so_far.load w.so_far.pages w.over; so_far = w.so_far; bytes_written = w.bytes_written; failed = w.failed; past = w.past; began = w.began }
 
 -- Fonts and glyphs are those of the font files.
 pub record IsSound (s : State) : Type 0 where

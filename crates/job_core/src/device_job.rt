@@ -158,7 +158,7 @@ impl<D: Device> Job<D> {
         ensures ok { IfOk result (λ job. Represents job (first_machine files.now)) }
         ensures failed { IfOk result (λ job. job.failed ≡ D.failed device) }
         ensures bytes_written { IfOk result (λ job. job.bytes_written ≡ D.bytes_written device) }
-        ensures began { IfOk result (λ job. job.began ≡ D.began device) }
+        ensures began { IfOk result (λ job. job.began ≡ D.past device) }
         ensures device_returned { IfErr result (λ back. back ≡ device) }
     {
         let Ok(kept) = JobState::new(alloc, files) else {
@@ -261,7 +261,7 @@ impl<D: Device> Job<D> {
     pub fn device(&self) -> &D
         ensures bytes_written { D.bytes_written result.now ≡ self.now.bytes_written }
         ensures failed { D.failed result.now ≡ self.now.failed }
-        ensures began { D.began result.now ≡ self.now.began }
+        ensures past { D.past result.now ≡ self.now.past }
     {
         self.writer.device()
     }
@@ -270,7 +270,8 @@ impl<D: Device> Job<D> {
     pub fn into_device(self) -> D
         ensures bytes_written { D.bytes_written result ≡ self.bytes_written }
         ensures failed { D.failed result ≡ self.failed }
-        ensures began { D.began result ≡ self.began }
+        ensures past { D.past result ≡ self.past }
+        ensures made { (D.past result).made ≡ self.began.made }
     {
         let Job {
             alloc: _alloc,

@@ -67,13 +67,10 @@ impl Broken {
 
 impl Device for Broken {
     ghost use Rattle.std.specs.Prelude.{None};
-    ghost use Rattle.dvi_device.specs.Beginnings.{no_beginning};
 
     ghost bytes_written = { λ broken. None };
 
     ghost failed = { λ broken. broken.failures };
-
-    ghost began = { λ broken. no_beginning };
 
     fn write(&mut self, _piece: &[u8]) -> Result<usize, DeviceFault> {
         self.failures += 1;

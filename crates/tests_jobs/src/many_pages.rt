@@ -110,13 +110,10 @@ struct Tally {
 }
 
 impl Device for Tally {
-    ghost use Rattle.dvi_device.specs.Beginnings.{no_beginning};
 
     ghost bytes_written = { λ tally. None };
 
     ghost failed = { λ tally. 0 };
-
-    ghost began = { λ tally. no_beginning };
 
     fn write(&mut self, piece: &[u8]) -> Result<usize, DeviceFault> {
         self.taken = self.taken.saturating_add(piece.len() as u64);

@@ -1,5 +1,6 @@
 -- What is known of the device that was returned.
 use Rattle.std.proofs.Common.{◌≡◌, ap, ◌∙◌}
+use Rattle.boxglue_program.proofs.RunLaws.{answered_alone}
 use Rattle.boxglue_lib.proofs.EndLemmas.{answered_to_file, back_alike, failed_since, left_to_file, placed_since}
 use Rattle.boxglue_lib.proofs.typesetting.typeset_file.Goals as goal
 
@@ -10,7 +11,7 @@ returns-in-Ok-clause-task_ended g c =
       done.0,
       answered_to_file c.args.inputs.now.bytes.items c.args.inputs.now.files.items c.new-device.result.failures c.in-Ok.device.is_open c.in-Ok.device.failures
           (g.H.Host.written c.in-Ok.device.host) (c.in-Ok.device ≡ c.new-device.result) (c.end_with.result.host ≡ c.args.host) done.0 c.in-Ok.accepted
-          (record { created = c.end_with.result.created; done = c.end_with.result.written; written = g.H.Host.written c.end_with.result.host }) c.new-device.ensures.fine c.end_with.ensures.created c.end_with.ensures.written (cc) (λ same. cc) (λ same. cc) (λ same. cc) c.end_with.ensures.used done.1,
+          (record { created = c.end_with.result.created; done = c.end_with.result.written; written = g.H.Host.written c.end_with.result.host }) c.new-device.ensures.fine c.end_with.ensures.created c.end_with.ensures.written (cc) (λ same. cc) (λ same. cc) (λ same. cc) c.end_with.ensures.used (answered_alone _ _ _ _ done.0 c.in-Ok.accepted done.1),
       done.2,
     )
 
@@ -24,7 +25,7 @@ returns-in-Err-Answers-clause-task_ended g c =
       answered_to_file c.args.inputs.now.bytes.items c.args.inputs.now.files.items c.new-device.result.failures c.in-Err-Answers.device.is_open
           c.in-Err-Answers.device.failures (g.H.Host.written c.in-Err-Answers.device.host) (c.in-Err-Answers.device ≡ c.new-device.result) (c.end_with-in-Err-Answers.result.host ≡ c.args.host) done.0 done.1
           (record { created = c.end_with-in-Err-Answers.result.created; done = c.end_with-in-Err-Answers.result.written; written = g.H.Host.written c.end_with-in-Err-Answers.result.host })
-          c.new-device.ensures.fine c.end_with-in-Err-Answers.ensures.created c.end_with-in-Err-Answers.ensures.written (cc) (λ same. cc) (λ same. cc) (λ same. cc) c.end_with-in-Err-Answers.ensures.used done.2,
+          c.new-device.ensures.fine c.end_with-in-Err-Answers.ensures.created c.end_with-in-Err-Answers.ensures.written (cc) (λ same. cc) (λ same. cc) (λ same. cc) c.end_with-in-Err-Answers.ensures.used (answered_alone _ _ _ _ done.0 done.1 done.2),
       done.3,
     )
 

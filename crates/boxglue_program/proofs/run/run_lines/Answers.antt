@@ -1,7 +1,11 @@
 -- One more line was run and answered.
-use Rattle.std.proofs.Common.{◌≡◌, ◌+◌, ◌++◌, ◌∷◌, [], take, ap, sym, ◌∙◌}
-use Rattle.std.proofs.lemmas.List.{take_more}
-use Rattle.job_core.specs.Jobs.{JobView}
+use Rattle.std.proofs.Common.{◌≡◌, ◌+◌, ◌++◌, ◌∷◌, [], List, length, take, is_ok, IfSome, ap, subst, sym, ◌∙◌}
+use Rattle.std.specs.List.{list_all}
+use Rattle.std.proofs.lemmas.List.{take_all, take_more}
+use Rattle.job_commands.specs.Reply.{Reply}
+use Rattle.boxglue_program.specs.Runs.{commands_of, line_numbers}
+use Rattle.boxglue_program.specs.Texts.{answer_lines}
+use Rattle.job_core.specs.Jobs.{JobView, RunsTo}
 use Rattle.boxglue_script.specs.declared.script.Line.{Line}
 use Rattle.boxglue_program.proofs.RunLaws.{ran_one_more, answers_one_more, accepted_one_more, length_more, grown_further}
 use Rattle.boxglue_program.proofs.run.run_lines.Goals as goal
@@ -29,3 +33,11 @@ loop-line-preserved g c =
       grows = grown_further c.args.job.now.bytes_written c.loop-line.job.bytes_written c.step-reply.new.self.bytes_written c.loop-line.invariant.grows c.step-reply.ensures.grows;
       began = c.step-reply.ensures.began ∙ c.loop-line.invariant.began;
     }
+
+pub returns-clause-ran : goal.returns-clause-ran
+returns-clause-ran g c =
+    let lines = c.args.lines.now in
+    let all : take c.loop-line.line-index lines ≡ lines = take_all c.loop-line.line-index lines c.loop-line-test.false in
+    subst
+    (λ (xs : List Line). (replies : List Reply) × RunsTo c.args.job.now (commands_of xs) replies c.loop-line.job × (length replies ≡ length xs)
+    × IfSome c.loop-line.text (λ text. text.items ≡ answer_lines (line_numbers xs) replies) × (c.loop-line.accepted ≡ list_all is_ok replies)) all c.loop-line.invariant.ran

@@ -4,19 +4,21 @@ use Rattle.boxglue_program.proofs.run.run_rest.Goals as goal
 
 pub returns-in-Ok : goal.returns-in-Ok
 returns-in-Ok g c =
-    let rest = c.in-Ok.rest in
+    let d = g.D.Device in
+    let text = c.args.text.now in
+    let files = c.args.files.now in
     let answers = c.in-Ok.ensures.answers in
     record {
       whole = λ had. (
         answers.0,
-        resumed g.D.Device.bytes_written g.D.Device.failed c.args.text.now c.args.files.now c.args.device c.args.sent.items c.new.result rest c.into_device.result answers.0 c.in-Ok.accepted
-            c.new.ensures.made answers.1 c.in-Ok.ensures.began had c.into_device.ensures.device c.into_device.ensures.whole c.into_device.ensures.passes_on,
+        resumed d.bytes_written d.failed d.past c.args.device c.args.sent.items c.new.result c.in-Ok.rest c.into_device.result c.new.ensures.made c.in-Ok.ensures.began
+            c.into_device.ensures.device c.into_device.ensures.passes_on text files answers.0 c.in-Ok.accepted answers.1 had c.into_device.ensures.whole,
         answers.2,
       );
       answers = (
         answers.0,
-        answered_over_rest g.D.Device.bytes_written g.D.Device.failed c.args.text.now c.args.files.now c.args.device c.args.sent.items c.new.result rest c.into_device.result answers.0 c.in-Ok.accepted
-            c.new.ensures.made answers.1 c.in-Ok.ensures.began c.into_device.ensures.device c.into_device.ensures.passes_on,
+        answered_over_rest d.bytes_written d.failed d.past c.args.device c.args.sent.items c.new.result c.in-Ok.rest c.into_device.result c.new.ensures.made c.in-Ok.ensures.began
+            c.into_device.ensures.device c.into_device.ensures.passes_on text files answers.0 c.in-Ok.accepted answers.1 c.into_device.ensures.rest_sent,
         answers.2,
       );
       left = tt;
@@ -24,20 +26,22 @@ returns-in-Ok g c =
 
 pub returns-in-Err-Memory-clause-left : goal.returns-in-Err-Memory-clause-left
 returns-in-Err-Memory-clause-left g c =
-    let rest = c.in-Err-Memory.rest in
+    let d = g.D.Device in
     let left = rw c.in-Err-Memory.field-0-is at c.in-Err-Memory.ensures.left in
     let began = rw c.in-Err-Memory.field-0-is at c.in-Err-Memory.ensures.kept in
-    lacking_over_rest g.D.Device.bytes_written g.D.Device.failed c.args.text.now c.args.files.now c.args.device c.args.sent.items c.new.result rest c.into_device-in-Err-Memory.result
-    (g.W.Write.contents c.args.writer.now) (g.W.Write.contents c.run_script.new.writer) c.new.ensures.made left began c.into_device-in-Err-Memory.ensures.device c.into_device-in-Err-Memory.ensures.passes_on
+    lacking_over_rest d.bytes_written d.failed d.past c.args.device c.args.sent.items c.new.result c.in-Err-Memory.rest c.into_device-in-Err-Memory.result c.new.ensures.made began
+    c.into_device-in-Err-Memory.ensures.device c.into_device-in-Err-Memory.ensures.passes_on c.args.text.now c.args.files.now
+    (g.W.Write.contents c.args.writer.now) (g.W.Write.contents c.run_script.new.writer) left
 
 pub returns-in-Err-Answers-clause-left : goal.returns-in-Err-Answers-clause-left
 returns-in-Err-Answers-clause-left g c =
-    let rest = c.in-Err-Answers.rest in
+    let d = g.D.Device in
     let left = rw c.in-Err-Answers.field-0-is at c.in-Err-Answers.ensures.left in
     let began = rw c.in-Err-Answers.field-0-is at c.in-Err-Answers.ensures.kept in (
       left.0,
       left.1,
-      answered_over_rest g.D.Device.bytes_written g.D.Device.failed c.args.text.now c.args.files.now c.args.device c.args.sent.items c.new.result rest c.into_device-in-Err-Answers.result left.0 left.1
-          c.new.ensures.made left.2 began c.into_device-in-Err-Answers.ensures.device c.into_device-in-Err-Answers.ensures.passes_on,
+      answered_over_rest d.bytes_written d.failed d.past c.args.device c.args.sent.items c.new.result c.in-Err-Answers.rest c.into_device-in-Err-Answers.result c.new.ensures.made began
+          c.into_device-in-Err-Answers.ensures.device c.into_device-in-Err-Answers.ensures.passes_on c.args.text.now c.args.files.now left.0 left.1 left.2
+          c.into_device-in-Err-Answers.ensures.rest_sent,
       left.3,
     )

@@ -1,6 +1,9 @@
 -- The run and its end.
-use Rattle.std.proofs.Common.{refl, sym}
-use Rattle.boxglue_program.proofs.RunLaws.{was_run, same_run, both}
+use Rattle.std.proofs.Common.{ap, refl, subst, sym, ◌∙◌}
+use Rattle.dvi_device.specs.Pasts.{Past, KeepsPast}
+use Rattle.job_machine.specs.Machine.{Machine}
+use Rattle.job_core.specs.Jobs.{due}
+use Rattle.boxglue_program.proofs.RunLaws.{was_run, was_run_past, same_run_with, both}
 use Rattle.boxglue_program.proofs.SentParts.{said_part}
 use Rattle.boxglue_program.specs.Runs.{commands_of}
 use Rattle.boxglue_program.specs.Texts.{answers_text}
@@ -12,10 +15,20 @@ returns-clause-ran g c =
     let ran = c.run_lines-text.ensures.ran in
     let run = was_run c.args.files.now (commands_of c.args.lines.now) ran.0 c.finish-end.result c.in_ok-job.job c.run_lines-text.new.job c.finish-end.new.self
     c.in_ok-job.ensures.ok ran.1 c.finish-end.ensures.finished c.finish-end.ensures.dvi c.finish-end.ensures.file c.finish-end.ensures.size c.finish-end.ensures.count c.finish-end.ensures.end
-    (λ is m holds. said_part _ _ _ (c.finish-end.ensures.part is m holds)) in (
+    (λ is m holds. said_part _ _ _ (c.finish-end.ensures.part is m holds)) in
+    let began = c.finish-end.ensures.began ∙ c.run_lines-text.ensures.began in
+    let past = was_run_past c.args.files.now (commands_of c.args.lines.now) ran.0 c.finish-end.result c.in_ok-job.job c.run_lines-text.new.job c.finish-end.new.self
+    c.in_ok-job.ensures.ok ran.1 c.finish-end.ensures.finished began in
+    let first = g.D.Device.past c.args.device in
+    let last = g.D.Device.past c.into_device.result in
+    let kept = subst (λ (p : Past). KeepsPast first (due run.last) p) (sym c.into_device.ensures.past)
+    (subst (λ (p : Past). KeepsPast p (due run.last) c.finish-end.new.self.past) c.in_ok-job.ensures.began past) in
+    let all = same_run_with c.args.files.now _ _ _ _ _ _ _ _ _ (λ (m : Machine). KeepsPast first (due m) last) (sym c.in_ok-job.ensures.failed)
+    c.into_device.ensures.failed c.into_device.ensures.bytes_written run kept in (
       ran.0,
       c.finish-end.result,
-      same_run c.args.files.now _ _ _ _ _ _ _ _ _ _ _ (sym c.in_ok-job.ensures.failed) refl refl c.into_device.ensures.failed c.into_device.ensures.bytes_written run,
+      all.0,
+      all.1,
       c.with_end.ensures _ ran.3,
       both _ _ _ _ ran.4 c.is_ok.ensures.value,
     )

@@ -1,4 +1,4 @@
-use Rattle.std.proofs.Common.{◌≡◌, ◌≤◌, ◌-◌, take, length}
+use Rattle.std.proofs.Common.{◌≡◌, ◌≤◌, ◌-◌, take, drop, length}
 use Rattle.dvi_device.specs.Written.{written_then}
 use Rattle.dvi_device.proofs.device.write_all.Given as goal
 
@@ -6,7 +6,7 @@ abbrev pub invariant-loop-sent : goal.invariant-loop-sent
 invariant-loop-sent g l = record {
   within : l.sent ≤ length l.bytes;
   taken : g.D.Device.bytes_written l.device ≡ written_then (g.D.Device.bytes_written l.initial.device) (take l.sent l.bytes);
-  began : g.D.Device.began l.device ≡ g.D.Device.began l.initial.device;
+  past : g.D.Device.past l.device ≡ record (g.D.Device.past l.initial.device) { left = drop l.sent (g.D.Device.past l.initial.device).left };
   stands : g.D.Device.failed l.device ≡ g.D.Device.failed l.initial.device;
 }
 

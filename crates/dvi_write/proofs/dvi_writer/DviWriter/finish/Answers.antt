@@ -3,12 +3,16 @@ use Rattle.dvi_write.specs.Writing.{Writing}
 use Rattle.dvi_layout.proofs.Files.{file_shows}
 use Rattle.dvi_layout.proofs.ClosedFiles.{file_closes}
 use Rattle.dvi_layout.proofs.Rooms.{small}
-use Rattle.dvi_write.proofs.Writings.{ended_all, ended_none, ended_part, ended_size, none_ended, written_small}
+use Rattle.dvi_write.proofs.Writings.{ended_all, ended_none, ended_part, ended_size, none_ended, past_all, past_lost, past_none, written_small}
 use Rattle.dvi_write.proofs.dvi_writer.DviWriter.finish.Goals as goal
 
 pub returns-then-pages-eq0-clause-whole : goal.returns-then-pages-eq0-clause-whole
 returns-then-pages-eq0-clause-whole g c =
     rw (← c.self.view_is) (λ before pages written. ended_none c.args.fonts.now before _ pages written (sym (sym c.if-pages-eq0.true ∙ c.pages-pages.ensures)))
+
+pub returns-then-pages-eq0-clause-past : goal.returns-then-pages-eq0-clause-past
+returns-then-pages-eq0-clause-past g c =
+    rw (← c.self.view_is) (λ before pages written. past_none c.args.fonts.now before _ pages written (sym (sym c.if-pages-eq0.true ∙ c.pages-pages.ensures)))
 
 pub returns-then-pages-eq0-clause-size : goal.returns-then-pages-eq0-clause-size
 returns-then-pages-eq0-clause-size g c =
@@ -22,6 +26,18 @@ returns-in_err-send-clause-part g c is =
     let some : c.self.inside.progress.pages ≢ 0 = λ none. c.if-pages-eq0.false (c.pages-pages.ensures ∙ none) in
     let front = rw (c.deref.ensures.value, c.in-Ok.ensures) at c.in_err-send.ensures.front in
     rw (← c.self.view_is) (λ before pages written. ended_part c.args.fonts.now before c.send.new.self.bytes_written _ pages written some (rw (← c.self.view_is) at front))
+
+pub returns-in_err-send-clause-past_lost : goal.returns-in_err-send-clause-past_lost
+returns-in_err-send-clause-past_lost g c is =
+    let some : c.self.inside.progress.pages ≢ 0 = λ none. c.if-pages-eq0.false (c.pages-pages.ensures ∙ none) in
+    let past = rw (c.deref.ensures.value, c.in-Ok.ensures) at c.in_err-send.ensures.past in
+    rw (← c.self.view_is) (λ before pages written. past_lost c.args.fonts.now before _ c.send.new.self.past pages written some (rw (← c.self.view_is) at past))
+
+pub returns-clause-past : goal.returns-clause-past
+returns-clause-past g c =
+    let some : c.self.inside.progress.pages ≢ 0 = λ none. c.if-pages-eq0.false (c.pages-pages.ensures ∙ none) in
+    let past = rw (c.deref.ensures.value, c.in-Ok.ensures) at c.in_ok-send.ensures.past in
+    rw (← c.self.view_is) (λ before pages written. past_all c.args.fonts.now before _ _ pages written some (ap (λ (w : Writing). w.past) c.self-2.view_is ∙ (rw (← c.self.view_is) at past)))
 
 pub returns-in_err-send-clause-since : goal.returns-in_err-send-clause-since
 returns-in_err-send-clause-since g c is =

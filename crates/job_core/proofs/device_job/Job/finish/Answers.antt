@@ -1,11 +1,12 @@
 use Rattle.std.proofs.Common.{ap, sym, subst, ◌∙◌, Err}
 use Rattle.dvi_layout.specs.declared.fault.WriteFault.{WriteFault}
+use Rattle.dvi_device.proofs.PastLaws.{keeps_taken}
 use Rattle.tfm_core.specs.Slots.{Slots}
 use Rattle.dvi_layout.specs.Closing.{IsClosedFor}
 use Rattle.dvi_layout.specs.Layout.{whole}
 use Rattle.dvi_layout.specs.Shippable.{GivesFonts, IsFileOfPages}
 use Rattle.job_core.specs.Sound.{view_of}
-use Rattle.job_core.proofs.Endings.{over_refused, open_refused, may_finish, has_written_by, fonts_are, sent_by, part_by, some_where, finished, losing, stopped, said, filed}
+use Rattle.job_core.proofs.Endings.{over_refused, open_refused, may_finish, has_written_by, fonts_are, sent_by, part_by, kept_by, some_where, finished, losing, stopped, said, filed}
 use Rattle.job_core.proofs.BoundedFiles.{small_file}
 use Rattle.job_core.proofs.device_job.Job.finish.Goals as goal
 
@@ -25,7 +26,11 @@ returns-clause-finished g c =
     (stopped c.self.inside.kept c.self.inside.writer c.finish.new.self c.finish.ensures.so_far c.in-Ok.ensures.over)
     (λ m holds. c.in-Ok.ensures.pages _ m.pages (has_written_by old m c.fonts.result.now holds running c.fonts.ensures)) c.in-Ok.ensures.stands c.finish.ensures.grows
     (λ m holds.
-    sent_by old m c.fonts.result.now c.finish.new.self.bytes_written holds c.fonts.ensures (c.in-Ok.ensures.whole _ m.pages (has_written_by old m c.fonts.result.now holds running c.fonts.ensures))))
+    sent_by old m c.fonts.result.now c.finish.new.self.bytes_written holds c.fonts.ensures (c.in-Ok.ensures.whole _ m.pages (has_written_by old m c.fonts.result.now holds running c.fonts.ensures)))
+    (λ m holds.
+    let taken = c.in-Ok.ensures.past _ m.pages (has_written_by old m c.fonts.result.now holds running c.fonts.ensures) in
+    kept_by old m c.fonts.result.now old.began c.finish.new.self.began c.finish.new.self.past holds c.fonts.ensures c.finish.ensures.began
+    (keeps_taken old.began c.finish.new.self.past (whole c.fonts.result.now m.pages) (whole c.fonts.result.now m.pages) taken)))
 
 pub returns-clause-dvi : goal.returns-clause-dvi
 returns-clause-dvi g c =
@@ -66,4 +71,7 @@ returns-in-Err-Device-clause-finished g c =
     (some_where c.self.inside.writer _ running c.in-Err-Device.ensures.refused)
     (stopped c.self.inside.kept c.self.inside.writer c.finish.new.self c.finish.ensures.so_far (c.finish.ensures.lost lost)) more c.finish.ensures.grows
     (λ m holds.
-    part_by old m c.fonts.result.now c.finish.new.self.bytes_written holds c.fonts.ensures (c.finish.ensures.part lost _ m.pages (has_written_by old m c.fonts.result.now holds running c.fonts.ensures))))
+    part_by old m c.fonts.result.now c.finish.new.self.bytes_written holds c.fonts.ensures (c.finish.ensures.part lost _ m.pages (has_written_by old m c.fonts.result.now holds running c.fonts.ensures)))
+    (λ m holds.
+    kept_by old m c.fonts.result.now old.began c.finish.new.self.began c.finish.new.self.past holds c.fonts.ensures c.finish.ensures.began
+    (c.finish.ensures.past_lost lost _ m.pages (has_written_by old m c.fonts.result.now holds running c.fonts.ensures))))
