@@ -1,4 +1,10 @@
 pub mod SentParts
 pub mod RunLaws
+pub mod SessionLaws
+pub mod DialogLaws
+pub mod PieceLaws
+pub mod SessionEnds
+pub mod SessionCalls
+pub mod SessionScripts
 pub mod RowLaws
 pub mod WritingLemmas

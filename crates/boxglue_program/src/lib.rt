@@ -3,19 +3,23 @@
 //! input and output, `rows_scripts`, which runs files of cases, and other callers.
 #![tactic(auto)]
 
+mod dialog;
 mod hexadecimal;
 pub mod laws;
 mod memory_run;
 mod refusals;
 mod run;
+mod session;
 mod texts;
 mod writing;
 
 pub use boxglue_script::{Cause, Line, ScriptFault, read_script};
+pub use dialog::answer_command;
 pub use hexadecimal::hexadecimal_digit;
 pub use job_core::{Device, DeviceFault, FontFile, FontName, Fuse, Memory, Rest};
 pub use memory_run::run_memory;
 pub use refusals::{push_number, push_refusal_line, push_text, refusal_row};
 pub use run::{RunFault, run_lines, run_rest, run_script};
+pub use session::{Reading, Session, SessionEnd, SessionFault, run_session};
 pub use texts::{push_signed, script_refusal_text, with_answer, with_end};
 pub use writing::{Unwritten, refuse_memory, write_text};

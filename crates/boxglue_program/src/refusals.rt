@@ -1,6 +1,7 @@
 //! The texts of refusals: the number and the name of each, for answers to commands and for DVI files.
 
-ghost use Rattle.std.specs.Prelude.{◌≡◌, ◌++◌, decimal, length, take, OnOk, OnErr};
+ghost use Rattle.std.specs.Prelude.{◌≡◌, ◌≤◌, ◌++◌, decimal, length, take, OnOk, OnErr};
+ghost use Rattle.scaled_core.specs.Rooms.{TakesRoom};
 ghost use Rattle.boxglue_program.specs.Texts.{refusal_row, metric_refusal_name, refusal_text, refusal_line};
 
 use itoa::Buffer;
@@ -25,6 +26,7 @@ fn metric_refusal_name(cause: TfmCause) -> &'static str
 pub fn refusal_row(refusal: Refusal) -> (u32, &'static str)
     ensures number { result.0 ≡ (refusal_row refusal).0 }
     ensures name { result.1.now ≡ (refusal_row refusal).1 }
+    ensures short { length result.1.now ≤ 17 }
 {
     match refusal {
         Refusal::OutOfMemory => (1, "OutOfMemory"),
@@ -50,18 +52,20 @@ pub fn refusal_row(refusal: Refusal) -> (u32, &'static str)
     }
 }
 
-/// Appends a text. If memory is refused, nothing was appended.
+/// Appends a text. If memory is refused, nothing was appended, and there was no room for the text.
 pub fn push_text(text: &str, out: &mut Vec<u8>) -> Result<(), AllocError>
     ensures ok { OnOk result (out.new.items ≡ out.old.items ++ text.now) }
     ensures err { OnErr result (out.new.items ≡ out.old.items) }
+    ensures room { TakesRoom (length text.now) out.old out.new result }
 {
     out.extend_from_slice(text.as_bytes())
 }
 
-/// Appends a number in decimal. If memory is refused, nothing was appended.
+/// Appends a number in decimal. If memory is refused, nothing was appended, and there was no room for a number.
 pub fn push_number(number: u64, out: &mut Vec<u8>) -> Result<(), AllocError>
     ensures ok { OnOk result (out.new.items ≡ out.old.items ++ decimal number) }
     ensures err { OnErr result (out.new.items ≡ out.old.items) }
+    ensures room { TakesRoom 40 out.old out.new result }
 {
     let mut buffer = Buffer::new();
     out.extend_from_slice(buffer.format(number).as_bytes())
@@ -72,6 +76,7 @@ pub fn push_number(number: u64, out: &mut Vec<u8>) -> Result<(), AllocError>
 pub(crate) fn push_refusal(refusal: Refusal, out: &mut Vec<u8>) -> Result<(), AllocError>
     ensures ok { OnOk result (out.new.items ≡ out.old.items ++ refusal_text refusal) }
     ensures front { take (length out.old.items) out.new.items ≡ out.old.items }
+    ensures room { TakesRoom 80 out.old out.new result }
 {
     let (number, name) = refusal_row(refusal);
     push_text("refused ", out)?;

@@ -1,8 +1,9 @@
 //! The texts of answers.
 
-ghost use Rattle.std.specs.Prelude.{◌≡◌, ◌++◌, ◌+◌, ◌*◌, ◌<◌, ℕ, List, decimal, OnOk, OnErr, IfOk, IfSome};
+ghost use Rattle.std.specs.Prelude.{◌≡◌, ◌++◌, ◌+◌, ◌*◌, ◌<◌, ◌≤◌, length, ℕ, List, codes, decimal, OnOk, OnErr, IfOk, IfSome};
 ghost use Rattle.std.specs.Fmt.{signed_decimal};
-ghost use Rattle.boxglue_program.specs.Texts.{cause_name, kind_name, points_text, sizes_text, rest_text, lines_text, costs_text, answer_text, reply_text, answer_line, summary_text, end_line, script_refusal_text};
+ghost use Rattle.scaled_core.specs.Rooms.{TakesRoom};
+ghost use Rattle.boxglue_program.specs.Texts.{cause_name, kind_name, points_text, sizes_text, rest_text, lines_text, costs_text, answer_text, reply_text, answer_line, summary_text, end_line, line_feed, script_refusal_text};
 
 use crate::refusals::{push_number, push_refusal, push_text};
 use boxglue_script::Cause;
@@ -14,7 +15,8 @@ use std::alloc::{AllocError, Global};
 
 /// The name of the cause that makes a script bad.
 fn cause_name(cause: Cause) -> &'static str
-    ensures { result.now ≡ cause_name cause }
+    ensures name { result.now ≡ cause_name cause }
+    ensures short { length result.now ≤ 9 }
 {
     match cause {
         Cause::Byte => "Byte",
@@ -29,7 +31,8 @@ fn cause_name(cause: Cause) -> &'static str
 
 /// The word for a kind of box.
 fn kind_name(kind: Kind) -> &'static str
-    ensures { result.now ≡ kind_name kind }
+    ensures name { result.now ≡ kind_name kind }
+    ensures short { length result.now ≤ 4 }
 {
     match kind {
         Kind::Horizontal => "hbox",
@@ -41,6 +44,7 @@ fn kind_name(kind: Kind) -> &'static str
 pub fn push_signed(number: i64, out: &mut Vec<u8>) -> Result<(), AllocError>
     ensures ok { OnOk result (out.new.items ≡ out.old.items ++ signed_decimal number) }
     ensures err { OnErr result (out.new.items ≡ out.old.items) }
+    ensures room { TakesRoom 40 out.old out.new result }
 {
     let mut buffer = Buffer::new();
     out.extend_from_slice(buffer.format(number).as_bytes())
@@ -49,7 +53,8 @@ pub fn push_signed(number: i64, out: &mut Vec<u8>) -> Result<(), AllocError>
 /// Appends a dimension in points. If memory is refused, here and in the functions below, a beginning of the text may have been appended.
 #[tactic(auto, unfolding(crate::specs::Texts::points_text))]
 fn push_points(dimension: Dimen, out: &mut Vec<u8>) -> Result<(), AllocError>
-    ensures { OnOk result (out.new.items ≡ out.old.items ++ points_text dimension) }
+    ensures ok { OnOk result (out.new.items ≡ out.old.items ++ points_text dimension) }
+    ensures room { TakesRoom 49 out.old out.new result }
 {
     print_dimen(dimension, out)?;
     push_text("pt", out)
@@ -58,7 +63,8 @@ fn push_points(dimension: Dimen, out: &mut Vec<u8>) -> Result<(), AllocError>
 /// Appends width, height and depth.
 #[tactic(auto, unfolding(crate::specs::Texts::sizes_text))]
 fn push_sizes(sizes: &Sizes, out: &mut Vec<u8>) -> Result<(), AllocError>
-    ensures { OnOk result (out.new.items ≡ out.old.items ++ sizes_text sizes.now) }
+    ensures ok { OnOk result (out.new.items ≡ out.old.items ++ sizes_text sizes.now) }
+    ensures room { TakesRoom 149 out.old out.new result }
 {
     push_points(sizes.width, out)?;
     push_text(" ", out)?;
@@ -70,7 +76,8 @@ fn push_sizes(sizes: &Sizes, out: &mut Vec<u8>) -> Result<(), AllocError>
 /// Appends the answer to a packed box: sizes and badness.
 #[tactic(auto, unfolding(crate::specs::Texts::answer_text))]
 fn push_packed(sizes: &Sizes, badness: u32, out: &mut Vec<u8>) -> Result<(), AllocError>
-    ensures { OnOk result (out.new.items ≡ out.old.items ++ answer_text (Answer.Packed sizes.now badness)) }
+    ensures ok { OnOk result (out.new.items ≡ out.old.items ++ answer_text (Answer.Packed sizes.now badness)) }
+    ensures room { TakesRoom 205 out.old out.new result }
 {
     push_text("packed ", out)?;
     push_sizes(sizes, out)?;
@@ -81,7 +88,8 @@ fn push_packed(sizes: &Sizes, badness: u32, out: &mut Vec<u8>) -> Result<(), All
 /// Appends the answer to a measured box: kind and sizes.
 #[tactic(auto, unfolding(crate::specs::Texts::answer_text))]
 fn push_measured(kind: Kind, sizes: &Sizes, out: &mut Vec<u8>) -> Result<(), AllocError>
-    ensures { OnOk result (out.new.items ≡ out.old.items ++ answer_text (Answer.Measured kind sizes.now)) }
+    ensures ok { OnOk result (out.new.items ≡ out.old.items ++ answer_text (Answer.Measured kind sizes.now)) }
+    ensures room { TakesRoom 163 out.old out.new result }
 {
     push_text("measured ", out)?;
     push_text(kind_name(kind), out)?;
@@ -92,7 +100,8 @@ fn push_measured(kind: Kind, sizes: &Sizes, out: &mut Vec<u8>) -> Result<(), All
 /// Appends how many items characters added, and how many characters are missing in the font.
 #[tactic(auto, unfolding(crate::specs::Texts::answer_text))]
 fn push_shaped(items: usize, missing: usize, out: &mut Vec<u8>) -> Result<(), AllocError>
-    ensures { OnOk result (out.new.items ≡ out.old.items ++ answer_text (Answer.Shaped items missing)) }
+    ensures ok { OnOk result (out.new.items ≡ out.old.items ++ answer_text (Answer.Shaped items missing)) }
+    ensures room { TakesRoom 95 out.old out.new result }
 {
     push_text("added ", out)?;
     push_number(items as u64, out)?;
@@ -103,7 +112,8 @@ fn push_shaped(items: usize, missing: usize, out: &mut Vec<u8>) -> Result<(), Al
 /// Appends how many items were added.
 #[tactic(auto, unfolding(crate::specs::Texts::answer_text))]
 fn push_added(items: usize, out: &mut Vec<u8>) -> Result<(), AllocError>
-    ensures { OnOk result (out.new.items ≡ out.old.items ++ answer_text (Answer.Added items)) }
+    ensures ok { OnOk result (out.new.items ≡ out.old.items ++ answer_text (Answer.Added items)) }
+    ensures room { TakesRoom 46 out.old out.new result }
 {
     push_text("added ", out)?;
     push_number(items as u64, out)
@@ -111,7 +121,8 @@ fn push_added(items: usize, out: &mut Vec<u8>) -> Result<(), AllocError>
 
 /// Appends the number of lines of a paragraph.
 fn push_lines(lines: usize, out: &mut Vec<u8>) -> Result<(), AllocError>
-    ensures { OnOk result (out.new.items ≡ out.old.items ++ lines_text lines) }
+    ensures ok { OnOk result (out.new.items ≡ out.old.items ++ lines_text lines) }
+    ensures room { TakesRoom 56 out.old out.new result }
 {
     push_text("paragraph lines ", out)?;
     push_number(lines as u64, out)
@@ -120,7 +131,8 @@ fn push_lines(lines: usize, out: &mut Vec<u8>) -> Result<(), AllocError>
 /// Appends the overhang and the demerits of a paragraph.
 #[tactic(auto, unfolding(crate::specs::Texts::costs_text))]
 fn push_costs(overhang: i64, demerits: i64, out: &mut Vec<u8>) -> Result<(), AllocError>
-    ensures { OnOk result (out.new.items ≡ out.old.items ++ costs_text overhang demerits) }
+    ensures ok { OnOk result (out.new.items ≡ out.old.items ++ costs_text overhang demerits) }
+    ensures room { TakesRoom 100 out.old out.new result }
 {
     push_text(" overhang ", out)?;
     push_signed(overhang, out)?;
@@ -137,7 +149,8 @@ fn push_paragraph(
     demerits: i64,
     out: &mut Vec<u8>,
 ) -> Result<(), AllocError>
-    ensures { OnOk result (out.new.items ≡ out.old.items ++ answer_text (Answer.Paragraph lines pass overhang demerits)) }
+    ensures ok { OnOk result (out.new.items ≡ out.old.items ++ answer_text (Answer.Paragraph lines pass overhang demerits)) }
+    ensures room { TakesRoom 202 out.old out.new result }
 {
     push_lines(lines, out)?;
     push_text(" pass ", out)?;
@@ -148,7 +161,8 @@ fn push_paragraph(
 /// Appends the sizes of the rest of a split, or `void` if there is none.
 #[tactic(auto, unfolding(crate::specs::Texts::rest_text))]
 fn push_rest(rest: &Option<Sizes>, out: &mut Vec<u8>) -> Result<(), AllocError>
-    ensures { OnOk result (out.new.items ≡ out.old.items ++ rest_text rest.now) }
+    ensures ok { OnOk result (out.new.items ≡ out.old.items ++ rest_text rest.now) }
+    ensures room { TakesRoom 149 out.old out.new result }
 {
     match rest {
         None => push_text("void", out),
@@ -164,7 +178,8 @@ fn push_split(
     rest: &Option<Sizes>,
     out: &mut Vec<u8>,
 ) -> Result<(), AllocError>
-    ensures { OnOk result (out.new.items ≡ out.old.items ++ answer_text (Answer.Split front.now badness rest.now)) }
+    ensures ok { OnOk result (out.new.items ≡ out.old.items ++ answer_text (Answer.Split front.now badness rest.now)) }
+    ensures room { TakesRoom 359 out.old out.new result }
 {
     push_text("split ", out)?;
     push_sizes(front, out)?;
@@ -177,7 +192,8 @@ fn push_split(
 /// Appends the number of pages that were shipped.
 #[tactic(auto, unfolding(crate::specs::Texts::answer_text))]
 fn push_shipped(pages: u32, out: &mut Vec<u8>) -> Result<(), AllocError>
-    ensures { OnOk result (out.new.items ≡ out.old.items ++ answer_text (Answer.Shipped pages)) }
+    ensures ok { OnOk result (out.new.items ≡ out.old.items ++ answer_text (Answer.Shipped pages)) }
+    ensures room { TakesRoom 48 out.old out.new result }
 {
     push_text("shipped ", out)?;
     push_number(u64::from(pages), out)
@@ -186,7 +202,8 @@ fn push_shipped(pages: u32, out: &mut Vec<u8>) -> Result<(), AllocError>
 /// Appends an answer.
 #[tactic(auto, unfolding(crate::specs::Texts::answer_text))]
 fn push_answer(answer: &Answer, out: &mut Vec<u8>) -> Result<(), AllocError>
-    ensures { OnOk result (out.new.items ≡ out.old.items ++ answer_text answer.now) }
+    ensures ok { OnOk result (out.new.items ≡ out.old.items ++ answer_text answer.now) }
+    ensures room { TakesRoom 359 out.old out.new result }
 {
     match answer {
         Answer::Done => push_text("ok", out),
@@ -213,7 +230,8 @@ fn push_answer(answer: &Answer, out: &mut Vec<u8>) -> Result<(), AllocError>
 
 /// Appends the reply of a job.
 fn push_reply(reply: &Reply, out: &mut Vec<u8>) -> Result<(), AllocError>
-    ensures { OnOk result (out.new.items ≡ out.old.items ++ reply_text reply.now) }
+    ensures ok { OnOk result (out.new.items ≡ out.old.items ++ reply_text reply.now) }
+    ensures room { TakesRoom 359 out.old out.new result }
 {
     match reply {
         Ok(answer) => push_answer(answer, out),
@@ -223,8 +241,13 @@ fn push_reply(reply: &Reply, out: &mut Vec<u8>) -> Result<(), AllocError>
 
 /// Appends the line that answers the line of a script with this number. Most answers are `ok`, so this one is appended as one piece.
 #[tactic(auto, unfolding(crate::specs::Texts::answer_line, crate::specs::Texts::answer_text))]
-fn push_answer_line(number: usize, reply: &Reply, out: &mut Vec<u8>) -> Result<(), AllocError>
-    ensures { OnOk result (out.new.items ≡ out.old.items ++ answer_line number reply.now) }
+pub(crate) fn push_answer_line(
+    number: usize,
+    reply: &Reply,
+    out: &mut Vec<u8>,
+) -> Result<(), AllocError>
+    ensures ok { OnOk result (out.new.items ≡ out.old.items ++ answer_line number reply.now) }
+    ensures room { TakesRoom 402 out.old out.new result }
 {
     push_number(number as u64, out)?;
     if let Ok(Answer::Done) = reply {
@@ -237,7 +260,8 @@ fn push_answer_line(number: usize, reply: &Reply, out: &mut Vec<u8>) -> Result<(
 
 /// Appends the result of the end of a job.
 fn push_summary(end: &Result<Summary, Refusal>, out: &mut Vec<u8>) -> Result<(), AllocError>
-    ensures { OnOk result (out.new.items ≡ out.old.items ++ summary_text end.now) }
+    ensures ok { OnOk result (out.new.items ≡ out.old.items ++ summary_text end.now) }
+    ensures room { TakesRoom 100 out.old out.new result }
 {
     match end {
         Ok(summary) => {
@@ -252,8 +276,12 @@ fn push_summary(end: &Result<Summary, Refusal>, out: &mut Vec<u8>) -> Result<(),
 
 /// Appends the last line of the answers.
 #[tactic(auto, unfolding(crate::specs::Texts::end_line))]
-fn push_end_line(end: &Result<Summary, Refusal>, out: &mut Vec<u8>) -> Result<(), AllocError>
-    ensures { OnOk result (out.new.items ≡ out.old.items ++ end_line end.now) }
+pub(crate) fn push_end_line(
+    end: &Result<Summary, Refusal>,
+    out: &mut Vec<u8>,
+) -> Result<(), AllocError>
+    ensures ok { OnOk result (out.new.items ≡ out.old.items ++ end_line end.now) }
+    ensures room { TakesRoom 110 out.old out.new result }
 {
     push_text("end: ", out)?;
     push_summary(end, out)?;
@@ -279,7 +307,6 @@ pub fn with_end(text: Option<Vec<u8>>, end: &Result<Summary, Refusal>) -> Option
 }
 
 /// The text for a bad script: the number of its first bad line, and the cause.
-#[tactic(auto, unfolding(crate::specs::Texts::script_refusal_text))]
 pub fn script_refusal_text(
     alloc: Global,
     number: usize,
@@ -288,10 +315,31 @@ pub fn script_refusal_text(
     ensures { IfOk result (λ text. text.items ≡ script_refusal_text number cause) }
 {
     let mut text = Vec::new(alloc);
-    push_text("refused 2 BadScript ", &mut text)?;
-    push_number(number as u64, &mut text)?;
-    push_text(" ", &mut text)?;
-    push_text(cause_name(cause), &mut text)?;
-    push_text("\n", &mut text)?;
+    push_script_refusal(number, cause, &mut text)?;
     Ok(text)
+}
+
+/// Appends the text for a bad line: its number, and the cause.
+#[tactic(auto, unfolding(crate::specs::Texts::script_refusal_text))]
+pub(crate) fn push_script_refusal(
+    line: usize,
+    cause: Cause,
+    out: &mut Vec<u8>,
+) -> Result<(), AllocError>
+    ensures ok { OnOk result (out.new.items ≡ out.old.items ++ script_refusal_text line cause) }
+    ensures room { TakesRoom 80 out.old out.new result }
+{
+    push_text("refused 2 BadScript ", out)?;
+    push_number(line as u64, out)?;
+    push_cause(cause, out)
+}
+
+/// Appends a space, the name of a cause, and the end of the line.
+fn push_cause(cause: Cause, out: &mut Vec<u8>) -> Result<(), AllocError>
+    ensures ok { OnOk result (out.new.items ≡ out.old.items ++ (codes " " ++ (cause_name cause ++ line_feed))) }
+    ensures room { TakesRoom 11 out.old out.new result }
+{
+    push_text(" ", out)?;
+    push_text(cause_name(cause), out)?;
+    push_text("\n", out)
 }

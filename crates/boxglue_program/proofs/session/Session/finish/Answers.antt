@@ -1,0 +1,18 @@
+-- The last line was run, and the job was finished.
+use Rattle.std.proofs.Common.{ℕ, List, subst}
+use Rattle.std.specs.Str.Lines.{lines}
+use Rattle.boxglue_program.specs.Dialogs.{dialog_of}
+use Rattle.boxglue_program.specs.Sessions.{AnswersLines, SessionView}
+use Rattle.boxglue_program.proofs.SessionCalls.{session_finished}
+use Rattle.boxglue_program.proofs.session.Session.finish.Goals as goal
+
+pub returns-in-Ok-clause-ended : goal.returns-in-Ok-clause-ended
+returns-in-Ok-clause-ended g c =
+    let inside = c.self.inside in
+    let was : SessionView =
+    record { dialog = dialog_of inside.dialog.job inside.dialog.lines inside.dialog.accepted; reads = inside.outbox.reads; kept = inside.kept.items; left = inside.left } in
+    let ends = c.in-Ok.ensures.ended in
+    let ran : AnswersLines was.dialog (lines was.kept) ends.0 ends.1 = subst (λ (text : List ℕ). AnswersLines was.dialog (lines text) ends.0 ends.1) c.deref.ensures.value ends.3 in
+    session_finished c.args.self was c.close.result.outcome c.in-Ok.accepted c.answer_last.new.self.reads c.close.result.written (g.D.Device.failed c.close.result.device) c.answer_last.new.dialog.job.failed
+    (g.D.Device.bytes_written c.close.result.device) c.answer_last.new.dialog.job.bytes_written (g.W.Write.contents c.args.writer.now) (g.W.Write.contents c.answer_last.new.writer) ends.0 ends.1 ends.2
+    c.self.view_is c.close.ensures.outcome c.close.ensures.failed c.close.ensures.bytes_written c.close.ensures.written ran ends.4 ends.5 ends.6

@@ -1,0 +1,257 @@
+//! A job that is given lines as they come, and the answers that wait for a client.
+
+ghost use Rattle.std.specs.Prelude.{◌≡◌, ◌++◌, ◌∷◌, ◌<◌, ◌≤◌, ◌+◌, ◌^◌, ◌&&◌, true, [], ℕ, List, length, Result, is_ok, IfOk, OnOk, OnErr, vec_len};
+ghost use Rattle.std.specs.Str.Lines.{lines};
+ghost use Rattle.job_commands.specs.declared.replies.Refusal.{Refusal as ARefusal};
+ghost use Rattle.job_commands.specs.declared.replies.Summary.{Summary as ASummary};
+ghost use Rattle.dvi_device.specs.Written.{written_then};
+ghost use Rattle.job_core.specs.Jobs.{KeepsTo};
+ghost use Rattle.boxglue_program.specs.Texts.{answer_line, end_line, script_refusal_text};
+ghost use Rattle.boxglue_program.specs.Sessions.{AnswersLines, DialogView, EndsRun, IsSent, StopsIn};
+ghost use Rattle.boxglue_program.specs.Dialogs.{dialog_of, outbox_of, Sends};
+
+use crate::texts::{push_answer_line, push_end_line, push_script_refusal};
+use crate::writing::write_text;
+use boxglue_script::{Cause, Said, first_line, read_line};
+use job_core::{Command, Device, Job, Reply};
+use std::alloc::{AllocError, Global};
+use std::io::Write;
+
+/// Room for one answer. The longest is that of a split: two numbers, six dimensions, and the words between them.
+const ANSWER_SIZE: usize = 512;
+
+/// Room for the answers that wait.
+pub(crate) const OUTBOX_SIZE: usize = 65_536;
+
+/// Runs a command on a job, and appends the line that answers it. Returns the reply.
+///
+/// Room for the answer is taken first. The error is a refused growth: the command was not run, and nothing is appended.
+pub fn answer_command<D: Device>(
+    job: &mut Job<D>,
+    number: usize,
+    command: &Command,
+    answers: &mut Vec<u8>,
+) -> Result<Reply, AllocError>
+    ensures keeps { IfOk result (λ reply. KeepsTo job.old command.now reply job.new) }
+    ensures answered { IfOk result (λ reply. answers.new.items ≡ answers.old.items ++ answer_line number reply) }
+    ensures unchanged { OnErr result (job.new ≡ job.old) }
+    ensures cut { OnErr result (answers.new.items ≡ answers.old.items) }
+    ensures idle { job.old.state.over ≡ true → job.new ≡ job.old }
+    ensures grows { (more : List ℕ) × (job.new.bytes_written ≡ written_then job.old.bytes_written more) }
+    ensures began { job.new.began ≡ job.old.began }
+{
+    answers.reserve(ANSWER_SIZE)?;
+    let reply = job.step(command);
+    let Ok(()) = push_answer_line(number, &reply, answers) else {
+        unreachable!()
+    };
+    Ok(reply)
+}
+
+/// Runs a line on a job after so many lines, and appends its answer, if it has one. Returns whether it was not refused. If memory is refused, nothing was
+/// run, and nothing is appended.
+fn answer_line<D: Device>(
+    alloc: Global,
+    job: &mut Job<D>,
+    before: usize,
+    line: &[u8],
+    answers: &mut Vec<u8>,
+) -> Result<bool, AllocError>
+    requires countable { before + 1 < 2 ^ 64 }
+    ensures ok { IfOk result (λ accepted. (text : List ℕ) × (answers.new.items ≡ answers.old.items ++ text)
+        × AnswersLines (dialog_of job.old before true) (line.now ∷ []) text (dialog_of job.new (before + 1) accepted)) }
+    ensures unchanged { OnErr result (job.new ≡ job.old) }
+    ensures cut { OnErr result (answers.new.items ≡ answers.old.items) }
+{
+    match read_line(alloc, line)? {
+        Said::Nothing => Ok(true),
+        Said::Command(command) => {
+            let reply = answer_command(job, before + 1, &command, answers)?;
+            Ok(reply.is_ok())
+        }
+        Said::Bad(cause) => {
+            refuse_line(before + 1, cause, answers)?;
+            Ok(false)
+        }
+    }
+}
+
+/// Appends the answer to a bad line. If memory is refused, nothing is appended.
+fn refuse_line(number: usize, cause: Cause, answers: &mut Vec<u8>) -> Result<(), AllocError>
+    ensures ok { OnOk result (answers.new.items ≡ answers.old.items ++ script_refusal_text number cause) }
+    ensures cut { OnErr result (answers.new.items ≡ answers.old.items) }
+{
+    answers.reserve(ANSWER_SIZE)?;
+    let Ok(()) = push_script_refusal(number, cause, answers) else {
+        unreachable!()
+    };
+    Ok(())
+}
+
+/// A job, how many lines of its input were run, and whether nothing was refused.
+#[derive(Drop)]
+pub(crate) struct Dialog<D: Device> {
+    pub(crate) alloc: Global,
+    pub(crate) job: Job<D>,
+    pub(crate) lines: usize,
+    pub(crate) accepted: bool,
+}
+
+impl<D: Device> Dialog<D> {
+    /// Runs the next line, and appends its answer, if it has one. If memory is refused, nothing was run, and nothing is appended.
+    fn answer(&mut self, line: &[u8], answers: &mut Vec<u8>) -> Result<(), AllocError>
+        requires countable { self.old.lines + 1 < 2 ^ 64 }
+        ensures ok { OnOk result ((text : List ℕ) × (answers.new.items ≡ answers.old.items ++ text)
+            × AnswersLines (dialog_of self.old.job self.old.lines self.old.accepted) (line.now ∷ []) text (dialog_of self.new.job self.new.lines self.new.accepted)) }
+        ensures unchanged { OnErr result (self.new.job ≡ self.old.job) }
+        ensures cut { OnErr result (answers.new.items ≡ answers.old.items) }
+        ensures counted { self.new.lines ≤ self.old.lines + 1 }
+    {
+        let accepted = answer_line(self.alloc, &mut self.job, self.lines, line, answers)?;
+        self.lines += 1;
+        self.accepted &= accepted;
+        Ok(())
+    }
+
+    /// Finishes the job, and appends the last line. Returns whether nothing was refused in all. If memory is refused, the job is not finished.
+    fn finish(&mut self, answers: &mut Vec<u8>) -> Result<bool, AllocError>
+        ensures ended { IfOk result (λ accepted. (end : Result ASummary ARefusal) × EndsRun self.old.job end self.new.job.failed self.new.job.bytes_written
+            × (answers.new.items ≡ answers.old.items ++ end_line end) × (accepted ≡ (self.old.accepted && is_ok end))) }
+        ensures none { OnErr result (self.new.job ≡ self.old.job) }
+        ensures cut { OnErr result (answers.new.items ≡ answers.old.items) }
+        ensures began { self.new.job.began ≡ self.old.job.began }
+    {
+        answers.reserve(ANSWER_SIZE)?;
+        let end = self.job.finish();
+        let Ok(()) = push_end_line(&end, answers) else {
+            unreachable!()
+        };
+        Ok(self.accepted & end.is_ok())
+    }
+}
+
+/// Answers that wait to be written, and whether the client reads.
+#[derive(Drop)]
+pub(crate) struct Outbox {
+    pub(crate) waiting: Vec<u8>,
+    pub(crate) reads: bool,
+}
+
+/// Writes a text if the client reads, and returns whether it still does.
+fn tell<W: Write>(reads: bool, text: &[u8], writer: &mut W) -> bool
+    ensures { IsSent reads result (W.contents writer.old) (W.contents writer.new) text.now }
+{
+    if !reads {
+        return false;
+    }
+    write_text(writer, text).is_ok()
+}
+
+impl Outbox {
+    /// Writes the answers that wait, if the client reads.
+    fn send<W: Write>(&mut self, writer: &mut W)
+        ensures sent { IsSent self.old.reads self.new.reads (W.contents writer.old) (W.contents writer.new) self.old.waiting.items }
+        ensures empty { self.new.waiting.items ≡ [] }
+    {
+        self.reads = tell(self.reads, &self.waiting, writer);
+        self.waiting.clear();
+    }
+
+    /// Writes the answers that wait if the room for another one is not there.
+    fn make_room<W: Write>(&mut self, writer: &mut W)
+        ensures sent { Sends (outbox_of self.old.waiting.items self.old.reads) (outbox_of self.new.waiting.items self.new.reads) (W.contents writer.old) (W.contents writer.new) [] }
+    {
+        if self.waiting.len() <= OUTBOX_SIZE - ANSWER_SIZE {
+            return;
+        }
+        self.send(writer);
+    }
+
+    /// Runs the lines of a text. Answers are written whenever the room for another one is not there.
+    fn answer_lines<D: Device, W: Write>(
+        &mut self,
+        dialog: &mut Dialog<D>,
+        text: &[u8],
+        writer: &mut W,
+    ) -> Result<(), AllocError>
+        requires countable { dialog.old.lines + length text.now < 2 ^ 64 }
+        ensures ok { OnOk result ((answers : List ℕ)
+            × AnswersLines (dialog_of dialog.old.job dialog.old.lines dialog.old.accepted) (lines text.now) answers (dialog_of dialog.new.job dialog.new.lines dialog.new.accepted)
+            × Sends (outbox_of self.old.waiting.items self.old.reads) (outbox_of self.new.waiting.items self.new.reads) (W.contents writer.old) (W.contents writer.new) answers) }
+        ensures stopped { OnErr result ((answers : List ℕ)
+            × StopsIn text.now (dialog_of dialog.old.job dialog.old.lines dialog.old.accepted) answers dialog.new.job
+            × Sends (outbox_of self.old.waiting.items self.old.reads) (outbox_of self.new.waiting.items self.new.reads) (W.contents writer.old) (W.contents writer.new) answers) }
+        ensures counted { dialog.new.lines ≤ dialog.old.lines + length text.now }
+    {
+        let mut rest = text;
+        while !rest.is_empty() {
+            let (line, after) = first_line(rest);
+            self.make_room(writer);
+            dialog.answer(line, &mut self.waiting)?;
+            rest = after;
+        }
+        Ok(())
+    }
+
+    /// Runs the lines of a text, and writes their answers.
+    pub(crate) fn answer<D: Device, W: Write>(
+        &mut self,
+        dialog: &mut Dialog<D>,
+        text: &[u8],
+        writer: &mut W,
+    ) -> Result<(), AllocError>
+        requires countable { dialog.old.lines + length text.now < 2 ^ 64 }
+        requires empty { self.old.waiting.items ≡ [] }
+        ensures ok { OnOk result ((answers : List ℕ)
+            × AnswersLines (dialog_of dialog.old.job dialog.old.lines dialog.old.accepted) (lines text.now) answers (dialog_of dialog.new.job dialog.new.lines dialog.new.accepted)
+            × IsSent self.old.reads self.new.reads (W.contents writer.old) (W.contents writer.new) answers) }
+        ensures stopped { OnErr result ((answers : List ℕ)
+            × StopsIn text.now (dialog_of dialog.old.job dialog.old.lines dialog.old.accepted) answers dialog.new.job
+            × IsSent self.old.reads self.new.reads (W.contents writer.old) (W.contents writer.new) answers) }
+        ensures emptied { self.new.waiting.items ≡ [] }
+        ensures counted { dialog.new.lines ≤ dialog.old.lines + length text.now }
+    {
+        let ran = self.answer_lines(dialog, text, writer);
+        self.send(writer);
+        ran
+    }
+
+    /// Runs the lines of a text, finishes the job, and writes all answers. Returns whether nothing was refused in all.
+    pub(crate) fn answer_last<D: Device, W: Write>(
+        &mut self,
+        dialog: &mut Dialog<D>,
+        text: &[u8],
+        writer: &mut W,
+    ) -> Result<bool, AllocError>
+        requires countable { dialog.old.lines + length text.now < 2 ^ 64 }
+        requires empty { self.old.waiting.items ≡ [] }
+        ensures ended { IfOk result (λ accepted. (answers : List ℕ) × (middle : DialogView) × (end : Result ASummary ARefusal)
+            × AnswersLines (dialog_of dialog.old.job dialog.old.lines dialog.old.accepted) (lines text.now) answers middle
+            × EndsRun middle.job end dialog.new.job.failed dialog.new.job.bytes_written
+            × IsSent self.old.reads self.new.reads (W.contents writer.old) (W.contents writer.new) (answers ++ end_line end)
+            × (accepted ≡ (middle.accepted && is_ok end)) × (dialog.new.job.began ≡ middle.job.began)) }
+        ensures stopped { OnErr result ((answers : List ℕ)
+            × StopsIn text.now (dialog_of dialog.old.job dialog.old.lines dialog.old.accepted) answers dialog.new.job
+            × IsSent self.old.reads self.new.reads (W.contents writer.old) (W.contents writer.new) answers) }
+    {
+        self.answer(dialog, text, writer)?;
+        self.finish(dialog, writer)
+    }
+
+    /// Finishes the job, and writes the last line. Returns whether nothing was refused in all.
+    fn finish<D: Device, W: Write>(
+        &mut self,
+        dialog: &mut Dialog<D>,
+        writer: &mut W,
+    ) -> Result<bool, AllocError>
+        requires empty { self.old.waiting.items ≡ [] }
+        ensures ended { IfOk result (λ accepted. (end : Result ASummary ARefusal) × EndsRun dialog.old.job end dialog.new.job.failed dialog.new.job.bytes_written
+            × IsSent self.old.reads self.new.reads (W.contents writer.old) (W.contents writer.new) (end_line end) × (accepted ≡ (dialog.old.accepted && is_ok end))) }
+        ensures none { OnErr result ((dialog.new.job ≡ dialog.old.job) × IsSent self.old.reads self.new.reads (W.contents writer.old) (W.contents writer.new) []) }
+        ensures began { dialog.new.job.began ≡ dialog.old.job.began }
+    {
+        let ended = dialog.finish(&mut self.waiting);
+        self.send(writer);
+        ended
+    }
+}
