@@ -3,12 +3,12 @@ _boxglue() {
   local word=${COMP_WORDS[COMP_CWORD]} before=${COMP_WORDS[COMP_CWORD - 1]} use=${COMP_WORDS[1]} words=--help
   COMPREPLY=()
   if ((COMP_CWORD == 1)); then
-    mapfile -t COMPREPLY < <(compgen -W 'typeset list fonts paint --help --version' -- "$word")
+    mapfile -t COMPREPLY < <(compgen -W 'typeset session list fonts paint --help --version' -- "$word")
     return
   fi
   case $use in
   paint) words='--page --dpi --width --height --help' ;;
-  typeset | list | fonts) ;;
+  typeset | session | list | fonts) ;;
   *) return ;;
   esac
   # Bash treats a `=` as a word of its own. After `--page=` comes a number, after `NAME=` a path.

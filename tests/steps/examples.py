@@ -1,16 +1,17 @@
 """The scripts of examples/, each with a metric file of plain width for its fonts. The expected results follow from the script's own text: each
 command is accepted and answered once, each `ship` is a page, and the pages that are listed show the characters of its texts and its specials.
-README.md there has a line for each script, with a picture of each page."""
+README.md there has a line for each script, with a picture of each page. The clients of examples/session set an article: its pages show its text and their numbers."""
 import glob
 import os
 import re
+import shutil
 import subprocess
 import tempfile
 from functools import partial
 
 from steps.plain_font import metric_file
 
-TITLE = "the scripts of examples/: typeset, list and paint"
+TITLE = "the scripts of examples/: typeset, list and paint; the clients of session"
 NEEDS_PROGRAM = True
 LIMIT = 60
 # The most bytes of a picture.
@@ -141,9 +142,46 @@ def check_table(folder, paths):
     return f"{large[0]} is empty, or has {PICTURE} bytes or more" if large else None
 
 
+def shown_on_pages(listing):
+    """The characters of each page that is listed."""
+    pages = re.split(r"^page .*\n", listing, flags=re.M)[1:]
+    return [[int(it) for it in re.findall(r"^glyph \d+ (\d+) ", page, re.M)] for page in pages]
+
+
+def client_file(program, folder, client):
+    """Runs a client of `session` on its article, and returns the file, whose pages have to show the article's text, and each its number at the end."""
+    with open(f"{folder}/article.txt", encoding="ascii") as it:
+        text = it.read()
+    with tempfile.TemporaryDirectory(prefix="boxglue-client-") as room:
+        os.symlink(program, f"{room}/boxglue")
+        shutil.copy(f"{os.path.dirname(folder)}/plain.tfm", room)
+        env = {"PATH": f"{room}:{os.environ['PATH']}"}
+        ran = subprocess.run([f"{folder}/{client}", "out.dvi", "plain.tfm"], input=text, cwd=room, env=env, capture_output=True, text=True, timeout=LIMIT)
+        require((ran.returncode, ran.stderr) == (0, ""), f"the status is {ran.returncode}; {ran.stderr[-200:]!r}")
+        with open(f"{room}/out.dvi", "rb") as it:
+            content = it.read()
+        pages = shown_on_pages(run(program, room, ["list", "out.dvi", "plain=plain.tfm"]))
+    require(len(pages) > 2 and ran.stdout == f"end: pages {len(pages)} bytes {len(content)}\n", f"the end is {ran.stdout!r}, and {len(pages)} pages are listed")
+    require([it[-1:] for it in pages] == [[ord(str(number))] for number in range(1, len(pages) + 1)], "a page does not end in its number")
+    require([code for page in pages for code in page[:-1]] == [ord(it) for it in text if not it.isspace()], "the pages do not show the article")
+    return content
+
+
+def clients(programs, folder):
+    """Runs the clients in Python and in shell; their files have to be equal."""
+    for program in programs:
+        try:
+            files = [client_file(program, folder, client) for client in ("article.py", "article.sh")]
+            require(files[0] == files[1], "the files of the clients differ")
+        except (Wrong, OSError, subprocess.TimeoutExpired) as error:
+            return f"{os.path.basename(program)}: {error}"
+    return None
+
+
 def cases(programs, root):
-    """The scripts, by the order of their names, and the table of them."""
+    """The scripts, by the order of their names, the table of them, and the clients of `session`."""
     paths = sorted(glob.glob(f"{root}/examples/*.box"))
     for path in paths:
         yield os.path.basename(path), partial(outcome, programs, path)
     yield "README.md", partial(check_table, f"{root}/examples", paths)
+    yield "session", partial(clients, programs, f"{root}/examples/session")

@@ -8,7 +8,8 @@
   d   the growth was one of the device in memory, so it failed in a `ship`: Device, then JobOver, and only the pages before it are in the file
   e   `end: refused 1 OutOfMemory`: all pages are in the file, and no end
   f   `end: refused 18 Device`: the same
-  t   `refused 1 OutOfMemory` alone, for the texts of the answers: the whole file is written"""
+  t   `refused 1 OutOfMemory` alone, for the texts of the answers: the whole file is written
+  s   a session stops: its last line is `refused 1 OutOfMemory` after the answers of the lines before, whose pages are in the file, and no end"""
 import re
 from dataclasses import dataclass
 
@@ -18,19 +19,21 @@ MAY_TAKE_MEMORY = {
     "font", "hbox", "vbox", "vtop", "par", "end", "text", "char", "rule", "kern", "glue", "penalty", "special", "ship", "box", "copy",
     "unhbox", "unhcopy", "unvbox", "unvcopy", "vsplit",
 }
-NOTHING, WHOLE, COMMAND, DEVICE, END, END_DEVICE, TEXTS = "nwcdeft"
+NOTHING, WHOLE, COMMAND, DEVICE, END, END_DEVICE, TEXTS, STOPPED = "nwcdefts"
 # Only the room for the words, if there are any, is replaced later. The device grows only when its room is used up. A line is answered as soon as it was run,
 # so the texts grow between the commands; a run on a device in memory shows no difference between such a growth and one before the run.
 # In the scripts here at most one `ship` of a huge page grows before it is refused.
 # Where the last line of 61 does not fit, no growth for the lines before it hides this, and there is one at least for each of them.
 WHOLE_RUNS = {"a_line_too_large": "w{60,}"}
+# The room for the answers of a session is there from the start; each line takes some for its command.
 ORDER_OF_A_READING = re.compile("n+w?n+")
 
 
-def order_of(name, to_file):
-    """The order of the kinds in runs of a script."""
+def order_of(name, task):
+    """The order of the kinds in runs of a script by a task, or in memory."""
     whole = WHOLE_RUNS.get(name, "w?")
-    return re.compile(f"n+w?n+[ct]*{whole}[ct]*c[ct]*e+t*" if to_file else f"n+[cdn]*{whole}[cdn]*c[cdn]*d[cdn]*e+f?n+")
+    return re.compile({None: f"n+[cdn]*{whole}[cdn]*c[cdn]*d[cdn]*e+f?n+", "typeset": f"n+w?n+[ct]*{whole}[ct]*c[ct]*e+t*",
+                       "session": f"n+w?n+[cs]*{whole}[cs]*c[cs]*e+"}[task])
 
 
 class Wrong(Exception):
@@ -129,10 +132,20 @@ def of_no_answers(ended, whole):
     return Kind(TEXTS if ended.made else NOTHING)
 
 
+def of_stopped(script, ended):
+    """A session stopped for memory: the answers before are those of a beginning of the script, and the file has their pages."""
+    said = ended.output.removesuffix(ALONE)
+    if not script.answers.startswith(said) or said[-1:] not in (b"", b"\n") or ended.made != front(script, said.count(b": shipped ")):
+        raise Wrong(f"a session stopped after {said[-100:]!r}, and its file has {len(ended.made)} bytes")
+    return Kind(STOPPED if said else NOTHING)
+
+
 def kind_of(script, ended, whole, without):
     """The kind of a run in which one growth was refused. `whole` are the answers without a refusal, `without` those without the command of a line."""
     if ended.status not in (0, 1) or ended.errors:
         raise Wrong(f"the status is {ended.status}, standard error {ended.errors[:200]!r}")
+    if script.words[:1] == ("session",) and ended.output.endswith(ALONE) and ended.status == 1 and b"end: " not in ended.output:
+        return of_stopped(script, ended)
     if ended.output == ALONE and ended.status == 1:
         return of_no_answers(ended, whole)
     run = answered(ended)

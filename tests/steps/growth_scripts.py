@@ -89,15 +89,15 @@ class Script:
     page_ends: tuple
 
 
-def read_script(name, root, to_file):
-    """A script of tests/growths, which is run on a device in memory or typeset to a file."""
+def read_script(name, root, task):
+    """A script of tests/growths, which is run to a file by `typeset` or `session`, or without a task on a device in memory."""
     with open(f"{root}/tests/growths/{name}.box", encoding="ascii") as it:
         lines = tuple(it.read().splitlines())
     with open(f"{root}/tests/growths/{name}.answers", "rb") as it:
         answers = it.read()
     pages, height, width = PAGES[name]
     file = dvi_file(pages, int(height * PT), width * PT)
-    words = ("typeset", "out.dvi", *(FONTS if name in WITH_FONTS else ())) if to_file else ()
+    words = (task, "out.dvi", *(FONTS if name in WITH_FONTS else ())) if task else ()
     return Script(name, words, lines, answers, int(b": refused " in answers), file.data, file.page_ends)
 
 

@@ -113,7 +113,7 @@ def script_wrong(program, script):
     """Refuses each growth of a script's run, and says what is wrong, or returns None."""
     with tempfile.TemporaryDirectory(prefix="boxglue-growths-") as folder:
         kinds = kinds_of(Refusing(program, folder, FILES), script)
-    order = growth_kinds.order_of(script.name, bool(script.words))
+    order = growth_kinds.order_of(script.name, script.words[0] if script.words else None)
     return order_wrong(kinds, order) or halfway_wrong(script, kinds)
 
 
@@ -152,9 +152,9 @@ def on_each(programs, call):
     return "; ".join(found) or None
 
 
-def of_script(root, name, to_file, program):
+def of_script(root, name, task, program):
     """The call of a case with a script."""
-    return script_wrong(program, read_script(name, root, to_file))
+    return script_wrong(program, read_script(name, root, task))
 
 
 def of_reading(reading, program):
@@ -163,8 +163,8 @@ def of_reading(reading, program):
 
 
 def cases(programs, root):
-    """The scripts of tests/growths: those without a font on a device in memory, and all to a file; and the readings of two files."""
-    calls = {name: functools.partial(of_script, root, name, False) for name in PAGES if name not in WITH_FONTS}
-    calls.update({f"typeset_{name}": functools.partial(of_script, root, name, True) for name in PAGES})
+    """The scripts of tests/growths: those without a font on a device in memory, and all to a file, also as sessions; and the readings of two files."""
+    calls = {name: functools.partial(of_script, root, name, None) for name in PAGES if name not in WITH_FONTS}
+    calls.update({f"{task}_{name}": functools.partial(of_script, root, name, task) for task in ("typeset", "session") for name in PAGES})
     calls.update({name: functools.partial(of_reading, it) for name, it in READINGS.items()})
     return [(name, functools.partial(on_each, programs, call)) for name, call in calls.items()]

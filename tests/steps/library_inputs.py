@@ -5,7 +5,7 @@ import os
 import re
 import subprocess
 import tempfile
-from dataclasses import dataclass, field
+from dataclasses import dataclass, field, replace
 from typing import Optional
 
 from steps.case_folder import read
@@ -57,6 +57,19 @@ def case_fonts(lines, files):
     return fonts
 
 
+def unrolled(lines):
+    """The lines of a case, those between `repeat N` and `again` N times."""
+    found, block, count = [], None, 0
+    for it in lines:
+        if it.startswith(b"repeat "):
+            count, block = int(it.split()[1]), []
+        elif it == b"again":
+            found, block = found + block * count, None
+        else:
+            (found if block is None else block).append(it)
+    return found
+
+
 def case_script(lines):
     """The script of a case."""
     return b"".join(it[1:] + (b"\n" if it[:1] == b"|" else b"") for it in lines if it[:1] in (b"|", b"\\"))
@@ -76,15 +89,44 @@ def case_wanted(block):
     return Printed(int(accepted != b"accepted"), b"".join(it + b"\n" for it in lines[:ends]), bytes.fromhex(digits.decode()))
 
 
+@functools.lru_cache(None)
+def rows(root):
+    """The file of cases of crates/rows_scripts: its font files, and the lines of each case by its name."""
+    text = read(f"{root}/crates/rows_scripts", "stdin")
+    pieces = re.split(rb"^case (.*)\n", text, flags=re.M)
+    return font_files(text), {name: unrolled(body.split(b"\n")) for name, body in zip(pieces[1::2], pieces[2::2])}
+
+
+@functools.lru_cache(None)
+def row_answers(root):
+    """What the file of answers has for each case."""
+    return blocks(read(f"{root}/crates/rows_scripts", "stdout"))
+
+
+def case_input(root, name):
+    """A case, without what is wanted of it."""
+    files, bodies = rows(root)
+    return Input(name.decode(), case_script(bodies[name]), case_fonts(bodies[name], files))
+
+
 def case_inputs(root):
     """The cases of crates/rows_scripts that are run."""
-    folder = f"{root}/crates/rows_scripts"
-    text, answers = read(folder, "stdin"), blocks(read(folder, "stdout"))
-    files, pieces = font_files(text), re.split(rb"^case (.*)\n", text, flags=re.M)
-    bodies = dict(zip(pieces[1::2], pieces[2::2]))
     for name in CASES:
-        lines = bodies[name.encode()].split(b"\n")
-        yield Input(name, case_script(lines), case_fonts(lines, files), case_wanted(answers[name.encode()]))
+        yield replace(case_input(root, name.encode()), wanted=case_wanted(row_answers(root)[name.encode()]))
+
+
+def all_case_inputs(root):
+    """All cases whose lines are one script."""
+    return (case_input(root, name) for name, body in rows(root)[1].items() if b"each" not in body)
+
+
+def answers_to_each(root):
+    """The cases each of whose lines is a script: their lines, with the cause of each that is bad."""
+    for name, body in rows(root)[1].items():
+        if b"each" in body:
+            found = re.split(rb"^[|\\](.*)\n", row_answers(root)[name], flags=re.M)
+            causes = (re.match(rb"refused 2 BadScript 1 (\w+)\n", it) for it in found[2::2])
+            yield name.decode(), [(line, cause and cause[1]) for line, cause in zip(found[1::2], causes)]
 
 
 def all_inputs(root):

@@ -37,7 +37,7 @@ fn placeholder(rt: &HostRuntime) -> Option<File> {
     None
 }
 
-/// The program takes no words, or `typeset`, `list` or `paint` with their own: a script from standard input, answers to standard output.
+/// The program takes no words, or a task with its own: a script from standard input, answers to standard output.
 ///
 /// Its status is 0 if nothing was refused; 2 if the words are refused, or the file does not have the page that is asked for; and otherwise 1.
 fn main(rt: HostRuntime) -> ExitCode {

@@ -2,29 +2,76 @@
 
 ghost use Rattle.std.specs.Prelude.{None};
 
-use boxglue_lib::{CreatedPaths, FailureCount, Host, HostFault, read_all, write_some};
+use crate::waiting::Waiting;
+use boxglue_lib::{
+    CreatedPaths, FailureCount, FileHost, Host, HostFault, HostParts, StandardInput, read_all,
+    write_some,
+};
 use std::alloc::Global;
 use std::fs::File;
-use std::io::{Error, ErrorKind, Input, Read};
-use std::rt::Files;
+use std::io::{Error, ErrorKind, Stdin};
 
-/// The host of a real program. Contracts know nothing of what its files hold, only which files it created, and how many creations and writes have failed.
+/// The files of a real program. Contracts know nothing of what they hold, only which ones were created, and how many creations and writes have
+/// failed.
 #[derive(Drop)]
-pub struct SystemHost<'a> {
+pub struct SystemFiles<'a> {
     rt: &'a HostRuntime,
     file: Option<File>,
     created: CreatedPaths,
     failures: FailureCount,
 }
 
-impl<'a> SystemHost<'a> {
-    /// The host of a runtime. It has created no file yet.
-    pub fn new(rt: &'a HostRuntime) -> SystemHost<'a> {
-        SystemHost {
+impl<'a> SystemFiles<'a> {
+    /// The files of a runtime. None has been created yet.
+    fn new(rt: &'a HostRuntime) -> SystemFiles<'a> {
+        SystemFiles {
             rt,
             file: None,
             created: CreatedPaths::none(),
             failures: FailureCount::zero(),
+        }
+    }
+}
+
+/// The host of a real program. A session waits for its standard input.
+#[derive(Drop)]
+pub struct SystemHost<'a> {
+    input: Waiting<'a, Stdin>,
+    files: SystemFiles<'a>,
+}
+
+impl<'a> SystemHost<'a> {
+    /// The host of a runtime.
+    pub fn new(rt: &'a HostRuntime) -> SystemHost<'a> {
+        SystemHost {
+            input: Waiting::new(rt, rt.stdin()),
+            files: SystemFiles::new(rt),
+        }
+    }
+}
+
+impl StandardInput for Waiting<'_, Stdin> {
+    /// An input that has nothing yet is not waited for: this reading fails.
+    fn read_whole(self, alloc: Global) -> Result<Vec<u8>, HostFault> {
+        read_all(alloc, &mut self.into_stream())
+    }
+}
+
+impl<'a> Host for SystemHost<'a> {
+    ghost use Rattle.std.specs.Prelude.{None};
+
+    type Input = Waiting<'a, Stdin>;
+
+    type Files = SystemFiles<'a>;
+
+    ghost input = { λ host. None };
+
+    ghost files = { λ host. host.files };
+
+    fn into_parts(self) -> HostParts<Waiting<'a, Stdin>, SystemFiles<'a>> {
+        HostParts {
+            input: self.input,
+            files: self.files,
         }
     }
 }
@@ -38,12 +85,10 @@ fn fault_of(fault: &Error) -> HostFault {
     }
 }
 
-impl Host for SystemHost<'_> {
+impl FileHost for SystemFiles<'_> {
     ghost use Rattle.std.specs.Prelude.{None};
 
     ghost file = { λ host path. None };
-
-    ghost input = { λ host. None };
 
     ghost created = { λ host. host.created.paths };
 
@@ -56,10 +101,6 @@ impl Host for SystemHost<'_> {
             Ok(mut file) => read_all(alloc, &mut file),
             Err(fault) => Err(fault_of(&fault)),
         }
-    }
-
-    fn read_input(&self, alloc: Global) -> Result<Vec<u8>, HostFault> {
-        read_all(alloc, &mut self.rt.stdin())
     }
 
     fn create(&mut self, path: &str) -> Result<(), HostFault> {

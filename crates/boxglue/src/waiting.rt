@@ -1,14 +1,15 @@
-//! Streams that are waited for while they have no room.
+//! Streams that are waited for while they have no room, or nothing to read.
 
-use std::io::{Error, ErrorKind, Result, Write};
+use std::io::{Error, ErrorKind, Read, Result, Write};
 use std::thread::sleep;
 use std::time::Duration;
 
-/// How many milliseconds pass until a stream that had no room is tried again. The kit has no call that waits for a descriptor without the handle `Net`.
+/// How many milliseconds pass until a stream that could not go on is tried again. The kit has no call that waits for a descriptor without the handle
+/// `Net`.
 const PAUSE: u64 = 1;
 
-/// A stream that is waited for. Whoever opened it may have set it not to wait (`O_NONBLOCK`), and then a write for which there is no room fails. Here
-/// such a write returns a moment later as an interrupted one, so the caller makes it again.
+/// A stream that is waited for. Whoever opened it may have set it not to wait (`O_NONBLOCK`), and then a write for which there is no room fails, and
+/// so does a reading where nothing has come yet. Here such a call returns a moment later as an interrupted one, so the caller makes it again.
 #[derive(Drop)]
 pub struct Waiting<'a, W> {
     rt: &'a HostRuntime,
@@ -20,15 +21,34 @@ impl<'a, W> Waiting<'a, W> {
     pub fn new(rt: &'a HostRuntime, stream: W) -> Waiting<'a, W> {
         Waiting { rt, stream }
     }
+
+    /// The stream, which is no longer waited for.
+    pub fn into_stream(self) -> W {
+        self.stream
+    }
+}
+
+/// What a caller is told of a call that would have had to wait: that it was interrupted, after a moment. So it makes the call again.
+fn interrupted(rt: &HostRuntime) -> Error {
+    sleep(rt, Duration::from_millis(PAUSE));
+    Error::from(ErrorKind::Interrupted)
+}
+
+impl<R: Read> Read for Waiting<'_, R> {
+    ghost remaining = { λ waiting. R.remaining waiting.stream };
+
+    fn read(&mut self, buf: &mut [u8]) -> Result<usize> {
+        match self.stream.read(buf) {
+            Err(fault) if fault.kind() == ErrorKind::WouldBlock => Err(interrupted(self.rt)),
+            read => read,
+        }
+    }
 }
 
 impl<W: Write> Write for Waiting<'_, W> {
     fn write(&mut self, piece: &[u8]) -> Result<usize> {
         match self.stream.write(piece) {
-            Err(fault) if fault.kind() == ErrorKind::WouldBlock => {
-                sleep(self.rt, Duration::from_millis(PAUSE));
-                Err(Error::from(ErrorKind::Interrupted))
-            }
+            Err(fault) if fault.kind() == ErrorKind::WouldBlock => Err(interrupted(self.rt)),
             written => written,
         }
     }

@@ -7,16 +7,20 @@ pub record HeldBytes : Type 0 where
   pub path : List ℕ
   pub bytes : List ℕ
 
--- The files that can be read; standard input; whether a file was created, its path and what it took; the paths of all files that were created, the last
--- one first; and how many creations and writes have failed.
-pub record InMemory : Type 0 where
+-- The files that can be read; whether a file was created, its path and what it took; the paths of all files that were created, the last one first;
+-- and how many creations and writes have failed.
+pub record FilesInMemory : Type 0 where
   pub files : List HeldBytes
-  pub input : List ℕ
   pub is_created : Bool
   pub created : List ℕ
   pub written : List ℕ
   pub paths : List (List ℕ)
   pub failures : ℕ
+
+-- Standard input, and the files.
+pub record InMemory : Type 0 where
+  pub input : List ℕ
+  pub files : FilesInMemory
 
 -- The bytes of the first file at a path.
 abbrev pub held_at : List HeldBytes → List ℕ → Option (List ℕ)

@@ -1,5 +1,5 @@
 -- Readings of a host: each is whole, and ends at a limit (own).
-use Rattle.std.specs.Prelude.{◌≡◌, ◌≤◌, ◌<◌, ℕ, List, length, Option, Some, IfSome}
+use Rattle.std.specs.Prelude.{◌≡◌, ◌≤◌, ◌<◌, ◌++◌, ℕ, List, length, Option, Some, IfSome}
 use Rattle.std.specs.Io.KnownBytes.{Consumes}
 use Rattle.boxglue_host.specs.declared.host.TheConstants.{READ_LIMIT}
 
@@ -11,6 +11,10 @@ Files = List ℕ → Option (Option (List ℕ))
 pub record IsReading (contents : Option (List ℕ)) (bytes : List ℕ) : Type 0 where
   pub all : IfSome contents (λ known. bytes ≡ known)
   pub within : length bytes ≤ READ_LIMIT
+
+-- These are the first of the bytes, if they are known.
+abbrev pub IsBeginning : Option (List ℕ) → (bytes : List ℕ) → Type 0
+IsBeginning contents bytes = IfSome contents (λ known. (rest : List ℕ) × (known ≡ bytes ++ rest))
 
 -- Nothing can be read: the bytes, if they are known, are too many.
 abbrev pub IsUnreadable : Option (List ℕ) → Type 0

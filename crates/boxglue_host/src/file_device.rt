@@ -6,7 +6,7 @@ ghost use Rattle.std.specs.Option.{ForSome};
 ghost use Rattle.dvi_device.specs.Written.{written_then};
 ghost use Rattle.boxglue_host.specs.Hosts.{created_after, written_to_file};
 
-use crate::host::{Host, HostFault};
+use crate::host::{FileHost, HostFault};
 use dvi_device::{Device, DeviceFault, Snapshot};
 
 /// A device that writes a file at a path of its host. It creates the file at its first write, so a script that ships nothing leaves an existing file alone.
@@ -14,7 +14,7 @@ use dvi_device::{Device, DeviceFault, Snapshot};
 ///
 /// The host is passed by value and returned by `into_host`: with a `&mut` inside the device no contract could speak of the caller's host afterwards.
 #[derive(Drop)]
-pub struct FileDevice<'a, H: Host> {
+pub struct FileDevice<'a, H: FileHost> {
     host: H,
     start: Snapshot<H>,
     path: &'a str,
@@ -27,7 +27,7 @@ pub struct FileDevice<'a, H: Host> {
     ghost same: { is_open ≡ false → failures ≡ 0 → host ≡ start.seen } by { →_prop (→_prop (Coded-set H.code host start.seen)) },
 }
 
-impl<'a, H: Host> FileDevice<'a, H> {
+impl<'a, H: FileHost> FileDevice<'a, H> {
     /// A device that has not created its file yet. It has reported no byte and has not failed.
     pub fn new(host: H, path: &'a str) -> FileDevice<'a, H>
         ensures host { result.host ≡ host }
@@ -74,7 +74,7 @@ impl From<HostFault> for DeviceFault {
 }
 
 /// Creates the file of a host, unless it was created before.
-fn open<H: Host>(host: &mut H, path: &str, is_open: &mut bool) -> Result<(), DeviceFault>
+fn open<H: FileHost>(host: &mut H, path: &str, is_open: &mut bool) -> Result<(), DeviceFault>
     ensures bytes_written { written_to_file is_open.new (H.written host.new) ≡ written_to_file is_open.old (H.written host.old) }
     ensures open { OnOk result (is_open.new ≡ true) }
     ensures kept_open { is_open.new ≡ false → is_open.old ≡ false }
@@ -92,7 +92,7 @@ fn open<H: Host>(host: &mut H, path: &str, is_open: &mut bool) -> Result<(), Dev
 }
 
 /// Creates the file of a host, unless it was created before, and writes a piece.
-fn put<H: Host>(
+fn put<H: FileHost>(
     host: &mut H,
     path: &str,
     is_open: &mut bool,
@@ -115,7 +115,7 @@ fn put<H: Host>(
     Ok(count)
 }
 
-impl<H: Host> Device for FileDevice<'_, H> {
+impl<H: FileHost> Device for FileDevice<'_, H> {
     ghost use Rattle.std.specs.Prelude.{◌≡◌, ◌≤◌, ◌<◌, ◌+◌, ◌^◌, true, length, take, IfOk, OnOk, OnErr};
     ghost use Rattle.dvi_device.specs.Pasts.{plain_past};
     ghost use Rattle.boxglue_host.specs.Hosts.{begun_for};

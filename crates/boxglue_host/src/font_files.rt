@@ -4,7 +4,7 @@ ghost use Rattle.std.specs.Prelude.{◌≡◌, ◌++◌, ◌∷◌, [], List, If
 ghost use Rattle.boxglue_host.specs.Hosts.{AreFilesOf, IsFileOf, IsUnread, IsUnreadOf};
 ghost use Rattle.boxglue_host.specs.declared.font_files.Unread.TheVariants.{OutOfMemory};
 
-use crate::host::{Host, HostFault};
+use crate::host::{FileHost, HostFault};
 use boxglue_words::NamedPath;
 use std::alloc::{AllocError, AllocFailed, Global};
 use tfm_core::FontFile;
@@ -35,7 +35,7 @@ impl<T: Drop> From<AllocFailed<T>> for Unread<'_> {
 }
 
 /// The file of a font.
-fn read_font<'a, H: Host>(
+fn read_font<'a, H: FileHost>(
     alloc: Global,
     host: &H,
     font: &NamedPath<'a>,
@@ -53,7 +53,7 @@ fn read_font<'a, H: Host>(
 }
 
 /// Appends the file of a font.
-fn push_font<'a, H: Host>(
+fn push_font<'a, H: FileHost>(
     alloc: Global,
     host: &H,
     font: &NamedPath<'a>,
@@ -71,7 +71,7 @@ fn push_font<'a, H: Host>(
 ///
 /// Errors: File with the path of the first one that cannot be read, OutOfMemory for a refused growth at one that can be. Those before it were read, and
 /// those after it are not.
-pub fn read_fonts<'a, H: Host>(
+pub fn read_fonts<'a, H: FileHost>(
     alloc: Global,
     host: &H,
     fonts: &[NamedPath<'a>],

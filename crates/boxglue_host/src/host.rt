@@ -4,6 +4,7 @@ ghost use Rattle.std.specs.Prelude.{◌≡◌};
 ghost use Rattle.boxglue_host.specs.declared.host.HostFault.TheVariants.{OutOfMemory};
 
 use std::alloc::{AllocError, Global};
+use std::io::Read;
 use thiserror::Error;
 
 /// The greatest number of bytes of one reading, and of the calls that it may take. It bounds the loop that reads.
@@ -33,19 +34,59 @@ impl From<AllocError> for HostFault {
     }
 }
 
-/// A host has files by their paths, standard input, and one file that it creates and writes. Contracts may know what these hold; of the host of a real
-/// program they know nothing. A reading is whole, and fails over `READ_LIMIT` bytes.
+/// Standard input. It is read as it comes (`Read`), or whole. Contracts may know what it has left; of that of a real program they know nothing.
+pub trait StandardInput: Read {
+    ghost use Rattle.std.specs.Prelude.{◌≡◌, Err, IfOk};
+    ghost use Rattle.boxglue_host.specs.Readings.{IsReadable, IsReading, IsUnreadable};
+
+    /// Reads all bytes that are left. OutOfMemory only if they can be read; Failed if they cannot, or are more than `READ_LIMIT`.
+    fn read_whole(self, alloc: Global) -> Result<Vec<u8>, HostFault>
+        ensures ok { IfOk result (λ read. IsReading (Self.remaining self) read.items) }
+        ensures failed { result ≡ Err HostFault.Failed → IsUnreadable (Self.remaining self) }
+        ensures memory { result ≡ Err HostFault.OutOfMemory → IsReadable (Self.remaining self) };
+}
+
+/// The parts of a host.
+#[derive(Debug, Drop)]
+pub struct HostParts<I, F> {
+    /// Standard input.
+    pub input: I,
+    /// The files.
+    pub files: F,
+}
+
+/// A host has standard input and files. It gives up both at once, so standard input is handed out once, as a value of its own.
 pub trait Host {
+    ghost use Rattle.std.specs.Prelude.{◌≡◌, ℕ, List, Option};
+
+    /// Standard input.
+    type Input: StandardInput + Drop;
+
+    /// The files.
+    type Files: FileHost;
+
+    /// The bytes of standard input, if they are known.
+    ghost input: { Self → Option (List ℕ) };
+
+    /// The files that it gives up.
+    ghost files: { Self → Self.Files };
+
+    /// Hands out standard input and the files.
+    fn into_parts(self) -> HostParts<Self::Input, Self::Files>
+        ensures input { Self.Input.remaining result.input ≡ input self }
+        ensures files { result.files ≡ files self };
+}
+
+/// A host of files has files by their paths, and one file that it creates and writes. Contracts may know what these hold; of the files of a real
+/// program they know nothing. A reading is whole, and fails over `READ_LIMIT` bytes.
+pub trait FileHost {
     ghost use Rattle.std.specs.Prelude.{◌≡◌, ◌≤◌, ◌<◌, ◌+◌, ◌∷◌, ℕ, List, Option, Err, length, take, IfOk, IfSome, OnOk, OnErr};
     ghost use Rattle.dvi_device.specs.Written.{written_then};
-    ghost use Rattle.boxglue_host.specs.Readings.{IsFileReading, IsReadable, IsReadableFile, IsReading, IsUnreadable, IsUnreadableFile};
+    ghost use Rattle.boxglue_host.specs.Readings.{IsFileReading, IsReadableFile, IsUnreadableFile};
     ghost use Rattle.boxglue_host.specs.Hosts.{just_created};
 
     /// The file at a path, if it is known: that there is none, or its bytes. With one case for both, a host in memory could give any bytes for a missing file.
     ghost file: { Self → List ℕ → Option (Option (List ℕ)) };
-
-    /// The bytes of standard input, if they are known.
-    ghost input: { Self → Option (List ℕ) };
 
     /// The paths of the files that it created, the last one first.
     ghost created: { Self → List (List ℕ) };
@@ -61,12 +102,6 @@ pub trait Host {
         ensures ok { IfOk result (λ read. IsFileReading (file self.now path.now) read.items) }
         ensures failed { result ≡ Err HostFault.Failed → IsUnreadableFile (file self.now path.now) }
         ensures memory { result ≡ Err HostFault.OutOfMemory → IsReadableFile (file self.now path.now) };
-
-    /// Reads all bytes of standard input. OutOfMemory only if it can be read; Failed if it cannot, or is too large.
-    fn read_input(&self, alloc: Global) -> Result<Vec<u8>, HostFault>
-        ensures ok { IfOk result (λ read. IsReading (input self.now) read.items) }
-        ensures failed { result ≡ Err HostFault.Failed → IsUnreadable (input self.now) }
-        ensures memory { result ≡ Err HostFault.OutOfMemory → IsReadable (input self.now) };
 
     /// Makes the file at a path an empty one, to which `write` appends. After an error no file was created, the bytes of the one before are as they were,
     /// and the failure is counted.

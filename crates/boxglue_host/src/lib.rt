@@ -16,7 +16,9 @@ pub use created_paths::CreatedPaths;
 pub use failure_count::FailureCount;
 pub use file_device::FileDevice;
 pub use font_files::{Unread, read_fonts};
-pub use host::{Host, HostFault, READ_LIMIT, limit_of_a_reading};
-pub use memory_host::{HeldFile, MemoryHost};
+pub use host::{
+    FileHost, Host, HostFault, HostParts, READ_LIMIT, StandardInput, limit_of_a_reading,
+};
+pub use memory_host::{HeldFile, MemoryFiles, MemoryHost};
 pub use reading::read_all;
 pub use writing::write_some;

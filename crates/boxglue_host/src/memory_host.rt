@@ -7,8 +7,9 @@ ghost use Rattle.boxglue_host.specs.declared.host.TheConstants.{READ_LIMIT};
 
 use crate::created_paths::CreatedPaths;
 use crate::failure_count::FailureCount;
-use crate::host::{Host, HostFault, READ_LIMIT};
+use crate::host::{FileHost, Host, HostFault, HostParts, READ_LIMIT, StandardInput};
 use std::alloc::Global;
+use std::io::Cursor;
 use std::marker::Model;
 
 /// A file in memory: its path and its bytes.
@@ -49,12 +50,11 @@ impl HeldFile {
     }
 }
 
-/// A host whose files and standard input are in memory, and which stores what is written. A missing file cannot be read.
+/// Files in memory, and what is written to the one that is created. A missing file cannot be read.
 #[derive(Debug, Drop)]
-pub struct MemoryHost {
+pub struct MemoryFiles {
     alloc: Global,
     files: Vec<HeldFile>,
-    input: Vec<u8>,
     is_created: bool,
     created: Vec<u8>,
     written: Vec<u8>,
@@ -62,23 +62,22 @@ pub struct MemoryHost {
     failures: FailureCount,
 }
 
-impl Model for MemoryHost {
-    ghost use Rattle.boxglue_host.specs.HostInMemory.{InMemory};
+impl Model for MemoryFiles {
+    ghost use Rattle.boxglue_host.specs.HostInMemory.{FilesInMemory};
 
-    ghost Value = { InMemory };
+    ghost Value = { FilesInMemory };
 
-    ghost view = { λ host. record { files = host.files.items; input = host.input.items; is_created = host.is_created; created = host.created.items; written = host.written.items; paths = host.paths.paths; failures = host.failures.count } };
+    ghost view = { λ host. record { files = host.files.items; is_created = host.is_created; created = host.created.items; written = host.written.items; paths = host.paths.paths; failures = host.failures.count } };
 }
 
-impl MemoryHost {
-    /// A host with these files and this standard input, which has created no file yet. It takes no memory.
-    pub fn new(alloc: Global, files: Vec<HeldFile>, input: Vec<u8>) -> MemoryHost
-        ensures { result ≡ record { files = files.items; input = input.items; is_created = false; created = []; written = []; paths = []; failures = 0 } }
+impl MemoryFiles {
+    /// These files. None has been created yet. It takes no memory.
+    pub fn new(alloc: Global, files: Vec<HeldFile>) -> MemoryFiles
+        ensures { result ≡ record { files = files.items; is_created = false; created = []; written = []; paths = []; failures = 0 } }
     {
-        MemoryHost {
+        MemoryFiles {
             alloc,
             files,
-            input,
             is_created: false,
             created: Vec::new(alloc),
             written: Vec::new(alloc),
@@ -144,13 +143,11 @@ fn held_at<'a>(files: &'a [HeldFile], path: &[u8]) -> Option<&'a [u8]>
     Some(files.iter().find(|file| file.is_at(path))?.bytes())
 }
 
-impl Host for MemoryHost {
+impl FileHost for MemoryFiles {
     ghost use Rattle.std.specs.Prelude.{Some};
     ghost use Rattle.boxglue_host.specs.HostInMemory.{held_at};
 
     ghost file = { λ host path. Some (held_at host.files path) };
-
-    ghost input = { λ host. Some host.input };
 
     ghost created = { λ host. host.paths };
 
@@ -163,10 +160,6 @@ impl Host for MemoryHost {
             Some(bytes) => copy(alloc, bytes),
             None => Err(HostFault::Failed),
         }
-    }
-
-    fn read_input(&self, alloc: Global) -> Result<Vec<u8>, HostFault> {
-        copy(alloc, &self.input)
     }
 
     fn create(&mut self, path: &str) -> Result<(), HostFault>
@@ -192,6 +185,70 @@ impl Host for MemoryHost {
                 self.failures.raise();
                 Err(HostFault::OutOfMemory)
             }
+        }
+    }
+}
+
+/// A host whose files and standard input are in memory.
+#[derive(Debug, Drop)]
+pub struct MemoryHost {
+    input: Vec<u8>,
+    files: MemoryFiles,
+}
+
+impl Model for MemoryHost {
+    ghost use Rattle.boxglue_host.specs.HostInMemory.{InMemory};
+
+    ghost Value = { InMemory };
+
+    ghost view = { λ host. record { input = host.input.items; files = host.files } };
+}
+
+impl MemoryHost {
+    /// A host with these files and this standard input, which has created no file yet. It takes no memory.
+    pub fn new(alloc: Global, files: Vec<HeldFile>, input: Vec<u8>) -> MemoryHost
+        ensures { result ≡ record {
+          input = input.items;
+          files = record {
+            files = files.items;
+            is_created = false;
+            created = [];
+            written = [];
+            paths = [];
+            failures = 0;
+          };
+        } }
+    {
+        MemoryHost {
+            input,
+            files: MemoryFiles::new(alloc, files),
+        }
+    }
+}
+
+impl StandardInput for Cursor<Vec<u8>> {
+    fn read_whole(self, alloc: Global) -> Result<Vec<u8>, HostFault> {
+        let bytes = self.get_ref().as_slice();
+        let start = self.position().min(bytes.len() as u64);
+        copy(alloc, &bytes[start as usize..])
+    }
+}
+
+impl Host for MemoryHost {
+    ghost use Rattle.std.specs.Prelude.{Some};
+
+    type Input = Cursor<Vec<u8>>;
+
+    type Files = MemoryFiles;
+
+    ghost input = { λ host. Some host.input };
+
+    ghost files = { λ host. host.files };
+
+    fn into_parts(self) -> HostParts<Cursor<Vec<u8>>, MemoryFiles> {
+        HostParts {
+            input: Cursor::new(self.input),
+            files: self.files,
         }
     }
 }

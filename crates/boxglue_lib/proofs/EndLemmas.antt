@@ -14,14 +14,14 @@ use Rattle.boxglue_host.specs.declared.font_files.Unread.{Unread}
 use Rattle.boxglue_host.specs.declared.font_files.Unread.TheVariants.{OutOfMemory as WantsMemory, File}
 use Rattle.boxglue_words.specs.declared.fonts.NamedPath.{NamedPath}
 use Rattle.boxglue_lib.specs.Inputs.{IsUnreadDvi, IsUnreadScript}
-use Rattle.boxglue_lib.specs.Parts.{TellsOutput, end_of}
-use Rattle.boxglue_host.specs.Readings.{IsFileReading, IsReadable, IsReading}
+use Rattle.boxglue_lib.specs.Parts.{end_of}
+use Rattle.boxglue_host.specs.Readings.{Files, IsFileReading, IsReadable, IsReading}
 use Rattle.boxglue_lib.specs.Printed.{LacksMemoryForDvi}
-use Rattle.boxglue_lib.specs.Views.{HostView, IsSame, Streams}
+use Rattle.boxglue_lib.specs.Views.{HostView, IsSame, Streams, view_of}
 use Rattle.boxglue_lib.specs.Typesets.{HasTypeset, IsLeftAlone, IsLeftToFile, IsToFile, IsUsed, LeavesHost, OutFile, TellsUnwritten, script_rules, typesetting_rules}
 use Rattle.boxglue_program.specs.Runs.{IsUntouched, RanScript, RefusedScript, WasRunWhole, WritesFront, memory_line}
 use Rattle.boxglue_program.proofs.WritingLemmas.{appends_both, appends_keeps, keeps_appends, keeps_front}
-use Rattle.boxglue_lib.specs.Ends.{EndsOutput, EndsTask, TaskHasEnded, TaskRules, TakesText, TellsErrors, status_of}
+use Rattle.boxglue_lib.specs.Ends.{EndsOutput, EndsTask, TaskHasEnded, TaskRules, TakesText, TellsErrors, TellsOutput, status_of}
 use Rattle.boxglue_lib.specs.declared.task_end.TaskEnd.{TaskEnd}
 use Rattle.boxglue_lib.specs.declared.task_end.TaskEnd.TheVariants.{Printed, Unwritten, OutOfMemory, Unreadable, NoSuchPage}
 
@@ -145,11 +145,11 @@ ends_weaker rules weaker (Unreadable path) old new f u l h = (u path h.0, h.1)
 ends_weaker rules weaker NoSuchPage old new f u l h = (l h.0, h.1)
 
 -- Files that were not read, and the report of it.
-pub unread_output : {H : Type 0} (fonts : List NamedPath) (host : HostView H) (file : OutFile) (fault : Unread) (old new : Option (List ℕ))
-    → IsLeftAlone (IsSame host host) file → IsUnreadScript host.files host.input fonts fault → TellsOutput (end_of fault) old new
-    → EndsOutput (typesetting_rules fonts host host file) (end_of fault) old new
-unread_output fonts host file WantsMemory old new alone unread said = said
-unread_output fonts host file (File path) old new alone unread said = ((unread, alone), said)
+pub unread_output : {H : Type 0} (fonts : List NamedPath) (host back : HostView H) (file : OutFile) (fault : Unread) (old new : Option (List ℕ))
+    → IsLeftAlone (IsSame host back) file → IsUnreadScript host.files host.input fonts fault → TellsOutput (end_of fault) old new
+    → EndsOutput (typesetting_rules fonts host back file) (end_of fault) old new
+unread_output fonts host back file WantsMemory old new alone unread said = said
+unread_output fonts host back file (File path) old new alone unread said = ((unread, alone), said)
 
 -- Known bytes stay the same if nothing happens.
 pub keeps_same : (known : Option (List ℕ)) → Keeps known known
@@ -228,18 +228,22 @@ wanting_script reported input fonts WantsMemory wants unread = unread
 wanting_script reported input fonts (File path) wants unread = absurd (cc)
 
 -- The input of `typeset` was not read, and that was reported.
-pub not_typeset : {H : Type 0} (fonts : List NamedPath) (out : List ℕ) (host : HostView H) (fault : Unread) (before after : Streams) (status : ℕ)
-    → IsUnreadScript host.files host.input fonts fault → TellsOutput (end_of fault) before.output after.output → TellsErrors (end_of fault) before.errors after.errors
-    → status ≡ status_of (end_of fault) → HasTypeset out fonts host host before after status
-not_typeset fonts out host fault before after status unread said told is =
-    let file : OutFile = record { created = false; done = true; written = host.written } in
-    let alone : IsLeftAlone (IsSame host host) file = record { same = refl; closed = refl; silent = refl } in
+pub not_typeset : {H : Type 0} (known : H → Files) (created : H → List (List ℕ)) (written : H → Option (List ℕ)) (failures : H → ℕ) (input left : Option (List ℕ)) (host : H)
+    (fonts : List NamedPath) (out : List ℕ) (fault : Unread) (before after : Streams) (status : ℕ)
+    → IsUnreadScript (known host) input fonts fault → TellsOutput (end_of fault) before.output after.output → TellsErrors (end_of fault) before.errors after.errors
+    → status ≡ status_of (end_of fault)
+    → HasTypeset out fonts (view_of known created written failures input host) (view_of known created written failures left host) before after status
+not_typeset known created written failures input left host fonts out fault before after status unread said told is =
+    let old = view_of known created written failures input host in
+    let new = view_of known created written failures left host in
+    let file : OutFile = record { created = false; done = true; written = written host } in
+    let alone : IsLeftAlone (IsSame old new) file = record { same = refl; closed = refl; silent = refl } in
     record {
       end = end_of fault;
       file = file;
-      leaves = record { written = refl; placed = refl; untouched = λ _. refl; unchanged = λ _ _. refl; blamed = unfailed host.failures };
-      printed = unread_output fonts host file fault before.output after.output alone unread said;
-      memory = λ wants. inl (alone, wanting_script host.files host.input fonts fault wants unread);
+      leaves = record { written = refl; placed = refl; untouched = λ _. refl; unchanged = λ _ _. refl; blamed = unfailed (failures host) };
+      printed = unread_output fonts old new file fault before.output after.output alone unread said;
+      memory = λ wants. inl (alone, wanting_script (known host) input fonts fault wants unread);
       reported = record { middle = before.errors; unwritten = keeps_same before.errors; ended = told };
       status_is = is;
     }

@@ -1,2 +1,3 @@
 pub mod EndLemmas
 pub mod FontLemmas
+pub mod SessionLemmas

@@ -36,6 +36,11 @@ TellsErrors (Unreadable path) old new = TakesText old new (line_of (codes "boxgl
 TellsErrors NoSuchPage old new = TakesText old new (codes "boxglue: no such page\n")
 TellsErrors _ old new = Keeps old new
 
+-- What the output takes after an end: a line if memory was refused.
+abbrev pub TellsOutput : TaskEnd → (old new : Option (List ℕ)) → Type 0
+TellsOutput OutOfMemory old new = TakesText old new memory_line
+TellsOutput _ old new = Keeps old new
+
 -- The rules of a task: what is true where it ends with a text as its answer, and with `fine` exactly if nothing was refused; where it ends with a
 -- path that cannot be read; with a missing page; with memory that was refused. An end whose rule is ⊥ does not occur.
 pub record TaskRules : Type 1 where

@@ -4,5 +4,6 @@ pub mod Inputs
 pub mod Printed
 pub mod FontListings
 pub mod Typesets
+pub mod Sessions
 pub mod Programs
 pub mod Parts

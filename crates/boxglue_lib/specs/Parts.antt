@@ -1,19 +1,22 @@
 -- What the parts of the program pass to each other (own; private calls alone, no public clause speaks of it).
-use Rattle.std.specs.Prelude.{List, ℕ, Option}
-use Rattle.std.specs.Io.KnownBytes.{Keeps}
+use Rattle.std.specs.Prelude.{◌≡◌, Bool, true, false, ℕ, List, Result, Ok, Err, codes}
+use Rattle.std.specs.Borrow.{Bor}
 use Rattle.boxglue_host.specs.declared.font_files.Unread.{Unread}
 use Rattle.boxglue_host.specs.declared.font_files.Unread.TheVariants.{OutOfMemory as WantsMemory, File}
-use Rattle.boxglue_program.specs.Runs.{memory_line}
-use Rattle.boxglue_lib.specs.Ends.{TakesText}
+use Rattle.boxglue_program.specs.declared.session.SessionFault.{SessionFault}
+use Rattle.boxglue_program.specs.declared.session.SessionFault.TheVariants.{OutOfMemory as WantsRoom, Unreadable as LosesInput}
 use Rattle.boxglue_lib.specs.declared.task_end.TaskEnd.{TaskEnd}
-use Rattle.boxglue_lib.specs.declared.task_end.TaskEnd.TheVariants.{OutOfMemory, Unreadable}
+use Rattle.boxglue_lib.specs.declared.task_end.TaskEnd.TheVariants.{Printed, Unwritten, OutOfMemory, Unreadable}
 
 -- The end of a task whose files were not read.
 abbrev pub end_of : Unread → TaskEnd
 end_of WantsMemory = OutOfMemory
 end_of (File path) = Unreadable path
 
--- What the output takes after an end: a line if memory was refused.
-abbrev pub TellsOutput : TaskEnd → (old new : Option (List ℕ)) → Type 0
-TellsOutput OutOfMemory old new = TakesText old new memory_line
-TellsOutput _ old new = Keeps old new
+-- The end of a task whose session ended so, and whose client reads, or does not.
+abbrev pub IsSessionEnd : Result Bool SessionFault → (reads : Bool) → TaskEnd → Type 0
+IsSessionEnd (Ok accepted) true end = end ≡ Printed accepted
+IsSessionEnd (Ok accepted) false end = end ≡ Unwritten
+IsSessionEnd (Err WantsRoom) true end = end ≡ OutOfMemory
+IsSessionEnd (Err WantsRoom) false end = end ≡ Unwritten
+IsSessionEnd (Err LosesInput) reads end = (path : Bor (List ℕ)) × (end ≡ Unreadable path) × (path.now ≡ codes "-")

@@ -12,6 +12,7 @@ use Rattle.boxglue_words.specs.declared.task.Task.TheVariants as tasks
 use Rattle.boxglue_lib.specs.Ends.{TaskHasEnded, TaskRules, PrintsVersion, TakesText, line_of}
 use Rattle.boxglue_lib.specs.FontListings.{font_rules}
 use Rattle.boxglue_lib.specs.Printed.{listing_rules, painting_rules}
+use Rattle.boxglue_lib.specs.Sessions.{HasSession}
 use Rattle.boxglue_lib.specs.Typesets.{HasTypeset}
 use Rattle.boxglue_lib.specs.Views.{HostView, IsSame, Streams}
 
@@ -44,25 +45,27 @@ RefusesWords (faults.NameTwice name) before after status =
     × TakesText before.errors after.errors (line_of (codes "boxglue: name given twice: ") name.now) × (status ≡ 2)
 
 -- A task was done with the files and the standard input of a host. The version is printed. Without words the script of standard input is run in
--- memory; `typeset` runs it on a file, `list` prints the pages of a DVI file, `fonts` its fonts and `paint` a bitmap of one page, each by its rules.
--- Except for `typeset` the host was returned as it was. Once the words are read, memory is refused only for an input that can be read, or after all were read;
--- a growth that was refused before refuses the words themselves (`IsRefused`), and looks the same from outside.
+-- memory; `typeset` runs it on a file, `session` does so line by line as it comes; `list` prints the pages of a DVI file, `fonts` its fonts and
+-- `paint` a bitmap of one page, each by its rules. Except for `typeset` and `session` the host was returned as it was. Once the words are read,
+-- memory is refused only for an input that can be read, or after all were read; a growth that was refused before refuses the words themselves
+-- (`IsRefused`), and looks the same from outside.
 abbrev pub HasDone : {H : Type 0} → Task → (old new : HostView H) → (before after : Streams) → (status : ℕ) → Type 0
 HasDone tasks.Version old new before after status =
     IsSame old new × PrintsVersion before.output after.output status × Keeps before.errors after.errors
 HasDone tasks.Memory old new before after status =
     IsSame old new × TaskHasEnded (input_rules old.input) before after status
 HasDone (tasks.Typeset out fonts) old new before after status = HasTypeset out.now fonts.items old new before after status
+HasDone (tasks.Session out fonts) old new before after status = HasSession out.now fonts.items old new before after status
 HasDone (tasks.Listing dvi fonts) old new before after status =
     IsSame old new × TaskHasEnded (listing_rules old.files dvi.now fonts.items) before after status
 HasDone (tasks.Fonts dvi) old new before after status = IsSame old new × TaskHasEnded (font_rules old.files dvi.now) before after status
 HasDone (tasks.Painting sheet dvi fonts) old new before after status =
     IsSame old new × TaskHasEnded (painting_rules old.files sheet dvi.now fonts.items) before after status
 
--- The program was run with these words: `old` is the host that it was given and `new` the one that it returned, `before` and `after` are what the
--- output and the errors had taken, and this is its status. There are two cases. Its words are refused, for a fault that `IsRefused` allows: then the
--- host was returned as it was, and one message was written (`RefusesWords`). Or its words are a command line, and `IsTask` names its task: then this
--- was done (`HasDone`).
+-- The program was run with these words: `old` is the host that it was given and `new` the one that it returned, which has handed out its standard
+-- input, `before` and `after` are what the output and the errors had taken, and this is its status. There are two cases. Its words are refused, for a
+-- fault that `IsRefused` allows: then the host was returned as it was, and one message was written (`RefusesWords`). Or its words are a command line,
+-- and `IsTask` names its task: then this was done (`HasDone`).
 abbrev pub HasRun : {H : Type 0} → (words : List (List ℕ)) → (old new : HostView H) → (before after : Streams) → (status : ℕ) → Type 0
 HasRun words old new before after status =
     ((fault : WordFault) × IsRefused words fault × IsSame old new × RefusesWords fault before after status)

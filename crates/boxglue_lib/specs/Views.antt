@@ -2,8 +2,8 @@
 use Rattle.std.specs.Prelude.{◌≡◌, ℕ, List, Option}
 use Rattle.boxglue_host.specs.Readings.{Files}
 
--- A host as contracts see it: the host itself; its files by their paths, and its standard input, if they are known; the paths of the files that it
--- has created, the last one first; the bytes that the last one took, if they are known; and how many creations and writes have failed.
+-- A host as contracts see it: the host of its files itself; its files by their paths, and its standard input, if they are known; the paths of the
+-- files that it has created, the last one first; the bytes that the last one took, if they are known; and how many creations and writes have failed.
 pub record HostView (H : Type 0) : Type 0 where
   pub itself : H
   pub files : Files
@@ -21,13 +21,13 @@ pub record Streams : Type 0 where
 abbrev pub IsSame : {H : Type 0} → (old new : HostView H) → Type 0
 IsSame old new = new.itself ≡ old.itself
 
--- A host as contracts see it, by what they know of each host of its kind.
-abbrev pub view_of : {H : Type 0} → (files : H → Files) → (input : H → Option (List ℕ)) → (created : H → List (List ℕ))
-    → (written : H → Option (List ℕ)) → (failures : H → ℕ) → H → HostView H
-view_of files input created written failures host = record {
+-- A host as contracts see it, by what they know of each host of files of its kind, and what they know of its standard input.
+abbrev pub view_of : {H : Type 0} → (files : H → Files) → (created : H → List (List ℕ)) → (written : H → Option (List ℕ)) → (failures : H → ℕ)
+    → (input : Option (List ℕ)) → H → HostView H
+view_of files created written failures input host = record {
   itself = host;
   files = files host;
-  input = input host;
+  input = input;
   created = created host;
   written = written host;
   failures = failures host;

@@ -6,7 +6,7 @@ ghost use Rattle.boxglue_lib.specs.Ends.{EndsTask};
 ghost use Rattle.boxglue_lib.specs.FontListings.{font_rules};
 
 use crate::task_end::TaskEnd;
-use boxglue_host::{Host, HostFault};
+use boxglue_host::{FileHost, HostFault};
 use boxglue_print::{Output, fonts_text};
 use boxglue_program::write_text;
 use std::alloc::Global;
@@ -14,7 +14,7 @@ use std::io::Write;
 
 /// Prints the units of the DVI file at a path and the fonts that it defines. All memory is taken before anything is written.
 #[tactic(auto, using(crate::proofs::FontLemmas::was_readable_file))]
-pub fn list_fonts<'a, H: Host, W: Write>(
+pub fn list_fonts<'a, H: FileHost, W: Write>(
     alloc: Global,
     host: &H,
     dvi: &'a str,

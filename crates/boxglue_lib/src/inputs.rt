@@ -5,7 +5,7 @@ ghost use Rattle.boxglue_host.specs.Hosts.{AreFilesOf};
 ghost use Rattle.boxglue_host.specs.Readings.{IsFileReading, IsReading};
 ghost use Rattle.boxglue_lib.specs.Inputs.{IsUnreadDvi, IsUnreadScript};
 
-use boxglue_host::{Host, HostFault, Unread, read_fonts};
+use boxglue_host::{FileHost, HostFault, StandardInput, Unread, read_fonts};
 use boxglue_program::FontFile;
 use boxglue_words::NamedPath;
 use std::alloc::Global;
@@ -22,17 +22,18 @@ pub struct Inputs {
 /// Errors: File with the path that could not be read, `-` for standard input; OutOfMemory for a refused growth at one that can be. Nothing was run or created
 /// then.
 #[tactic(auto, using(crate::proofs::EndLemmas::unread_script))]
-pub fn read_script_inputs<'a, H: Host>(
+pub fn read_script_inputs<'a, H: FileHost, I: StandardInput + Drop>(
     alloc: Global,
     host: &H,
+    input: I,
     fonts: &[NamedPath<'a>],
 ) -> Result<Inputs, Unread<'a>>
-    ensures script { IfOk result (λ read. IsReading (H.input host.now) read.bytes.items) }
+    ensures script { IfOk result (λ read. IsReading (I.remaining input) read.bytes.items) }
     ensures files { IfOk result (λ read. AreFilesOf (H.file host.now) fonts.now read.files.items) }
-    ensures err { IfErr result (IsUnreadScript (H.file host.now) (H.input host.now) fonts.now) }
+    ensures err { IfErr result (IsUnreadScript (H.file host.now) (I.remaining input) fonts.now) }
 {
     let files = read_fonts(alloc, host, fonts)?;
-    match host.read_input(alloc) {
+    match input.read_whole(alloc) {
         Ok(bytes) => Ok(Inputs { bytes, files }),
         Err(HostFault::OutOfMemory) => Err(Unread::OutOfMemory),
         Err(HostFault::Failed) => Err(Unread::File("-")),
@@ -43,7 +44,7 @@ pub fn read_script_inputs<'a, H: Host>(
 ///
 /// Errors: File with the path that could not be read; OutOfMemory for a refused growth at one that can be.
 #[tactic(auto, using(crate::proofs::EndLemmas::unread_dvi))]
-pub fn read_dvi_inputs<'a, H: Host>(
+pub fn read_dvi_inputs<'a, H: FileHost>(
     alloc: Global,
     host: &H,
     dvi: &'a str,

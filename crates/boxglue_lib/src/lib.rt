@@ -1,6 +1,6 @@
-//! The tasks of the program: a command line is read, its task is done with the files of a host, and answers and messages are written to an output and to
-//! errors. Every caller has `typeset`, `list`, `fonts` and `paint` as single calls, and the whole program. The crate `boxglue`, above this one, adds the real host,
-//! standard output and the exit status.
+//! The tasks of the program: a command line is read, its task is done with the files of a host, and answers and messages are written to an output and
+//! to errors. Every caller has `typeset`, `session`, `list`, `fonts` and `paint` as single calls, and the whole program. The crate `boxglue`, above
+//! this one, adds the real host, standard output and the exit status.
 #![tactic(auto)]
 
 mod font_listing;
@@ -8,14 +8,15 @@ mod inputs;
 pub mod laws;
 mod printing;
 mod running;
+mod sessions;
 mod task_end;
 mod tasks;
 mod telling;
 mod typesetting;
 
 pub use boxglue_host::{
-    CreatedPaths, FailureCount, FileDevice, HeldFile, Host, HostFault, MemoryHost, READ_LIMIT,
-    Unread, read_all, read_fonts, write_some,
+    CreatedPaths, FailureCount, FileDevice, FileHost, HeldFile, Host, HostFault, HostParts,
+    MemoryFiles, MemoryHost, READ_LIMIT, StandardInput, Unread, read_all, read_fonts, write_some,
 };
 pub use boxglue_print::fonts_text;
 pub use boxglue_program::{
@@ -26,5 +27,6 @@ pub use boxglue_words::{NamedPath, PaintOptions, Task, VERSION_LINE, WordFault, 
 pub use inputs::{Inputs, read_dvi_inputs, read_script_inputs};
 pub use printing::{PrintFault, list_file, paint_file};
 pub use running::program;
+pub use sessions::session_file;
 pub use task_end::TaskEnd;
 pub use typesetting::{TypesetEnd, typeset_file};

@@ -7,9 +7,9 @@ pub enum TaskEnd<'a> {
     Printed(bool),
     /// The output did not take the whole text, only a beginning of it.
     Unwritten,
-    /// A growth of memory was refused, and nothing was printed.
+    /// A growth of memory was refused. Nothing was printed, but by a session its answers so far.
     OutOfMemory,
-    /// The file at this path could not be read, and nothing was printed; `-` is standard input.
+    /// The file at this path could not be read; `-` is standard input. Nothing was printed, but by a session its answers so far.
     Unreadable(&'a str),
     /// The DVI file has no such page, and nothing was printed.
     NoSuchPage,

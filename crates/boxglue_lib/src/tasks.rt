@@ -1,20 +1,22 @@
-//! The four tasks, with the files of a host.
+//! The tasks, with the files of a host.
 
-ghost use Rattle.std.specs.Prelude.{◌≡◌};
+ghost use Rattle.std.specs.Prelude.{◌≡◌, None};
 ghost use Rattle.boxglue_host.specs.Readings.{IsReadable};
 ghost use Rattle.boxglue_lib.specs.Ends.{EndsTask};
 ghost use Rattle.boxglue_lib.specs.Parts.{end_of};
 ghost use Rattle.boxglue_lib.specs.Printed.{LacksMemoryForDvi, listing_rules, painting_rules};
 ghost use Rattle.boxglue_lib.specs.Programs.{input_rules};
+ghost use Rattle.boxglue_lib.specs.Sessions.{HasSession};
 ghost use Rattle.boxglue_lib.specs.Typesets.{HasTypeset, TellsUnwritten};
 ghost use Rattle.boxglue_lib.specs.Views.{streams_of, view_of};
 
 use crate::inputs::{read_dvi_inputs, read_script_inputs};
 use crate::printing::{PrintFault, list_file, paint_file};
+use crate::sessions::session_file;
 use crate::task_end::TaskEnd;
 use crate::telling::{finish, tell};
 use crate::typesetting::{TypesetEnd, typeset_file};
-use boxglue_host::{Host, HostFault, Unread};
+use boxglue_host::{FileHost, HostFault, HostParts, StandardInput, Unread, read_fonts};
 use boxglue_program::{RunFault, run_memory};
 use boxglue_words::{NamedPath, PaintOptions};
 use std::alloc::Global;
@@ -32,11 +34,15 @@ fn end_of(fault: Unread<'_>) -> TaskEnd<'_>
 
 /// Runs the script of standard input on a device in memory, and writes its answers and the bytes of the device. It has no fonts.
 #[tactic(auto, using(crate::proofs::EndLemmas::memory))]
-pub fn run_input<'a, H: Host, W: Write>(alloc: Global, host: &H, output: &mut W) -> TaskEnd<'a>
-    ensures ended { EndsTask (input_rules (H.input host.now)) result (W.contents output.old) (W.contents output.new) }
-    ensures memory { result ≡ TaskEnd.OutOfMemory → IsReadable (H.input host.now) }
+pub fn run_input<'a, I: StandardInput, W: Write>(
+    alloc: Global,
+    input: I,
+    output: &mut W,
+) -> TaskEnd<'a>
+    ensures ended { EndsTask (input_rules (I.remaining input)) result (W.contents output.old) (W.contents output.new) }
+    ensures memory { result ≡ TaskEnd.OutOfMemory → IsReadable (I.remaining input) }
 {
-    let text = match host.read_input(alloc) {
+    let text = match input.read_whole(alloc) {
         Ok(text) => text,
         Err(HostFault::OutOfMemory) => return TaskEnd::OutOfMemory,
         Err(HostFault::Failed) => return TaskEnd::Unreadable("-"),
@@ -50,7 +56,7 @@ pub fn run_input<'a, H: Host, W: Write>(alloc: Global, host: &H, output: &mut W)
 
 /// Lists the DVI file at a path.
 #[tactic(auto, using(crate::proofs::EndLemmas::memory))]
-pub fn list<'a, H: Host, W: Write>(
+pub fn list<'a, H: FileHost, W: Write>(
     alloc: Global,
     host: &H,
     dvi: &'a str,
@@ -74,7 +80,7 @@ pub fn list<'a, H: Host, W: Write>(
 
 /// Paints a page of the DVI file at a path.
 #[tactic(auto, using(crate::proofs::EndLemmas::memory))]
-pub fn paint<'a, H: Host, W: Write>(
+pub fn paint<'a, H: FileHost, W: Write>(
     alloc: Global,
     host: &H,
     sheet: PaintOptions,
@@ -106,28 +112,58 @@ fn tell_unwritten<E: Write>(alloc: Global, written: bool, out: &str, errors: &mu
     }
 }
 
-/// Runs the script of standard input, and writes its pages to the file `out`. Returns the status and the host.
-pub fn typeset<H: Host, W: Write, E: Write>(
+/// Runs the script of standard input, and writes its pages to the file `out`. Returns the status and the files.
+pub fn typeset<H: FileHost, I: StandardInput + Drop, W: Write, E: Write>(
     alloc: Global,
-    host: H,
+    host: HostParts<I, H>,
     out: &str,
     fonts: &[NamedPath<'_>],
     output: &mut W,
     errors: &mut E,
 ) -> (u8, H)
-    ensures { let seen = view_of H.file H.input H.created H.written H.failures in let took = streams_of W.contents E.contents in
-        HasTypeset out.now fonts.now (seen host) (seen result.1) (took output.old errors.old) (took output.new errors.new) result.0 }
+    ensures { let seen = view_of H.file H.created H.written H.failures in let took = streams_of W.contents E.contents in
+        HasTypeset out.now fonts.now (seen (I.remaining host.input) host.files) (seen None result.1)
+        (took output.old errors.old) (took output.new errors.new) result.0 }
 {
-    let inputs = match read_script_inputs(alloc, &host, fonts) {
+    let HostParts { input, files } = host;
+    let inputs = match read_script_inputs(alloc, &files, input, fonts) {
         Ok(inputs) => inputs,
-        Err(fault) => return (finish(alloc, end_of(fault), output, errors), host),
+        Err(fault) => return (finish(alloc, end_of(fault), output, errors), files),
     };
     let TypesetEnd {
         end,
         written,
         host,
         ..
-    } = typeset_file(alloc, host, out, &inputs, output);
+    } = typeset_file(alloc, files, out, &inputs, output);
+    tell_unwritten(alloc, written, out, errors);
+    (finish(alloc, end, output, errors), host)
+}
+
+/// Runs the lines of standard input as they come, and writes the pages to the file `out`. Returns the status and the files.
+pub fn session<H: FileHost, I: StandardInput + Drop, W: Write, E: Write>(
+    alloc: Global,
+    host: HostParts<I, H>,
+    out: &str,
+    fonts: &[NamedPath<'_>],
+    output: &mut W,
+    errors: &mut E,
+) -> (u8, H)
+    ensures { let seen = view_of H.file H.created H.written H.failures in let took = streams_of W.contents E.contents in
+        HasSession out.now fonts.now (seen (I.remaining host.input) host.files) (seen None result.1)
+        (took output.old errors.old) (took output.new errors.new) result.0 }
+{
+    let HostParts { mut input, files } = host;
+    let font_files = match read_fonts(alloc, &files, fonts) {
+        Ok(font_files) => font_files,
+        Err(unread) => return (finish(alloc, end_of(unread), output, errors), files),
+    };
+    let TypesetEnd {
+        end,
+        written,
+        host,
+        ..
+    } = session_file(alloc, files, out, &font_files, &mut input, output);
     tell_unwritten(alloc, written, out, errors);
     (finish(alloc, end, output, errors), host)
 }

@@ -3,8 +3,7 @@
 ghost use Rattle.std.specs.Prelude.{◌≡◌, ◌++◌, codes, IfOk, OnOk, OnErr};
 ghost use Rattle.std.specs.Io.KnownBytes.{Appends};
 ghost use Rattle.boxglue_program.specs.Runs.{WritesFront, memory_line};
-ghost use Rattle.boxglue_lib.specs.Ends.{PrintsVersion, TakesText, TellsErrors, line_of, status_of};
-ghost use Rattle.boxglue_lib.specs.Parts.{TellsOutput};
+ghost use Rattle.boxglue_lib.specs.Ends.{PrintsVersion, TakesText, TellsErrors, TellsOutput, line_of, status_of};
 
 use crate::task_end::TaskEnd;
 use boxglue_program::{Unwritten, refuse_memory, write_text};

@@ -7,12 +7,13 @@ ghost use Rattle.boxglue_lib.specs.Typesets.{IsLeftToFile, IsUsed, OutFile, scri
 
 use crate::inputs::Inputs;
 use crate::task_end::TaskEnd;
-use boxglue_host::{FileDevice, Host};
+use boxglue_host::{FileDevice, FileHost};
 use boxglue_program::{Device, RunFault, run_script};
 use std::alloc::Global;
 use std::io::Write;
 
-/// How a script was typeset: the end of its answers, whether its file was created, whether the file took all that was written to it, and the host.
+/// How a script or a session was typeset: the end of its answers, whether its file was created, whether the file took all that was written to it, and
+/// the host.
 #[derive(Debug, Drop)]
 pub struct TypesetEnd<'a, H> {
     pub end: TaskEnd<'a>,
@@ -24,7 +25,7 @@ pub struct TypesetEnd<'a, H> {
 /// Runs a script with these font files on a device that writes the file `out`, and then writes the texts of the answers, or the one line of a bad
 /// script. The file is created at its first write, once, and no other; if it is not created, the host reports of its file what it reported before,
 /// and is returned as it was unless it failed. `written` is false if and only if the host failed in this call.
-pub fn typeset_file<'a, H: Host, W: Write>(
+pub fn typeset_file<'a, H: FileHost, W: Write>(
     alloc: Global,
     host: H,
     out: &str,
@@ -50,7 +51,10 @@ pub fn typeset_file<'a, H: Host, W: Write>(
 }
 
 /// The end of a call, with the state of the file.
-fn end_with<'a, H: Host>(end: TaskEnd<'a>, device: FileDevice<'_, H>) -> TypesetEnd<'a, H>
+pub(crate) fn end_with<'a, H: FileHost>(
+    end: TaskEnd<'a>,
+    device: FileDevice<'_, H>,
+) -> TypesetEnd<'a, H>
     ensures end { result.end ≡ end.entry }
     ensures created { result.created ≡ device.entry.is_open }
     ensures written { result.written ≡ (device.entry.failures == 0) }

@@ -27,7 +27,7 @@ use Rattle.boxglue_words.specs.declared.task.Task.{Task}
 use Rattle.boxglue_words.specs.declared.task.Task.TheVariants.{Version}
 use Rattle.boxglue_words.proofs.VersionLemmas.{alone_fault, has_version, only_version}
 use Rattle.boxglue_words.specs.Steps.{IsFileFault, IsLine}
-use Rattle.boxglue_words.specs.Tasks.{Asks, AsksBy, IsNumber, IsRefused, IsRefusedBy, IsRequest, IsSheet, IsTask, IsTaskOf, Request, fonts_of, font_words, lists, names_fonts, nothing, paints, typesets, version}
+use Rattle.boxglue_words.specs.Tasks.{Asks, AsksBy, IsNumber, IsRefused, IsRefusedBy, IsRequest, IsSheet, IsTask, IsTaskOf, Request, fonts_of, font_words, holds_session, lists, names_fonts, nothing, paints, typesets, version}
 
 -- A faulty word NAME=TFM of a subcommand whose file is given.
 pub faulty_fonts : (id : Text) (rows : List Row) (path : Text) (fault : WordFault) → first_of id rows ≡ Some path
@@ -56,14 +56,25 @@ pub no_typeset : (rows : List Row) → first_of (codes "OUT") rows ≡ None → 
 no_typeset rows lacks version h = h
 no_typeset rows lacks nothing h = h
 no_typeset rows lacks (typesets out fonts) h = absurd (cc (lacks, h.1))
+no_typeset rows lacks (holds_session out fonts) h = absurd (cc h.0)
 no_typeset rows lacks (lists dvi fonts) h = absurd (cc h.0)
 no_typeset rows lacks (names_fonts dvi) h = absurd (cc h.0)
 no_typeset rows lacks (paints sheet dvi fonts) h = absurd (cc h.0)
+
+pub no_session : (rows : List Row) → first_of (codes "OUT") rows ≡ None → (request : Request) → AsksBy (codes "session") rows request → ⊥
+no_session rows lacks version h = h
+no_session rows lacks nothing h = h
+no_session rows lacks (typesets out fonts) h = absurd (cc h.0)
+no_session rows lacks (holds_session out fonts) h = absurd (cc (lacks, h.1))
+no_session rows lacks (lists dvi fonts) h = absurd (cc h.0)
+no_session rows lacks (names_fonts dvi) h = absurd (cc h.0)
+no_session rows lacks (paints sheet dvi fonts) h = absurd (cc h.0)
 
 pub no_list : (rows : List Row) → first_of (codes "DVI") rows ≡ None → (request : Request) → AsksBy (codes "list") rows request → ⊥
 no_list rows lacks version h = h
 no_list rows lacks nothing h = h
 no_list rows lacks (typesets out fonts) h = absurd (cc h.0)
+no_list rows lacks (holds_session out fonts) h = absurd (cc h.0)
 no_list rows lacks (lists dvi fonts) h = absurd (cc (lacks, h.1))
 no_list rows lacks (names_fonts dvi) h = absurd (cc h.0)
 no_list rows lacks (paints sheet dvi fonts) h = absurd (cc h.0)
@@ -72,6 +83,7 @@ pub no_fonts_named : (rows : List Row) → first_of (codes "DVI") rows ≡ None 
 no_fonts_named rows lacks version h = h
 no_fonts_named rows lacks nothing h = h
 no_fonts_named rows lacks (typesets out fonts) h = absurd (cc h.0)
+no_fonts_named rows lacks (holds_session out fonts) h = absurd (cc h.0)
 no_fonts_named rows lacks (lists dvi fonts) h = absurd (cc h.0)
 no_fonts_named rows lacks (names_fonts dvi) h = absurd (cc (lacks, h.1))
 no_fonts_named rows lacks (paints sheet dvi fonts) h = absurd (cc h.0)
@@ -80,6 +92,7 @@ pub no_painting : (rows : List Row) → first_of (codes "DVI") rows ≡ None →
 no_painting rows lacks version h = h
 no_painting rows lacks nothing h = h
 no_painting rows lacks (typesets out fonts) h = absurd (cc h.0)
+no_painting rows lacks (holds_session out fonts) h = absurd (cc h.0)
 no_painting rows lacks (lists dvi fonts) h = absurd (cc h.0)
 no_painting rows lacks (names_fonts dvi) h = absurd (cc h.0)
 no_painting rows lacks (paints sheet dvi fonts) h = absurd (cc (lacks, h.2))
@@ -107,6 +120,7 @@ pub no_sheet : (rows : List Row) → ((sheet : Sheet) → IsSheet rows sheet →
 no_sheet rows lacks version h = h
 no_sheet rows lacks nothing h = h
 no_sheet rows lacks (typesets out fonts) h = absurd (cc h.0)
+no_sheet rows lacks (holds_session out fonts) h = absurd (cc h.0)
 no_sheet rows lacks (lists dvi fonts) h = absurd (cc h.0)
 no_sheet rows lacks (names_fonts dvi) h = paint_is_not_fonts h.0
 no_sheet rows lacks (paints sheet dvi fonts) h = lacks sheet h.1
@@ -187,6 +201,7 @@ words_ask : (m : ArgMatches) (words : List Text) → fault_of boxglue words ≡ 
 words_ask m words accepted same version h = absurd (none_asked (subcommand_rows_of m) h)
 words_ask m words accepted same nothing h = record { accepted = accepted; asked = subst (λ o. Asks o nothing) same h }
 words_ask m words accepted same (typesets out fonts) h = record { accepted = accepted; asked = subst (λ o. Asks o (typesets out fonts)) same h }
+words_ask m words accepted same (holds_session out fonts) h = record { accepted = accepted; asked = subst (λ o. Asks o (holds_session out fonts)) same h }
 words_ask m words accepted same (lists dvi fonts) h = record { accepted = accepted; asked = subst (λ o. Asks o (lists dvi fonts)) same h }
 words_ask m words accepted same (names_fonts dvi) h = record { accepted = accepted; asked = subst (λ o. Asks o (names_fonts dvi)) same h }
 words_ask m words accepted same (paints sheet dvi fonts) h = record { accepted = accepted; asked = subst (λ o. Asks o (paints sheet dvi fonts)) same h }
@@ -196,6 +211,7 @@ matches_ask : (m : ArgMatches) (words : List Text) → fault_of boxglue words �
 matches_ask m words accepted same version h = absurd (cc (h, accepted))
 matches_ask m words accepted same nothing h = subst (λ o. Asks o nothing) (sym same) h.asked
 matches_ask m words accepted same (typesets out fonts) h = subst (λ o. Asks o (typesets out fonts)) (sym same) h.asked
+matches_ask m words accepted same (holds_session out fonts) h = subst (λ o. Asks o (holds_session out fonts)) (sym same) h.asked
 matches_ask m words accepted same (lists dvi fonts) h = subst (λ o. Asks o (lists dvi fonts)) (sym same) h.asked
 matches_ask m words accepted same (names_fonts dvi) h = subst (λ o. Asks o (names_fonts dvi)) (sym same) h.asked
 matches_ask m words accepted same (paints sheet dvi fonts) h = subst (λ o. Asks o (paints sheet dvi fonts)) (sym same) h.asked
@@ -226,6 +242,7 @@ no_request : (words : List Text) (e : Error) → HasKind (fault_of boxglue words
 no_request words e h silent other version asked = other (only_version (fault_of boxglue words) e h silent asked)
 no_request words e h silent other nothing asked = has_fault (fault_of boxglue words) e h silent asked.accepted
 no_request words e h silent other (typesets out fonts) asked = has_fault (fault_of boxglue words) e h silent asked.accepted
+no_request words e h silent other (holds_session out fonts) asked = has_fault (fault_of boxglue words) e h silent asked.accepted
 no_request words e h silent other (lists dvi fonts) asked = has_fault (fault_of boxglue words) e h silent asked.accepted
 no_request words e h silent other (names_fonts dvi) asked = has_fault (fault_of boxglue words) e h silent asked.accepted
 no_request words e h silent other (paints sheet dvi fonts) asked = has_fault (fault_of boxglue words) e h silent asked.accepted

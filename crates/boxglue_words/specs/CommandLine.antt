@@ -22,6 +22,10 @@ number_rule id most = record (new_rule id) { long = Some id; value_names = 1; pa
 abbrev pub typeset : App
 typeset = with_rule (with_rule (new_app (codes "typeset")) (path_rule (codes "OUT"))) fonts_rule
 
+-- `session OUT [NAME=TFM ..]`.
+abbrev pub session : App
+session = with_rule (with_rule (new_app (codes "session")) (path_rule (codes "OUT"))) fonts_rule
+
 -- `list DVI [NAME=TFM ..]`.
 abbrev pub lists : App
 lists = with_rule (with_rule (new_app (codes "list")) (path_rule (codes "DVI"))) fonts_rule
@@ -44,7 +48,7 @@ alone =
     let named = new_app (codes "boxglue") in
     record named { top = record named.top { no_binary_name = true; disable_help_subcommand = true; has_version = true } }
 
--- The program with these four as subcommands.
+-- The program with these five as subcommands.
 abbrev pub boxglue : App
 boxglue =
-    with_subcommand (with_subcommand (with_subcommand (with_subcommand alone typeset.top) lists.top) names_fonts.top) paint.top
+    with_subcommand (with_subcommand (with_subcommand (with_subcommand (with_subcommand alone typeset.top) session.top) lists.top) names_fonts.top) paint.top

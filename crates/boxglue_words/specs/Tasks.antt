@@ -7,7 +7,7 @@ use Rattle.raster_core.specs.Sheets.{Sheet}
 use Rattle.boxglue_words.specs.declared.fonts.WordFault.{WordFault}
 use Rattle.boxglue_words.specs.declared.fonts.WordFault.TheVariants.{Line, Memory as WantsMemory}
 use Rattle.boxglue_words.specs.declared.task.Task.{Task}
-use Rattle.boxglue_words.specs.declared.task.Task.TheVariants.{Version, Memory, Typeset, Listing, Fonts, Painting}
+use Rattle.boxglue_words.specs.declared.task.Task.TheVariants.{Version, Memory, Typeset, Session, Listing, Fonts, Painting}
 use Rattle.boxglue_words.specs.CommandLine.{boxglue}
 use Rattle.boxglue_words.specs.Pairs.{AreFonts, IsFirstFault}
 
@@ -16,6 +16,7 @@ pub data Request : Type 0 where
   version : Request
   nothing : Request
   typesets : Text → List Text → Request
+  holds_session : Text → List Text → Request
   lists : Text → List Text → Request
   names_fonts : Text → Request
   paints : Sheet → Text → List Text → Request
@@ -45,6 +46,7 @@ abbrev pub AsksBy : Text → List Row → Request → Type 0
 AsksBy name rows version = ⊥
 AsksBy name rows nothing = ⊥
 AsksBy name rows (typesets out fonts) = (name ≡ codes "typeset") × (first_of (codes "OUT") rows ≡ Some out) × (font_words rows ≡ fonts)
+AsksBy name rows (holds_session out fonts) = (name ≡ codes "session") × (first_of (codes "OUT") rows ≡ Some out) × (font_words rows ≡ fonts)
 AsksBy name rows (lists dvi fonts) = (name ≡ codes "list") × (first_of (codes "DVI") rows ≡ Some dvi) × (font_words rows ≡ fonts)
 AsksBy name rows (names_fonts dvi) = (name ≡ codes "fonts") × (first_of (codes "DVI") rows ≡ Some dvi)
 AsksBy name rows (paints sheet dvi fonts) =
@@ -71,6 +73,7 @@ abbrev pub fonts_of : Request → List Text
 fonts_of version = []
 fonts_of nothing = []
 fonts_of (typesets out fonts) = fonts
+fonts_of (holds_session out fonts) = fonts
 fonts_of (lists dvi fonts) = fonts
 fonts_of (names_fonts dvi) = []
 fonts_of (paints sheet dvi fonts) = fonts
@@ -80,6 +83,7 @@ abbrev pub IsTaskOf : Request → Task → Type 0
 IsTaskOf version Version = ⊤
 IsTaskOf nothing Memory = ⊤
 IsTaskOf (typesets path words) (Typeset out fonts) = (out.now ≡ path) × AreFonts words fonts.items
+IsTaskOf (holds_session path words) (Session out fonts) = (out.now ≡ path) × AreFonts words fonts.items
 IsTaskOf (lists path words) (Listing dvi fonts) = (dvi.now ≡ path) × AreFonts words fonts.items
 IsTaskOf (names_fonts path) (Fonts dvi) = dvi.now ≡ path
 IsTaskOf (paints numbers path words) (Painting sheet dvi fonts) = (sheet ≡ numbers) × (dvi.now ≡ path) × AreFonts words fonts.items

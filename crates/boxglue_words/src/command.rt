@@ -4,20 +4,22 @@ ghost use Rattle.std.specs.Prelude.{◌≡◌, ◌≤◌, false, pos, IfOk};
 ghost use Rattle.clap.specs.Words.{app_of, rule_of};
 ghost use Rattle.clap.specs.declared.builder.Command.TheViews.{out-Command};
 ghost use Rattle.clap.specs.declared.builder.value_parser.ValueParser.TheVariants.{Signed};
-ghost use Rattle.boxglue_words.specs.CommandLine.{alone, boxglue, fonts_rule, lists, names_fonts, number_rule, paint, path_rule, typeset};
+ghost use Rattle.boxglue_words.specs.CommandLine.{alone, boxglue, fonts_rule, lists, names_fonts, number_rule, paint, path_rule, session, typeset};
 
 use crate::task::VERSION_LINE;
 use clap::builder::ValueParser;
 use clap::{Arg, ArgAction, Command, value_parser};
 use std::alloc::{AllocError, Global};
 
-/// The five uses, each with an example; clap prints them at the end of the help.
+/// The six uses, each with an example; clap prints them at the end of the help.
 const USES: &str = "\
 Uses:
   boxglue < page.box
       runs a script; prints its answers, and then the bytes of its DVI file
   boxglue typeset page.dvi cmr10=cmr10.tfm < page.box
       runs a script that has the font cmr10; writes page.dvi and prints the answers
+  boxglue session page.dvi cmr10=cmr10.tfm
+      runs each line of standard input as it comes, and answers it at once; writes page.dvi
   boxglue list page.dvi cmr10=cmr10.tfm
       prints the pages of a DVI file and their marks
   boxglue fonts page.dvi
@@ -75,6 +77,17 @@ fn typeset<'a>(alloc: Global) -> Result<Command<'a>, AllocError>
         .arg(fonts(alloc))
 }
 
+/// The subcommand `session`.
+fn session<'a>(alloc: Global) -> Result<Command<'a>, AllocError>
+    ensures shape { IfOk result (λ command. app_of command ≡ session) }
+    ensures local { IfOk result (λ command. (out-Command command).has_globals ≡ false) }
+{
+    Command::new(alloc, "session")
+        .about("runs the lines of standard input as they come and writes the DVI file")
+        .arg(path(alloc, "OUT", "the DVI file that is written"))?
+        .arg(fonts(alloc))
+}
+
 /// The subcommand `list`.
 fn lists<'a>(alloc: Global) -> Result<Command<'a>, AllocError>
     ensures shape { IfOk result (λ command. app_of command ≡ lists) }
@@ -126,13 +139,14 @@ fn alone<'a>(alloc: Global) -> Result<Command<'a>, AllocError>
     )
 }
 
-/// The command line of boxglue, for clap: no words, or `typeset`, `list`, `fonts` or `paint` with its own words. It has a version, so that clap knows
-/// `--version` and `-V`. The error is a refused growth of memory.
+/// The command line of boxglue, for clap: no words, or `typeset`, `session`, `list`, `fonts` or `paint` with its own words. It has a version, so that
+/// clap knows `--version` and `-V`. The error is a refused growth of memory.
 pub fn command_line<'a>(alloc: Global) -> Result<Command<'a>, AllocError>
     ensures { IfOk result (λ command. app_of command ≡ boxglue) }
 {
     alone(alloc)?
         .subcommand(typeset(alloc)?)?
+        .subcommand(session(alloc)?)?
         .subcommand(lists(alloc)?)?
         .subcommand(names_fonts(alloc)?)?
         .subcommand(paint(alloc)?)

@@ -18,6 +18,11 @@ pub enum Task<'a> {
         out: &'a str,
         fonts: Vec<NamedPath<'a>>,
     },
+    /// Runs the lines of standard input as they come, and writes the DVI file at this path.
+    Session {
+        out: &'a str,
+        fonts: Vec<NamedPath<'a>>,
+    },
     /// Lists the pages of the DVI file at this path.
     Listing {
         dvi: &'a str,

@@ -88,6 +88,18 @@ fn typesets<'a>(alloc: Global, matches: &ArgMatches<'a>) -> Result<Task<'a>, Wor
     })
 }
 
+/// The task of `session`.
+fn holds_session<'a>(alloc: Global, matches: &ArgMatches<'a>) -> Result<Task<'a>, WordFault<'a>>
+    ensures ok { IfOk result (IsTaskBy (codes "session") (rows_of (found_of matches.now))) }
+    ensures err { IfErr result (IsRefusedBy (AsksBy (codes "session") (rows_of (found_of matches.now)))) }
+{
+    let file = file_words(alloc, matches, "OUT")?;
+    Ok(Task::Session {
+        out: file.path,
+        fonts: file.fonts,
+    })
+}
+
 /// The task of `list`.
 fn lists<'a>(alloc: Global, matches: &ArgMatches<'a>) -> Result<Task<'a>, WordFault<'a>>
     ensures ok { IfOk result (IsTaskBy (codes "list") (rows_of (found_of matches.now))) }
@@ -138,6 +150,7 @@ fn read_subcommand<'a>(
 {
     match name {
         "typeset" => typesets(alloc, matches),
+        "session" => holds_session(alloc, matches),
         "list" => lists(alloc, matches),
         "fonts" => names_fonts(alloc, matches),
         "paint" => paints(alloc, matches),

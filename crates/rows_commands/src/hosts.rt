@@ -1,22 +1,23 @@
 //! Hosts, and runs of the program over them.
 
 use boxglue_lib::{
-    CreatedPaths, FailureCount, HeldFile, Host, HostFault, MemoryHost, program, write_some,
+    CreatedPaths, FailureCount, FileHost, HeldFile, Host, HostFault, HostParts, MemoryFiles,
+    MemoryHost, StandardInput, program, read_all, write_some,
 };
 use std::alloc::Global;
 use std::io;
-use std::io::Write;
+use std::io::{Cursor, ErrorKind, Read, Write};
 
 /// Why a test failed: memory was refused, or a text is not as expected.
 pub type Fail = std::alloc::AllocError;
 
-/// The result of a run of the program: its status, its output, its errors, and its host.
+/// The result of a run of the program: its status, its output, its errors, and its files.
 #[derive(Drop)]
-pub struct Ran<H> {
+pub struct Ran<F> {
     pub status: u8,
     pub output: Vec<u8>,
     pub errors: Vec<u8>,
-    pub host: H,
+    pub files: F,
 }
 
 /// The value of a hexadecimal digit; 16 for other bytes.
@@ -58,19 +59,19 @@ pub fn host_of(alloc: Global, input: &str, files: &[(&str, &str)]) -> Result<Mem
 }
 
 /// Runs the program with these words.
-pub fn run<H: Host + Drop>(alloc: Global, words: &[&str], host: H) -> Result<Ran<H>, Fail> {
+pub fn run<H: Host + Drop>(alloc: Global, words: &[&str], host: H) -> Result<Ran<H::Files>, Fail> {
     let mut owned = Vec::new(alloc);
     for word in words {
         owned.push(String::from_str(alloc, word)?)?;
     }
     let mut output = Vec::new(alloc);
     let mut errors = Vec::new(alloc);
-    let (status, host) = program(alloc, &owned, host, &mut output, &mut errors);
+    let (status, files) = program(alloc, &owned, host, &mut output, &mut errors);
     Ok(Ran {
         status,
         output,
         errors,
-        host,
+        files,
     })
 }
 
@@ -88,21 +89,19 @@ impl Write for Closed {
     }
 }
 
-/// A host whose files cannot be created, or, once created, take 0 bytes.
+/// Files that cannot be created, or, once created, take 0 bytes.
 #[derive(Drop)]
-pub struct Unwritable {
-    pub inner: MemoryHost,
-    pub creates: bool,
-    pub created: CreatedPaths,
-    pub failures: FailureCount,
+pub struct UnwritableFiles {
+    inner: MemoryFiles,
+    creates: bool,
+    created: CreatedPaths,
+    failures: FailureCount,
 }
 
-impl Host for Unwritable {
+impl FileHost for UnwritableFiles {
     ghost use Rattle.std.specs.Prelude.{None};
 
     ghost file = { λ host path. None };
-
-    ghost input = { λ host. None };
 
     ghost created = { λ host. host.created.paths };
 
@@ -112,10 +111,6 @@ impl Host for Unwritable {
 
     fn read_file(&self, alloc: Global, path: &str) -> Result<Vec<u8>, HostFault> {
         self.inner.read_file(alloc, path)
-    }
-
-    fn read_input(&self, alloc: Global) -> Result<Vec<u8>, HostFault> {
-        self.inner.read_input(alloc)
     }
 
     fn create(&mut self, path: &str) -> Result<(), HostFault> {
@@ -134,5 +129,105 @@ impl Host for Unwritable {
             self.failures.raise();
         }
         written
+    }
+}
+
+/// A host of such files. Its standard input is a text.
+#[derive(Drop)]
+pub struct Unwritable {
+    input: Vec<u8>,
+    files: UnwritableFiles,
+}
+
+impl Unwritable {
+    /// A host whose files can be created, or not.
+    pub fn new(alloc: Global, input: &str, creates: bool) -> Result<Unwritable, Fail> {
+        Ok(Unwritable {
+            input: Vec::from_slice(alloc, input.as_bytes())?,
+            files: UnwritableFiles {
+                inner: MemoryFiles::new(alloc, Vec::new(alloc)),
+                creates,
+                created: CreatedPaths::none(),
+                failures: FailureCount::zero(),
+            },
+        })
+    }
+}
+
+impl Host for Unwritable {
+    ghost use Rattle.std.specs.Prelude.{Some};
+
+    type Input = Cursor<Vec<u8>>;
+
+    type Files = UnwritableFiles;
+
+    ghost input = { λ host. Some host.input.items };
+
+    ghost files = { λ host. host.files };
+
+    fn into_parts(self) -> HostParts<Cursor<Vec<u8>>, UnwritableFiles> {
+        HostParts {
+            input: Cursor::new(self.input),
+            files: self.files,
+        }
+    }
+}
+
+/// Standard input that fails after its last byte.
+#[derive(Drop)]
+pub struct Breaking {
+    text: Cursor<Vec<u8>>,
+}
+
+impl Read for Breaking {
+    fn read(&mut self, buffer: &mut [u8]) -> io::Result<usize> {
+        match self.text.read(buffer) {
+            Ok(0) => Err(io::Error::from(ErrorKind::ConnectionReset)),
+            read => read,
+        }
+    }
+}
+
+impl StandardInput for Breaking {
+    fn read_whole(mut self, alloc: Global) -> Result<Vec<u8>, HostFault> {
+        read_all(alloc, &mut self)
+    }
+}
+
+/// A host of files in memory, whose standard input breaks.
+#[derive(Drop)]
+pub struct Unreadable {
+    input: Breaking,
+    files: MemoryFiles,
+}
+
+impl Unreadable {
+    /// A host whose standard input breaks after this text.
+    pub fn new(alloc: Global, input: &str) -> Result<Unreadable, Fail> {
+        Ok(Unreadable {
+            input: Breaking {
+                text: Cursor::new(Vec::from_slice(alloc, input.as_bytes())?),
+            },
+            files: MemoryFiles::new(alloc, Vec::new(alloc)),
+        })
+    }
+}
+
+impl Host for Unreadable {
+    ghost use Rattle.std.specs.Prelude.{None};
+
+    type Input = Breaking;
+
+    type Files = MemoryFiles;
+
+    ghost input = { λ host. None };
+
+    ghost files = { λ host. host.files };
+
+    fn into_parts(self) -> HostParts<Breaking, MemoryFiles> {
+        HostParts {
+            input: self.input,
+            files: self.files,
+        }
     }
 }

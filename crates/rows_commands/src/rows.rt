@@ -1,10 +1,11 @@
 //! Command lines, with the output, the errors and the status of each.
 
-use crate::hosts::{Unwritable, bytes_of, host_of, run};
+use crate::hosts::{Unreadable, Unwritable, bytes_of, host_of, run};
 use crate::samples::{
-    ONE_RULE, ONE_RULE_ANSWERS, ONE_RULE_BYTES, REFUSED_JOB, REFUSED_JOB_ANSWERS, UNWRITTEN_ANSWERS,
+    BAD_LINES, BAD_LINES_ANSWERS, ONE_RULE, ONE_RULE_ANSWERS, ONE_RULE_BYTES, ONE_RULE_PAGES,
+    ONE_RULE_REPLIES, REFUSED_JOB, REFUSED_JOB_ANSWERS, UNWRITTEN_ANSWERS,
 };
-use boxglue_lib::{CreatedPaths, FailureCount, VERSION_LINE};
+use boxglue_lib::VERSION_LINE;
 
 /// A command line with a script, over the file of the one-rule page: its status, its output and its errors, and the file that it makes, in hexadecimal digits
 /// (an empty text if no file is created).
@@ -17,14 +18,30 @@ struct Row {
     file: &'static str,
 }
 
-/// A page that goes to its file; a job without pages, which makes no file; a page as text, the units of its file without fonts, and the page as a bitmap; a
-/// missing file; a missing page; the version.
-const ROWS: [Row; 8] = [
+/// A page that goes to its file, also line by line; lines some of which are bad; a job without pages, which makes no file; a page as text, the units
+/// of its file without fonts, and the page as a bitmap; a missing file; a missing page; the version.
+const ROWS: [Row; 10] = [
     Row {
         words: &["typeset", "out.dvi"],
         script: ONE_RULE,
         status: 0,
         output: ONE_RULE_ANSWERS,
+        errors: "",
+        file: ONE_RULE_BYTES,
+    },
+    Row {
+        words: &["session", "out.dvi"],
+        script: ONE_RULE,
+        status: 0,
+        output: ONE_RULE_ANSWERS,
+        errors: "",
+        file: ONE_RULE_BYTES,
+    },
+    Row {
+        words: &["session", "out.dvi"],
+        script: BAD_LINES,
+        status: 1,
+        output: BAD_LINES_ANSWERS,
         errors: "",
         file: ONE_RULE_BYTES,
     },
@@ -100,10 +117,10 @@ fn command_lines_over_a_host_in_memory(rt: HostRuntime) {
         assert_eq!(rt; ran.errors.as_slice(), row.errors.as_bytes());
         assert_eq!(rt; ran.output.as_slice(), row.output.as_bytes());
         assert_eq!(rt; ran.status, row.status);
-        assert_eq!(rt; ran.host.is_created(), !row.file.is_empty());
-        assert_eq!(rt; ran.host.written(), file.as_slice());
-        if ran.host.is_created() {
-            assert_eq!(rt; ran.host.created(), b"out.dvi".as_slice());
+        assert_eq!(rt; ran.files.is_created(), !row.file.is_empty());
+        assert_eq!(rt; ran.files.written(), file.as_slice());
+        if ran.files.is_created() {
+            assert_eq!(rt; ran.files.created(), b"out.dvi".as_slice());
         }
     }
 }
@@ -111,20 +128,36 @@ fn command_lines_over_a_host_in_memory(rt: HostRuntime) {
 #[test]
 fn a_file_that_is_not_written(rt: HostRuntime) {
     let alloc = rt.alloc();
-    for creates in [false, true] {
-        let inner = host_of(alloc, ONE_RULE, &[]).expect(&rt, "memory");
-        let host = Unwritable {
-            inner,
-            creates,
-            created: CreatedPaths::none(),
-            failures: FailureCount::zero(),
-        };
-        let ran = run(alloc, &["typeset", "away/out.dvi"], host).expect(&rt, "memory");
+    for task in ["typeset", "session"] {
+        for creates in [false, true] {
+            let host = Unwritable::new(alloc, ONE_RULE, creates).expect(&rt, "memory");
+            let ran = run(alloc, &[task, "away/out.dvi"], host).expect(&rt, "memory");
+            assert_eq!(rt;
+                ran.errors.as_slice(),
+                b"boxglue: cannot write away/out.dvi\n".as_slice()
+            );
+            assert_eq!(rt; ran.output.as_slice(), UNWRITTEN_ANSWERS.as_bytes());
+            assert_eq!(rt; ran.status, 1);
+        }
+    }
+}
+
+#[test]
+fn an_input_that_fails(rt: HostRuntime) {
+    let alloc = rt.alloc();
+    for (task, output, file) in [
+        ("typeset", "", ""),
+        ("session", ONE_RULE_REPLIES, ONE_RULE_PAGES),
+    ] {
+        let host = Unreadable::new(alloc, ONE_RULE).expect(&rt, "memory");
+        let ran = run(alloc, &[task, "out.dvi"], host).expect(&rt, "memory");
+        let file = bytes_of(alloc, file).expect(&rt, "memory");
         assert_eq!(rt;
             ran.errors.as_slice(),
-            b"boxglue: cannot write away/out.dvi\n".as_slice()
+            b"boxglue: cannot read -\n".as_slice()
         );
-        assert_eq!(rt; ran.output.as_slice(), UNWRITTEN_ANSWERS.as_bytes());
+        assert_eq!(rt; ran.output.as_slice(), output.as_bytes());
         assert_eq!(rt; ran.status, 1);
+        assert_eq!(rt; ran.files.written(), file.as_slice());
     }
 }

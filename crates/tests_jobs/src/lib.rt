@@ -9,4 +9,6 @@ mod many_pages;
 #[cfg(test)]
 mod scripts;
 #[cfg(test)]
+mod sessions;
+#[cfg(test)]
 mod streams;

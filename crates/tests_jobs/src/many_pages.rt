@@ -110,7 +110,6 @@ struct Tally {
 }
 
 impl Device for Tally {
-
     ghost bytes_written = { λ tally. None };
 
     ghost failed = { λ tally. 0 };

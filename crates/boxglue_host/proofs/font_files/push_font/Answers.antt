@@ -6,4 +6,4 @@ use Rattle.boxglue_host.proofs.font_files.push_font.Goals as goal
 pub returns-clause-ok : goal.returns-clause-ok
 returns-clause-ok g c = λ before files.
     rw c.in_ok-push.ensures.items
-    (files_push (g.H.Host.file c.args.host.now) before c.args.files.now.items c.args.font.now c.in_ok-file.file files c.in_ok-file.ensures.ok)
+    (files_push (g.H.FileHost.file c.args.host.now) before c.args.files.now.items c.args.font.now c.in_ok-file.file files c.in_ok-file.ensures.ok)

@@ -4,4 +4,4 @@ use Rattle.boxglue_host.specs.Hosts.{AreFilesOf}
 use Rattle.boxglue_host.proofs.font_files.read_fonts.Given as goal
 
 abbrev pub invariant-loop-font : goal.invariant-loop-font
-invariant-loop-font g l = AreFilesOf (g.H.Host.file l.host) (take l.font-index l.fonts) l.files.items
+invariant-loop-font g l = AreFilesOf (g.H.FileHost.file l.host) (take l.font-index l.fonts) l.files.items

@@ -16,6 +16,11 @@ returns-in-Typeset g c =
     let done = rw c.deref.ensures.value at c.typeset.ensures in
     rw c.in-Typeset.is done
 
+pub returns-in-Session : goal.returns-in-Session
+returns-in-Session g c =
+    let done = rw c.deref-in-Session.ensures.value at c.session.ensures in
+    rw c.in-Session.is done
+
 pub returns-in-Listing : goal.returns-in-Listing
 returns-in-Listing g c =
     let done = rw c.deref-in-Listing.ensures.value at c.list-end.ensures.ended in

@@ -7,7 +7,7 @@ pub returns : goal.returns
 returns g c =
     let run = c.typeset_file-written.result in
     let does = c.typeset_file-written.ensures in
-    typeset_ended c.args.fonts.now c.args.out.now _ _ (record { created = run.created; done = run.written; written = g.H.Host.written run.host }) c.in-Ok.inputs.bytes.items
+    typeset_ended c.args.fonts.now c.args.out.now _ _ (record { created = run.created; done = run.written; written = g.H.FileHost.written run.host }) c.in-Ok.inputs.bytes.items
     c.in-Ok.inputs.files.items run.end _ _ _ _ _ c.in-Ok.ensures.script c.in-Ok.ensures.files does.task_ended does.left
     (record { written = refl; placed = does.placed; untouched = does.untouched; unchanged = does.unchanged; blamed = does.blamed }) c.tell_unwritten.ensures
     c.finish-2.ensures.output c.finish-2.ensures.errors c.finish-2.ensures.status
@@ -17,4 +17,5 @@ returns-in-Err g c =
     let output = rw c.end_of.ensures at c.finish.ensures.output in
     let errors = rw c.end_of.ensures at c.finish.ensures.errors in
     let status = rw c.end_of.ensures at c.finish.ensures.status in
-    not_typeset c.args.fonts.now c.args.out.now _ c.in-Err.fault _ _ _ c.in-Err.ensures.err output errors status
+    not_typeset g.H.FileHost.file g.H.FileHost.created g.H.FileHost.written g.H.FileHost.failures _ _ _ c.args.fonts.now c.args.out.now c.in-Err.fault _ _ _
+    c.in-Err.ensures.err output errors status

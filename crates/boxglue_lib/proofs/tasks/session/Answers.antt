@@ -1,0 +1,21 @@
+-- The session was held, and its end was reported.
+use Rattle.std.proofs.Common.{refl}
+use Rattle.boxglue_lib.proofs.SessionLemmas.{held, not_held}
+use Rattle.boxglue_lib.proofs.tasks.session.Goals as goal
+
+pub returns : goal.returns
+returns g c =
+    let run = c.session_file-written.result in
+    let does = c.session_file-written.ensures in
+    held c.args.fonts.now c.args.out.now _ _ (record { created = run.created; done = run.written; written = g.H.FileHost.written run.host }) c.deref.result.now
+    run.end _ _ _ _ _ (rw c.deref.ensures.value c.in-Ok.ensures.ok) does.session_ended
+    (record { written = refl; placed = does.placed; untouched = does.untouched; unchanged = does.unchanged; blamed = does.blamed }) c.tell_unwritten.ensures
+    c.finish-2.ensures.output c.finish-2.ensures.errors c.finish-2.ensures.status
+
+pub returns-in-Err : goal.returns-in-Err
+returns-in-Err g c =
+    let output = rw c.end_of.ensures at c.finish.ensures.output in
+    let errors = rw c.end_of.ensures at c.finish.ensures.errors in
+    let status = rw c.end_of.ensures at c.finish.ensures.status in
+    not_held g.H.FileHost.file g.H.FileHost.created g.H.FileHost.written g.H.FileHost.failures _ _ _ c.args.fonts.now c.args.out.now c.in-Err.unread _ _ _
+    c.in-Err.ensures.err output errors status
