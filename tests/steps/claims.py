@@ -97,7 +97,7 @@ def case(root, given):
 def edit(root, given):
     """Whether there is an edit that has to fail."""
     crate, _, name = given.partition("/")
-    return any(os.path.exists(f"{root}/crates/{crate}/{folder}/{name}.edit") for folder in ("must-fail", "wrong-bodies"))
+    return any(os.path.exists(f"{root}/crates/{crate}/{folder}/{name}.edit") for folder in ("must-fail", "wrong-bodies", "refused-by-tests"))
 
 
 FORMS = {"spec": declared, "type": kind, "test": test, "case": case, "edit": edit,

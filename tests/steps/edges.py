@@ -99,6 +99,15 @@ def cut_names():
     )
 
 
+def definitions_behind_a_bad_instruction():
+    """An eop after post, before the definition of the one font. A page that selects the font is refused at the selection, since the definition counts as
+    missing; otherwise the eop is what is wrong."""
+    files = [dvi_file([Page(body, new_fonts=(TINY_10PT,))], 0, 0) for body in ([select(0), set_char(99)], [])]
+    after = [it.post + 29 for it in files]  # Behind the bytes of post.
+    used, unused = (it.data[:at] + b"\x8c" + it.data[at:] for it, at in zip(files, after))
+    return work(refused(used, BODY + DEFINITION, "Font"), refused(unused, after[1], "Opcode"))
+
+
 def negative_pointers():
     """-2 in the place of each pointer: of the bops, of post and of post_post. No place is below -1, which is that of no page."""
     file = dvi_file([Page([]), Page([])], 0, 0)
@@ -161,6 +170,7 @@ WORKS = {
     "painted_specials": painted_specials,
     "specials_of_two_gibibytes_and_more": long_specials,
     "definitions_cut_in_their_names": cut_names,
+    "definitions_behind_a_bad_instruction": definitions_behind_a_bad_instruction,
     "pointers_of_minus_2": negative_pointers,
     "pages_that_overlap": pages_that_overlap,
     "fonts_at_the_greatest_size": greatest_font_size,

@@ -5,7 +5,7 @@ import os
 import re
 from functools import partial
 
-TITLE = "the names of code in four documents are in the sources, as the clauses of PROVED.md; no comment writes the test attribute, no code has floating-point numbers; the job knows no crate of DVI"
+TITLE = "the names of code in four documents are in the sources, as the clauses of PROVED.md; no comment writes the test attribute, no code has floating-point numbers; the job knows no crate of DVI; no export has a premise"
 TRIES = False
 DOCUMENTS = ("PROVED", "ARCHITECTURE", "EVIDENCE", "DECISIONS")
 SOURCES = ("crates/*/src/**/*.rt", "crates/*/specs/*.antt", "crates/*/proofs/**/*.antt", "crates/rows_scripts/stdin", "tests/steps/*.py", "bindings/python/boxglue/*.py", "crates.txt")
@@ -29,7 +29,7 @@ def known_words(root):
         for path in glob.glob(f"{root}/{pattern}", recursive=True):
             words.update(WORD.findall(read(path)))
             words.add(os.path.basename(path).split(".")[0])
-    for pattern in ("crates/*/must-fail/*", "crates/*/wrong-bodies/*", "tests/program/*"):
+    for pattern in ("crates/*/must-fail/*", "crates/*/wrong-bodies/*", "crates/*/refused-by-tests/*", "tests/program/*"):
         words.update(os.path.basename(it).removesuffix(".edit") for it in glob.glob(f"{root}/{pattern}"))
     return words
 
@@ -67,6 +67,13 @@ def float_types(root):
     return f"floating-point numbers in {', '.join(sorted(wrong))}" if wrong else None
 
 
+def premises_of_exports(root):
+    """Sources of the library for C with a premise: a caller in C proves none."""
+    wrong = [os.path.relpath(path, root) for path in glob.glob(f"{root}/crates/boxglue_c/src/**/*.rt", recursive=True)
+             if re.search(r"(?m)^\s*requires\b", read(path))]
+    return f"an export has a premise in {', '.join(sorted(wrong))}" if wrong else None
+
+
 def contracts(root):
     """The names of clauses of each function, of all crates together."""
     found = {}
@@ -101,4 +108,5 @@ def cases(_programs, root):
     yield "clauses", partial(clauses, root)
     yield "test_attributes", partial(test_attributes, root)
     yield "float_types", partial(float_types, root)
+    yield "exports_without_premises", partial(premises_of_exports, root)
     yield "job_before_dvi", partial(job_before_dvi, root)

@@ -20,5 +20,5 @@ pub use host::{
     FileHost, Host, HostFault, HostParts, READ_LIMIT, StandardInput, limit_of_a_reading,
 };
 pub use memory_host::{HeldFile, MemoryFiles, MemoryHost};
-pub use reading::read_all;
+pub use reading::{read_all, read_within};
 pub use writing::write_some;

@@ -13,11 +13,7 @@ use std::io::{Error, ErrorKind, Read};
 /// How many bytes one call asks for.
 const BUFFER: usize = 65_536;
 
-/// Reads all bytes that a reader has left. A call that was interrupted is made again.
-///
-/// Errors: Failed if a call fails, or if the end is not reached within `READ_LIMIT` bytes and as many calls, which bounds the loop; OutOfMemory for a
-/// refused growth, so only where there was a byte to store, and never for too many of them. Where the reader's bytes are known, it has lost a beginning of
-/// them: after OutOfMemory at most `READ_LIMIT`, after Failed at most one call's more. That a call failed, no contract of a reader says.
+/// Reads all bytes that a reader has left, as `read_within` does, within `READ_LIMIT` bytes and as many calls.
 pub fn read_all<R: Read>(alloc: Global, reader: &mut R) -> Result<Vec<u8>, HostFault>
     ensures all { IfOk result (λ bytes. Consumes (R.remaining reader.old) (R.remaining reader.new) bytes.items) }
     ensures end { IfOk result (λ bytes. IsAtEnd (R.remaining reader.new)) }
@@ -25,27 +21,46 @@ pub fn read_all<R: Read>(alloc: Global, reader: &mut R) -> Result<Vec<u8>, HostF
     ensures memory { result ≡ Err HostFault.OutOfMemory → LosesFront 1 READ_LIMIT (R.remaining reader.old) (R.remaining reader.new) }
     ensures failed { result ≡ Err HostFault.Failed → LosesFront 0 (READ_LIMIT + 65536) (R.remaining reader.old) (R.remaining reader.new) }
 {
+    read_within(alloc, reader, READ_LIMIT)
+}
+
+/// Reads all bytes that a reader has left. A call that was interrupted is made again.
+///
+/// Errors: Failed if a call fails, or if the end is not reached within so many bytes and as many calls, which bounds the loop; OutOfMemory for a refused
+/// growth, so only where there was a byte to store, and never for too many of them. Where the reader's bytes are known, it has lost a beginning of them:
+/// after OutOfMemory at most so many, after Failed at most one call's more. That a call failed, no contract of a reader says.
+pub fn read_within<R: Read>(
+    alloc: Global,
+    reader: &mut R,
+    limit: usize,
+) -> Result<Vec<u8>, HostFault>
+    ensures all { IfOk result (λ bytes. Consumes (R.remaining reader.old) (R.remaining reader.new) bytes.items) }
+    ensures end { IfOk result (λ bytes. IsAtEnd (R.remaining reader.new)) }
+    ensures length_bounded { IfOk result (λ bytes. length bytes.items ≤ limit) }
+    ensures memory { result ≡ Err HostFault.OutOfMemory → LosesFront 1 limit (R.remaining reader.old) (R.remaining reader.new) }
+    ensures failed { result ≡ Err HostFault.Failed → LosesFront 0 (limit + 65536) (R.remaining reader.old) (R.remaining reader.new) }
+{
     let mut bytes = Vec::new(alloc);
     let mut buffer = [0u8; BUFFER];
-    for _ in 0..READ_LIMIT {
+    for _ in 0..limit {
         match reader.read(&mut buffer) {
             Ok(0) => return Ok(bytes),
-            Ok(count) => push_piece(&mut bytes, &buffer[..count])?,
+            Ok(count) => push_piece(&mut bytes, &buffer[..count], limit)?,
             Err(fault) => refuse_unless_interrupted(&fault)?,
         }
     }
     Err(HostFault::Failed)
 }
 
-/// Appends a piece to the bytes before it. Failed if that is too much, and then only; OutOfMemory if memory is refused.
-fn push_piece(bytes: &mut Vec<u8>, piece: &[u8]) -> Result<(), HostFault>
-    requires bytes_bounded { length bytes.old.items ≤ READ_LIMIT }
+/// Appends a piece to the bytes before it. Failed if that is more than the limit, and then only; OutOfMemory if memory is refused.
+fn push_piece(bytes: &mut Vec<u8>, piece: &[u8], limit: usize) -> Result<(), HostFault>
+    requires bytes_bounded { length bytes.old.items ≤ limit }
     ensures ok { OnOk result (bytes.new.items ≡ bytes.old.items ++ piece.now) }
-    ensures length_bounded { OnOk result (length bytes.new.items ≤ READ_LIMIT) }
-    ensures failed { result ≡ Err HostFault.Failed → READ_LIMIT < length bytes.old.items + length piece.now }
-    ensures memory { result ≡ Err HostFault.OutOfMemory → length bytes.old.items + length piece.now ≤ READ_LIMIT }
+    ensures length_bounded { OnOk result (length bytes.new.items ≤ limit) }
+    ensures failed { result ≡ Err HostFault.Failed → limit < length bytes.old.items + length piece.now }
+    ensures memory { result ≡ Err HostFault.OutOfMemory → length bytes.old.items + length piece.now ≤ limit }
 {
-    if piece.len() > READ_LIMIT - bytes.len() {
+    if piece.len() > limit - bytes.len() {
         return Err(HostFault::Failed);
     }
     bytes.extend_from_slice(piece)?;

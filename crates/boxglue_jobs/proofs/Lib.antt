@@ -3,6 +3,7 @@ pub mod HandedBytes
 pub mod Handles
 pub mod KeptLaws
 pub mod KeptMoves
+pub mod LineCounts
 pub mod LineNumbers
 pub mod NodesCrossing
 pub mod PieceLaws

@@ -1,12 +1,15 @@
 //! Laws of pieces of scripts.
 
-ghost use Rattle.std.specs.Prelude.{◌≡◌, ◌≤◌, ◌+◌, ◌++◌, ℕ, List, [], take};
+ghost use Rattle.std.specs.Prelude.{◌≡◌, ◌<◌, ◌≤◌, ◌+◌, ◌-◌, ◌^◌, ◌++◌, ℕ, List, [], length, min, take};
+ghost use Rattle.std.specs.Str.Lines.{lines};
 ghost use Rattle.tfm_core.specs.NamedBytes.{NamedBytes};
 ghost use Rattle.job_core.specs.Jobs.{RunsTo};
+ghost use Rattle.boxglue_script.specs.SaidLines.{IsWhole};
+ghost use Rattle.boxglue_script.specs.Script.{IsScript};
 ghost use Rattle.boxglue_program.specs.Runs.{commands_of, line_numbers};
 ghost use Rattle.boxglue_program.specs.Texts.{answer_lines};
 ghost use Rattle.boxglue_jobs.specs.Jobs.{HasHanded, IsNewJob, KeptState, sent_by};
-ghost use Rattle.boxglue_jobs.specs.Numbers.{line_feeds, numbered};
+ghost use Rattle.boxglue_jobs.specs.Numbers.{line_count, line_feeds, number_after, numbered};
 ghost use Rattle.boxglue_jobs.specs.Pieces.{DoesCommands, FinishesKept, HandsAnswers, HandsBytes, RunsLines};
 ghost use Rattle.boxglue_jobs.specs.Replies.{NeedsRows, RepliesTo, RepliesToEnd, RowRoom};
 ghost use Rattle.boxglue_jobs.specs.Rows.{reply_rows};
@@ -24,6 +27,23 @@ pub fn pieces_are_one_run()
         → reply_rows (line_numbers (numbered old.lines first.lines)) first.replies
         ++ reply_rows (line_numbers (numbered middle.lines second.lines)) second.replies
         ≡ reply_rows (line_numbers (numbered old.lines first.lines ++ numbered middle.lines second.lines)) (first.replies ++ second.replies) }
+{}
+
+/// The lines of a text are counted, up to the greatest number of the machine.
+pub fn lines_are_counted()
+    ensures { (text : List ℕ) → line_count text ≡ min (length (lines text)) (2 ^ 64 - 1) }
+{}
+
+/// Two pieces of a script, of which the first ends with a whole line, are one script: its lines are those of the first piece, and then those of the
+/// second, whose numbers go on after the lines of the first. A job gives them the numbers that it would give those of that script, and counts as
+/// many lines.
+pub fn pieces_are_one_script()
+    ensures script { (old middle new : KeptState) (script more : List ℕ) (first : RunsLines old script middle) (second : RunsLines middle more new) → IsWhole script
+        → length (lines (script ++ more)) < 2 ^ 64 → IsScript (script ++ more) (first.lines ++ numbered (line_count script) second.lines) }
+    ensures numbers { (old middle new : KeptState) (script more : List ℕ) (first : RunsLines old script middle) (second : RunsLines middle more new)
+        → numbered old.lines first.lines ++ numbered middle.lines second.lines ≡ numbered old.lines (first.lines ++ numbered (line_count script) second.lines) }
+    ensures count { (old middle new : KeptState) (script more : List ℕ) (first : RunsLines old script middle) (second : RunsLines middle more new) → IsWhole script
+        → new.lines ≡ number_after old.lines (line_count (script ++ more)) }
 {}
 
 /// As many rows as a piece of a script has line feeds, and one, suffice for its replies.

@@ -37,7 +37,7 @@ fn expect_chosen(rt: &impl Abort, alloc: Global, items: &[Item], setting: &Setti
     let mut nodes = Vec::new(alloc);
     for item in items {
         nodes
-            .push(node(rt, item))
+            .push(node(rt, alloc, item))
             .ok()
             .expect(rt, "there is memory");
     }

@@ -14,18 +14,26 @@ pub(crate) struct Line {
     pub(crate) overhang: i64,
 }
 
+/// Whether an item stays at the beginning of a line. Glue after such an item is a legal place.
+fn stays(item: &Item) -> bool {
+    match item {
+        Item::Glyph(_) | Item::FontKern(_) | Item::Box(_) | Item::Rule(_) | Item::Special => true,
+        Item::Glue(_) | Item::Kern(_) | Item::Penalty(_) => false,
+    }
+}
+
 /// The legal places of a list.
 pub(crate) fn legal_places(rt: &impl Abort, alloc: Global, items: &[Item]) -> Vec<usize> {
     let mut places = Vec::new(alloc);
-    let mut ruled = false;
+    let mut after = false;
     for (place, item) in items.iter().enumerate() {
         let legal = match *item {
-            Item::Rule(_) => false,
-            Item::Glue(_) => ruled,
+            Item::Glue(_) => after,
             Item::Kern(_) => matches!(items.get(place.saturating_add(1)), Some(Item::Glue(_))),
             Item::Penalty(penalty) => penalty < 10_000,
+            _ => false,
         };
-        ruled = matches!(item, Item::Rule(_));
+        after = stays(item);
         if legal {
             places.push(place).ok().expect(rt, "there is memory");
         }
@@ -52,9 +60,13 @@ fn amounts_of(item: &Item) -> Amounts {
         shrink: 0,
     };
     match item {
-        Item::Rule(width) | Item::Kern(width) => kept.width = *width,
+        Item::Glyph(width)
+        | Item::FontKern(width)
+        | Item::Box(width)
+        | Item::Rule(width)
+        | Item::Kern(width) => kept.width = *width,
         Item::Glue(glue) => kept = *glue,
-        Item::Penalty(_) => {}
+        Item::Special | Item::Penalty(_) => {}
     }
     kept
 }
@@ -73,7 +85,7 @@ pub(crate) fn line_amounts(items: &[Item], from: Option<usize>, to: usize) -> Am
     };
     let mut dropping = from.is_some();
     for (index, item) in items.iter().enumerate() {
-        dropping = dropping && !(index >= begin && matches!(item, Item::Rule(_)));
+        dropping = dropping && !(index >= begin && stays(item));
         if index >= begin && index < to && !dropping {
             let more = amounts_of(item);
             sums.width = sums.width.saturating_add(more.width);

@@ -1,15 +1,23 @@
 //! Items and parameters in points, and the nodes and parameters that the breaker takes.
 
-use node_core::{FirstLines, Glue, IntParameter, Node, Order, Params, Rule, RuleSize};
+use node_core::{
+    BoxNode, FirstLines, Glue, Glyph, IntParameter, Kind, Node, NodeList, Order, Params, Rule,
+    RuleSize, SpecialText,
+};
 use scaled_core::Dimen;
+use std::alloc::Global;
 use std::process::Abort;
 
 pub(crate) const POINT: i64 = 65_536;
 
-/// An item, with amounts in points.
+/// An item, with amounts in points; of a glyph, a box and a rule the width.
 #[derive(Clone, Copy)]
 pub(crate) enum Item {
+    Glyph(i64),
+    FontKern(i64),
+    Box(i64),
     Rule(i64),
+    Special,
     Glue(Amounts),
     Kern(i64),
     Penalty(i64),
@@ -46,32 +54,58 @@ fn number(rt: &impl Abort, value: i64) -> IntParameter {
     IntParameter::try_new(value).expect(rt, "it fits")
 }
 
+/// Amounts as glue.
+fn glue_of(rt: &impl Abort, glue: &Amounts) -> Glue {
+    let (stretch, stretch_order) = if glue.fil == 0 {
+        (glue.stretch, Order::Normal)
+    } else {
+        (glue.fil, Order::Fil)
+    };
+    Glue {
+        width: points(rt, glue.width),
+        stretch: points(rt, stretch),
+        stretch_order,
+        shrink: points(rt, glue.shrink),
+        shrink_order: Order::Normal,
+    }
+}
+
+/// A character of this width.
+fn glyph_of(rt: &impl Abort, width: i64) -> Glyph {
+    Glyph {
+        slot: 0,
+        code: 97,
+        width: points(rt, width),
+        height: points(rt, 1),
+        depth: Dimen::ZERO,
+    }
+}
+
+/// An empty box of this width.
+fn box_of(rt: &impl Abort, alloc: Global, width: i64) -> BoxNode {
+    BoxNode {
+        kind: Kind::Horizontal,
+        width: points(rt, width),
+        height: points(rt, 1),
+        depth: Dimen::ZERO,
+        setting: node_core::Setting::Natural,
+        list: NodeList::new(alloc),
+    }
+}
+
 /// An item as a node.
-pub(crate) fn node(rt: &impl Abort, item: &Item) -> Node {
+pub(crate) fn node(rt: &impl Abort, alloc: Global, item: &Item) -> Node {
     match item {
+        Item::Glyph(width) => Node::Glyph(glyph_of(rt, *width)),
+        Item::FontKern(width) => Node::FontKern(points(rt, *width)),
+        Item::Box(width) => Node::Box(Dimen::ZERO, box_of(rt, alloc, *width)),
+        Item::Special => Node::Special(SpecialText::from_vec(Vec::new(alloc))),
         Item::Rule(width) => Node::Rule(Rule {
             width: RuleSize::Fixed(points(rt, *width)),
             height: RuleSize::Fixed(points(rt, 1)),
             depth: RuleSize::Fixed(Dimen::ZERO),
         }),
-        Item::Glue(glue) => Node::Glue(Glue {
-            width: points(rt, glue.width),
-            stretch: points(
-                rt,
-                if glue.fil == 0 {
-                    glue.stretch
-                } else {
-                    glue.fil
-                },
-            ),
-            stretch_order: if glue.fil == 0 {
-                Order::Normal
-            } else {
-                Order::Fil
-            },
-            shrink: points(rt, glue.shrink),
-            shrink_order: Order::Normal,
-        }),
+        Item::Glue(glue) => Node::Glue(glue_of(rt, glue)),
         Item::Kern(width) => Node::Kern(points(rt, *width)),
         Item::Penalty(penalty) => Node::Penalty(i32::try_from(*penalty).ok().expect(rt, "it fits")),
     }

@@ -387,7 +387,7 @@ fn paragraphs_of_rules(rt: HostRuntime) {
     for row in &ROWS {
         let mut items = Vec::new(rt.alloc());
         for item in row.items {
-            let pushed = items.push(node(&rt, item));
+            let pushed = items.push(node(&rt, rt.alloc(), item));
             pushed.ok().expect(&rt, "there is memory");
         }
         let nodes = finished(&rt, items, &params);

@@ -37,10 +37,14 @@ impl Random {
     }
 
     pub(crate) fn item(&mut self) -> Item {
-        match self.one_of(&[0, 0, 0, 0, 1, 1, 1, 2, 3]) {
+        match self.one_of(&[0, 0, 1, 1, 1, 1, 2, 3, 4, 5, 6, 7]) {
             0 => Item::Rule(self.one_of(&[5, 10, 15, 20, 30])),
             1 => Item::Glue(self.glue()),
             2 => Item::Kern(self.one_of(&[-15, 5])),
+            3 => Item::Glyph(self.one_of(&[5, 10, 15])),
+            4 => Item::FontKern(self.one_of(&[-5, 5])),
+            5 => Item::Box(self.one_of(&[10, 20])),
+            6 => Item::Special,
             _ => { Item::Penalty(self.one_of(&[0, 50, -50, 9_999, 10_000, -9_999, -10_000])) }
         }
     }

@@ -1,7 +1,7 @@
-//! Readers and writers that give or take little in each call, or are interrupted.
+//! Readers and writers that give or take little in each call, or nothing, or are interrupted.
 
-use boxglue_host::read_all;
-use boxglue_program::write_text;
+use boxglue_host::{HostFault, read_all, read_within, write_some};
+use boxglue_program::{Unwritten, write_text};
 use std::io;
 use std::io::{Error, ErrorKind, Read, Write};
 
@@ -43,6 +43,29 @@ fn reads_all_bytes_of_each_reader(rt: HostRuntime) {
     }
 }
 
+/// A reader without an end, each call of which is interrupted, and counted.
+#[derive(Drop)]
+struct Interrupted {
+    calls: usize,
+}
+
+impl Read for Interrupted {
+    fn read(&mut self, _buffer: &mut [u8]) -> io::Result<usize> {
+        self.calls = self.calls.saturating_add(1);
+        Err(Error::from(ErrorKind::Interrupted))
+    }
+}
+
+#[test]
+fn readings_without_an_end(rt: HostRuntime) {
+    for limit in [0, 1, 1_000, 65_537] {
+        let mut reader = Interrupted { calls: 0 };
+        let read = read_within(rt.alloc(), &mut reader, limit);
+        assert_eq!(rt; read.err(), Some(HostFault::Failed));
+        assert_eq!(rt; reader.calls, limit);
+    }
+}
+
 /// A writer that takes one byte a call, and is interrupted before each call.
 #[derive(Drop)]
 struct OneByOne {
@@ -77,4 +100,30 @@ fn writes_a_text_byte_by_byte(rt: HostRuntime) {
     };
     assert!(rt; write_text(&mut writer, text).is_ok());
     assert_eq!(rt; writer.taken.as_slice(), text.as_slice());
+}
+
+/// A writer that takes nothing, and counts its calls. After 1,000 of them it takes all, so that a body that asks for ever ends, and is seen.
+#[derive(Drop)]
+struct Idle {
+    calls: u64,
+}
+
+impl Write for Idle {
+    fn write(&mut self, piece: &[u8]) -> io::Result<usize> {
+        self.calls = self.calls.saturating_add(1);
+        Ok(if self.calls > 1_000 { piece.len() } else { 0 })
+    }
+
+    fn flush(&mut self) -> io::Result<()> {
+        Ok(())
+    }
+}
+
+#[test]
+fn a_writer_that_takes_nothing(rt: HostRuntime) {
+    let mut writer = Idle { calls: 0 };
+    assert_eq!(rt; write_some(&mut writer, b"ab"), Err(HostFault::Failed));
+    assert_eq!(rt; writer.calls, 1);
+    assert_eq!(rt; write_text(&mut writer, b"1: ok\n"), Err(Unwritten));
+    assert_eq!(rt; writer.calls, 2);
 }

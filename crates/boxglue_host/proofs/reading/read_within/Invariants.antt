@@ -1,11 +1,10 @@
 -- The bytes that were read are those that the reader has lost, and they are not too many.
 use Rattle.std.proofs.Common.{◌≤◌, length}
 use Rattle.std.specs.Io.KnownBytes.{Consumes}
-use Rattle.boxglue_host.specs.declared.host.TheConstants.{READ_LIMIT}
-use Rattle.boxglue_host.proofs.reading.read_all.Given as goal
+use Rattle.boxglue_host.proofs.reading.read_within.Given as goal
 
 abbrev pub invariant-loop : goal.invariant-loop
 invariant-loop g l = record {
   all : Consumes (g.R.Read.remaining l.initial.reader) (g.R.Read.remaining l.reader) l.bytes.items;
-  within : length l.bytes.items ≤ READ_LIMIT;
+  within : length l.bytes.items ≤ l.limit;
 }

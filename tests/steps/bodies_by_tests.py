@@ -1,0 +1,56 @@
+"""Wrong bodies that every contract lets through, and a test has to refuse: crates/NAME/refused-by-tests/*.edit. Such an edit has the lines of those in
+must-fail/, and a line `test: CRATE::MODULE::NAME`. It is made in a copy of the crates, where this test is run by `rt try --test`, and has to fail."""
+import functools
+import glob
+import os
+import re
+
+from steps.crate_tests import LIMIT, outcomes, tests_in, tree_without
+from steps.texts import last_lines
+from steps.trying import rt_try
+
+TITLE = "wrong bodies that only a test refuses: the test fails over each of them"
+PROGRAM = None
+TRIES = False
+
+
+def lines_of(path, word):
+    """The texts of the lines of an edit that begin with a word."""
+    with open(path, encoding="utf-8") as it:
+        return re.findall(rf"(?m)^{word}: (.*)$", it.read())
+
+
+def make(path, folder):
+    """Makes an edit in the folder of its crate. Returns what is wrong with it, or None."""
+    source = f"{folder}/{lines_of(path, 'file')[0]}"
+    with open(source, encoding="utf-8") as it:
+        text = it.read()
+    for old, new in zip(lines_of(path, "old"), lines_of(path, "new"), strict=True):
+        if text.count(old) != 1:
+            return f"its old text stands {text.count(old)} times in the file: {old}"
+        text = text.replace(old, new)
+    with open(source, "w", encoding="utf-8") as it:
+        it.write(text)
+    return None
+
+
+def outcome(root, crate, path):
+    """Runs the test of an edit. Returns what is wrong: it cannot be made, or the test is not run, or does not fail."""
+    tests, _, name = lines_of(path, "test")[0].partition("::")
+    others = [it for it in tests_in(f"{root}/crates/{tests}/src") if it != name]
+    with tree_without(others, tests, root) as tree:
+        wrong = make(path, f"{tree}/crates/{crate}")
+        if wrong:
+            return wrong
+        _, output, errors = rt_try(tree, tests, ["--test", "--seconds", str(LIMIT)])
+    found = outcomes((output + errors).decode(errors="replace"))
+    if name not in found:
+        return f"the test {name} was not run: {last_lines(errors)}"
+    return None if found[name] else f"the test {name} does not fail"
+
+
+def cases(_programs, root):
+    """The edits of all crates."""
+    for path in sorted(glob.glob(f"{root}/crates/*/refused-by-tests/*.edit")):
+        crate, _, file = os.path.relpath(path, f"{root}/crates").split("/")
+        yield f"{crate}/{file.removesuffix('.edit')}", functools.partial(outcome, root, crate, path)
