@@ -46,7 +46,7 @@ def tree_without(names, crate, root):
     """Makes a copy of the crates without these tests of one crate."""
     with tempfile.TemporaryDirectory(prefix="boxglue-tests-") as room:
         shutil.copy(f"{root}/crates.txt", room)
-        shutil.copytree(f"{root}/crates", f"{room}/crates", ignore=shutil.ignore_patterns("out", "must-fail", "wrong-bodies", "refused-by-tests"))
+        shutil.copytree(f"{root}/crates", f"{room}/crates", ignore=shutil.ignore_patterns("out", "must-fail", "wrong-bodies", "refused-by-tests", "needed-premises"))
         for name in names:
             *module, function = name.split("::")
             path = f"{room}/crates/{crate}/src/{'/'.join(module)}.rt"

@@ -29,7 +29,7 @@ def known_words(root):
         for path in glob.glob(f"{root}/{pattern}", recursive=True):
             words.update(WORD.findall(read(path)))
             words.add(os.path.basename(path).split(".")[0])
-    for pattern in ("crates/*/must-fail/*", "crates/*/wrong-bodies/*", "crates/*/refused-by-tests/*", "tests/program/*"):
+    for pattern in ("crates/*/must-fail/*", "crates/*/wrong-bodies/*", "crates/*/refused-by-tests/*", "crates/*/needed-premises/*", "tests/program/*"):
         words.update(os.path.basename(it).removesuffix(".edit") for it in glob.glob(f"{root}/{pattern}"))
     return words
 
