@@ -1,6 +1,6 @@
 //! Exact fractions, used as glue ratios.
 
-ghost use Rattle.std.specs.Prelude.{◌≡◌, ◌*ℤ◌, ◌<ℤ◌, ◌≤◌, ◌^◌, pos, unsigned_abs, IfSome};
+ghost use Rattle.std.specs.Prelude.{◌≡◌, ◌*ℤ◌, ◌<ℤ◌, ◌≤◌, ◌^◌, pos, unsigned_abs, IfSome, IsSome};
 ghost use Rattle.scaled_core.specs.Dimensions.{Within};
 ghost use Rattle.scaled_core.specs.Rounding.{IsRounded};
 ghost use Rattle.scaled_core.specs.Fractions.{round_times};
@@ -51,19 +51,33 @@ impl Ratio {
         ensures value { result ≡ round_times self.now amount }
         ensures value_bounded { Within (2 ^ 126) result }
     {
-        let den = self.den as u64;
-        match small_product(self.num, amount) {
-            Some(product) => i128::from(rounded_small(product, den)),
-            None => rounded(product(self.num, amount), den),
+        match self.round_small(amount) {
+            Some(rounded) => i128::from(rounded),
+            None => rounded(product(self.num, amount), self.den as u64),
         }
+    }
+
+    /// The same in 64 bits, or `None` if the numerator or the amount is too large for that. Nearly all numerators and amounts on pages are small
+    /// enough. Does not allocate.
+    #[inline(always)]
+    #[tactic(auto, unfolding(crate::specs::Fractions::round_times))]
+    pub fn round_small(&self, amount: i64) -> Option<i64>
+        ensures nearest { IfSome result (λ rounded. IsRounded (self.now.num *ℤ amount) (unsigned_abs self.now.den) rounded) }
+        ensures value { IfSome result (λ rounded. rounded ≡ round_times self.now amount) }
+        ensures value_bounded { IfSome result (Within (2 ^ 62)) }
+        ensures small { unsigned_abs self.now.num ≤ 2 ^ 31 → unsigned_abs amount ≤ 2 ^ 31 → IsSome result }
+    {
+        let product = small_product(self.num, amount)?;
+        Some(rounded_small(product, self.den as u64))
     }
 }
 
-/// The product of two numbers in 64 bits, or `None` if one of them is above 2^31 in absolute value. Nearly all numerators and amounts on pages are
-/// small enough, and 64-bit division is much faster.
+/// The product of two numbers in 64 bits, or `None` if one of them is above 2^31 in absolute value. 64-bit division is much faster than that in 128.
+#[inline(always)]
 fn small_product(a: i64, b: i64) -> Option<i64>
     ensures value { IfSome result (λ product. product ≡ a *ℤ b) }
     ensures value_bounded { IfSome result (λ product. unsigned_abs product ≤ 2 ^ 62) }
+    ensures small { unsigned_abs a ≤ 2 ^ 31 → unsigned_abs b ≤ 2 ^ 31 → IsSome result }
 {
     if a.unsigned_abs() <= SMALL && b.unsigned_abs() <= SMALL {
         return Some(a * b);

@@ -48,6 +48,7 @@ fn nearest_small(n: u64, d: u64) -> u64
 }
 
 /// The whole number nearest to `x / d`, halves away from zero, in 64 bits.
+#[inline(always)]
 #[tactic(auto, unfolding(crate::specs::Rounding::rounded))]
 pub fn rounded_small(x: i64, d: u64) -> i64
     requires x { unsigned_abs x ≤ 2 ^ 62 }

@@ -1,6 +1,7 @@
 -- The relation `Shaping` and the functions that compute it.
-use Rattle.std.proofs.Common.{◌≡◌, ◌≢◌, ◌↔◌, ℕ, ℤ, ◌+◌, ◌++◌, ◌<◌, ◌≤◌, List, [], ◌∷◌, Option, Some, None, Result, Ok, Err, length, take, drop, get_or, refl, ap, sym, ◌∙◌, subst, arith, append-nil, append_assoc, length-append}
+use Rattle.std.proofs.Common.{◌≡◌, ◌≢◌, ◌↔◌, ℕ, ℤ, Bool, true, false, cond, ◌+◌, ◌++◌, ◌<◌, ◌≤◌, List, [], ◌∷◌, Option, Some, None, Result, Ok, Err, length, take, drop, get_or, refl, ap, sym, ◌∙◌, subst, arith, append-nil, append_assoc, length-append}
 use Rattle.std.specs.List.{slice_get}
+use Rattle.std.specs.Option.{is_some}
 use Rattle.std.specs.Result.{IfOk, OnOk, OnErr}
 use Rattle.shape_core.specs.declared.word.Missing.{Missing}
 use Rattle.std.proofs.Math.Nat.{min-le_right}
@@ -9,6 +10,7 @@ use Rattle.std.proofs.Math.ListN.{drop_of_length-le}
 use Rattle.node_core.specs.declared.tree.Node.{Node}
 use Rattle.node_core.specs.declared.tree.Node.TheVariants.{FontKern}
 use Rattle.shape_core.specs.declared.word.Outcome.{Outcome}
+use Rattle.shape_core.specs.declared.word.Outcome.TheVariants.{Alone}
 use Rattle.tfm_core.specs.declared.font.GlyphSize.{GlyphSize}
 use Rattle.tfm_core.specs.declared.font.Step.{Step}
 use Rattle.tfm_core.specs.declared.font.Step.TheVariants.{Kern, Ligature}
@@ -32,10 +34,14 @@ turn-items slot sizes steps c word i all held new o n h e eo en em =
 pub turn-missing : (sizes : ℕ → Option GlyphSize) (steps : ℕ → ℕ → Option Step) (c : ℕ) (word : List ℕ) (i all held m n : ℕ) (o : Outcome) → i < length word → all ≡ held + missing_from sizes steps c (drop i word) → o ≡ outcome_at sizes steps c (Some (get_or word i 0)) → m ≡ outcome_missing o → n ≡ outcome_next (get_or word i 0) o → all ≡ held + m + missing_from sizes steps n (drop (i + 1) word)
 turn-missing sizes steps c word i all held m n o h e eo em en = rw (em, en, eo) (omega (arith, e, missing_from-turn sizes steps c word i h))
 
--- What the last character becomes.
-pub last-outcome : (sizes : ℕ → Option GlyphSize) (steps : ℕ → ℕ → Option Step) (c : ℕ) (size : Option GlyphSize) (o : Outcome) → size ≡ sizes c → o ≡ outcome_of size None → o ≡ outcome_at sizes steps c None
+-- A character that stands alone before the next one becomes its glyph.
+pub outcome-alone : (sizes : ℕ → Option GlyphSize) (steps : ℕ → ℕ → Option Step) (c d : ℕ) (size : GlyphSize) → sizes c ≡ Some size → steps c d ≡ None → Alone size ≡ outcome_at sizes steps c (Some d)
 unfolding outcome_at
-last-outcome sizes steps c size o at is = is ∙ ap (λ (s : Option GlyphSize). outcome_of s None) at
+outcome-alone sizes steps c d size at after = here (is_some (sizes d)) refl
+  where
+    here : (b : Bool) → is_some (sizes d) ≡ b → Alone size ≡ outcome_of (sizes c) (cond (is_some (sizes d)) (steps c d) None)
+    here true e = rw (e, at, after) refl
+    here false e = rw (e, at) refl
 
 -- The end of the word.
 pub end-items : (slot : ℕ) (sizes : ℕ → Option GlyphSize) (steps : ℕ → ℕ → Option Step) (c : ℕ) (word : List ℕ) (i : ℕ) (all held new : List Node) (o : Outcome) → length word ≤ i → all ≡ held ++ items_from slot sizes steps c (drop i word) → o ≡ outcome_at sizes steps c None → new ≡ held ++ outcome_items slot c o → new ≡ all
@@ -158,3 +164,5 @@ Shaping-nothing slot sizes steps [] old e = ([], sym (append-nil old), empty)
 Shaping-nothing slot sizes steps (c ∷ word) old e = absurd (omega arith)
 
 pub ruleset shapings = (Shaping-ok)
+
+pub ruleset outcomes = (outcome-alone)

@@ -6,7 +6,7 @@ use tfm_core::{Font, GlyphSize, Step};
 /// The metrics of a font: the sizes of its characters, the kern or ligature between two of them, and its space. The character of a ligature is always
 /// in the font.
 pub trait Metrics {
-    ghost use Rattle.std.specs.Prelude.{◌≡◌, ℕ, Option, Some, IsSome};
+    ghost use Rattle.std.specs.Prelude.{◌≡◌, ℕ, Option, Some, None, IfSome, IsSome};
     ghost use Rattle.node_core.specs.declared.tree.Glue.{Glue};
     ghost use Rattle.tfm_core.specs.declared.font.GlyphSize.{GlyphSize};
     ghost use Rattle.tfm_core.specs.declared.font.Step.{Step};
@@ -25,6 +25,14 @@ pub trait Metrics {
     /// The kern or ligature between a character and the one that follows it. Does not allocate.
     fn step(&self, code: u8, following: u8) -> Option<Step>
         ensures { result ≡ steps self.now code following };
+
+    /// The sizes of a character between which and the following one there is neither a kern nor a ligature. It may be answered at one look, and saves
+    /// shaping the others. `None` says nothing: a font that has no such look leaves this out. Does not allocate.
+    fn alone(&self, code: u8, following: u8) -> Option<GlyphSize>
+        ensures { IfSome result (λ size. (sizes self.now code ≡ Some size) × (steps self.now code following ≡ None)) }
+    {
+        None
+    }
 
     /// The glue for a run of spaces. Does not allocate.
     fn space(&self) -> Glue
@@ -52,6 +60,11 @@ impl Metrics for Font {
 
     fn step(&self, code: u8, following: u8) -> Option<Step> {
         Font::step(self, code, following)
+    }
+
+    #[inline(always)]
+    fn alone(&self, code: u8, following: u8) -> Option<GlyphSize> {
+        Font::alone(self, code, following)
     }
 
     fn space(&self) -> Glue {

@@ -1,6 +1,6 @@
 //! Shaping of words.
 
-ghost use Rattle.std.specs.Prelude.{◌≡◌, ◌≢◌, ◌≤◌, ◌+◌, ◌++◌, ◌∷◌, [], ℕ, List, None, Some, is_some, length, take, OnOk, OnErr, IfOk};
+ghost use Rattle.std.specs.Prelude.{◌≡◌, ◌≢◌, ◌≤◌, ◌+◌, ◌++◌, ◌∷◌, [], ℕ, List, None, Some, length, take, OnOk, OnErr, IfOk};
 ghost use Rattle.node_core.specs.declared.tree.Node.{Node};
 ghost use Rattle.shape_core.specs.Shaping.{Shaping, glyph_node, items_from, missing_from, outcome_at, outcome_items, outcome_missing, outcome_next, outcome_of, shaped_items, shaped_missing};
 
@@ -30,6 +30,7 @@ pub enum Outcome {
 }
 
 /// The glyph of a character.
+#[inline(always)]
 fn glyph_node(slot: u8, code: u8, size: GlyphSize) -> Node
     ensures { result ≡ glyph_node slot code size }
 {
@@ -55,50 +56,52 @@ fn outcome_of(size: GlyphSize, step: Option<Step>) -> Outcome
     }
 }
 
-/// What a character of these sizes becomes before the one that follows. `is_there` says whether the font has the following character.
-#[tactic(auto, unfolding(crate::specs::Shaping::outcome_at))]
-fn outcome_before<M: Metrics>(
-    metrics: &M,
-    size: Option<GlyphSize>,
-    code: u8,
-    following: u8,
-    is_there: bool,
-) -> Outcome
-    requires size { size ≡ M.sizes metrics.now code }
-    requires following { is_there ≡ is_some (M.sizes metrics.now following) }
+/// What a character becomes before the one that follows. Most characters stand alone, and one look says so.
+#[inline(always)]
+#[tactic(auto, using(crate::proofs::ShapingLemmas::outcomes), unfolding(crate::specs::Shaping::outcome_at))]
+fn outcome_before<M: Metrics>(metrics: &M, code: u8, following: u8) -> Outcome
     ensures { result ≡ outcome_at (M.sizes metrics.now) (M.steps metrics.now) code (Some following) }
 {
-    let Some(size) = size else {
+    if let Some(size) = metrics.alone(code, following) {
+        return Outcome::Alone(size);
+    }
+    let Some(size) = metrics.glyph(code) else {
         return Outcome::Dropped;
     };
-    if !is_there {
+    if metrics.glyph(following).is_none() {
         return Outcome::Alone(size);
     }
     outcome_of(size, metrics.step(code, following))
 }
 
-/// What a character of these sizes becomes at the end of a word.
+/// What a character becomes at the end of a word.
 #[tactic(auto, unfolding(crate::specs::Shaping::outcome_at))]
-fn last_outcome(size: Option<GlyphSize>) -> Outcome
-    ensures { result ≡ outcome_of size None }
+fn last_outcome<M: Metrics>(metrics: &M, code: u8) -> Outcome
+    ensures { result ≡ outcome_at (M.sizes metrics.now) (M.steps metrics.now) code None }
 {
-    match size {
+    match metrics.glyph(code) {
         Some(size) => Outcome::Alone(size),
         None => Outcome::Dropped,
     }
 }
 
-/// Appends an item.
+/// Appends an item. There is nearly always room for it, and then it is written in place.
+#[inline(always)]
 pub(crate) fn push(node: Node, nodes: &mut Vec<Node>) -> Result<(), AllocError>
     ensures ok { OnOk result (nodes.new.items ≡ nodes.old.items ++ node ∷ []) }
     ensures err { OnErr result (nodes.new.items ≡ nodes.old.items) }
 {
+    if nodes.len() < nodes.capacity() {
+        nodes.push_reserved(node);
+        return Ok(());
+    }
     nodes.push(node)?;
     Ok(())
 }
 
 impl Outcome {
     /// The number of missing characters: 1 if the character is dropped, and otherwise 0.
+    #[inline(always)]
     fn missing(&self) -> usize
         ensures value { result ≡ outcome_missing self.now }
         ensures missing_bounded { result ≤ 1 }
@@ -112,6 +115,7 @@ impl Outcome {
     }
 
     /// The character with which shaping goes on.
+    #[inline(always)]
     fn next(&self, following: u8) -> u8
         ensures { result ≡ outcome_next following self.now }
     {
@@ -123,19 +127,8 @@ impl Outcome {
         }
     }
 
-    /// The sizes of the character with which shaping goes on; `ahead` has the sizes of the following character, which are not looked up again.
-    fn next_size<M: Metrics>(&self, metrics: &M, ahead: Option<GlyphSize>) -> Option<GlyphSize>
-        ensures { (following : ℕ) → ahead ≡ M.sizes metrics.now following → result ≡ M.sizes metrics.now (outcome_next following self.now) }
-    {
-        match self {
-            Outcome::Dropped => ahead,
-            Outcome::Alone(_) => ahead,
-            Outcome::Kerned(_, _) => ahead,
-            Outcome::Joined(character) => metrics.glyph(*character),
-        }
-    }
-
     /// Appends the items of a character; if memory is refused, only the first of them.
+    #[inline(always)]
     fn append(&self, slot: u8, code: u8, nodes: &mut Vec<Node>) -> Result<(), AllocError>
         ensures ok { OnOk result (nodes.new.items ≡ nodes.old.items ++ outcome_items slot code self.now) }
         ensures front { take (length nodes.old.items) nodes.new.items ≡ nodes.old.items }
@@ -168,16 +161,13 @@ fn shape_from<M: Metrics>(
     ensures growth { OnErr result (items_from slot (M.sizes metrics.now) (M.steps metrics.now) code word.now ≢ []) }
 {
     let mut characters = 0;
-    let mut size = metrics.glyph(code);
     for following in word {
-        let ahead = metrics.glyph(*following);
-        let outcome = outcome_before(metrics, size, code, *following, ahead.is_some());
+        let outcome = outcome_before(metrics, code, *following);
         outcome.append(slot, code, nodes)?;
         characters += outcome.missing();
         code = outcome.next(*following);
-        size = outcome.next_size(metrics, ahead);
     }
-    let outcome = last_outcome(size);
+    let outcome = last_outcome(metrics, code);
     outcome.append(slot, code, nodes)?;
     Ok(Missing {
         characters: characters + outcome.missing(),

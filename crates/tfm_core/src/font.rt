@@ -1,6 +1,6 @@
 //! Fonts: metric files at a size (TeX: The Program, part 30).
 
-ghost use Rattle.std.specs.Prelude.{◌≡◌, ◌↔◌, Err, IfOk, IsSome, OnOk, false, true};
+ghost use Rattle.std.specs.Prelude.{◌≡◌, ◌↔◌, Err, None, Some, IfOk, IfSome, IsSome, OnOk, false, true, if◌then◌else◌, is_some};
 ghost use Rattle.tfm_core.specs.declared.fault.FontFault.TheVariants.{DimensionTooLarge};
 ghost use Rattle.tfm_core.specs.Fonts.{HasNumbers, chosen_size, fits_at, font_at, glyph_of, matching_step, step_of};
 ghost use Rattle.tfm_core.specs.FontView.{AreRows};
@@ -163,6 +163,20 @@ impl Font {
         ensures { result ≡ glyph_of self.now code }
     {
         self.rows[usize::from(code)].glyph
+    }
+
+    /// The sizes of a character that the font has, if its program has no step for the following one; otherwise `None`. One look at what is known of the
+    /// character answers both, and most characters of a text are so. Does not allocate.
+    #[inline(always)]
+    pub fn alone(&self, code: u8, following: u8) -> Option<GlyphSize>
+        ensures value { result ≡ (if is_some (matching_step self.now code following) then None else glyph_of self.now code) }
+        ensures alone { IfSome result (λ size. (glyph_of self.now code ≡ Some size) × (step_of self.now code following ≡ None)) }
+    {
+        let row = &self.rows[usize::from(code)];
+        if row.followers.contains(following) {
+            return None;
+        }
+        row.glyph
     }
 
     /// The kern or ligature between a character and the following one: the first step of the character's program for the following character, or

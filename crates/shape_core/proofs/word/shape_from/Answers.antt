@@ -1,5 +1,5 @@
-use Rattle.std.proofs.Common.{◌∙◌, ap, sym, arith}
-use Rattle.shape_core.proofs.ShapingLemmas.{turn-items, turn-missing, last-outcome, end-items, end-missing, turn-some, end-some, on_refused}
+use Rattle.std.proofs.Common.{arith}
+use Rattle.shape_core.proofs.ShapingLemmas.{turn-items, turn-missing, end-items, end-missing, turn-some, end-some, on_refused}
 use Rattle.scaled_core.proofs.Appending.{front_kept}
 use Rattle.shape_core.proofs.word.shape_from.Goals as goal
 
@@ -10,22 +10,19 @@ loop-following-preserved g c = (
   turn-missing (g.M.Metrics.sizes c.args.metrics.now) (g.M.Metrics.steps c.args.metrics.now) c.loop-following.code c.args.word.now c.loop-following.following-index _ _ _ _ _ c.loop-following-test.true c.loop-following.invariant.1 c.outcome_before-outcome.ensures c.missing-characters.ensures.value c.next-code.ensures,
   front_kept _ _ _ _ c.loop-following.invariant.2 c.in_ok-append.ensures.ok,
   omega (arith, c.loop-following.invariant.3, c.missing-characters.ensures.missing_bounded),
-  c.next_size-size.ensures _ c.glyph-ahead.ensures ∙ ap (g.M.Metrics.sizes c.args.metrics.now) (sym c.next-code.ensures),
 )
 
 pub returns-clause-ok : goal.returns-clause-ok
 returns-clause-ok g c =
     let sizes = g.M.Metrics.sizes c.args.metrics.now in
     let steps = g.M.Metrics.steps c.args.metrics.now in
-    end-items c.args.slot sizes steps c.loop-following.code c.args.word.now c.loop-following.following-index _ _ _ _ (omega (arith, c.loop-following-test.false)) c.loop-following.invariant.0
-    (last-outcome sizes steps c.loop-following.code c.loop-following.size _ c.loop-following.invariant.4 c.last_outcome-outcome.ensures) c.in_ok-append-2.ensures.ok
+    end-items c.args.slot sizes steps c.loop-following.code c.args.word.now c.loop-following.following-index _ _ _ _ (omega (arith, c.loop-following-test.false)) c.loop-following.invariant.0 c.last_outcome-outcome.ensures c.in_ok-append-2.ensures.ok
 
 pub returns-clause-number : goal.returns-clause-number
 returns-clause-number g c =
     let sizes = g.M.Metrics.sizes c.args.metrics.now in
     let steps = g.M.Metrics.steps c.args.metrics.now in
-    end-missing sizes steps c.loop-following.code c.args.word.now c.loop-following.following-index _ _ _ _ (omega (arith, c.loop-following-test.false)) c.loop-following.invariant.1
-    (last-outcome sizes steps c.loop-following.code c.loop-following.size _ c.loop-following.invariant.4 c.last_outcome-outcome.ensures) c.missing.ensures.value
+    end-missing sizes steps c.loop-following.code c.args.word.now c.loop-following.following-index _ _ _ _ (omega (arith, c.loop-following-test.false)) c.loop-following.invariant.1 c.last_outcome-outcome.ensures c.missing.ensures.value
 
 -- Memory is refused only where a character becomes items.
 pub returns-in_err-append-clause-growth : goal.returns-in_err-append-clause-growth
@@ -38,5 +35,4 @@ returns-in_err-append-2-clause-growth g c =
     let sizes = g.M.Metrics.sizes c.args.metrics.now in
     let steps = g.M.Metrics.steps c.args.metrics.now in
     on_refused c.from_residual-in_err-append-2.result
-    (end-some c.args.slot sizes steps c.loop-following.code c.args.word.now c.loop-following.following-index _ _ _ _ (omega (arith, c.loop-following-test.false)) c.loop-following.invariant.2 c.loop-following.invariant.0
-    (last-outcome sizes steps c.loop-following.code c.loop-following.size _ c.loop-following.invariant.4 c.last_outcome-outcome.ensures) c.in_err-append-2.ensures.growth)
+    (end-some c.args.slot sizes steps c.loop-following.code c.args.word.now c.loop-following.following-index _ _ _ _ (omega (arith, c.loop-following-test.false)) c.loop-following.invariant.2 c.loop-following.invariant.0 c.last_outcome-outcome.ensures c.in_err-append-2.ensures.growth)
