@@ -6,7 +6,7 @@ use Rattle.node_core.specs.declared.tree.Node.{Node}
 use Rattle.node_core.specs.declared.tree.Node.TheVariants.{Glyph, FontKern, Kern, Glue, Penalty, Rule, Special, Box}
 use Rattle.node_core.specs.declared.tree.BoxNode.{BoxNode}
 use Rattle.node_core.specs.Items.{Leaf, glyph, font_kern, kern, glue, penalty, rule, special, Items, none, leaf, box, items_count, items_depth, items_text}
-use Rattle.node_core.specs.Nodes.{max_nodes, items_of, node_of, nodes_of}
+use Rattle.node_core.specs.Nodes.{max_nodes, IsPlain, items_of, node_of, nodes_of}
 
 -- The nodes of the items of a list are its nodes.
 pub nodes_of-items_of : (nodes : List Node) → nodes_of (items_of nodes) ≡ nodes
@@ -140,3 +140,37 @@ leaf_text (Penalty p) no_box other = refl
 leaf_text (Rule sizes) no_box other = refl
 leaf_text (Special text) no_box other = absurd (other text refl)
 leaf_text (Box shift b) no_box other = absurd (no_box shift b refl)
+
+-- The measures of a list of which no item is a box or a special.
+pub plain_depth : (nodes : List Node) → IsPlain nodes → items_depth (items_of nodes) ≡ 0
+plain_depth [] is = refl
+plain_depth ((Glyph g) ∷ rest) is = plain_depth rest is
+plain_depth ((FontKern width) ∷ rest) is = plain_depth rest is
+plain_depth ((Kern width) ∷ rest) is = plain_depth rest is
+plain_depth ((Glue g) ∷ rest) is = plain_depth rest is
+plain_depth ((Penalty p) ∷ rest) is = plain_depth rest is
+plain_depth ((Rule sizes) ∷ rest) is = plain_depth rest is
+plain_depth ((Special text) ∷ rest) is = absurd (cc)
+plain_depth ((Box shift b) ∷ rest) is = absurd (cc)
+
+pub plain_count : (nodes : List Node) → IsPlain nodes → items_count (items_of nodes) ≡ length nodes
+plain_count [] is = refl
+plain_count ((Glyph g) ∷ rest) is = omega (arith, plain_count rest is)
+plain_count ((FontKern width) ∷ rest) is = omega (arith, plain_count rest is)
+plain_count ((Kern width) ∷ rest) is = omega (arith, plain_count rest is)
+plain_count ((Glue g) ∷ rest) is = omega (arith, plain_count rest is)
+plain_count ((Penalty p) ∷ rest) is = omega (arith, plain_count rest is)
+plain_count ((Rule sizes) ∷ rest) is = omega (arith, plain_count rest is)
+plain_count ((Special text) ∷ rest) is = absurd (cc)
+plain_count ((Box shift b) ∷ rest) is = absurd (cc)
+
+pub plain_text : (nodes : List Node) → IsPlain nodes → items_text (items_of nodes) ≡ 0
+plain_text [] is = refl
+plain_text ((Glyph g) ∷ rest) is = omega (arith, plain_text rest is)
+plain_text ((FontKern width) ∷ rest) is = omega (arith, plain_text rest is)
+plain_text ((Kern width) ∷ rest) is = omega (arith, plain_text rest is)
+plain_text ((Glue g) ∷ rest) is = omega (arith, plain_text rest is)
+plain_text ((Penalty p) ∷ rest) is = omega (arith, plain_text rest is)
+plain_text ((Rule sizes) ∷ rest) is = omega (arith, plain_text rest is)
+plain_text ((Special text) ∷ rest) is = absurd (cc)
+plain_text ((Box shift b) ∷ rest) is = absurd (cc)

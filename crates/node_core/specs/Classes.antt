@@ -81,3 +81,14 @@ shrinks_infinitely (nodes.Penalty penalty) = false
 shrinks_infinitely (nodes.Rule rule) = false
 shrinks_infinitely (nodes.Special text) = false
 shrinks_infinitely (nodes.Box shift b) = false
+
+-- Whether the measures of a list count more of an item than the item itself: the items of a box, the text of a special (own).
+abbrev pub has_content : Node → Bool
+has_content (nodes.Special text) = true
+has_content (nodes.Box shift b) = true
+has_content (nodes.Glyph glyph) = false
+has_content (nodes.FontKern width) = false
+has_content (nodes.Kern width) = false
+has_content (nodes.Glue glue) = false
+has_content (nodes.Penalty penalty) = false
+has_content (nodes.Rule rule) = false

@@ -1,13 +1,19 @@
 -- Lists of nodes and the items that are their value in contracts (own).
-use Rattle.std.specs.Prelude.{ℕ, ◌+◌, ◌-◌, List, [], ◌∷◌, length, take, slice_get, Option, None, Some}
+use Rattle.std.specs.Prelude.{◌≡◌, ℕ, false, ◌+◌, ◌-◌, List, [], ◌∷◌, length, take, slice_get, Option, None, Some}
+use Rattle.std.specs.List.{list_any}
 use Rattle.node_core.specs.declared.tree.Node.{Node}
 use Rattle.node_core.specs.declared.tree.Node.TheVariants.{Glyph, FontKern, Kern, Glue, Penalty, Rule, Special, Box}
 use Rattle.node_core.specs.declared.tree.BoxNode.{BoxNode}
+use Rattle.node_core.specs.Classes.{has_content}
 use Rattle.node_core.specs.Items.{Leaf, glyph, font_kern, kern, glue, penalty, rule, special, BoxFrame, Items, none, leaf, box, items_depth, items_count, items_text}
 
 -- The greatest number of nodes in a list (own).
 abbrev pub max_nodes : ℕ
 max_nodes = 131072
+
+-- No item of a list is a box or a special (own; no public clause speaks of it).
+abbrev pub IsPlain : List Node → Type 0
+IsPlain nodes = list_any has_content nodes ≡ false
 
 -- A box without its list (own).
 abbrev pub frame_of : BoxNode → BoxFrame

@@ -1,7 +1,7 @@
 //! The class of an item: what matters about it when lists are broken and packed.
 
 ghost use Rattle.std.specs.Prelude.{◌≡◌};
-ghost use Rattle.node_core.specs.Classes.{class_of, is_discardable, precedes_break, is_box_or_rule, shrinks_infinitely};
+ghost use Rattle.node_core.specs.Classes.{class_of, is_discardable, precedes_break, is_box_or_rule, shrinks_infinitely, has_content};
 
 use crate::tree::{Kind, Node, Order};
 
@@ -76,6 +76,16 @@ impl Node {
     {
         match self {
             Node::Glue(glue) => glue.shrink_order != Order::Normal && glue.shrink.get() != 0,
+            _ => false,
+        }
+    }
+
+    /// Whether the measures of a list count more of an item than the item itself: the items of a box, the text of a special.
+    pub fn has_content(&self) -> bool
+        ensures { result ≡ has_content self.now }
+    {
+        match self {
+            Node::Box(..) | Node::Special(_) => true,
             _ => false,
         }
     }

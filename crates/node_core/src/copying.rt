@@ -16,7 +16,10 @@ impl NodeList {
         for node in &self.nodes {
             nodes.push(node.copy(alloc)?)?;
         }
-        Ok(NodeList { nodes })
+        Ok(NodeList {
+            nodes,
+            plain: self.plain,
+        })
     }
 }
 

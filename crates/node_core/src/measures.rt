@@ -12,6 +12,9 @@ impl NodeList {
     pub fn depth(&self) -> u64
         ensures { result ≡ min (items_depth self.now) u64.MAX }
     {
+        if self.plain {
+            return 0;
+        }
         let mut deepest: u64 = 0;
         for node in &self.nodes {
             if let Node::Box(_, inner) = node {
@@ -27,6 +30,9 @@ impl NodeList {
         ensures { result ≡ min (items_count self.now) u64.MAX }
     {
         let mut count = self.nodes.len() as u64;
+        if self.plain {
+            return count;
+        }
         for node in &self.nodes {
             if let Node::Box(_, inner) = node {
                 count = count.saturating_add(inner.list.count());
@@ -40,6 +46,9 @@ impl NodeList {
     pub fn text_size(&self) -> u64
         ensures { result ≡ min (items_text self.now) u64.MAX }
     {
+        if self.plain {
+            return 0;
+        }
         let mut size: u64 = 0;
         for node in &self.nodes {
             match node {

@@ -4,6 +4,8 @@
 //! exactly when they are the same tree. `nodes_of` gives the nodes of a list in order.
 
 ghost use Rattle.std.specs.Prelude.{◌≡◌, ◌==◌, ◌<◌, ◌≤◌, ◌+◌, [], ◌∷◌, ◌++◌, length, take, OnOk, OnErr, IfErr};
+ghost use Rattle.std.specs.List.{list_any};
+ghost use Rattle.node_core.specs.Classes.{has_content};
 ghost use Rattle.node_core.specs.Items.{Items, none};
 ghost use Rattle.node_core.specs.Nodes.{max_nodes, items_of, nodes_of, last_box, without};
 
@@ -122,6 +124,8 @@ pub struct BoxNode {
 #[derive(Debug, Drop)]
 pub struct NodeList {
     pub(crate) nodes: Vec<Node>,
+    /// Whether it is known that no node is a box or a special: then no measure needs a walk.
+    pub(crate) plain: bool,
 }
 
 impl Model for NodeList {
@@ -136,10 +140,10 @@ impl Model for NodeList {
 
     ghost view = { λ list. items_of list.nodes.items };
 
-    ghost use Rattle.std.specs.Prelude.{◌≤◌, length};
-    ghost use Rattle.node_core.specs.Nodes.{max_nodes};
+    ghost use Rattle.std.specs.Prelude.{◌≡◌, ◌≤◌, true, length};
+    ghost use Rattle.node_core.specs.Nodes.{max_nodes, IsPlain};
 
-    ghost invariant = { λ list. length list.nodes.items ≤ max_nodes };
+    ghost invariant = { λ list. (length list.nodes.items ≤ max_nodes) × (list.plain ≡ true → IsPlain list.nodes.items) };
 
     ghost size = { items_depth };
 
@@ -155,6 +159,7 @@ impl NodeList {
     {
         NodeList {
             nodes: Vec::new(alloc),
+            plain: false,
         }
     }
 
@@ -165,7 +170,21 @@ impl NodeList {
         ensures items { result ≡ items_of nodes.items }
         ensures nodes { nodes_of result ≡ nodes.items }
     {
-        NodeList { nodes }
+        // An open list is put together again after each text: a look at each node would then cost too much.
+        let plain = false;
+        NodeList { nodes, plain }
+    }
+
+    /// The list of these nodes, at most 131,072, of which each is looked at once: where none of them is a box or a special, the measures of the list
+    /// need no walk. Does not allocate.
+    #[tactic(auto, using(crate::proofs::NodeLemmas::nodes))]
+    pub fn with_measures(nodes: Vec<Node>) -> NodeList
+        requires list_bounded { length nodes.items ≤ max_nodes }
+        ensures items { result ≡ items_of nodes.items }
+        ensures nodes { nodes_of result ≡ nodes.items }
+    {
+        let plain = !any_has_content(&nodes);
+        NodeList { nodes, plain }
     }
 
     /// The nodes of the list, in the vector that held them.
@@ -173,7 +192,7 @@ impl NodeList {
     pub fn into_vec(self) -> Vec<Node>
         ensures { result.items ≡ nodes_of self }
     {
-        let NodeList { nodes } = self;
+        let NodeList { nodes, .. } = self;
         nodes
     }
 
@@ -213,6 +232,7 @@ impl NodeList {
         ensures err { OnErr result (self.new ≡ self.old) }
         ensures node_returned { IfErr result (λ failed. failed.value ≡ node) }
     {
+        self.plain = false;
         self.nodes.push(node)
     }
 
@@ -224,6 +244,7 @@ impl NodeList {
         ensures err { OnErr result (self.new ≡ self.old) }
         ensures box_returned { IfErr result (λ back. back ≡ box_node) }
     {
+        self.plain = false;
         push_box(&mut self.nodes, shift, box_node)
     }
 
@@ -236,6 +257,7 @@ impl NodeList {
         ensures nodes { OnOk result (nodes_of self.new ≡ nodes_of self.old ++ nodes.items) }
         ensures err { OnErr result (self.new ≡ self.old) }
     {
+        self.plain = false;
         self.nodes.append(&mut nodes)
     }
 
@@ -249,6 +271,7 @@ impl NodeList {
         ensures err { OnErr result (self.new ≡ self.old) }
         ensures list_returned { OnErr result (other.new ≡ other.old) }
     {
+        self.plain = false;
         self.nodes.append(&mut other.nodes)
     }
 
@@ -257,6 +280,7 @@ impl NodeList {
     pub fn truncate(&mut self, count: usize)
         ensures { self.new ≡ items_of (take count (nodes_of self.old)) }
     {
+        self.plain = false;
         self.nodes.truncate(count);
     }
 
@@ -267,6 +291,7 @@ impl NodeList {
         ensures remaining { self.new ≡ items_of (without (last_box (nodes_of self.old)) (nodes_of self.old)) }
         ensures nodes { nodes_of self.new ≡ without (last_box (nodes_of self.old)) (nodes_of self.old) }
     {
+        self.plain = false;
         match self.nodes.last() {
             Some(Node::Box(..)) => match self.nodes.pop() {
                 Some(Node::Box(_, box_node)) => Some(box_node),
@@ -275,6 +300,13 @@ impl NodeList {
             _ => None,
         }
     }
+}
+
+/// Whether there is a box or a special.
+fn any_has_content(nodes: &[Node]) -> bool
+    ensures { result ≡ list_any has_content nodes.now }
+{
+    nodes.iter().any(|node| node.has_content())
 }
 
 /// Appends a box to the nodes. If memory is refused, the error is the box, and the nodes are as they were before the call.

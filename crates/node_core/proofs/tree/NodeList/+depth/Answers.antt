@@ -1,5 +1,6 @@
 use Rattle.std.proofs.Common.{ap, arith}
-use Rattle.node_core.proofs.NodeLemmas.{items_depth_more, node_depth, leaf_depth}
+use Rattle.node_core.specs.Items.{items_depth}
+use Rattle.node_core.proofs.NodeLemmas.{items_depth_more, node_depth, leaf_depth, plain_depth}
 use Rattle.node_core.proofs.tree.NodeList.+depth.Goals as goal
 use Rattle.node_core.proofs.tree.NodeList.+depth.Goals.{in-Box, in_default}
 
@@ -10,3 +11,7 @@ loop-node-preserved t c =
       | in-Box w ↦ omega (arith, more, ap node_depth w.in-Box.is, w.deepest-is, w.depth.ensures, w.saturating_add.ensures, w.max-deepest.ensures, c.loop-node.invariant)
       | in_default w ↦ omega (arith, more, leaf_depth c.node-item.result w.in_default.not-Box, w.deepest-is, c.loop-node.invariant)
     ]
+
+pub returns-then-self : goal.returns-then-self
+returns-then-self t c =
+    omega (arith, ap items_depth c.self.view_is, plain_depth c.self.inside.nodes.items (c.self.invariant.1 c.if-self.true))
