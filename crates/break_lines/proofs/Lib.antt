@@ -7,9 +7,11 @@ pub mod Parts
 pub mod Places
 pub mod KeptSums
 pub mod Smalls
+pub mod Amounts
 pub mod Walks
 pub mod Marked
 pub mod Rising
+pub mod Steadiness
 pub mod Divided
 pub mod Ends
 pub mod Refusals

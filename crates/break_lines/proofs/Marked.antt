@@ -1,5 +1,5 @@
 -- What the marks of a list say about its lines.
-use Rattle.std.proofs.Common.{◌≡◌, ◌∙◌, ℕ, zero, suc, ◌+◌, ◌<◌, ◌≤◌, true, false, List, [], ◌∷◌, length, take, drop, map, get_or, refl, ap, sym, subst, arith, Some}
+use Rattle.std.proofs.Common.{◌≡◌, ◌∙◌, ℕ, zero, suc, ◌+◌, ◌<◌, ◌≤◌, true, false, List, [], ◌∷◌, length, take, drop, map, get_or, refl, ap, sym, arith, Some}
 use Rattle.std.specs.Prelude.{ℤ, ◌+ℤ◌, ◌-ℤ◌, slice_get, nat_lt}
 use Rattle.std.proofs.Math.Logic.{◌⊎◌, inl, inr}
 use Rattle.std.proofs.lemmas.Int.{ints}
@@ -16,7 +16,6 @@ use Rattle.break_lines.specs.Legal.{legal_places}
 use Rattle.break_lines.specs.LineItems.{sums_of, first_item_kept, minus}
 use Rattle.break_lines.specs.Facts.{facts_of, position_of, begins_at}
 use Rattle.break_lines.specs.Marks.{measured_break, start_mark, marks_of, no_sums, line_between}
-use Rattle.break_lines.specs.Steady.{IsNoNarrower, IsRising}
 use Rattle.break_lines.proofs.KeptSums.{kept_nothing, kept_some}
 use Rattle.break_lines.proofs.Places.{place_at, begins_before}
 
@@ -39,7 +38,7 @@ got (mark ∷ marks) zero d within = refl
 got (mark ∷ marks) (suc k) d within = got marks k d (omega arith)
 
 -- The mark that is read is that of the start or of a place.
-start_is : (list : List Node) (marks : List MeasuredBreak) (x : MeasuredBreak) → marks ≡ marks_of list → slice_get marks 0 ≡ Some x → x ≡ start_mark list
+pub start_is : (list : List Node) (marks : List MeasuredBreak) (x : MeasuredBreak) → marks ≡ marks_of list → slice_get marks 0 ≡ Some x → x ≡ start_mark list
 start_is list marks x is at = sym (same_Some (start_mark list) x (ap (λ ms. slice_get ms 0) (sym is) ∙ at))
 
 pub place_is :
@@ -53,7 +52,7 @@ place_is list marks (suc n) x is some within at =
     let one : n + 1 ≡ suc n = omega arith in
     same_Some x (measured_break list p.0) (sym at ∙ there) ∙ ap (measured_break list) (sym (place_at list n p.0 p.1).0 ∙ ap (position_of list) one)
 
-begin_is :
+pub begin_is :
     (list : List Node) (marks : List MeasuredBreak) (a : ℕ) (x : MeasuredBreak) → marks ≡ marks_of list → a < length marks → slice_get marks a ≡ Some x
     → (x.begin ≡ first_item_kept list (begins_at list a)) × (x.from_begin ≡ sums_of (drop (first_item_kept list (begins_at list a)) list))
 begin_is list marks zero x is within at =
@@ -114,22 +113,3 @@ line_at list marks a b x y is later within here there = cases (cases_lt x.begin 
         let test : nat_lt x.begin y.position ≡ false = grind (arith, nat_tests) in
         cond-false (nat_lt x.begin y.position) (minus x.from_begin y.from_position) no_sums test
         ∙ sym (kept_nothing list (begins_at list a) (position_of list b) (begins_before list a b later last) (omega (arith, dropped, begin.0, position)))
-
--- A line gets no narrower by going on to the next place, in terms of its marks and in terms of the list.
-pub rises :
-    (list : List Node) (marks : List MeasuredBreak) (a b n : ℕ) (x y z : MeasuredBreak) → marks ≡ marks_of list → a < b → n ≡ b + 1 → n < length marks
-    → slice_get marks a ≡ Some x → slice_get marks b ≡ Some y → slice_get marks n ≡ Some z
-    → IsNoNarrower (line_between x z) (line_between x y) → IsRising (facts_of list) a b
-rises list marks a b n x y z is later one within here there next rising =
-    let to = line_at list marks a b x y is later (omega arith) here there in
-    let on = line_at list marks a (b + 1) x z is (omega arith) (omega arith) here (ap (slice_get marks) (sym one) ∙ next) in
-    subst (λ s. IsNoNarrower s ((facts_of list).sums a b)) on (subst (IsNoNarrower (line_between x z)) to rising)
-
-pub is_risen :
-    (list : List Node) (marks : List MeasuredBreak) (a b n : ℕ) (x y z : MeasuredBreak) → marks ≡ marks_of list → a < b → n ≡ b + 1 → n < length marks
-    → slice_get marks a ≡ Some x → slice_get marks b ≡ Some y → slice_get marks n ≡ Some z
-    → IsRising (facts_of list) a b → IsNoNarrower (line_between x z) (line_between x y)
-is_risen list marks a b n x y z is later one within here there next rising =
-    let to = line_at list marks a b x y is later (omega arith) here there in
-    let on = line_at list marks a (b + 1) x z is (omega arith) (omega arith) here (ap (slice_get marks) (sym one) ∙ next) in
-    subst (λ s. IsNoNarrower s (line_between x y)) (sym on) (subst (IsNoNarrower ((facts_of list).sums a (b + 1))) (sym to) rising)

@@ -45,7 +45,7 @@ rising_from :
     (s t z f : Sums) → IsNoNarrower (minus t z) (minus s z) → IsNoNarrower (minus t f) (minus s f)
 rising_from s t z f is = record { width = omega (arith, ints, is.width); shrunk = omega (arith, ints, is.shrunk) }
 
-begun :
+pub begun :
     (list : List Node) (a b : ℕ) → a < b → b < length (legal_places list) → position_of list b < position_of list (b + 1)
     → first_item_kept list (begins_at list a) ≤ position_of list b → IsRising (facts_of list) 0 b → IsRising (facts_of list) a b
 begun list a b earlier within rises low is =

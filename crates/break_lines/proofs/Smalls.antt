@@ -6,7 +6,7 @@ use Rattle.scaled_core.specs.Dimensions.{Within}
 use Rattle.node_core.specs.Nodes.{max_nodes}
 use Rattle.break_lines.specs.declared.sums.Sums.{Sums}
 use Rattle.break_lines.specs.Marks.{no_sums}
-use Rattle.break_lines.specs.SmallMarks.{IsPrefix}
+use Rattle.break_lines.specs.SmallMarks.{IsPrefix, IsSmallSums}
 
 -- Sums over few items are small enough for sums over the greatest number of items.
 pub wide : (n : ℕ) (s : Sums) → n ≤ max_nodes → IsPrefix n s → IsPrefix max_nodes s
@@ -27,6 +27,14 @@ none n = record {
   fill = record { low = omega (arith, ints); high = omega (arith, ints) };
   filll = record { low = omega (arith, ints); high = omega (arith, ints) };
   shrink = record { low = omega (arith, ints); high = omega (arith, ints) };
+}
+
+-- Sums over the items of a list are small.
+pub small_prefix : (s : Sums) → IsPrefix max_nodes s → IsSmallSums s
+small_prefix s is = record {
+  width = record { low = omega (arith, ints, is.width); high = omega (arith, ints, is.width) };
+  stretch = record { low = omega (arith, ints, is.stretch); high = omega (arith, ints, is.stretch) };
+  shrink = record { low = omega (arith, ints, is.shrink); high = omega (arith, ints, is.shrink) };
 }
 
 -- A difference of small numbers fits.

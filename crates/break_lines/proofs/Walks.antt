@@ -1,5 +1,5 @@
 -- One step of the walk that measures a list.
-use Rattle.std.proofs.Common.{◌≡◌, ◌≢◌, ◌∙◌, ℕ, zero, suc, ◌+◌, ◌<◌, ◌≤◌, Bool, true, false, List, [], ◌∷◌, ◌++◌, length, length-append, append_assoc, drop, drop_of_length-le, map, reverse, get_or, drop-cons, refl, ap, sym, subst, arith, Option, Some, None}
+use Rattle.std.proofs.Common.{◌≡◌, ◌≢◌, ◌∙◌, ℕ, zero, suc, ◌+◌, ◌<◌, ◌≤◌, Bool, true, false, List, [], ◌∷◌, ◌++◌, ◌-◌, length, length-append, append_assoc, drop, drop_of_length-le, map, reverse, get_or, drop-cons, refl, ap, sym, subst, arith, Option, Some, None}
 use Rattle.std.specs.Prelude.{ℤ, negsuc, ◌+ℤ◌, slice_get, IsSome, nat_lt}
 use Rattle.std.specs.List.{filter, list_any}
 use Rattle.std.proofs.Math.Logic.{◌⊎◌, inl, inr}
@@ -18,11 +18,13 @@ use Rattle.break_table.specs.Tables.{max_places}
 use Rattle.node_core.specs.Nodes.{max_nodes}
 use Rattle.break_lines.specs.declared.sums.Sums.{Sums}
 use Rattle.break_lines.specs.declared.mark.MeasuredBreak.{MeasuredBreak}
+use Rattle.break_lines.specs.declared.walk.BreakWalk.{BreakWalk}
 use Rattle.break_lines.specs.Legal.{is_dropped, up_to, is_legal, is_break, node_before, legal_places, penalty_of}
 use Rattle.break_lines.specs.LineItems.{sums_of, next_kept}
 use Rattle.break_lines.specs.Facts.{refusal}
-use Rattle.break_lines.specs.Marks.{amounts_of, plus, no_sums, measured_break}
+use Rattle.break_lines.specs.Marks.{amounts_of, plus, no_sums, measured_break, width_in_run, HasMeasuredFrom}
 use Rattle.break_lines.specs.SmallMarks.{IsPrefix, IsSmallMark, AreSmallMarks}
+use Rattle.break_lines.proofs.Amounts.{wider}
 use Rattle.break_lines.proofs.Places.{filter_passed, filter_refused, count_passed, lead_dropped, lead_kept, lead_end}
 
 -- The items from an index on are the item there and the items after it.
@@ -89,6 +91,32 @@ kept_is_no_place list i x within is kept =
     ap (λ here. is_break (node_before list i) here (slice_get list (i + 1))) (get_some list i x within is)
     ∙ no_break (node_before list i) (slice_get list (i + 1)) x kept
 
+-- A glyph or a font kern adds only its width.
+pub run_kept : (x : Node) (w : ℤ) → width_in_run x ≡ Some w → is_dropped x ≡ false
+unfolding is_dropped width_in_run
+run_kept (nodes.Glyph glyph) w is = refl
+run_kept (nodes.FontKern width) w is = refl
+run_kept (nodes.Kern width) w is = absurd (cc)
+run_kept (nodes.Glue glue) w is = absurd (cc)
+run_kept (nodes.Penalty penalty) w is = absurd (cc)
+run_kept (nodes.Rule rule) w is = absurd (cc)
+run_kept (nodes.Special text) w is = absurd (cc)
+run_kept (nodes.Box shift b) w is = absurd (cc)
+
+run_amounts : (x : Node) (w : ℤ) → width_in_run x ≡ Some w → amounts_of x ≡ record no_sums { width = w }
+unfolding width_in_run
+run_amounts (nodes.Glyph glyph) w is = ap (λ z. record no_sums { width = z }) (same_Some glyph.width w is)
+run_amounts (nodes.FontKern width) w is = ap (λ z. record no_sums { width = z }) (same_Some width w is)
+run_amounts (nodes.Kern width) w is = absurd (cc)
+run_amounts (nodes.Glue glue) w is = absurd (cc)
+run_amounts (nodes.Penalty penalty) w is = absurd (cc)
+run_amounts (nodes.Rule rule) w is = absurd (cc)
+run_amounts (nodes.Special text) w is = absurd (cc)
+run_amounts (nodes.Box shift b) w is = absurd (cc)
+
+pub run_sums : (x : Node) (w : ℤ) (s : Sums) → width_in_run x ≡ Some w → record s { width = s.width +ℤ w } ≡ plus s (amounts_of x)
+run_sums x w s is = wider s w ∙ ap (plus s) (sym (run_amounts x w is))
+
 -- With one more item there is still no glue that shrinks in an infinite order.
 pub finite_more :
     (list : List Node) (i : ℕ) (x : Node) → i < length list → x ≡ get_or list i x → shrinks_infinitely x ≡ false
@@ -121,6 +149,23 @@ marks_more list i later now mark all legal here items is =
     ap reverse items ∙ reverse-append later (mark ∷ []) ∙ ap (λ m. m ∷ reverse later) here in
     ap (λ ms. map f earlier ++ ms) one ∙ sym (append_assoc (map f earlier) (f i ∷ []) (reverse later))
     ∙ ap (λ ms. ms ++ reverse later) (sym both) ∙ is
+
+-- The walk after one more item that is not dropped at the beginning of a line.
+pub one_kept :
+    (list : List Node) (i : ℕ) (x : Node) (walk : BreakWalk) (sums : Sums) → i < length list → x ≡ get_or list i x → is_dropped x ≡ false
+    → sums ≡ plus walk.sums (amounts_of x) → IsPrefix (length list - i) sums → HasMeasuredFrom list (i + 1) walk
+    → HasMeasuredFrom list i (record walk { sums = sums; begin = i })
+one_kept list i x walk sums within is kept more small old = record {
+  marks = marks_stay list i (reverse walk.marks.items) _ (kept_is_no_place list i x within is kept) old.marks;
+  few = old.few;
+  small_marks = old.small_marks;
+  sums = more ∙ ap (λ s. plus s (amounts_of x)) old.sums ∙ sym (sums_back list i x within is);
+  small_sums = small;
+  begin = sym (next_here list i x within is kept);
+  from_begin = λ other. absurd (other refl);
+  small_begin = old.small_begin;
+  finite = finite_more list i x within is (kept_finite x kept) old.finite;
+}
 
 -- The sums from the first item on that is not dropped.
 pub start_known :

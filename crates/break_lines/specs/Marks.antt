@@ -1,11 +1,13 @@
 -- The places of a list as its meter stores them, and the walk that finds them (own; no public clause speaks of it).
-use Rattle.std.specs.Prelude.{◌≡◌, ◌≢◌, ◌+◌, ◌-◌, ◌≤◌, ◌+ℤ◌, ◌++◌, ℕ, pos, false, nat_lt, List, ◌∷◌, length, map, filter, reverse, drop, slice_get, None, if◌then◌else◌}
+use Rattle.std.specs.Prelude.{◌≡◌, ◌≢◌, ◌+◌, ◌-◌, ◌≤◌, ◌+ℤ◌, ◌++◌, ℕ, ℤ, pos, false, nat_lt, List, ◌∷◌, length, map, filter, reverse, drop, slice_get, Option, Some, None, if◌then◌else◌}
 use Rattle.std.specs.List.{list_any}
 use Rattle.node_core.specs.declared.tree.Node.{Node}
+use Rattle.node_core.specs.declared.tree.Node.TheVariants as nodes
 use Rattle.node_core.specs.Classes.{shrinks_infinitely}
+use Rattle.node_core.specs.declared.tree.Order.{Order}
 use Rattle.node_core.specs.declared.tree.Order.TheVariants.{Normal, Fil, Fill, Filll}
 use Rattle.node_core.specs.Nodes.{max_nodes}
-use Rattle.pack_core.specs.Items.{across, stretch_in, shrink_in}
+use Rattle.pack_core.specs.Items.{across, stretch_in, shrink_in, is_order}
 use Rattle.break_table.specs.Tables.{max_places}
 use Rattle.break_lines.specs.declared.sums.Sums.{Sums}
 use Rattle.break_lines.specs.declared.mark.MeasuredBreak.{MeasuredBreak}
@@ -14,6 +16,11 @@ use Rattle.break_lines.specs.Legal.{up_to, is_legal, legal_places, penalty_of}
 use Rattle.break_lines.specs.LineItems.{sums_of, next_kept, minus}
 use Rattle.break_lines.specs.Facts.{refusal}
 use Rattle.break_lines.specs.SmallMarks.{IsPrefix, AreSmallMarks}
+use Rattle.break_lines.specs.Steady.{IsNoNarrower}
+
+-- The sums over no items.
+abbrev pub no_sums : Sums
+no_sums = record { width = pos 0; stretch = pos 0; fil = pos 0; fill = pos 0; filll = pos 0; shrink = pos 0 }
 
 -- What an item adds to the sums.
 abbrev pub amounts_of : Node → Sums
@@ -26,6 +33,33 @@ amounts_of node =
       filll = stretch_in Filll node;
       shrink = shrink_in Normal node;
     }
+
+-- The width of a glyph or a font kern, which is all that it adds to the sums (own: the walk passes them in a loop of their own).
+unfoldable pub width_in_run : Node → Option ℤ
+width_in_run (nodes.Glyph glyph) = Some glyph.width
+width_in_run (nodes.FontKern width) = Some width
+width_in_run (nodes.Kern width) = None
+width_in_run (nodes.Glue glue) = None
+width_in_run (nodes.Penalty penalty) = None
+width_in_run (nodes.Rule rule) = None
+width_in_run (nodes.Special text) = None
+width_in_run (nodes.Box shift b) = None
+
+-- What stretch in an order adds to the sums (own).
+abbrev pub stretch_alone : Order → (amount : ℤ) → Sums
+stretch_alone order amount =
+    record {
+      width = pos 0;
+      stretch = if is_order Normal order then amount else pos 0;
+      fil = if is_order Fil order then amount else pos 0;
+      fill = if is_order Fill order then amount else pos 0;
+      filll = if is_order Filll order then amount else pos 0;
+      shrink = pos 0;
+    }
+
+-- What shrink in an order adds to the sums (own).
+abbrev pub shrink_alone : Order → (amount : ℤ) → Sums
+shrink_alone order amount = record no_sums { shrink = if is_order Normal order then amount else pos 0 }
 
 -- The sum of two sums (own).
 abbrev pub plus : Sums → Sums → Sums
@@ -58,13 +92,15 @@ start_mark list = record { position = 0; begin = 0; penalty = pos 0; from_positi
 abbrev pub marks_of : List Node → List MeasuredBreak
 marks_of list = start_mark list ∷ map (measured_break list) (legal_places list)
 
--- The sums over no items.
-abbrev pub no_sums : Sums
-no_sums = record { width = pos 0; stretch = pos 0; fil = pos 0; fill = pos 0; filll = pos 0; shrink = pos 0 }
-
 -- The sums over the items of the line from a place to a later one.
 abbrev pub line_between : (from to : MeasuredBreak) → Sums
 line_between from to = if nat_lt from.begin to.position then minus from.from_begin to.from_position else no_sums
+
+-- The line from the start to place `to` gets no narrower when it goes on to the next place; nor does that from the place directly before, if it is
+-- empty.
+pub record RisesOn (from to next : MeasuredBreak) : Type 0 where
+  pub wider : IsNoNarrower to.from_position next.from_position
+  pub begins : to.position ≤ from.begin → IsNoNarrower (line_between from next) no_sums
 
 -- The measures of a list that is not refused.
 pub record IsMarked (list : List Node) (found : List MeasuredBreak) : Type 0 where

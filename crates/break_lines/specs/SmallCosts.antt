@@ -1,5 +1,5 @@
 -- The numbers of lines are small (own; no public clause of the crates that use this one speaks of them).
-use Rattle.std.specs.Prelude.{◌≤◌, ◌^◌}
+use Rattle.std.specs.Prelude.{◌≤◌}
 use Rattle.scaled_core.specs.Dimensions.{Within}
 use Rattle.break_table.specs.Tables.{max_overhang}
 use Rattle.break_table.specs.declared.state.LineCost.{LineCost}

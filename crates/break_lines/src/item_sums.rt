@@ -3,46 +3,66 @@
 //! These are not the `Totals` of `pack_core`, because a line is a difference of two sums, and `Totals` has no differences. The sums of a line stay
 //! below 2^49 and fit in 64 bits. The law `sums_are_totals` of `break_core` says that they agree with `Totals`.
 
-ghost use Rattle.std.specs.Prelude.{◌≡◌, ◌+◌, ℕ};
+ghost use Rattle.std.specs.Prelude.{◌≡◌, ◌+◌, ◌^◌, ℕ, IfSome};
+ghost use Rattle.scaled_core.specs.Dimensions.{Within};
+ghost use Rattle.node_core.specs.declared.tree.Node.TheVariants as nodes;
 ghost use Rattle.node_core.specs.Nodes.{max_nodes};
 ghost use Rattle.break_lines.specs.LineItems.{minus};
-ghost use Rattle.break_lines.specs.Marks.{amounts_of, plus};
+ghost use Rattle.break_lines.specs.Marks.{amounts_of, plus, width_in_run, stretch_alone, shrink_alone};
 ghost use Rattle.break_lines.specs.SmallMarks.{IsPrefix, IsSmallSums};
 
 pub use crate::sums::Sums;
-use node_core::{Kind, Node, Order};
-use pack_core::{advance_of, shrink_of, stretch_of};
+use node_core::{Glue, Kind, Node, Order};
+use pack_core::advance_of;
 
-/// What an item adds to the sums.
-fn amounts_of(node: &Node) -> Sums
-    ensures value { result ≡ amounts_of node.now }
-    ensures sums_bounded { IsPrefix 1 result }
+/// The width of a glyph or a font kern, in scaled points: all that it adds to the sums. None for other items.
+#[tactic(auto, unfolding(crate::specs::Marks::width_in_run))]
+pub fn width_in_run(node: &Node) -> Option<i64>
+    ensures value { result ≡ width_in_run node.now }
+    ensures width_bounded { IfSome result (Within (2 ^ 31)) }
 {
-    Sums {
-        width: advance_of(Kind::Horizontal, node),
-        stretch: i64::from(stretch_of(Order::Normal, node).get()),
-        fil: i64::from(stretch_of(Order::Fil, node).get()),
-        fill: i64::from(stretch_of(Order::Fill, node).get()),
-        filll: i64::from(stretch_of(Order::Filll, node).get()),
-        shrink: i64::from(shrink_of(Order::Normal, node).get()),
+    match node {
+        Node::Glyph(glyph) => Some(i64::from(glyph.width.get())),
+        Node::FontKern(width) => Some(i64::from(width.get())),
+        _ => None,
     }
 }
 
-/// The sum of two sums, of which the second is over one item.
-fn plus(before: &Sums, more: &Sums) -> Sums
-    requires before { IsPrefix max_nodes before.now }
-    requires more { IsPrefix 1 more.now }
-    ensures value { result ≡ plus before.now more.now }
-    ensures sums_bounded { (n : ℕ) → IsPrefix n before.now → IsPrefix (n + 1) result }
+/// Adds stretch in an order to the sums.
+fn add_stretch(sums: &mut Sums, order: Order, amount: i64)
+    requires sums_bounded { IsPrefix (max_nodes + 1) sums.old }
+    requires amount_bounded { Within (2 ^ 30) amount }
+    ensures { sums.new ≡ plus sums.old (stretch_alone order amount) }
 {
-    Sums {
-        width: before.width + more.width,
-        stretch: before.stretch + more.stretch,
-        fil: before.fil + more.fil,
-        fill: before.fill + more.fill,
-        filll: before.filll + more.filll,
-        shrink: before.shrink + more.shrink,
+    match order {
+        Order::Normal => sums.stretch += amount,
+        Order::Fil => sums.fil += amount,
+        Order::Fill => sums.fill += amount,
+        Order::Filll => sums.filll += amount,
     }
+}
+
+/// Adds shrink in an order to the sums: only that in the normal order counts.
+fn add_shrink(sums: &mut Sums, order: Order, amount: i64)
+    requires shrink_bounded { Within (2 ^ 48) sums.old.shrink }
+    requires amount_bounded { Within (2 ^ 30) amount }
+    ensures { sums.new ≡ plus sums.old (shrink_alone order amount) }
+{
+    match order {
+        Order::Normal => sums.shrink += amount,
+        Order::Fil | Order::Fill | Order::Filll => {}
+    }
+}
+
+/// Adds glue to the sums. Its stretch has one order, and so has its shrink; so at most three of the sums change.
+fn add_glue(sums: &mut Sums, glue: &Glue)
+    requires { IsPrefix max_nodes sums.old }
+    ensures value { sums.new ≡ plus sums.old (amounts_of (nodes.Glue glue.now)) }
+    ensures amounts_bounded { IsPrefix 1 (amounts_of (nodes.Glue glue.now)) }
+{
+    sums.width += i64::from(glue.width.get());
+    add_stretch(sums, glue.stretch_order, i64::from(glue.stretch.get()));
+    add_shrink(sums, glue.shrink_order, i64::from(glue.shrink.get()));
 }
 
 /// Adds an item to the sums. An item that is not glue changes only the width.
@@ -51,11 +71,10 @@ pub fn add_item(sums: &mut Sums, node: &Node)
     ensures value { sums.new ≡ plus sums.old (amounts_of node.now) }
     ensures sums_bounded { (n : ℕ) → IsPrefix n sums.old → IsPrefix (n + 1) sums.new }
 {
-    let Node::Glue(_) = node else {
-        sums.width += advance_of(Kind::Horizontal, node);
-        return;
-    };
-    *sums = plus(sums, &amounts_of(node));
+    match node {
+        Node::Glue(glue) => add_glue(sums, glue),
+        _ => sums.width += advance_of(Kind::Horizontal, node),
+    }
 }
 
 /// The difference of two sums.

@@ -112,9 +112,5 @@ pub fn penalty_at(nodes: &[Node], index: usize) -> i32
 pub fn no_trials(alloc: Global, count: usize) -> Result<Vec<u64>, AllocError>
     ensures { IfOk result (λ trials. trials.items ≡ replicate count 0) }
 {
-    let mut trials = Vec::with_capacity(alloc, count)?;
-    for _ in 0..count {
-        trials.push(0)?;
-    }
-    Ok(trials)
+    vec![in alloc; 0; count]
 }

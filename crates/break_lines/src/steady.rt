@@ -3,7 +3,7 @@
 ghost use Rattle.std.specs.Prelude.{◌≡◌, true, List};
 ghost use Rattle.node_core.specs.declared.tree.Node.{Node};
 ghost use Rattle.break_lines.specs.Facts.{facts_of};
-ghost use Rattle.break_lines.specs.Marks.{marks_of, line_between};
+ghost use Rattle.break_lines.specs.Marks.{marks_of, RisesOn};
 ghost use Rattle.break_lines.specs.SmallMarks.{AreSmallMarks, IsSmallMark, IsSmallSums};
 ghost use Rattle.break_lines.specs.Steady.{IsNoNarrower, IsSteady};
 
@@ -26,15 +26,22 @@ fn is_no_narrower(line: &Sums, than: &Sums) -> bool
     true
 }
 
-/// Whether the line from a place to a later one gets no narrower when it goes on to the next place.
+/// Whether the line from the start to a place gets no narrower when it goes on to the next place, nor that from the place directly before. Each line
+/// that has begun gets wider by the same items, so only an empty one needs a test of its own.
 fn is_rising(from: &MeasuredBreak, to: &MeasuredBreak, next: &MeasuredBreak) -> bool
     requires from { IsSmallMark from.now }
     requires to { IsSmallMark to.now }
     requires next { IsSmallMark next.now }
-    ensures yes { result ≡ true → IsNoNarrower (line_between from.now next.now) (line_between from.now to.now) }
-    ensures no { IsNoNarrower (line_between from.now next.now) (line_between from.now to.now) → result ≡ true }
+    ensures yes { result ≡ true → RisesOn from.now to.now next.now }
+    ensures no { RisesOn from.now to.now next.now → result ≡ true }
 {
-    is_no_narrower(&from.line_to(next), &from.line_to(to))
+    if !is_no_narrower(&to.from_position, &next.from_position) {
+        return false;
+    }
+    if from.begin < to.position {
+        return true;
+    }
+    is_no_narrower(&from.line_to(next), &Sums::ZERO)
 }
 
 /// Whether no line gets narrower when it goes on to the next place. Only the lines from the start and from the place directly before need to be
@@ -45,9 +52,6 @@ pub fn is_steady(marks: &[MeasuredBreak]) -> bool
     ensures no { (list : List Node) → marks.now ≡ marks_of list → IsSteady (facts_of list) → result ≡ true }
 {
     for next in 2..marks.len() {
-        if !is_rising(&marks[0], &marks[next - 1], &marks[next]) {
-            return false;
-        }
         if !is_rising(&marks[next - 2], &marks[next - 1], &marks[next]) {
             return false;
         }

@@ -5,7 +5,7 @@ ghost use Rattle.node_core.specs.Nodes.{max_nodes};
 ghost use Rattle.break_lines.specs.Facts.{refusal};
 ghost use Rattle.break_lines.specs.Marks.{HasMeasuredFrom, IsMarked};
 
-use crate::item_sums::{Sums, add_item};
+use crate::item_sums::{Sums, add_item, width_in_run};
 use crate::list::{MAX_PLACES, is_dropped, is_legal, penalty_at};
 use crate::mark::MeasuredBreak;
 use node_core::Node;
@@ -54,6 +54,27 @@ impl BreakWalk {
             return self.sums;
         }
         self.from_begin
+    }
+
+    /// Passes the glyphs and font kerns directly before the items that were passed, and returns the index of the first of them. They are most items
+    /// of a text, and each changes only the width; so they have a loop of their own.
+    fn pass_run(&mut self, nodes: &[Node], end: usize) -> usize
+        requires list_bounded { length nodes.now ≤ max_nodes }
+        requires end_bounded { end ≤ length nodes.now }
+        requires walked { HasMeasuredFrom nodes.now end self.old }
+        ensures walked { HasMeasuredFrom nodes.now result self.new }
+        ensures begin_bounded { result ≤ end }
+    {
+        let mut index = end;
+        while index > 0 {
+            let Some(width) = width_in_run(&nodes[index - 1]) else {
+                return index;
+            };
+            index -= 1;
+            self.sums.width += width;
+            self.begin = index;
+        }
+        index
     }
 
     /// Passes the item before those that were passed. Returns `false` if the list is refused.
@@ -121,12 +142,13 @@ pub fn marks_of(alloc: Global, nodes: &[Node]) -> Result<Option<Vec<MeasuredBrea
     ensures { IfOk result (λ found. MatchOption found (IsSome (refusal nodes.now)) (λ marks. IsMarked nodes.now marks.items)) }
 {
     let mut walk = BreakWalk::at_end(alloc, nodes)?;
-    let mut index = nodes.len();
+    let mut index = walk.pass_run(nodes, nodes.len());
     while index > 0 {
         index -= 1;
         if !walk.pass(nodes, index)? {
             return Ok(None);
         }
+        index = walk.pass_run(nodes, index);
     }
     Ok(Some(walk.into_marks(nodes)?))
 }

@@ -1,4 +1,4 @@
-use Rattle.std.proofs.Common.{◌≡◌, ◌∙◌, ◌+◌, ◌-◌, true, false, [], ◌∷◌, ◌++◌, length, reverse, drop, to_z, of_z, w32, SFits, refl, ap, sym, subst, arith, rules}
+use Rattle.std.proofs.Common.{◌≡◌, ◌∙◌, ◌+◌, ◌-◌, true, false, [], ◌∷◌, ◌++◌, length, reverse, drop, to_z, of_z, w32, SFits, ap, sym, subst, arith, rules}
 use Rattle.std.proofs.lemmas.Int.{to_z-of_z}
 use Rattle.node_core.specs.Nodes.{max_nodes}
 use Rattle.break_lines.specs.declared.mark.MeasuredBreak.{MeasuredBreak}
@@ -7,7 +7,7 @@ use Rattle.break_lines.specs.LineItems.{sums_of}
 use Rattle.break_lines.specs.Marks.{plus, amounts_of, measured_break}
 use Rattle.break_lines.specs.SmallMarks.{IsPrefix, AreSmallMarks}
 use Rattle.break_lines.proofs.Smalls.{wide}
-use Rattle.break_lines.proofs.Walks.{sums_back, next_dropped, next_here, kept_is_no_place, kept_finite, finite_more, marks_stay, marks_more, start_known, start_small, small_more, too_many}
+use Rattle.break_lines.proofs.Walks.{sums_back, next_dropped, one_kept, finite_more, marks_stay, marks_more, start_known, start_small, small_more, too_many}
 use Rattle.break_lines.proofs.walk.BreakWalk.pass.Goals as goal
 
 pub returns-then-not-is_dropped-clause-goes_on : goal.returns-then-not-is_dropped-clause-goes_on
@@ -20,17 +20,8 @@ returns-then-not-is_dropped-clause-goes_on c goes =
     let old = c.requires.walked in
     let kept : is_dropped x ≡ false = sym c.is_dropped.ensures ∙ c.if-not-is_dropped.true in
     let one : length list - (i + 1) + 1 ≡ length list - i = omega arith in
-    record {
-      marks = marks_stay list i (reverse c.args.self.now.marks.items) _ (kept_is_no_place list i x within is kept) old.marks;
-      few = old.few;
-      small_marks = old.small_marks;
-      sums = c.add_item.ensures.value ∙ ap (λ s. plus s (amounts_of x)) old.sums ∙ sym (sums_back list i x within is);
-      small_sums = subst (λ n. IsPrefix n c.add_item.new.sums) one (c.add_item.ensures.sums_bounded (length list - (i + 1)) old.small_sums);
-      begin = sym (next_here list i x within is kept);
-      from_begin = λ other. absurd (other refl);
-      small_begin = old.small_begin;
-      finite = finite_more list i x within is (kept_finite x kept) old.finite;
-    }
+    one_kept list i x c.args.self.now c.add_item.new.sums within is kept c.add_item.ensures.value
+    (subst (λ n. IsPrefix n c.add_item.new.sums) one (c.add_item.ensures.sums_bounded (length list - (i + 1)) old.small_sums)) old
 
 pub returns-then-not-is_legal-clause-goes_on : goal.returns-then-not-is_legal-clause-goes_on
 returns-then-not-is_legal-clause-goes_on c goes =

@@ -1,0 +1,12 @@
+use Rattle.std.proofs.Common.{◌≤◌}
+use Rattle.break_lines.specs.Marks.{HasMeasuredFrom}
+use Rattle.break_lines.proofs.walk.BreakWalk.pass_run.Given as goal
+
+abbrev pub invariant-loop-index : goal.invariant-loop-index
+invariant-loop-index l = record {
+  within : l.index ≤ l.end;
+  walked : HasMeasuredFrom l.nodes l.index l.self;
+}
+
+abbrev pub decreases-loop-index : goal.decreases-loop-index
+decreases-loop-index l = l.index
