@@ -1,14 +1,16 @@
 -- The active list as the table grows.
-use Rattle.std.proofs.Common.{◌≡◌, ◌∙◌, ℕ, suc, ◌+◌, ◌<◌, ◌≤◌, Bool, true, false, cond, List, [], ◌∷◌, ◌++◌, length, length-append, drop, drop-cons, drop_of_length-le, get_or, refl, ap, sym, subst, arith, Option, Some, None}
+use Rattle.std.proofs.Common.{◌≡◌, ◌∙◌, ℕ, zero, suc, ◌+◌, ◌-◌, ◌<◌, ◌≤◌, Bool, true, false, cond, List, [], ◌∷◌, ◌++◌, length, length-append, drop, drop-cons, drop_of_length-le, get_or, replicate, refl, ap, sym, subst, arith, Option, Some, None}
 use Rattle.std.specs.Prelude.{slice_get, if◌then◌else◌, ◌==◌}
 use Rattle.std.proofs.Math.Logic.{◌⊎◌, inl, inr}
 use Rattle.std.proofs.lemmas.Bool.{cases_Bool, cases_lt}
 use Rattle.std.proofs.lemmas.Option.{slice_get_within, get_or_from_slice_get}
+use Rattle.std.proofs.lemmas.List.{append-nil}
 use Rattle.break_table.specs.declared.group.ActiveGroup.{ActiveGroup}
 use Rattle.break_table.specs.Problems.{Problem}
-use Rattle.break_table.specs.Tables.{Entry, first_entry, offer, IsOffered, IsMet, IsRow, row_entries}
+use Rattle.break_table.specs.Tables.{Entry, first_entry, slots, offer, IsTable, IsOffered, IsMet, IsRow, row_entries}
 use Rattle.break_table.specs.Live.{IsGroup, IsLive}
 use Rattle.break_table.proofs.Entries.{get_cases}
+use Rattle.break_table.proofs.Rows.{row_empty}
 use Rattle.break_table.proofs.Since.{since_free}
 use Rattle.break_table.proofs.Bellman.{first_table, next_table}
 use Rattle.break_table.proofs.Live.{live_forced, new_group, first_live}
@@ -168,7 +170,7 @@ front_end p stop table b at low i live front past here is free =
     same (x ∷ xs) = ap (λ ys. x ∷ ys) (same xs)
 
 -- An entry of a longer table with a number below the length of the shorter one is in the shorter one too.
-shorter : (table more : List Entry) (k : ℕ) (e : Entry) → k < length table → slice_get (table ++ more) k ≡ Some e → slice_get table k ≡ Some e
+pub shorter : (table more : List Entry) (k : ℕ) (e : Entry) → k < length table → slice_get (table ++ more) k ≡ Some e → slice_get table k ≡ Some e
 shorter table more k e within at = cases (get_cases table more k e at)
   where
     cases : (slice_get table k ≡ Some e) ⊎ ((j : ℕ) × (k ≡ length table + j) × (slice_get more j ≡ Some e)) → slice_get table k ≡ Some e
@@ -257,6 +259,32 @@ no_more table more same = cases more (omega (arith, same, length-append table mo
     cases : (more : List Entry) → length more ≡ 0 → table ++ more ≡ table
     cases [] none = all table
     cases (x ∷ xs) none = absurd (omega (arith, none))
+
+no_entries : (n : ℕ) → row_entries (replicate n None) ≡ []
+no_entries zero = refl
+no_entries (suc n) = no_entries n
+
+-- If all entries are quiet, later places have no entries.
+quiet_table :
+    (p : Problem) (n b : ℕ) (table : List Entry)
+    → 0 < b → b + n ≡ p.places + 1 → IsTable p b table → IsQuiet p table b 0 (length table) → IsTable p (p.places + 1) table
+quiet_table p zero b table some at is quiet =
+    let same : b ≡ p.places + 1 = omega (arith, at) in
+    subst (λ k. IsTable p k table) same is
+quiet_table p (suc n) b table some at is quiet =
+    let row : List (Option Entry) = replicate (slots p.cut) None in
+    let full = row_quiet p table b 0 (length table) row (omega arith) (omega (arith, at)) quiet (row_empty p table b) in
+    let none : table ++ row_entries row ≡ table = ap (λ entries. table ++ entries) (no_entries (slots p.cut)) ∙ append-nil table in
+    quiet_table p n (b + 1) table (omega arith) (omega (arith, at)) (subst (λ t. IsTable p (b + 1) t) none (next_table p b table row some is full))
+    (later_quiet p table b (b + 1) 0 (length table) (omega arith) quiet)
+
+-- If no group is left, the table is that of all places.
+pub table_rest :
+    (p : Problem) (stop : ℕ → ℕ → Bool) (b : ℕ) (table : List Entry) (live : List ActiveGroup)
+    → 0 < b → b ≤ p.places → live ≡ [] → IsFilled p stop b table live → IsTable p (p.places + 1) table
+table_rest p stop b table live some within none is =
+    let last = subst (λ groups. IsActive p stop table b b 0 0 groups) none is.is_active in
+    quiet_table p (p.places + 1 - b) b table some (omega (arith, within)) is.is_table last.quiet
 
 -- With the row of the next place appended, the table and the groups are filled up to after that place.
 pub filled_more :

@@ -28,7 +28,7 @@ use Rattle.break_core.proofs.Active.{row_passed}
 use Rattle.break_core.proofs.Overfull.{no_offer}
 
 -- The offer of an entry of the group.
-offers :
+pub offers :
     (p : Problem) (params : Params) (group : ActiveGroup) (place : ℕ) (alone : LineCost) (e : Entry) (k : ℕ)
     → p.cut ≡ 0 → since p place ≤ group.place → ((s : BreakState) → s.place ≡ group.place → p.line s place ≡ Some (line_after params s.class alone))
     → e.end.place ≡ group.place → offer p e k place ≡ Some (offer_from params e k place alone)

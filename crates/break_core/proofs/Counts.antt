@@ -110,3 +110,12 @@ pub started_more :
 started_more zero live before middle now begins started first second tried =
     omega (arith, first 0, tried 0 start_group (ap (λ groups. slice_get groups 0) (begins refl)))
 started_more (suc b) live before middle now begins started first second tried = omega (arith, started (omega arith), second 0)
+
+-- If no group is left, lines were tried.
+pub started_none :
+    (b : ℕ) (live : List ActiveGroup) (before now : ℕ → ℕ)
+    → live ≡ [] → (b ≡ 0 → live ≡ start_group ∷ []) → (0 < b → before 0 < now 0) → before 0 < now 0
+started_none zero live before now none begins started =
+    let some : start_group ∷ [] ≡ [] = sym (begins refl) ∙ none in
+    absurd (cc)
+started_none (suc b) live before now none begins started = started (omega arith)

@@ -1,5 +1,5 @@
 -- When trying lines from a group stops, and which lines are left out.
-use Rattle.std.proofs.Common.{◌≡◌, ◌∙◌, ℕ, ◌+◌, ◌<◌, ◌≤◌, Bool, true, false, cond, ◌||◌, ap, sym, arith, Option, None, List}
+use Rattle.std.proofs.Common.{◌≡◌, ◌∙◌, ℕ, ◌+◌, ◌<◌, ◌≤◌, Bool, true, false, cond, ◌||◌, refl, ap, sym, arith, Option, None, List}
 use Rattle.std.specs.Prelude.{ℤ}
 use Rattle.std.proofs.lemmas.Bool.{cond-true, cond-false}
 use Rattle.node_core.specs.declared.params.Params.{Params}
@@ -21,7 +21,7 @@ use Rattle.break_core.specs.Passes.{problem_of}
 use Rattle.break_core.specs.Filling.{IsOf, IsOffering, IsOfferingUnless}
 use Rattle.break_core.specs.Trials.{is_overfull}
 use Rattle.break_core.specs.Leaving.{is_long, over_before, is_more, kept_over}
-use Rattle.break_core.specs.Active.{deactivates, stops, pruned, MayEnd, IsQuiet}
+use Rattle.break_core.specs.Active.{deactivates, leaves, stops, pruned, MayEnd, IsQuiet}
 use Rattle.break_core.proofs.Active.{row_passed}
 use Rattle.break_core.proofs.Filled.{fit_is}
 use Rattle.break_core.proofs.Overfull.{no_offer, overfull_quiet}
@@ -76,6 +76,12 @@ pub not_left_out :
 not_left_out left table params bound group place penalty line old new is offering p cut late line_fit before =
     offering p cut late
     (λ s at. line_fit s at ∙ cond-false left None (line_of params bound penalty s.class (fit_after params.first_lines s.lines line)) is) before
+
+-- For a line that is left out, it is enough to know that.
+pub ended_is : (ending : StopRule) (overfull long : Bool) → deactivates ending overfull (leaves ending long) ≡ deactivates ending overfull long
+ended_is Never overfull long = refl
+ended_is Overfull overfull long = refl
+ended_is Long overfull long = refl
 
 -- Trying goes on if the place is not forced and trying has not stopped.
 pub goes_on :

@@ -11,3 +11,4 @@ pub mod Long
 pub mod Endings
 pub mod Lives
 pub mod ActiveNodes
+pub mod Beaten

@@ -1,12 +1,12 @@
 -- Groups, and the values that are stored with them.
-use Rattle.std.proofs.Common.{◌≡◌, ◌∙◌, ℕ, zero, suc, ◌+◌, ◌<◌, drop, Bool, true, false, cond, List, [], ◌∷◌, ◌++◌, length, ap, sym, subst, Some, None}
-use Rattle.std.specs.Prelude.{slice_get, slice_index_or, ◌==◌}
+use Rattle.std.proofs.Common.{◌≡◌, ◌∙◌, ℕ, zero, suc, ◌+◌, ◌<◌, ◌≤◌, drop, Bool, true, false, cond, List, [], ◌∷◌, ◌++◌, length, refl, ap, sym, subst, arith, Option, Some, None}
+use Rattle.std.specs.Prelude.{ℤ, slice_get, ◌==◌}
 use Rattle.std.specs.Option.{option_map}
 use Rattle.std.proofs.Math.Logic.{◌⊎◌, inl, inr}
+use Rattle.std.proofs.lemmas.Bool.{cases_Bool, cond-true, cond-false}
 use Rattle.std.proofs.lemmas.List.{map-append}
-use Rattle.std.proofs.lemmas.Option.{same_Some, slice_get-map, slice_get-get_or}
+use Rattle.std.proofs.lemmas.Option.{same_Some, slice_get-map}
 use Rattle.node_core.specs.declared.params.Params.{Params}
-use Rattle.break_table.specs.declared.group.ActiveGroup.{ActiveGroup}
 use Rattle.break_table.specs.Problems.{Problem}
 use Rattle.break_table.specs.Tables.{Entry, first_entry}
 use Rattle.break_table.proofs.Entries.{get_cases}
@@ -14,14 +14,20 @@ use Rattle.break_lines.specs.Facts.{Facts}
 use Rattle.break_core.specs.declared.pass_rules.StopRule.{StopRule}
 use Rattle.break_core.specs.declared.active_list.Live.{Live}
 use Rattle.break_lines.specs.declared.cost.Bound.{Bound}
-use Rattle.break_core.specs.Leaving.{over_before}
-use Rattle.break_core.specs.Active.{stops, pruned, groups_of, with_group, with_live, AreOver, IsNext, IsActive, IsFilled}
+use Rattle.break_core.specs.Leaving.{over_before, kept_over}
+use Rattle.break_core.specs.Active.{stops, pruned, groups_of, with_group, with_live, AreOver, IsBestOf, HaveBest, IsNext, IsActive, IsFilled}
 use Rattle.break_core.proofs.Active.{next_active, filled_first}
 use Rattle.break_core.proofs.Long.{over_start}
 
 -- The group of an element.
 pub group_at : (lives : List Live) (i : ℕ) (live : Live) → slice_get lives i ≡ Some live → slice_get (groups_of lives) i ≡ Some live.group
 group_at lives i live at = slice_get-map (λ (x : Live). x.group) lives i ∙ ap (option_map (λ (x : Live). x.group)) at
+
+pub no_groups : (lives : List Live) (n : ℕ) → (n == 0) ≡ true → n ≡ length lives → groups_of lives ≡ []
+no_groups [] n is same = refl
+no_groups (live ∷ lives) n is same =
+    let none : n ≡ 0 = grind arith in
+    absurd (omega (arith, none, same))
 
 -- One more group, or the same groups.
 pub groups_kept :
@@ -30,22 +36,33 @@ pub groups_kept :
 groups_kept true lives new live made = ap groups_of made
 groups_kept false lives new live made = ap groups_of made ∙ map-append (λ (x : Live). x.group) lives (live ∷ [])
 
-pub over_kept :
-    (facts : Facts) (params : Params) (b : ℕ) (ended : Bool) (lives new : List Live) (live : Live)
-    → AreOver facts params b lives → live.over ≡ over_before facts params live.group.place b → new ≡ cond ended lives (lives ++ live ∷ [])
-    → AreOver facts params b new
-over_kept facts params b true lives new live are is made k x at = are k x (ap (λ xs. slice_get xs k) (sym made) ∙ at)
-over_kept facts params b false lives new live are is made k x at = cases (get_cases lives (live ∷ []) k x (ap (λ xs. slice_get xs k) (sym made) ∙ at))
+-- What holds of all groups of a list, and of one more.
+all_kept :
+    (P : Live → Type 0) (ended : Bool) (lives new : List Live) (live : Live)
+    → ((k : ℕ) (x : Live) → slice_get lives k ≡ Some x → P x) → P live → new ≡ cond ended lives (lives ++ live ∷ [])
+    → (k : ℕ) (x : Live) → slice_get new k ≡ Some x → P x
+all_kept P true lives new live are is made k x at = are k x (ap (λ xs. slice_get xs k) (sym made) ∙ at)
+all_kept P false lives new live are is made k x at = cases (get_cases lives (live ∷ []) k x (ap (λ xs. slice_get xs k) (sym made) ∙ at))
   where
     last : (j : ℕ) → slice_get (live ∷ []) j ≡ Some x → live ≡ x
     last zero here = same_Some live x here
     last (suc j) here = absurd (cc)
 
-    cases :
-        (slice_get lives k ≡ Some x) ⊎ ((j : ℕ) × (k ≡ length lives + j) × (slice_get (live ∷ []) j ≡ Some x))
-        → x.over ≡ over_before facts params x.group.place b
+    cases : (slice_get lives k ≡ Some x) ⊎ ((j : ℕ) × (k ≡ length lives + j) × (slice_get (live ∷ []) j ≡ Some x)) → P x
     cases (inl front) = are k x front
-    cases (inr end) = subst (λ y. y.over ≡ over_before facts params y.group.place b) (last end.0 end.2) is
+    cases (inr end) = subst P (last end.0 end.2) is
+
+pub over_kept :
+    (facts : Facts) (params : Params) (b : ℕ) (ended : Bool) (lives new : List Live) (live : Live)
+    → AreOver facts params b lives → live.over ≡ over_before facts params live.group.place b → new ≡ cond ended lives (lives ++ live ∷ [])
+    → AreOver facts params b new
+over_kept facts params b ended lives new live are is made =
+    all_kept (λ x. x.over ≡ over_before facts params x.group.place b) ended lives new live are is made
+
+pub best_kept :
+    (table : List Entry) (ended : Bool) (lives new : List Live) (live : Live)
+    → HaveBest table lives → IsBestOf table live.group.start live.group.end live.best → new ≡ cond ended lives (lives ++ live ∷ []) → HaveBest table new
+best_kept table ended lives new live are is made = all_kept (λ x. IsBestOf table x.group.start x.group.end x.best) ended lives new live are is made
 
 -- The group of a place is appended to those of earlier places.
 pub groups_put :
@@ -55,15 +72,40 @@ groups_put true lives new live made = groups_kept (live.group.start == live.grou
 groups_put false lives new live made = groups_kept (live.group.start == live.group.end) lives new live made
 
 pub over_put :
-    (facts : Facts) (params : Params) (place : ℕ) (forced : Bool) (lives new : List Live) (group : ActiveGroup)
-    → AreOver facts params (place + 1) lives → group.place ≡ place → new ≡ with_live (cond forced [] lives) (record { group = group; over = None })
+    (facts : Facts) (params : Params) (place : ℕ) (forced : Bool) (lives new : List Live) (live : Live)
+    → AreOver facts params (place + 1) lives → live.group.place ≡ place → live.over ≡ None → new ≡ with_live (cond forced [] lives) live
     → AreOver facts params (place + 1) new
-over_put facts params place true lives new group are at made =
-    over_kept facts params (place + 1) (group.start == group.end) [] new (record { group = group; over = None }) (λ k x there. absurd (cc))
-    (sym (ap (λ a. over_before facts params a (place + 1)) at ∙ over_start facts params place)) made
-over_put facts params place false lives new group are at made =
-    over_kept facts params (place + 1) (group.start == group.end) lives new (record { group = group; over = None }) are
-    (sym (ap (λ a. over_before facts params a (place + 1)) at ∙ over_start facts params place)) made
+over_put facts params place true lives new live are at none made =
+    over_kept facts params (place + 1) (live.group.start == live.group.end) [] new live (λ k x there. absurd (cc))
+    (none ∙ sym (ap (λ a. over_before facts params a (place + 1)) at ∙ over_start facts params place)) made
+over_put facts params place false lives new live are at none made =
+    over_kept facts params (place + 1) (live.group.start == live.group.end) lives new live are
+    (none ∙ sym (ap (λ a. over_before facts params a (place + 1)) at ∙ over_start facts params place)) made
+
+-- A group is appended only if it has entries.
+some_put :
+    (table : List Entry) (lives new : List Live) (live : Live)
+    → HaveBest table lives → live.group.start ≤ live.group.end
+    → (live.group.start < live.group.end → IsBestOf table live.group.start live.group.end live.best)
+    → new ≡ with_live lives live → HaveBest table new
+some_put table lives new live are rises is made = cases (cases_Bool (live.group.start == live.group.end))
+  where
+    cases : ((live.group.start == live.group.end) ≡ true) ⊎ ((live.group.start == live.group.end) ≡ false) → HaveBest table new
+    cases (inl empty) = subst (HaveBest table) (sym (made ∙ cond-true (live.group.start == live.group.end) lives (lives ++ live ∷ []) empty)) are
+    cases (inr some) =
+        let less : live.group.start < live.group.end = apart live.group.start live.group.end rises some in
+        best_kept table false lives new live are (is less) (made ∙ cond-false (live.group.start == live.group.end) lives (lives ++ live ∷ []) some)
+      where
+        apart : (n m : ℕ) → n ≤ m → (n == m) ≡ false → n < m
+        apart n m at_most other = grind arith
+
+pub best_put :
+    (table : List Entry) (forced : Bool) (lives new : List Live) (live : Live)
+    → HaveBest table lives → live.group.start ≤ live.group.end
+    → (live.group.start < live.group.end → IsBestOf table live.group.start live.group.end live.best)
+    → new ≡ with_live (cond forced [] lives) live → HaveBest table new
+best_put table true lives new live are rises is made = some_put table [] new live (λ k x there. absurd (cc)) rises is made
+best_put table false lives new live are rises is made = some_put table lives new live are rises is made
 
 -- The group of the start.
 pub over_first : (facts : Facts) (params : Params) (live : Live) → live.group.place ≡ 0 → live.over ≡ None → AreOver facts params 1 (live ∷ [])
@@ -81,20 +123,16 @@ filled_start p stop table lives live is_table is_lives place start end =
     subst (λ t. IsFilled p stop 1 t (groups_of lives)) (sym is_table)
     (subst (λ xs. IsFilled p stop 1 (first_entry ∷ []) (groups_of xs)) (sym is_lives) (filled_first p stop live.group place start end))
 
--- Live group number i of a list.
-abbrev pub live_at : List Live → (i : ℕ) → Live
-live_at lives i = slice_index_or lives i (record { group = record { place = 0; start = 0; end = 0 }; over = None })
-
-pub live_here : (lives : List Live) (i : ℕ) → i < length lives → slice_get lives i ≡ Some (live_at lives i)
-live_here lives i within = slice_get-get_or lives i (record { group = record { place = 0; start = 0; end = 0 }; over = None }) within
-
 -- The next group from which a line is tried, and those after it.
 pub next_live :
-    (f : Facts) (params : Params) (bound : Bound) (ending : StopRule) (table : List Entry) (b at low : ℕ) (lives : List Live) (i : ℕ)
-    → i < length lives → IsActive (pruned f params bound ending) (stops f params ending) table b b at low (drop i (groups_of lives))
-    → IsNext (pruned f params bound ending) (stops f params ending) table b at low (live_at lives i).group
-    × IsActive (pruned f params bound ending) (stops f params ending) table b b (live_at lives i).group.end ((live_at lives i).group.place + 1)
-    (drop (i + 1) (groups_of lives))
-next_live f params bound ending table b at low lives i within is =
-    next_active (pruned f params bound ending) (stops f params ending) table b b at low i (groups_of lives) (live_at lives i).group
-    (group_at lives i (live_at lives i) (live_here lives i within)) is
+    (f : Facts) (params : Params) (bound : Bound) (ending : StopRule) (table : List Entry) (b at low : ℕ) (lives : List Live) (i : ℕ) (live : Live)
+    → slice_get lives i ≡ Some live → IsActive (pruned f params bound ending) (stops f params ending) table b b at low (drop i (groups_of lives))
+    → IsNext (pruned f params bound ending) (stops f params ending) table b at low live.group
+    × IsActive (pruned f params bound ending) (stops f params ending) table b b live.group.end (live.group.place + 1) (drop (i + 1) (groups_of lives))
+next_live f params bound ending table b at low lives i live here is =
+    next_active (pruned f params bound ending) (stops f params ending) table b b at low i (groups_of lives) live.group (group_at lives i live here) is
+
+-- The stored value does not change after a line that is not overfull.
+pub same_over : (over : Option ℤ) (overfull : Bool) (width : ℤ) → overfull ≡ false → kept_over over overfull width ≡ over
+same_over None overfull width is = cond-false overfull (Some width) None is
+same_over (Some over) overfull width is = refl

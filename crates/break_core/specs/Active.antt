@@ -3,7 +3,8 @@ use Rattle.std.specs.Prelude.{◌≡◌, ◌<◌, ◌≤◌, ◌+◌, ◌-◌, �
 use Rattle.node_core.specs.declared.params.Params.{Params}
 use Rattle.break_table.specs.declared.group.ActiveGroup.{ActiveGroup}
 use Rattle.break_table.specs.Problems.{Problem}
-use Rattle.break_table.specs.Tables.{Entry, IsTable, offer}
+use Rattle.break_table.specs.Orders.{NotAfter}
+use Rattle.break_table.specs.Tables.{Entry, compared_numbers, IsTable, offer}
 use Rattle.break_table.specs.Live.{IsGroup}
 use Rattle.break_table.specs.Parts.{part}
 use Rattle.break_table.specs.Chosen.{AdmitsNone}
@@ -93,6 +94,19 @@ groups_of lives = map (λ (live : Live). live.group) lives
 -- Each live group has the right `over` for the lines from its place to the places before b.
 abbrev pub AreOver : Facts → Params → (b : ℕ) → List Live → Type 0
 AreOver facts params b lives = (k : ℕ) (live : Live) → slice_get lives k ≡ Some live → live.over ≡ over_before facts params live.group.place b
+
+-- Entry k is the best one of the entries `from` to `to`.
+pub record IsBestOf (table : List Entry) (from to k : ℕ) : Type 0 where
+  pub low : from ≤ k
+  pub high : k < to
+  pub within : to ≤ length table
+  pub entry : Entry
+  pub stands : slice_get table k ≡ Some entry
+  pub best : (j : ℕ) (f : Entry) → from ≤ j → j < to → slice_get table j ≡ Some f → NotAfter (compared_numbers entry) (compared_numbers f)
+
+-- Each live group has entries, and the number of the best one.
+abbrev pub HaveBest : (table : List Entry) → List Live → Type 0
+HaveBest table lives = (k : ℕ) (live : Live) → slice_get lives k ≡ Some live → IsBestOf table live.group.start live.group.end live.best
 
 -- A list of live groups with one more appended, unless that has no entries.
 abbrev pub with_live : List Live → Live → List Live

@@ -1,12 +1,13 @@
 -- The table of a paragraph while it is filled, place by place (own; no public clause speaks of it).
-use Rattle.std.specs.Prelude.{◌≡◌, ◌<◌, ◌≤◌, ◌+◌, ◌^◌, ◌<ℤ◌, ℕ, ℤ, pos, Bool, List, length, slice_get, Option, Some, None, if◌then◌else◌}
+use Rattle.std.specs.Prelude.{◌≡◌, ◌<◌, ◌≤◌, ◌+◌, ◌^◌, ◌<ℤ◌, ◌≤ℤ◌, ℕ, ℤ, pos, Bool, List, length, slice_get, Option, Some, None, if◌then◌else◌}
 use Rattle.node_core.specs.declared.params.Params.{Params}
 use Rattle.break_table.specs.declared.group.ActiveGroup.{ActiveGroup}
 use Rattle.break_table.specs.declared.state.BreakState.{BreakState}
 use Rattle.break_table.specs.Problems.{Problem}
 use Rattle.break_table.specs.Ways.{since}
 use Rattle.break_table.specs.Orders.{NotAfter}
-use Rattle.break_table.specs.Tables.{Entry, max_places, slots, extended, compared_numbers, IsRow}
+use Rattle.break_table.specs.Tables.{Entry, max_places, slots, extended, compared_numbers, AreBelow, IsRow}
+use Rattle.break_table.specs.declared.state.Fitness.{Fitness}
 use Rattle.break_table.specs.declared.state.LineCost.{LineCost}
 use Rattle.break_table.specs.declared.answer.ChosenBreaks.{ChosenBreaks}
 use Rattle.break_table.specs.Chosen.{AdmitsNone, IsAnswer}
@@ -72,6 +73,15 @@ pub record IsBestOffer (table : List Entry) (params : Params) (place : ℕ) (alo
   pub is : best ≡ offer_from params entry by place alone
   pub least :
       (k : ℕ) (e : Entry) → from ≤ k → k < to → slice_get table k ≡ Some e → NotAfter (compared_numbers best) (compared_numbers (offer_from params e k place alone))
+
+-- The costs of an offer that is held are below those of an entry by a line with at most the demerits of this line after a line of any class.
+pub record IsBeaten (held : Option Entry) (best : Entry) (params : Params) (alone : LineCost) : Type 0 where
+  pub entry : Entry
+  pub is : held ≡ Some entry
+  pub line : LineCost
+  pub below : AreBelow entry best line
+  pub overhang : line.overhang ≡ alone.overhang
+  pub demerits : (before : Fitness) → line.demerits ≤ℤ (line_after params before alone).demerits
 
 -- The step from one row to another: the entries of a group were offered by such a line, if no lines are counted.
 abbrev pub IsOfferingBest : (table : List Entry) → Params → ActiveGroup → (place : ℕ) → (alone : LineCost) → (old new : List (Option Entry)) → Type 0

@@ -1,18 +1,56 @@
 //! The active list: the groups of entries from which lines are still tried.
 
-ghost use Rattle.std.specs.Prelude.{◌≡◌, ◌++◌, [], ◌∷◌, None, if◌then◌else◌, OnOk};
+ghost use Rattle.std.specs.Prelude.{◌≡◌, ◌<◌, ◌≤◌, ◌+◌, ◌++◌, ℕ, [], ◌∷◌, length, take, set, slice_get, Some, None, if◌then◌else◌, OnOk};
 ghost use Rattle.break_core.specs.Leaving.{is_more, kept_over};
-ghost use Rattle.break_core.specs.Active.{with_live};
+ghost use Rattle.break_core.specs.Active.{with_live, IsBestOf};
 
-use break_table::ActiveGroup;
+use break_table::{ActiveGroup, ActiveNode};
 use std::alloc::AllocError;
 
 /// A group of entries from which lines are tried. `over` is the width, shrunk as far as possible, of the line to the first place to which it was
-/// overfull.
+/// overfull, and `best` is the number of the best entry, if there is one.
 #[derive(Clone, Copy, Debug, PartialEq, Eq)]
 pub(crate) struct Live {
     pub(crate) group: ActiveGroup,
     pub(crate) over: Option<i64>,
+    pub(crate) best: usize,
+}
+
+/// The number of the best entry of a group, if it has entries.
+#[inline(always)]
+fn best_of(table: &[ActiveNode], group: ActiveGroup) -> usize
+    requires group_bounded { group.end ≤ length table.now }
+    ensures { group.start < group.end → IsBestOf table.now group.start group.end result }
+{
+    if group.end <= group.start {
+        return group.start;
+    }
+    let mut best = group.start;
+    for index in group.start + 1..group.end {
+        best = if table[best].is_not_after(table[index]) {
+            best
+        } else {
+            index
+        };
+    }
+    best
+}
+
+impl Live {
+    /// A group from which no line has been tried yet.
+    #[inline(always)]
+    pub(crate) fn new(table: &[ActiveNode], group: ActiveGroup) -> Live
+        requires group_bounded { group.end ≤ length table.now }
+        ensures group { result.group ≡ group }
+        ensures over { result.over ≡ None }
+        ensures best { group.start < group.end → IsBestOf table.now group.start group.end result.best }
+    {
+        Live {
+            group,
+            over: None,
+            best: best_of(table, group),
+        }
+    }
 }
 
 /// Whether a line of this width, shrunk as far as possible, has more overhang than the first overfull line.
@@ -40,27 +78,50 @@ pub(crate) fn kept_over(over: Option<i64>, overfull: bool, width: i64) -> Option
     }
 }
 
-/// Appends a group, unless trying lines from it has stopped.
-pub(crate) fn keep_group(lives: &mut Vec<Live>, ended: bool, live: Live) -> Result<(), AllocError>
-    ensures { OnOk result (lives.new.items ≡ (if ended then lives.old.items else (lives.old.items ++ live ∷ []))) }
+/// Stores the value of `over` after a line of this width from group number `index`. It changes only if the line is overfull.
+#[inline(always)]
+pub(crate) fn keep_over(lives: &mut Vec<Live>, index: usize, overfull: bool, width: i64)
+    requires index_bounded { index < length lives.old.items }
+    ensures { (live : Live) → slice_get lives.old.items index ≡ Some live →
+        lives.new.items ≡ set lives.old.items index (record { group = live.group; over = kept_over live.over overfull width; best = live.best }) }
 {
-    if !ended {
-        lives.push(live)?;
+    if overfull {
+        let over = kept_over(lives[index].over, overfull, width);
+        lives[index].over = over;
     }
-    Ok(())
+}
+
+/// Keeps group number `index` as number `kept` of the list, unless trying lines from it has stopped, and returns the number of groups that are kept
+/// then.
+#[inline(always)]
+pub(crate) fn keep_group(lives: &mut Vec<Live>, ended: bool, kept: usize, index: usize) -> usize
+    requires kept_bounded { kept ≤ index }
+    requires index_bounded { index < length lives.old.items }
+    ensures front { (live : Live) → slice_get lives.old.items index ≡ Some live →
+        take result lives.new.items ≡ (if ended then take kept lives.old.items else (take kept lives.old.items ++ live ∷ [])) }
+    ensures rest { (k : ℕ) → kept < k → slice_get lives.new.items k ≡ slice_get lives.old.items k }
+    ensures count { length lives.new.items ≡ length lives.old.items }
+    ensures result_bounded { result ≤ kept + 1 }
+{
+    if ended {
+        return kept;
+    }
+    if kept < index {
+        lives[kept] = lives[index];
+    }
+    kept + 1
 }
 
 /// Appends the group of a place to those of earlier places, unless it has no entries. If a break at the place is forced, the earlier groups are
 /// removed first.
-pub(crate) fn add_group(
-    lives: &mut Vec<Live>,
-    forced: bool,
-    group: ActiveGroup,
-) -> Result<(), AllocError>
-    ensures { OnOk result (lives.new.items ≡ with_live (if forced then [] else lives.old.items) (record { group = group; over = None })) }
+pub(crate) fn add_group(lives: &mut Vec<Live>, forced: bool, live: Live) -> Result<(), AllocError>
+    ensures { OnOk result (lives.new.items ≡ with_live (if forced then [] else lives.old.items) live) }
 {
     if forced {
         lives.clear();
     }
-    keep_group(lives, group.start == group.end, Live { group, over: None })
+    if live.group.start != live.group.end {
+        lives.push(live)?;
+    }
+    Ok(())
 }

@@ -4,15 +4,14 @@ ghost use Rattle.std.specs.Prelude.{◌≡◌, ◌+◌, ◌<◌, ◌≤◌, fals
 ghost use Rattle.break_table.specs.Tables.{max_places, slots, IsTable, IsRow};
 ghost use Rattle.break_lines.specs.Legal.{is_forced};
 ghost use Rattle.break_core.specs.Filling.{CountsMayGrow};
-ghost use Rattle.break_core.specs.Active.{stops, pruned, groups_of, MayEnd, AreOver, IsActive, IsFilled, IsSwept, IsCounted, TrialsOnlyGrow, WereTried};
+ghost use Rattle.break_core.specs.Active.{stops, pruned, groups_of, MayEnd, AreOver, HaveBest, IsActive, IsFilled, IsSwept, IsCounted, TrialsOnlyGrow, WereTried};
 
-use crate::active_list::{Live, add_group, is_more, keep_group, kept_over};
+use crate::active_list::{Live, add_group, keep_group, keep_over};
 use crate::offering::{Tried, offer_line};
 use crate::pass_rules::Rules;
 use break_lines::Meter;
 use break_table::{ActiveGroup, ActiveNode, empty_row, flush_row};
 use std::alloc::{AllocError, Global};
-use std::mem::swap;
 
 /// The table up to a place, and the groups of its entries from which lines to later places are tried.
 #[derive(Drop)]
@@ -21,63 +20,54 @@ struct Reached {
     live: Vec<Live>,
 }
 
-/// The offers of the lines to one place in its row, and the groups from which lines to later places are tried. It is reused for all places of a pass.
-#[derive(Drop)]
-struct Offers {
-    row: Vec<Option<ActiveNode>>,
-    next: Vec<Live>,
-}
-
-/// Tries the line to a place once from each live group, and carries `over` on to the next place. The function is not inlined, so that its loop has
-/// all registers.
+/// Tries the line to a place once from each live group, keeps those from which lines to later places are tried, and carries `over` on to the next
+/// place. The groups stay in place, since most of them are kept. The function is not inlined, so that its loop has all registers.
 #[inline(never)]
 fn try_lines<M: Meter>(
     meter: &mut M,
     rules: &Rules,
     table: &[ActiveNode],
-    lives: &[Live],
-    offers: &mut Offers,
+    lives: &mut Vec<Live>,
+    row: &mut Vec<Option<ActiveNode>>,
     place: usize,
-) -> Result<(), AllocError>
+)
     requires first { 0 < place }
     requires last { place ≤ (M.facts meter.old).places }
     requires places { place ≤ max_places }
-    requires filled { IsFilled (pruned (M.facts meter.old) rules.now.params.now rules.now.bound rules.now.ending) (stops (M.facts meter.old) rules.now.params.now rules.now.ending) place table.now (groups_of lives.now) }
-    requires over { AreOver (M.facts meter.old) rules.now.params.now place lives.now }
-    requires empty { offers.old.row.items ≡ replicate (slots rules.now.params.now.first_lines) None }
+    requires filled { IsFilled (pruned (M.facts meter.old) rules.now.params.now rules.now.bound rules.now.ending) (stops (M.facts meter.old) rules.now.params.now rules.now.ending) place table.now (groups_of lives.old.items) }
+    requires over { AreOver (M.facts meter.old) rules.now.params.now place lives.old.items }
+    requires best { HaveBest table.now lives.old.items }
+    requires empty { row.old.items ≡ replicate (slots rules.now.params.now.first_lines) None }
     requires may { MayEnd rules.now.ending (M.facts meter.old) rules.now.params.now rules.now.bound }
     requires trials_bounded { CountsMayGrow 1 (M.trials meter.old) }
-    ensures row { OnOk result (IsRow (pruned (M.facts meter.old) rules.now.params.now rules.now.bound rules.now.ending) table.now place (length table.now) offers.new.row.items) }
-    ensures live { OnOk result (is_forced ((M.facts meter.old).penalty place) ≡ false →
-        IsActive (pruned (M.facts meter.old) rules.now.params.now rules.now.bound rules.now.ending) (stops (M.facts meter.old) rules.now.params.now rules.now.ending) table.now (place + 1) place 0 0 (groups_of offers.new.next.items)) }
-    ensures over { OnOk result (AreOver (M.facts meter.old) rules.now.params.now (place + 1) offers.new.next.items) }
+    ensures row { IsRow (pruned (M.facts meter.old) rules.now.params.now rules.now.bound rules.now.ending) table.now place (length table.now) row.new.items }
+    ensures live { is_forced ((M.facts meter.old).penalty place) ≡ false →
+        IsActive (pruned (M.facts meter.old) rules.now.params.now rules.now.bound rules.now.ending) (stops (M.facts meter.old) rules.now.params.now rules.now.ending) table.now (place + 1) place 0 0 (groups_of lives.new.items) }
+    ensures over { AreOver (M.facts meter.old) rules.now.params.now (place + 1) lives.new.items }
+    ensures best { HaveBest table.now lives.new.items }
     ensures facts { M.facts meter.new ≡ M.facts meter.old }
     ensures trials { IsSwept (stops (M.facts meter.old) rules.now.params.now rules.now.ending) place (M.trials meter.old) (M.trials meter.new) }
     ensures kept { TrialsOnlyGrow (M.trials meter.old) (M.trials meter.new) }
-    ensures tried { OnOk result (WereTried (groups_of lives.now) (M.trials meter.old) (M.trials meter.new)) }
+    ensures tried { WereTried (groups_of lives.old.items) (M.trials meter.old) (M.trials meter.new) }
 {
     let at = meter.place(place);
-    offers.next.clear();
-    for live in lives {
+    let mut kept = 0;
+    for index in 0..lives.len() {
+        let live = &lives[index];
         let sums = meter.try_line(live.group.place, place);
         let width = sums.least_width();
-        let long = is_more(live.over, width);
+        let left = rules.ending.leaves(live.over, width);
         let tried = Tried {
             place,
             penalty: at.penalty,
             sums,
         };
-        let left = rules.ending.deactivates(false, long);
-        let overfull = offer_line(left, &mut offers.row, table, live.group, rules, tried);
-        let over = kept_over(live.over, overfull, width);
-        let ended = rules.ending.deactivates(overfull, long);
-        let kept = Live {
-            group: live.group,
-            over,
-        };
-        keep_group(&mut offers.next, ended, kept)?;
+        let overfull = offer_line(left, row, table, live, rules, tried);
+        let ended = rules.ending.deactivates(overfull, left);
+        keep_over(lives, index, overfull, width);
+        kept = keep_group(lives, ended, kept, index);
     }
-    Ok(())
+    lives.truncate(kept);
 }
 
 /// Goes on to a place: tries the lines to it, and appends the entries of its row to the table.
@@ -85,7 +75,7 @@ fn add_place<M: Meter>(
     meter: &mut M,
     rules: &Rules,
     reached: &mut Reached,
-    offers: &mut Offers,
+    row: &mut Vec<Option<ActiveNode>>,
     place: usize,
 ) -> Result<(), AllocError>
     requires first { 0 < place }
@@ -93,28 +83,30 @@ fn add_place<M: Meter>(
     requires places { place ≤ max_places }
     requires filled { IsFilled (pruned (M.facts meter.old) rules.now.params.now rules.now.bound rules.now.ending) (stops (M.facts meter.old) rules.now.params.now rules.now.ending) place reached.old.table.items (groups_of reached.old.live.items) }
     requires over { AreOver (M.facts meter.old) rules.now.params.now place reached.old.live.items }
-    requires empty { offers.old.row.items ≡ replicate (slots rules.now.params.now.first_lines) None }
+    requires best { HaveBest reached.old.table.items reached.old.live.items }
+    requires empty { row.old.items ≡ replicate (slots rules.now.params.now.first_lines) None }
     requires may { MayEnd rules.now.ending (M.facts meter.old) rules.now.params.now rules.now.bound }
     requires trials_bounded { CountsMayGrow 1 (M.trials meter.old) }
     ensures filled { OnOk result (
         IsFilled (pruned (M.facts meter.old) rules.now.params.now rules.now.bound rules.now.ending) (stops (M.facts meter.old) rules.now.params.now rules.now.ending) (place + 1) reached.new.table.items (groups_of reached.new.live.items)) }
     ensures over { OnOk result (AreOver (M.facts meter.old) rules.now.params.now (place + 1) reached.new.live.items) }
-    ensures empty { OnOk result (offers.new.row.items ≡ replicate (slots rules.now.params.now.first_lines) None) }
+    ensures best { OnOk result (HaveBest reached.new.table.items reached.new.live.items) }
+    ensures empty { OnOk result (row.new.items ≡ replicate (slots rules.now.params.now.first_lines) None) }
     ensures facts { M.facts meter.new ≡ M.facts meter.old }
     ensures trials { IsSwept (stops (M.facts meter.old) rules.now.params.now rules.now.ending) place (M.trials meter.old) (M.trials meter.new) }
     ensures kept { TrialsOnlyGrow (M.trials meter.old) (M.trials meter.new) }
     ensures tried { OnOk result (WereTried (groups_of reached.old.live.items) (M.trials meter.old) (M.trials meter.new)) }
 {
-    try_lines(meter, rules, &reached.table, &reached.live, offers, place)?;
+    try_lines(meter, rules, &reached.table, &mut reached.live, row, place);
     let start = reached.table.len();
-    flush_row(&mut reached.table, &mut offers.row)?;
+    flush_row(&mut reached.table, row)?;
     let group = ActiveGroup {
         place,
         start,
         end: reached.table.len(),
     };
-    add_group(&mut offers.next, meter.place(place).is_forced(), group)?;
-    swap(&mut reached.live, &mut offers.next);
+    let live = Live::new(&reached.table, group);
+    add_group(&mut reached.live, meter.place(place).is_forced(), live)?;
     Ok(())
 }
 
@@ -146,14 +138,16 @@ pub(crate) fn fill<M: Meter>(
         start: 0,
         end: 1,
     };
-    reached.live.push(Live { group, over: None })?;
-    let row = empty_row(alloc, rules.params.first_lines.get())?;
-    let mut offers = Offers {
-        row,
-        next: Vec::new(alloc),
-    };
+    let live = Live::new(&reached.table, group);
+    reached.live.push(live)?;
+    // The row is reused for all places.
+    let mut row = empty_row(alloc, rules.params.first_lines.get())?;
     for before in 0..meter.places() {
-        add_place(meter, rules, &mut reached, &mut offers, before + 1)?;
+        if reached.live.is_empty() {
+            // No line is left to try, so no later place has entries.
+            return Ok(reached.table);
+        }
+        add_place(meter, rules, &mut reached, &mut row, before + 1)?;
     }
     Ok(reached.table)
 }

@@ -1,11 +1,15 @@
 //! The offers of the entries of a group for a place, by a line that was tried from there.
 
-ghost use Rattle.std.specs.Prelude.{◌≡◌, ◌<◌, ◌≤◌, ◌&&◌, length, slice_get, Some};
-ghost use Rattle.break_table.specs.Tables.{Entry, max_places, slots};
+ghost use Rattle.std.specs.Prelude.{◌≡◌, ◌<◌, ◌≤◌, ◌≤ℤ◌, ◌&&◌, true, length, slice_get, Some};
+ghost use Rattle.break_table.specs.declared.state.Fitness.{Fitness};
+ghost use Rattle.break_table.specs.Tables.{Entry, max_places, slots, IsSmallLine};
+ghost use Rattle.break_lines.specs.Costs.{line_after};
 ghost use Rattle.break_lines.specs.Sizes.{line_fits, IsSmallLineFits};
 ghost use Rattle.break_lines.specs.SmallCosts.{IsSmallAlone};
-ghost use Rattle.break_core.specs.Filling.{IsOf, CanOffer, IsOffering, IsOfferingUnless, offer_from, IsBestOffer, IsOfferingBest};
+ghost use Rattle.break_core.specs.Filling.{IsOf, CanOffer, IsOffering, IsOfferingUnless, offer_from, IsBestOffer, IsBeaten, IsOfferingBest};
+ghost use Rattle.break_core.specs.Active.{IsBestOf};
 
+use crate::active_list::Live;
 use crate::pass_rules::Rules;
 use break_lines::{LineFits, Sums, fit_both, fit_line, line_after, line_alone};
 use break_table::{ActiveGroup, ActiveNode, LineCost, offer, put};
@@ -116,30 +120,59 @@ fn best_offer(
     best
 }
 
+/// A line that has no more demerits than this one after a line of any class.
+fn least_line(params: &Params, alone: &LineCost) -> LineCost
+    requires costs_bounded { IsSmallAlone alone.now }
+    ensures overhang { result.overhang ≡ alone.now.overhang }
+    ensures demerits { (before : Fitness) → result.demerits ≤ℤ (line_after params.now before alone.now).demerits }
+    ensures line_bounded { IsSmallLine result }
+{
+    let adjacent = i64::from(params.adj_demerits.get());
+    if adjacent >= 0 {
+        return *alone;
+    }
+    LineCost {
+        demerits: alone.demerits + adjacent,
+        ..*alone
+    }
+}
+
+/// Whether each offer of a group by a line is known to be worse than an offer that is held: that of its best entry would be so even with the fewest
+/// demerits.
+fn is_beaten(held: &Option<ActiveNode>, best: ActiveNode, params: &Params, alone: &LineCost) -> bool
+    requires costs_bounded { IsSmallAlone alone.now }
+    ensures { result ≡ true → IsBeaten held.now best params.now alone.now }
+{
+    match held {
+        Some(held) => held.is_below(best, least_line(params, alone)),
+        None => false,
+    }
+}
+
 /// Offers the entries of a group for a place by a line, if no lines are counted. All offers are for one state then, so only the best of them is put
-/// into the row.
+/// into the row, and the group is passed over if its offers are worse than the one that is held.
 fn offer_best(
     row: &mut Vec<Option<ActiveNode>>,
     table: &[ActiveNode],
-    group: ActiveGroup,
+    live: &Live,
     params: &Params,
     place: usize,
     alone: &LineCost,
 )
     requires wide { length row.old.items ≡ slots 0 }
-    requires rises { group.start ≤ group.end }
-    requires group_bounded { group.end ≤ length table.now }
-    requires earlier { group.place < place }
-    requires entries { IsOf 0 table.now group }
+    requires group_bounded { live.now.group.end ≤ length table.now }
+    requires earlier { live.now.group.place < place }
+    requires entries { IsOf 0 table.now live.now.group }
+    requires best { IsBestOf table.now live.now.group.start live.now.group.end live.now.best }
     requires places { place ≤ max_places }
     requires costs_bounded { IsSmallAlone alone.now }
-    ensures row { IsOfferingBest table.now params.now group place alone.now row.old.items row.new.items }
+    ensures row { IsOfferingBest table.now params.now live.now.group place alone.now row.old.items row.new.items }
     ensures wide { length row.new.items ≡ slots 0 }
 {
-    if group.start == group.end {
+    if is_beaten(&row[alone.class.rank()], table[live.best], params, alone) {
         return;
     }
-    put(row, best_offer(table, group, params, place, alone), 0);
+    put(row, best_offer(table, live.group, params, place, alone), 0);
 }
 
 /// Offers the entries of a group for a place, by a line that was tried from there, unless it is left out. Returns whether the line is overfull after
@@ -149,19 +182,20 @@ pub(crate) fn offer_line(
     left: bool,
     row: &mut Vec<Option<ActiveNode>>,
     table: &[ActiveNode],
-    group: ActiveGroup,
+    live: &Live,
     rules: &Rules,
     tried: Tried,
 ) -> bool
-    requires can { CanOffer rules.now.params.now.first_lines row.old.items table.now group tried }
-    ensures row { IsOfferingUnless left table.now rules.now.params.now rules.now.bound group tried.place tried.penalty (line_fits rules.now.params.now tried.sums) row.old.items row.new.items }
+    requires can { CanOffer rules.now.params.now.first_lines row.old.items table.now live.now.group tried }
+    requires best { IsBestOf table.now live.now.group.start live.now.group.end live.now.best }
+    ensures row { IsOfferingUnless left table.now rules.now.params.now rules.now.bound live.now.group tried.place tried.penalty (line_fits rules.now.params.now tried.sums) row.old.items row.new.items }
     ensures wide { length row.new.items ≡ slots rules.now.params.now.first_lines }
     ensures overfull { result ≡ ((line_fits rules.now.params.now tried.sums).first.overfull && (line_fits rules.now.params.now tried.sums).rest.overfull) }
 {
     if rules.params.first_lines.get() > 0 {
         // Only the address of this copy is taken, so `tried` stays in registers where no lines are counted.
         let counted = tried;
-        return offer_counted(left, row, table, group, rules, &counted);
+        return offer_counted(left, row, table, live.group, rules, &counted);
     }
     let line = fit_line(&tried.sums, rules.params.hsize);
     if left {
@@ -170,6 +204,6 @@ pub(crate) fn offer_line(
     let Some(alone) = line_alone(rules.params, &rules.bound, tried.penalty, &line) else {
         return line.overfull;
     };
-    offer_best(row, table, group, rules.params, tried.place, &alone);
+    offer_best(row, table, live, rules.params, tried.place, &alone);
     line.overfull
 }

@@ -1,10 +1,11 @@
-use Rattle.std.proofs.Common.{◌≡◌, ◌∙◌, ◌+◌, ◌++◌, [], None, length, replicate, cond, false, refl, ap, sym, subst, rules}
+use Rattle.std.proofs.Common.{◌≡◌, ◌∙◌, ◌+◌, ◌++◌, [], None, length, length-append, ◌≤◌, ◌<◌, replicate, cond, false, refl, ap, sym, subst, rules, arith}
 use Rattle.break_table.specs.declared.group.ActiveGroup.{ActiveGroup}
 use Rattle.break_table.specs.Tables.{IsRow, row_entries}
 use Rattle.break_lines.specs.Legal.{is_forced}
-use Rattle.break_core.specs.Active.{stops, pruned, groups_of, with_group, with_live, AreOver, IsActive, IsFilled}
+use Rattle.break_core.specs.Active.{stops, pruned, groups_of, with_group, with_live, IsBestOf, HaveBest, IsActive, IsFilled}
 use Rattle.break_core.proofs.Active.{filled_more}
-use Rattle.break_core.proofs.Lives.{groups_put, over_put}
+use Rattle.break_core.proofs.Lives.{groups_put, over_put, best_put}
+use Rattle.break_core.proofs.Beaten.{best_longer}
 use Rattle.break_core.proofs.filling.add_place.Goals as goal
 
 pub returns-clause-filled : goal.returns-clause-filled
@@ -14,13 +15,13 @@ returns-clause-filled g c =
     let p = pruned f rules_now.params.now rules_now.bound rules_now.ending in
     let stop = stops f rules_now.params.now rules_now.ending in
     let table = c.args.reached.now.table.items in
-    let row = c.try_lines.new.offers.row.items in
-    let lives = c.try_lines.new.offers.next.items in
+    let row = c.try_lines.new.row.items in
+    let lives = c.try_lines.new.lives.items in
     let next = groups_of lives in
     let full : IsRow p table c.args.place (length table) row =
-    subst (λ t. IsRow p t c.args.place (length t) row) c.deref.ensures.value c.in_ok-try_lines.ensures.row in
+    subst (λ t. IsRow p t c.args.place (length t) row) c.deref.ensures.value c.try_lines.ensures.row in
     let active : is_forced (f.penalty c.args.place) ≡ false → IsActive p stop table (c.args.place + 1) c.args.place 0 0 next =
-    λ free. subst (λ t. IsActive p stop t (c.args.place + 1) c.args.place 0 0 next) c.deref.ensures.value (c.in_ok-try_lines.ensures.live free) in
+    λ free. subst (λ t. IsActive p stop t (c.args.place + 1) c.args.place 0 0 next) c.deref.ensures.value (c.try_lines.ensures.live free) in
     let held : c.flush_row.new.table.items ≡ table ++ row_entries row = c.in_ok-flush_row.ensures.table in
     let forced : c.is_forced.result ≡ p.forced c.args.place =
     c.is_forced.ensures ∙ ap is_forced (c.place.ensures.penalty ∙ ap (λ x. x.penalty c.args.place) c.try_lines.ensures.facts) in
@@ -28,25 +29,52 @@ returns-clause-filled g c =
     let ended : c.len.result ≡ length c.flush_row.new.table.items = search rules in
     let group : ActiveGroup = record { place = c.args.place; start = c.len-start.result; end = c.len.result } in
     let made : groups_of c.add_group.new.lives.items ≡ with_group (cond (p.forced c.args.place) [] next) group =
-    groups_put (p.forced c.args.place) lives c.add_group.new.lives.items (record { group = group; over = None })
-    (c.in_ok-add_group.ensures ∙ ap (λ t. with_live (cond t [] lives) (record { group = group; over = None })) forced) in
+    groups_put (p.forced c.args.place) lives c.add_group.new.lives.items c.new-live.result
+    (c.in_ok-add_group.ensures ∙ ap (λ t. with_live (cond t [] lives) c.new-live.result) forced)
+    ∙ ap (with_group (cond (p.forced c.args.place) [] next)) c.new-live.ensures.group in
     let filled : IsFilled p stop (c.args.place + 1) (table ++ row_entries row) (groups_of c.add_group.new.lives.items) =
     filled_more p stop c.args.place table row (groups_of c.args.reached.now.live.items) next (groups_of c.add_group.new.lives.items) group c.requires.first c.requires.filled full
     active refl began (ended ∙ ap length held) made in
-    subst (λ xs. IsFilled p stop (c.args.place + 1) c.flush_row.new.table.items (groups_of xs)) (sym (ap (λ v. v.items) c.swap.ensures.x_after))
-    (subst (λ t. IsFilled p stop (c.args.place + 1) t (groups_of c.add_group.new.lives.items)) (sym held) filled)
+    subst (λ t. IsFilled p stop (c.args.place + 1) t (groups_of c.add_group.new.lives.items)) (sym held) filled
 
 pub returns-clause-empty : goal.returns-clause-empty
 returns-clause-empty g c =
     let f = g.M.Meter.facts c.args.meter.now in
-    c.in_ok-flush_row.ensures.row ∙ ap (λ n. replicate n None) c.in_ok-try_lines.ensures.row.wide
+    c.in_ok-flush_row.ensures.row ∙ ap (λ n. replicate n None) c.try_lines.ensures.row.wide
 
 pub returns-clause-over : goal.returns-clause-over
 returns-clause-over g c =
     let f = g.M.Meter.facts c.args.meter.now in
     let params = c.args.rules.now.params.now in
-    let lives = c.try_lines.new.offers.next.items in
-    let forced = c.is_forced.result in
-    let group : ActiveGroup = record { place = c.args.place; start = c.len-start.result; end = c.len.result } in
-    subst (AreOver f params (c.args.place + 1)) (sym (ap (λ v. v.items) c.swap.ensures.x_after))
-    (over_put f params c.args.place forced lives c.add_group.new.lives.items group c.in_ok-try_lines.ensures.over refl c.in_ok-add_group.ensures)
+    let lives = c.try_lines.new.lives.items in
+    over_put f params c.args.place c.is_forced.result lives c.add_group.new.lives.items c.new-live.result c.try_lines.ensures.over
+    (ap (λ (x : ActiveGroup). x.place) c.new-live.ensures.group) c.new-live.ensures.over c.in_ok-add_group.ensures
+
+pub try_lines-requires-clause-best : goal.try_lines-requires-clause-best
+try_lines-requires-clause-best g c = subst (λ t. HaveBest t c.args.reached.now.live.items) (sym c.deref.ensures.value) c.requires.best
+
+pub new-live-requires : goal.new-live-requires
+new-live-requires g c =
+    let ended : c.len.result ≡ length c.flush_row.new.table.items = search rules in
+    record { group_bounded = omega (arith, ended, ap length c.deref-2.ensures.value) }
+
+pub returns-clause-best : goal.returns-clause-best
+returns-clause-best g c =
+    let table = c.args.reached.now.table.items in
+    let row = c.try_lines.new.row.items in
+    let lives = c.try_lines.new.lives.items in
+    let new = c.add_group.new.lives.items in
+    let live = c.new-live.result in
+    let held : c.flush_row.new.table.items ≡ table ++ row_entries row = c.in_ok-flush_row.ensures.table in
+    let began : c.len-start.result ≡ length table = search rules in
+    let ended : c.len.result ≡ length c.flush_row.new.table.items = search rules in
+    let start : live.group.start ≡ c.len-start.result = ap (λ (x : ActiveGroup). x.start) c.new-live.ensures.group in
+    let end : live.group.end ≡ c.len.result = ap (λ (x : ActiveGroup). x.end) c.new-live.ensures.group in
+    let rises : live.group.start ≤ live.group.end = omega (arith, start, end, began, ended, ap length held, length-append table (row_entries row)) in
+    let before : HaveBest c.flush_row.new.table.items lives =
+    subst (λ t. HaveBest t lives) (sym held)
+    (best_longer table (row_entries row) lives (subst (λ t. HaveBest t lives) c.deref.ensures.value c.try_lines.ensures.best)) in
+    let is : live.group.start < live.group.end → IsBestOf c.flush_row.new.table.items live.group.start live.group.end live.best =
+    λ some. subst (λ t. IsBestOf t live.group.start live.group.end live.best) c.deref-2.ensures.value
+    (subst (λ (x : ActiveGroup). IsBestOf c.deref-2.result.now x.start x.end live.best) (sym c.new-live.ensures.group) (c.new-live.ensures.best (omega (arith, some, start, end)))) in
+    best_put c.flush_row.new.table.items c.is_forced.result lives new live before rises is c.in_ok-add_group.ensures

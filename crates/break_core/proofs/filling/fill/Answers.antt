@@ -1,9 +1,10 @@
-use Rattle.std.proofs.Common.{◌≡◌, ◌∙◌, ◌+◌, ℕ, [], ◌∷◌, None, replicate, refl, ap, sym, subst, rules, arith}
+use Rattle.std.proofs.Common.{◌≡◌, ◌∙◌, ◌+◌, ℕ, [], ◌∷◌, None, vec_len, length, false, replicate, refl, ap, sym, subst, rules, arith}
 use Rattle.break_table.specs.Tables.{slots, first_entry}
-use Rattle.break_core.specs.declared.active_list.Live.{Live}
-use Rattle.break_core.specs.Active.{stops, pruned, groups_of, AreOver, IsFilled, IsSwept}
-use Rattle.break_core.proofs.Counts.{counted_none, counted_more, kept_none, kept_on, started_more}
-use Rattle.break_core.proofs.Lives.{filled_start, over_first}
+use Rattle.break_table.specs.declared.group.ActiveGroup.{ActiveGroup}
+use Rattle.break_core.specs.Active.{stops, pruned, groups_of, AreOver, IsBestOf, IsFilled, IsSwept}
+use Rattle.break_core.proofs.Active.{table_rest}
+use Rattle.break_core.proofs.Counts.{counted_none, counted_more, counted_longer, kept_none, kept_on, started_more, started_none, start_group}
+use Rattle.break_core.proofs.Lives.{filled_start, over_first, best_kept, no_groups}
 use Rattle.break_core.proofs.filling.fill.Goals as goal
 
 pub loop-before-init : goal.loop-before-init
@@ -12,16 +13,22 @@ loop-before-init g c =
     let params = c.args.rules.now.params.now in
     let ending = c.args.rules.now.ending in
     let stop = stops f params ending in
-    let live : Live = record { group = record { place = 0; start = 0; end = 1 }; over = None } in
+    let live = c.new-live.result in
+    let group : live.group ≡ start_group = c.new-live.ensures.group in
     let table : c.push.new.self.items ≡ first_entry ∷ [] = search rules in
     let lives : c.push-2.new.self.items ≡ live ∷ [] = search rules in
+    let best : IsBestOf c.push.new.self.items live.group.start live.group.end live.best =
+    subst (λ t. IsBestOf t live.group.start live.group.end live.best) c.deref.ensures.value
+    (subst (λ (x : ActiveGroup). IsBestOf c.deref.result.now x.start x.end live.best) (sym group) (c.new-live.ensures.best (omega arith))) in
     record {
       facts = refl;
       counted = counted_none stop (g.M.Meter.trials c.args.meter.now);
-      filled = filled_start (pruned f params c.args.rules.now.bound ending) stop c.push.new.self.items c.push-2.new.self.items live table lives refl refl refl;
-      over = subst (AreOver f params 1) (sym lives) (over_first f params live refl refl);
+      filled = filled_start (pruned f params c.args.rules.now.bound ending) stop c.push.new.self.items c.push-2.new.self.items live table lives
+          (ap (λ (x : ActiveGroup). x.place) group) (ap (λ (x : ActiveGroup). x.start) group) (ap (λ (x : ActiveGroup). x.end) group);
+      over = subst (AreOver f params 1) (sym lives) (over_first f params live (ap (λ (x : ActiveGroup). x.place) group) c.new-live.ensures.over);
+      best = best_kept c.push.new.self.items false [] c.push-2.new.self.items live (λ k x there. absurd (cc)) best lives;
       kept = kept_none (g.M.Meter.trials c.args.meter.now);
-      begins = λ _. ap groups_of lives;
+      begins = λ _. ap groups_of lives ∙ ap (λ (x : ActiveGroup). x ∷ []) group;
       started = λ some. absurd (omega (arith, some));
       empty = c.in_ok-row.ensures ∙ ap (λ n. replicate (slots n) None) c.get.ensures.value;
     }
@@ -44,6 +51,7 @@ loop-before-preserved g c =
       filled = subst (λ f. IsFilled (pruned f params bound ending) (stops f params ending) (before + 1 + 1) c.add_place.new.reached.table.items
           (groups_of c.add_place.new.reached.live.items)) inv.facts next.filled;
       over = subst (λ f. AreOver f params (before + 1 + 1) c.add_place.new.reached.live.items) inv.facts next.over;
+      best = next.best;
       kept = kept_on first middle now inv.kept c.add_place.ensures.kept;
       begins = λ none. absurd (omega (arith, none));
       started = λ some. started_more before (groups_of c.loop-before.reached.live.items) first middle now inv.begins inv.started inv.kept c.add_place.ensures.kept next.tried;
@@ -53,3 +61,31 @@ loop-before-preserved g c =
 pub returns-clause-tried : goal.returns-clause-tried
 returns-clause-tried g c =
     c.loop-before.invariant.started (omega (arith, c.loop-before-test.false, c.places-before-end.ensures.count, g.met.M.Meter.has_places c.args.meter.now))
+
+pub returns-then-is_empty-clause-table : goal.returns-then-is_empty-clause-table
+returns-then-is_empty-clause-table g c =
+    let f = g.M.Meter.facts c.args.meter.now in
+    let rules_now = c.args.rules.now in
+    let live = c.loop-before.reached.live in
+    let none = no_groups live.items (vec_len live) (sym c.is_empty.ensures ∙ c.if-is_empty.true) (omega (arith, live.ok.0)) in
+    table_rest (pruned f rules_now.params.now rules_now.bound rules_now.ending) (stops f rules_now.params.now rules_now.ending) (c.loop-before.before + 1) c.loop-before.reached.table.items
+    (groups_of live.items) (omega arith) (omega (arith, c.loop-before-test.true, c.places-before-end.ensures.count, ap (λ x. x.places) c.loop-before.invariant.facts))
+    none c.loop-before.invariant.filled
+
+pub returns-then-is_empty-clause-trials : goal.returns-then-is_empty-clause-trials
+returns-then-is_empty-clause-trials g c =
+    let f = g.M.Meter.facts c.args.meter.now in
+    counted_longer (stops f c.args.rules.now.params.now c.args.rules.now.ending) c.loop-before.before f.places (g.M.Meter.trials c.args.meter.now) (g.M.Meter.trials c.loop-before.meter)
+    (omega (arith, c.loop-before-test.true, c.places-before-end.ensures.count, ap (λ x. x.places) c.loop-before.invariant.facts)) c.loop-before.invariant.counted
+
+pub returns-then-is_empty-clause-tried : goal.returns-then-is_empty-clause-tried
+returns-then-is_empty-clause-tried g c =
+    let inv = c.loop-before.invariant in
+    let live = c.loop-before.reached.live in
+    let none = no_groups live.items (vec_len live) (sym c.is_empty.ensures ∙ c.if-is_empty.true) (omega (arith, live.ok.0)) in
+    started_none c.loop-before.before (groups_of live.items) (g.M.Meter.trials c.args.meter.now) (g.M.Meter.trials c.loop-before.meter) none inv.begins inv.started
+
+pub new-live-requires : goal.new-live-requires
+new-live-requires g c =
+    let table : c.push.new.self.items ≡ first_entry ∷ [] = search rules in
+    record { group_bounded = omega (arith, ap length (c.deref.ensures.value ∙ table)) }

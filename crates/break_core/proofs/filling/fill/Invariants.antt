@@ -1,6 +1,6 @@
 use Rattle.std.proofs.Common.{◌≡◌, ◌+◌, ◌<◌, [], ◌∷◌, replicate, None}
 use Rattle.break_table.specs.Tables.{slots}
-use Rattle.break_core.specs.Active.{stops, pruned, groups_of, AreOver, IsFilled, IsCounted, TrialsOnlyGrow}
+use Rattle.break_core.specs.Active.{stops, pruned, groups_of, AreOver, HaveBest, IsFilled, IsCounted, TrialsOnlyGrow}
 use Rattle.break_core.proofs.Counts.{start_group}
 use Rattle.break_core.proofs.filling.fill.Given as goal
 
@@ -10,8 +10,9 @@ invariant-loop-before g l = record {
   counted : IsCounted (stops (g.M.Meter.facts l.initial.meter) l.rules.params.now l.rules.ending) l.before (g.M.Meter.trials l.initial.meter) (g.M.Meter.trials l.meter);
   filled : IsFilled (pruned (g.M.Meter.facts l.initial.meter) l.rules.params.now l.rules.bound l.rules.ending) (stops (g.M.Meter.facts l.initial.meter) l.rules.params.now l.rules.ending) (l.before + 1) l.reached.table.items (groups_of l.reached.live.items);
   over : AreOver (g.M.Meter.facts l.initial.meter) l.rules.params.now (l.before + 1) l.reached.live.items;
+  best : HaveBest l.reached.table.items l.reached.live.items;
   kept : TrialsOnlyGrow (g.M.Meter.trials l.initial.meter) (g.M.Meter.trials l.meter);
   begins : l.before ≡ 0 → groups_of l.reached.live.items ≡ start_group ∷ [];
   started : 0 < l.before → g.M.Meter.trials l.initial.meter 0 < g.M.Meter.trials l.meter 0;
-  empty : l.offers.row.items ≡ replicate (slots l.rules.params.now.first_lines) None;
+  empty : l.row.items ≡ replicate (slots l.rules.params.now.first_lines) None;
 }

@@ -1,46 +1,68 @@
-use Rattle.std.proofs.Common.{◌≡◌, ◌∙◌, ◌+◌, ◌≤◌, length, to_z, of_z, w32, w64, refl, arith}
+use Rattle.std.proofs.Common.{◌≡◌, ◌∙◌, ◌+◌, ◌≤◌, ◌<◌, ◌++◌, [], ◌∷◌, Some, cond, length, length-set, take, set, to_z, of_z, w32, w64, refl, ap, sym, subst, arith}
+use Rattle.std.specs.Prelude.{slice_get}
 use Rattle.std.proofs.lemmas.Int.{ints}
-use Rattle.std.proofs.lemmas.List.{length-map}
-use Rattle.std.proofs.lemmas.Option.{slice_get_within}
+use Rattle.std.proofs.lemmas.List.{length-map, take-set-le}
+use Rattle.std.proofs.lemmas.Option.{slice_get_within, slice_get_read}
 use Rattle.break_lines.specs.Sizes.{least_width, line_fits}
 use Rattle.break_core.specs.declared.active_list.Live.{Live}
 use Rattle.break_core.specs.Trials.{is_overfull}
-use Rattle.break_core.specs.Leaving.{is_long}
-use Rattle.break_core.specs.Active.{stops, pruned, groups_of}
+use Rattle.break_core.specs.Leaving.{is_long, is_more, kept_over}
+use Rattle.break_core.specs.Active.{deactivates, stops, pruned, groups_of, AreOver, HaveBest, IsActive}
+use Rattle.break_table.proofs.Entries.{get-set_same, get-set_other}
 use Rattle.break_core.proofs.Filled.{group_of}
 use Rattle.break_core.proofs.Overfull.{overfull_of}
-use Rattle.break_core.proofs.Endings.{long_found, over_found, pruned_is, goes_on, ended_quiet}
-use Rattle.break_core.proofs.Lives.{group_at, groups_kept, over_kept, live_at, live_here, next_live}
+use Rattle.break_core.proofs.Endings.{long_found, over_found, pruned_is, ended_is, goes_on, ended_quiet}
+use Rattle.break_core.proofs.Lives.{group_at, groups_kept, over_kept, best_kept, next_live}
 use Rattle.break_core.proofs.Active.{row_quiet, row_end, front_more, front_end}
 use Rattle.break_core.proofs.Counts.{swept_more, fresh_more, kept_more, tried_more}
 use Rattle.break_core.proofs.filling.try_lines.Goals as goal
 
 pub try_line-sums-requires-clause-later : goal.try_line-sums-requires-clause-later
 try_line-sums-requires-clause-later g c =
-    let inv = c.loop-live.invariant in
-    let rules = c.args.rules.now in
-    let lives = c.args.lives.now in
-    let index = c.loop-live.live-index in
-    let next = (next_live (g.M.Meter.facts c.args.meter.now) rules.params.now rules.bound rules.ending c.args.table.now c.args.place inv.at inv.low lives index c.loop-live-test.true inv.live).0 in
+    let inv = c.loop-index.invariant in
+    let rules_now = c.args.rules.now in
+    let f = g.M.Meter.facts c.args.meter.now in
+    let table = c.args.table.now in
+    let lives = c.args.lives.now.items in
+    let index = c.loop-index.index in
+    let live = c.index-live.result.now in
+    let within : index < length c.loop-index.lives.items = omega (arith, c.loop-index-test.true, c.len-index-end.ensures, inv.count) in
+    let here : slice_get lives index ≡ Some live =
+    sym (inv.rest index (omega arith)) ∙ slice_get_read c.loop-index.lives.items (length c.loop-index.lives.items) index live refl within c.index-live.ensures in
+    let both = next_live f rules_now.params.now rules_now.bound rules_now.ending table c.args.place inv.at inv.low lives index live here inv.live in
+    let next = both.0 in
     next.group.earlier
 
 pub try_line-sums-requires-clause-trials_bounded : goal.try_line-sums-requires-clause-trials_bounded
 try_line-sums-requires-clause-trials_bounded g c =
-    let inv = c.loop-live.invariant in
-    let rules = c.args.rules.now in
-    let lives = c.args.lives.now in
-    let index = c.loop-live.live-index in
-    let next = (next_live (g.M.Meter.facts c.args.meter.now) rules.params.now rules.bound rules.ending c.args.table.now c.args.place inv.at inv.low lives index c.loop-live-test.true inv.live).0 in
-    let place = (live_at lives index).group.place in
-    omega (arith, c.requires.trials_bounded place, inv.fresh place next.later)
+    let inv = c.loop-index.invariant in
+    let rules_now = c.args.rules.now in
+    let f = g.M.Meter.facts c.args.meter.now in
+    let table = c.args.table.now in
+    let lives = c.args.lives.now.items in
+    let index = c.loop-index.index in
+    let live = c.index-live.result.now in
+    let within : index < length c.loop-index.lives.items = omega (arith, c.loop-index-test.true, c.len-index-end.ensures, inv.count) in
+    let here : slice_get lives index ≡ Some live =
+    sym (inv.rest index (omega arith)) ∙ slice_get_read c.loop-index.lives.items (length c.loop-index.lives.items) index live refl within c.index-live.ensures in
+    let both = next_live f rules_now.params.now rules_now.bound rules_now.ending table c.args.place inv.at inv.low lives index live here inv.live in
+    let next = both.0 in
+    omega (arith, c.requires.trials_bounded live.group.place, inv.fresh live.group.place next.later)
 
 pub offer_line-overfull-requires : goal.offer_line-overfull-requires
 offer_line-overfull-requires g c =
-    let inv = c.loop-live.invariant in
-    let rules = c.args.rules.now in
-    let lives = c.args.lives.now in
-    let index = c.loop-live.live-index in
-    let next = (next_live (g.M.Meter.facts c.args.meter.now) rules.params.now rules.bound rules.ending c.args.table.now c.args.place inv.at inv.low lives index c.loop-live-test.true inv.live).0 in
+    let inv = c.loop-index.invariant in
+    let rules_now = c.args.rules.now in
+    let f = g.M.Meter.facts c.args.meter.now in
+    let table = c.args.table.now in
+    let lives = c.args.lives.now.items in
+    let index = c.loop-index.index in
+    let live = c.index-live.result.now in
+    let within : index < length c.loop-index.lives.items = omega (arith, c.loop-index-test.true, c.len-index-end.ensures, inv.count) in
+    let here : slice_get lives index ≡ Some live =
+    sym (inv.rest index (omega arith)) ∙ slice_get_read c.loop-index.lives.items (length c.loop-index.lives.items) index live refl within c.index-live.ensures in
+    let both = next_live f rules_now.params.now rules_now.bound rules_now.ending table c.args.place inv.at inv.low lives index live here inv.live in
+    let next = both.0 in
     record {
       can = record {
         wide = inv.wide;
@@ -48,90 +70,114 @@ offer_line-overfull-requires g c =
         within = next.group.within;
         earlier = next.group.earlier;
         places = c.requires.places;
-        entries = group_of (pruned (g.M.Meter.facts c.args.meter.now) rules.params.now rules.bound rules.ending) c.args.table.now c.args.place (live_at lives index).group
-            c.requires.filled.is_table next.group;
+        entries = group_of (pruned f rules_now.params.now rules_now.bound rules_now.ending) table c.args.place live.group c.requires.filled.is_table next.group;
         penalty = omega (arith, ints, c.place-at.ensures.penalty_bounded);
         small = c.try_line-sums.ensures.sums_bounded;
       };
+      best = c.requires.best index live here;
     }
 
-pub returns-in_err-keep_group-clause-trials : goal.returns-in_err-keep_group-clause-trials
-returns-in_err-keep_group-clause-trials g c =
-    let inv = c.loop-live.invariant in
-    let rules = c.args.rules.now in
-    let lives = c.args.lives.now in
-    let index = c.loop-live.live-index in
-    let next = (next_live (g.M.Meter.facts c.args.meter.now) rules.params.now rules.bound rules.ending c.args.table.now c.args.place inv.at inv.low lives index c.loop-live-test.true inv.live).0 in
-    swept_more (stops (g.M.Meter.facts c.args.meter.now) rules.params.now rules.ending) c.args.place inv.low (live_at lives index).group.place (g.M.Meter.trials c.args.meter.now) (g.M.Meter.trials c.loop-live.meter)
-    (g.M.Meter.trials c.try_line-sums.new.self) inv.swept inv.fresh next.later next.group.earlier next.trying c.try_line-sums.ensures.counted
-    c.try_line-sums.ensures.others
+pub keep_over-requires : goal.keep_over-requires
+keep_over-requires g c = record { index_bounded = omega (arith, c.loop-index-test.true, c.len-index-end.ensures, c.loop-index.invariant.count) }
 
-pub returns-in_err-keep_group-clause-kept : goal.returns-in_err-keep_group-clause-kept
-returns-in_err-keep_group-clause-kept g c =
-    kept_more (live_at c.args.lives.now c.loop-live.live-index).group.place (g.M.Meter.trials c.args.meter.now) (g.M.Meter.trials c.loop-live.meter) (g.M.Meter.trials c.try_line-sums.new.self)
-    c.loop-live.invariant.kept c.try_line-sums.ensures.counted c.try_line-sums.ensures.others
+pub keep_group-kept-requires : goal.keep_group-kept-requires
+keep_group-kept-requires g c =
+    let items = c.loop-index.lives.items in
+    let live = c.index-live.result.now in
+    let overfull = c.offer_line-overfull.result in
+    let within : c.loop-index.index < length items = omega (arith, c.loop-index-test.true, c.len-index-end.ensures, c.loop-index.invariant.count) in
+    let at_index = slice_get_read items (length items) c.loop-index.index live refl within c.index-live.ensures in
+    let kept : Live =
+    record { group = live.group; over = kept_over live.over overfull (to_z w64 (of_z w64 c.least_width-width.result)); best = live.best } in
+    record {
+      kept_bounded = c.loop-index.invariant.kept_bounded;
+      index_bounded = omega (arith, within, ap length (c.keep_over.ensures live at_index), length-set items c.loop-index.index kept);
+    }
 
-pub loop-live-preserved : goal.loop-live-preserved
-loop-live-preserved g c =
+pub loop-index-preserved : goal.loop-index-preserved
+loop-index-preserved g c =
+    let inv = c.loop-index.invariant in
+    let rules_now = c.args.rules.now in
     let f = g.M.Meter.facts c.args.meter.now in
-    let params = c.args.rules.now.params.now in
-    let ending = c.args.rules.now.ending in
     let table = c.args.table.now in
-    let p = pruned f params c.args.rules.now.bound ending in
-    let stop = stops f params ending in
-    let groups = groups_of c.args.lives.now in
-    let live = live_at c.args.lives.now c.loop-live.live-index in
-    let here = live_here c.args.lives.now c.loop-live.live-index c.loop-live-test.true in
-    let group = live.group in
-    let inv = c.loop-live.invariant in
-    let both = next_live f params c.args.rules.now.bound ending table c.args.place inv.at inv.low c.args.lives.now c.loop-live.live-index c.loop-live-test.true inv.live in
+    let lives = c.args.lives.now.items in
+    let index = c.loop-index.index in
+    let live = c.index-live.result.now in
+    let within : index < length c.loop-index.lives.items = omega (arith, c.loop-index-test.true, c.len-index-end.ensures, inv.count) in
+    let here : slice_get lives index ≡ Some live =
+    sym (inv.rest index (omega arith)) ∙ slice_get_read c.loop-index.lives.items (length c.loop-index.lives.items) index live refl within c.index-live.ensures in
+    let both = next_live f rules_now.params.now rules_now.bound rules_now.ending table c.args.place inv.at inv.low lives index live here inv.live in
     let next = both.0 in
-    let h = g.M.Meter.facts c.loop-live.meter in
-    let bound = c.args.rules.now.bound in
+    let params = rules_now.params.now in
+    let ending = rules_now.ending in
+    let bound = rules_now.bound in
+    let p = pruned f params bound ending in
+    let stop = stops f params ending in
+    let groups = groups_of lives in
+    let group = live.group in
+    let h = g.M.Meter.facts c.loop-index.meter in
     let sums = c.try_line-sums.result in
     let line = line_fits params sums in
     let width = to_z w64 (of_z w64 c.least_width-width.result) in
     let exact : to_z w64 (of_z w64 c.least_width-width.result) ≡ c.least_width-width.result = omega (arith, ints) in
     let is_width : to_z w64 (of_z w64 c.least_width-width.result) ≡ least_width c.try_line-sums.result = exact ∙ c.least_width-width.ensures in
     let overfull = c.offer_line-overfull.result in
-    let long = c.is_more-long.result in
-    let over = c.requires.over c.loop-live.live-index live here in
+    let long = is_more live.over width in
+    let over = c.requires.over index live here in
     let penalty : to_z w32 (of_z w32 c.place-at.result.penalty) ≡ c.place-at.result.penalty = omega (arith, ints) in
     let is_over : overfull ≡ is_overfull f params group.place c.args.place =
     c.offer_line-overfull.ensures.overfull ∙ overfull_of f h params group.place c.args.place sums line refl c.try_line-sums.ensures.sums inv.facts in
     let is_long_line : long ≡ is_long f params group.place c.args.place =
-    long_found f h params group.place c.args.place sums live.over width long c.is_more-long.ensures over is_width
+    long_found f h params group.place c.args.place sums live.over width long refl over is_width
     c.try_line-sums.ensures.sums inv.facts in
-    let tried = pruned_is f h params bound ending group c.args.place (to_z w32 (of_z w32 c.place-at.result.penalty)) sums line c.deactivates-left.result long
-    (penalty ∙ c.place-at.ensures.penalty) refl c.try_line-sums.ensures.sums inv.facts c.deactivates-left.ensures is_long_line in
-    let kept : Live = record { group = group; over = c.kept_over-over.result } in
+    let tried = pruned_is f h params bound ending group c.args.place (to_z w32 (of_z w32 c.place-at.result.penalty)) sums line c.leaves-left.result long
+    (penalty ∙ c.place-at.ensures.penalty) refl c.try_line-sums.ensures.sums inv.facts c.leaves-left.ensures is_long_line in
+    let ended : c.deactivates-ended.result ≡ deactivates ending overfull long =
+    c.deactivates-ended.ensures ∙ ap (deactivates ending overfull) c.leaves-left.ensures ∙ ended_is ending overfull long in
+    let items = c.loop-index.lives.items in
+    let at_index = slice_get_read items (length items) index live refl within c.index-live.ensures in
+    let next_over = kept_over live.over overfull width in
+    let kept : Live = record { group = group; over = next_over; best = live.best } in
+    let marked : c.keep_over.new.lives.items ≡ set items index kept = c.keep_over.ensures live at_index in
+    let stands : slice_get c.keep_over.new.lives.items index ≡ Some kept =
+    ap (λ xs. slice_get xs index) marked ∙ get-set_same items index kept live at_index in
+    let old = take c.loop-index.kept items in
+    let new = take c.keep_group-kept.result c.keep_group-kept.new.lives.items in
+    let same_front : take c.loop-index.kept c.keep_over.new.lives.items ≡ old =
+    ap (take c.loop-index.kept) marked ∙ take-set-le c.loop-index.kept items index kept inv.kept_bounded in
+    let made : new ≡ cond c.deactivates-ended.result old (old ++ kept ∷ []) =
+    c.keep_group-kept.ensures.front kept stands ∙ ap (λ xs. cond c.deactivates-ended.result xs (xs ++ kept ∷ [])) same_front in
     record {
       wide = c.offer_line-overfull.ensures.wide;
       facts = c.try_line-sums.ensures.facts ∙ inv.facts;
-      swept = swept_more stop c.args.place inv.low group.place (g.M.Meter.trials c.args.meter.now) (g.M.Meter.trials c.loop-live.meter)
+      swept = swept_more stop c.args.place inv.low group.place (g.M.Meter.trials c.args.meter.now) (g.M.Meter.trials c.loop-index.meter)
           (g.M.Meter.trials c.try_line-sums.new.self) inv.swept inv.fresh next.later next.group.earlier next.trying c.try_line-sums.ensures.counted
           c.try_line-sums.ensures.others;
-      kept = kept_more group.place (g.M.Meter.trials c.args.meter.now) (g.M.Meter.trials c.loop-live.meter) (g.M.Meter.trials c.try_line-sums.new.self) inv.kept
+      kept = kept_more group.place (g.M.Meter.trials c.args.meter.now) (g.M.Meter.trials c.loop-index.meter) (g.M.Meter.trials c.try_line-sums.new.self) inv.kept
           c.try_line-sums.ensures.counted c.try_line-sums.ensures.others;
-      tried = tried_more groups c.loop-live.live-index group (g.M.Meter.trials c.args.meter.now) (g.M.Meter.trials c.loop-live.meter)
-          (g.M.Meter.trials c.try_line-sums.new.self) inv.tried inv.kept (group_at c.args.lives.now c.loop-live.live-index live here)
+      tried = tried_more groups index group (g.M.Meter.trials c.args.meter.now) (g.M.Meter.trials c.loop-index.meter)
+          (g.M.Meter.trials c.try_line-sums.new.self) inv.tried inv.kept (group_at lives index live here)
           c.try_line-sums.ensures.counted c.try_line-sums.ensures.others;
       at = group.end;
       low = group.place + 1;
-      fresh = fresh_more inv.low group.place (g.M.Meter.trials c.args.meter.now) (g.M.Meter.trials c.loop-live.meter)
+      fresh = fresh_more inv.low group.place (g.M.Meter.trials c.args.meter.now) (g.M.Meter.trials c.loop-index.meter)
           (g.M.Meter.trials c.try_line-sums.new.self) inv.fresh next.later c.try_line-sums.ensures.others;
       live = both.1;
       row = c.offer_line-overfull.ensures.row p refl next.group.since tried
-          (row_quiet p table c.args.place inv.at group.start c.loop-live.offers.row.items next.gap c.requires.last next.quiet inv.row);
-      front = front_more p stop table c.args.place c.args.place inv.at inv.low (groups_of c.loop-live.offers.next.items)
-          (groups_of c.keep_group.new.lives.items) group c.deactivates-ended.result inv.front next
-          (goes_on f params ending group.place c.args.place overfull long c.deactivates-ended.result c.deactivates-ended.ensures is_over is_long_line)
-          (ended_quiet f params bound table c.args.place group ending overfull long c.deactivates-ended.result c.deactivates-ended.ensures is_over is_long_line c.requires.may next.group)
-          (groups_kept c.deactivates-ended.result c.loop-live.offers.next.items c.keep_group.new.lives.items kept c.in_ok-keep_group.ensures);
-      over = over_kept f params (c.args.place + 1) c.deactivates-ended.result c.loop-live.offers.next.items c.keep_group.new.lives.items kept inv.over
-          (over_found f h params group.place c.args.place sums live.over c.kept_over-over.result width overfull next.group.earlier
-          c.kept_over-over.ensures over is_over is_width c.try_line-sums.ensures.sums inv.facts)
-          c.in_ok-keep_group.ensures;
+          (row_quiet p table c.args.place inv.at group.start c.loop-index.row.items next.gap c.requires.last next.quiet inv.row);
+      kept_bounded = omega (arith, inv.kept_bounded, c.keep_group-kept.ensures.result_bounded);
+      count = c.keep_group-kept.ensures.count ∙ ap length marked ∙ length-set items index kept ∙ inv.count;
+      rest = λ k after. c.keep_group-kept.ensures.rest k (omega (arith, inv.kept_bounded)) ∙ ap (λ xs. slice_get xs k) marked
+          ∙ get-set_other items index k kept (λ same. omega (arith, same)) ∙ inv.rest k (omega arith);
+      front = front_more p stop table c.args.place c.args.place inv.at inv.low (groups_of old) (groups_of new) group c.deactivates-ended.result inv.front next
+          (goes_on f params ending group.place c.args.place overfull long c.deactivates-ended.result ended is_over is_long_line)
+          (ended_quiet f params bound table c.args.place group ending overfull long c.deactivates-ended.result ended is_over is_long_line c.requires.may next.group)
+          (groups_kept c.deactivates-ended.result old new kept made);
+      over = over_kept f params (c.args.place + 1) c.deactivates-ended.result old new kept inv.over
+          (over_found f h params group.place c.args.place sums live.over next_over width overfull next.group.earlier
+          refl over is_over is_width c.try_line-sums.ensures.sums inv.facts)
+          made;
+      best = best_kept table c.deactivates-ended.result old new kept inv.best (c.requires.best index live here) made;
     }
 
 pub returns-clause-row : goal.returns-clause-row
@@ -142,10 +188,10 @@ returns-clause-row g c =
     let table = c.args.table.now in
     let p = pruned f params c.args.rules.now.bound ending in
     let stop = stops f params ending in
-    let groups = groups_of c.args.lives.now in
-    let inv = c.loop-live.invariant in
-    let past : length groups ≤ c.loop-live.live-index = omega (arith, c.loop-live-test.false, length-map c.args.lives.now (λ (x : Live). x.group)) in
-    row_end p stop table c.args.place c.args.place inv.at inv.low c.loop-live.live-index groups c.loop-live.offers.row.items past c.requires.last inv.live inv.row
+    let lives = c.args.lives.now.items in
+    let inv = c.loop-index.invariant in
+    let past : length (groups_of lives) ≤ c.loop-index.index = omega (arith, c.loop-index-test.false, c.len-index-end.ensures, length-map lives (λ (x : Live). x.group)) in
+    row_end p stop table c.args.place c.args.place inv.at inv.low c.loop-index.index (groups_of lives) c.loop-index.row.items past c.requires.last inv.live inv.row
 
 pub returns-clause-live : goal.returns-clause-live
 returns-clause-live g c =
@@ -155,13 +201,21 @@ returns-clause-live g c =
     let table = c.args.table.now in
     let p = pruned f params c.args.rules.now.bound ending in
     let stop = stops f params ending in
-    let groups = groups_of c.args.lives.now in
-    let inv = c.loop-live.invariant in
-    let past : length groups ≤ c.loop-live.live-index = omega (arith, c.loop-live-test.false, length-map c.args.lives.now (λ (x : Live). x.group)) in
-    front_end p stop table c.args.place inv.at inv.low c.loop-live.live-index groups (groups_of c.loop-live.offers.next.items) past inv.live inv.front
+    let lives = c.args.lives.now.items in
+    let inv = c.loop-index.invariant in
+    let past : length (groups_of lives) ≤ c.loop-index.index = omega (arith, c.loop-index-test.false, c.len-index-end.ensures, length-map lives (λ (x : Live). x.group)) in
+    λ free. subst (λ xs. IsActive p stop table (c.args.place + 1) c.args.place 0 0 (groups_of xs)) (sym c.truncate.ensures.items)
+    (front_end p stop table c.args.place inv.at inv.low c.loop-index.index (groups_of lives) (groups_of (take c.loop-index.kept c.loop-index.lives.items)) past inv.live inv.front free)
+
+pub returns-clause-over : goal.returns-clause-over
+returns-clause-over g c =
+    subst (AreOver (g.M.Meter.facts c.args.meter.now) c.args.rules.now.params.now (c.args.place + 1)) (sym c.truncate.ensures.items) c.loop-index.invariant.over
+
+pub returns-clause-best : goal.returns-clause-best
+returns-clause-best g c = subst (HaveBest c.args.table.now) (sym c.truncate.ensures.items) c.loop-index.invariant.best
 
 pub returns-clause-tried : goal.returns-clause-tried
 returns-clause-tried g c =
-    let groups = groups_of c.args.lives.now in
-    λ k h is. c.loop-live.invariant.tried k h
-    (omega (arith, c.loop-live-test.false, length-map c.args.lives.now (λ (x : Live). x.group), slice_get_within groups k h is)) is
+    let lives = c.args.lives.now.items in
+    λ k h is. c.loop-index.invariant.tried k h
+    (omega (arith, c.loop-index-test.false, c.len-index-end.ensures, length-map lives (λ (x : Live). x.group), slice_get_within (groups_of lives) k h is)) is

@@ -1,23 +1,27 @@
-use Rattle.std.proofs.Common.{◌≡◌, ◌+◌, ◌≤◌, ◌<◌, ℕ, length, drop, Some}
+use Rattle.std.proofs.Common.{◌≡◌, ◌+◌, ◌≤◌, ◌<◌, ℕ, length, drop, take, Some}
 use Rattle.std.specs.Prelude.{slice_get}
 use Rattle.break_table.specs.declared.group.ActiveGroup.{ActiveGroup}
 use Rattle.break_table.specs.Tables.{slots, IsRow}
-use Rattle.break_core.specs.Active.{stops, pruned, groups_of, AreOver, IsActive, IsSwept, TrialsOnlyGrow}
+use Rattle.break_core.specs.Active.{stops, pruned, groups_of, AreOver, HaveBest, IsActive, IsSwept, TrialsOnlyGrow}
 use Rattle.break_core.proofs.Active.{IsFront}
 use Rattle.break_core.proofs.filling.try_lines.Given as goal
 
-abbrev pub invariant-loop-live : goal.invariant-loop-live
-invariant-loop-live g l = record {
-  wide : length l.offers.row.items ≡ slots l.rules.params.now.first_lines;
+abbrev pub invariant-loop-index : goal.invariant-loop-index
+invariant-loop-index g l = record {
+  wide : length l.row.items ≡ slots l.rules.params.now.first_lines;
   facts : g.M.Meter.facts l.meter ≡ g.M.Meter.facts l.initial.meter;
   swept : IsSwept (stops (g.M.Meter.facts l.initial.meter) l.rules.params.now l.rules.ending) l.place (g.M.Meter.trials l.initial.meter) (g.M.Meter.trials l.meter);
   kept : TrialsOnlyGrow (g.M.Meter.trials l.initial.meter) (g.M.Meter.trials l.meter);
-  tried : (k : ℕ) (h : ActiveGroup) → k < l.live-index → slice_get (groups_of l.lives) k ≡ Some h → g.M.Meter.trials l.initial.meter h.place < g.M.Meter.trials l.meter h.place;
+  tried : (k : ℕ) (h : ActiveGroup) → k < l.index → slice_get (groups_of l.initial.lives.items) k ≡ Some h → g.M.Meter.trials l.initial.meter h.place < g.M.Meter.trials l.meter h.place;
   at : ℕ;
   low : ℕ;
   fresh : (a : ℕ) → low ≤ a → g.M.Meter.trials l.meter a ≤ g.M.Meter.trials l.initial.meter a;
-  live : IsActive (pruned (g.M.Meter.facts l.initial.meter) l.rules.params.now l.rules.bound l.rules.ending) (stops (g.M.Meter.facts l.initial.meter) l.rules.params.now l.rules.ending) l.table l.place l.place at low (drop l.live-index (groups_of l.lives));
-  row : IsRow (pruned (g.M.Meter.facts l.initial.meter) l.rules.params.now l.rules.bound l.rules.ending) l.table l.place at l.offers.row.items;
-  front : IsFront (pruned (g.M.Meter.facts l.initial.meter) l.rules.params.now l.rules.bound l.rules.ending) (stops (g.M.Meter.facts l.initial.meter) l.rules.params.now l.rules.ending) l.table l.place l.place at low (groups_of l.offers.next.items);
-  over : AreOver (g.M.Meter.facts l.initial.meter) l.rules.params.now (l.place + 1) l.offers.next.items;
+  live : IsActive (pruned (g.M.Meter.facts l.initial.meter) l.rules.params.now l.rules.bound l.rules.ending) (stops (g.M.Meter.facts l.initial.meter) l.rules.params.now l.rules.ending) l.table l.place l.place at low (drop l.index (groups_of l.initial.lives.items));
+  row : IsRow (pruned (g.M.Meter.facts l.initial.meter) l.rules.params.now l.rules.bound l.rules.ending) l.table l.place at l.row.items;
+  kept_bounded : l.kept ≤ l.index;
+  count : length l.lives.items ≡ length l.initial.lives.items;
+  rest : (k : ℕ) → l.index ≤ k → slice_get l.lives.items k ≡ slice_get l.initial.lives.items k;
+  front : IsFront (pruned (g.M.Meter.facts l.initial.meter) l.rules.params.now l.rules.bound l.rules.ending) (stops (g.M.Meter.facts l.initial.meter) l.rules.params.now l.rules.ending) l.table l.place l.place at low (groups_of (take l.kept l.lives.items));
+  over : AreOver (g.M.Meter.facts l.initial.meter) l.rules.params.now (l.place + 1) (take l.kept l.lives.items);
+  best : HaveBest l.table (take l.kept l.lives.items);
 }

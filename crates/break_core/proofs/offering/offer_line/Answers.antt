@@ -19,9 +19,6 @@ offer_best-requires-clause-wide c =
     let none : c.args.rules.now.params.now.first_lines ≡ 0 = omega (arith, c.get.ensures.value) in
     c.requires.can.wide ∙ ap slots none
 
-pub offer_best-requires-clause-rises : goal.offer_best-requires-clause-rises
-offer_best-requires-clause-rises c = c.requires.can.rises
-
 pub offer_best-requires-clause-group_bounded : goal.offer_best-requires-clause-group_bounded
 offer_best-requires-clause-group_bounded c = c.requires.can.within
 
@@ -31,14 +28,17 @@ offer_best-requires-clause-earlier c = c.requires.can.earlier
 pub offer_best-requires-clause-entries : goal.offer_best-requires-clause-entries
 offer_best-requires-clause-entries c =
     let none : c.args.rules.now.params.now.first_lines ≡ 0 = omega (arith, c.get.ensures.value) in
-    subst (λ n. IsOf n c.args.table.now c.args.group) none c.requires.can.entries
+    subst (λ n. IsOf n c.args.table.now c.args.live.now.group) none c.requires.can.entries
 
 pub offer_best-requires-clause-places : goal.offer_best-requires-clause-places
 offer_best-requires-clause-places c = c.requires.can.places
 
+pub offer_best-requires-clause-best : goal.offer_best-requires-clause-best
+offer_best-requires-clause-best c = c.requires.best
+
 pub returns-then-left-clause-row : goal.returns-then-left-clause-row
 returns-then-left-clause-row c =
-    left_out c.args.left c.args.table.now c.args.rules.now.params.now c.args.rules.now.bound c.args.group c.args.tried.place c.args.tried.penalty
+    left_out c.args.left c.args.table.now c.args.rules.now.params.now c.args.rules.now.bound c.args.live.now.group c.args.tried.place c.args.tried.penalty
     (line_fits c.args.rules.now.params.now c.args.tried.sums) c.args.row.now.items c.if-left.true c.requires.can.rises c.requires.can.entries
 
 pub returns-then-left-clause-wide : goal.returns-then-left-clause-wide
@@ -55,7 +55,7 @@ returns-in_default-clause-row c =
     let tried = c.args.tried in
     let none : rules.params.now.first_lines ≡ 0 = omega (arith, c.get.ensures.value) in
     let penalty : to_z w32 (of_z w32 tried.penalty) ≡ tried.penalty = omega (arith, ints) in
-    none_line c.args.left c.args.table.now rules.params.now rules.bound c.args.group tried.place tried.penalty tried.sums c.args.row.now.items none c.if-left.false
+    none_line c.args.left c.args.table.now rules.params.now rules.bound c.args.live.now.group tried.place tried.penalty tried.sums c.args.row.now.items none c.if-left.false
     (sym c.in_default.is ∙ c.line_alone.ensures.value ∙ ap (λ x. line_alone rules.params.now rules.bound x c.fit_line-line.result) penalty
     ∙ ap (line_alone rules.params.now rules.bound tried.penalty) c.fit_line-line.ensures.value)
     c.requires.can.rises c.requires.can.entries
@@ -74,7 +74,7 @@ returns-clause-row c =
     let tried = c.args.tried in
     let none : rules.params.now.first_lines ≡ 0 = omega (arith, c.get.ensures.value) in
     let penalty : to_z w32 (of_z w32 tried.penalty) ≡ tried.penalty = omega (arith, ints) in
-    best_line c.args.left c.args.table.now rules.params.now rules.bound c.args.group tried.place tried.penalty tried.sums c.in-Some.alone
+    best_line c.args.left c.args.table.now rules.params.now rules.bound c.args.live.now.group tried.place tried.penalty tried.sums c.in-Some.alone
     c.args.row.now.items c.offer_best.new.row.items none c.if-left.false
     (sym c.in-Some.is ∙ c.line_alone.ensures.value ∙ ap (λ x. line_alone rules.params.now rules.bound x c.fit_line-line.result) penalty
     ∙ ap (line_alone rules.params.now rules.bound tried.penalty) c.fit_line-line.ensures.value)

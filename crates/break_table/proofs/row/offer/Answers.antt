@@ -1,5 +1,5 @@
 use Rattle.std.proofs.Common.{◌≡◌, ◌∙◌, ◌+◌, Some, None, ap, sym, subst}
-use Rattle.break_table.specs.Tables.{slot, extended, offer, IsRow}
+use Rattle.break_table.specs.Tables.{extended, offer, IsRow}
 use Rattle.break_table.proofs.Reached.{offer_is}
 use Rattle.break_table.proofs.Rows.{row_none, row_step}
 use Rattle.break_table.proofs.row.offer.Goals as goal

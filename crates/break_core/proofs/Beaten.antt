@@ -1,0 +1,158 @@
+-- The best entry of a group, and groups that are passed over.
+use Rattle.std.proofs.Common.{◌≡◌, ◌∙◌, ℕ, ◌+◌, ◌<◌, ◌≤◌, ◌++◌, true, false, List, length-append, ap, sym, subst, arith, Option, Some}
+use Rattle.std.specs.Prelude.{ℤ, pos, ◌+ℤ◌, ◌≤ℤ◌, slice_get}
+use Rattle.std.proofs.Math.Logic.{◌⊎◌, inl, inr}
+use Rattle.std.proofs.lemmas.Int.{ints}
+use Rattle.std.proofs.lemmas.Bool.{cases_Bool, cases_lt, cond-true, cond-false}
+use Rattle.std.proofs.lemmas.Option.{same_Some, slice_get_within}
+use Rattle.node_core.specs.declared.params.Params.{Params}
+use Rattle.break_table.specs.declared.group.ActiveGroup.{ActiveGroup}
+use Rattle.break_table.specs.declared.state.Fitness.{Fitness}
+use Rattle.break_table.specs.declared.state.LineCost.{LineCost}
+use Rattle.break_table.specs.Orders.{NotAfter}
+use Rattle.break_table.specs.Problems.{rank}
+use Rattle.break_table.specs.Tables.{Entry, compared_numbers, slot, AreBelow, IsOffered, IsHeld, IsMet}
+use Rattle.break_table.proofs.Dictionary.{not_after_refl, not_after_trans}
+use Rattle.break_table.proofs.Entries.{get_left}
+use Rattle.break_table.proofs.Rows.{slot_apart, offered_at}
+use Rattle.break_lines.specs.Costs.{line_after, adjacent_demerits, is_apart}
+use Rattle.break_core.specs.declared.active_list.Live.{Live}
+use Rattle.break_core.specs.Active.{IsBestOf, HaveBest}
+use Rattle.break_core.specs.Filling.{IsOf, IsBeaten, IsOfferingBest, offer_from}
+use Rattle.break_core.proofs.Active.{shorter}
+use Rattle.break_core.proofs.ActiveNodes.{offers}
+
+-- The first entry is the best one of itself alone.
+pub best_one : (table : List Entry) (start : ℕ) (e : Entry) → slice_get table start ≡ Some e → IsBestOf table start (start + 1) start
+best_one table start e stands =
+    record { low = omega arith; high = omega arith; within = omega (arith, slice_get_within table start e stands); entry = e; stands = stands; best = best }
+  where
+    best : (j : ℕ) (f : Entry) → start ≤ j → j < start + 1 → slice_get table j ≡ Some f → NotAfter (compared_numbers e) (compared_numbers f)
+    best j f low high at =
+        let same : start ≡ j = omega arith in
+        let one : e ≡ f = same_Some e f (sym stands ∙ ap (slice_get table) same ∙ at) in
+        subst (λ x. NotAfter (compared_numbers e) (compared_numbers x)) one (not_after_refl (compared_numbers e))
+
+-- With one more entry, that one is the best, or the best one stays.
+pub best_taken :
+    (table : List Entry) (from to k : ℕ) (e b : Entry)
+    → IsBestOf table from to k → from ≤ to → slice_get table to ≡ Some e → slice_get table k ≡ Some b → NotAfter (compared_numbers e) (compared_numbers b)
+    → IsBestOf table from (to + 1) to
+best_taken table from to k e b is rises stands stands_b before =
+    record { low = rises; high = omega arith; within = omega (arith, slice_get_within table to e stands); entry = e; stands = stands; best = λ j f low high at. best j f low at (cases_lt j to) high }
+  where
+    best : (j : ℕ) (f : Entry) → from ≤ j → slice_get table j ≡ Some f → (j < to) ⊎ (to ≤ j) → j < to + 1 → NotAfter (compared_numbers e) (compared_numbers f)
+    best j f low at (inl less) high =
+        let one : b ≡ is.entry = same_Some b is.entry (sym stands_b ∙ is.stands) in
+        not_after_trans (compared_numbers e) (compared_numbers b) (compared_numbers f) before
+        (subst (λ x. NotAfter (compared_numbers x) (compared_numbers f)) (sym one) (is.best j f low less at))
+    best j f low at (inr most) high =
+        let same : to ≡ j = omega arith in
+        let one : e ≡ f = same_Some e f (sym stands ∙ ap (slice_get table) same ∙ at) in
+        subst (λ x. NotAfter (compared_numbers e) (compared_numbers x)) one (not_after_refl (compared_numbers e))
+
+pub best_stays :
+    (table : List Entry) (from to k : ℕ) (e b : Entry)
+    → IsBestOf table from to k → slice_get table to ≡ Some e → slice_get table k ≡ Some b → NotAfter (compared_numbers b) (compared_numbers e)
+    → IsBestOf table from (to + 1) k
+best_stays table from to k e b is stands stands_b before =
+    record { low = is.low; high = omega (arith, is.high); within = omega (arith, slice_get_within table to e stands); entry = is.entry; stands = is.stands; best = λ j f low high at. best j f low at (cases_lt j to) high }
+  where
+    best : (j : ℕ) (f : Entry) → from ≤ j → slice_get table j ≡ Some f → (j < to) ⊎ (to ≤ j) → j < to + 1 → NotAfter (compared_numbers is.entry) (compared_numbers f)
+    best j f low at (inl less) high = is.best j f low less at
+    best j f low at (inr most) high =
+        let same : to ≡ j = omega arith in
+        let one : e ≡ f = same_Some e f (sym stands ∙ ap (slice_get table) same ∙ at) in
+        let best_is : b ≡ is.entry = same_Some b is.entry (sym stands_b ∙ is.stands) in
+        subst (λ x. NotAfter (compared_numbers is.entry) (compared_numbers x)) one
+        (subst (λ x. NotAfter (compared_numbers x) (compared_numbers e)) best_is before)
+
+-- The best entries stay the best ones in a longer table.
+pub best_longer : (table more : List Entry) (lives : List Live) → HaveBest table lives → HaveBest (table ++ more) lives
+best_longer table more lives are k live at =
+    let is = are k live at in
+    record {
+      low = is.low;
+      high = is.high;
+      within = omega (arith, is.within, length-append table more);
+      entry = is.entry;
+      stands = get_left table more live.best is.entry is.stands;
+      best = λ j f low high there. is.best j f low high (shorter table more j f (omega (arith, is.within)) there);
+    }
+
+-- Demerits for visually incompatible lines are at least adjdemerits or 0.
+pub adjacent_low :
+    (params : Params) (before class : Fitness) (n : ℤ) → n ≤ℤ params.adj_demerits → n ≤ℤ pos 0 → n ≤ℤ adjacent_demerits params before class
+unfolding adjacent_demerits
+adjacent_low params before class n most none = cases (cases_Bool (is_apart before class))
+  where
+    cases : (is_apart before class ≡ true) ⊎ (is_apart before class ≡ false) → n ≤ℤ adjacent_demerits params before class
+    cases (inl apart) = subst (λ x. n ≤ℤ x) (sym (cond-true (is_apart before class) params.adj_demerits (pos 0) apart)) most
+    cases (inr near) = subst (λ x. n ≤ℤ x) (sym (cond-false (is_apart before class) params.adj_demerits (pos 0) near)) none
+
+-- An entry whose costs are below those of the best one with a line comes before each offer with at least the demerits of this line.
+below_after :
+    (h b e o : Entry) (line : LineCost)
+    → AreBelow h b line → NotAfter (compared_numbers b) (compared_numbers e) → o.overhang ≡ e.overhang +ℤ line.overhang
+    → (e.demerits +ℤ line.demerits) ≤ℤ o.demerits → NotAfter (compared_numbers h) (compared_numbers o)
+below_after h b e o line (inl less) (inl lower) overhang demerits = inl (omega (arith, ints))
+below_after h b e o line (inl less) (inr same) overhang demerits = let at = same.0 in inl (omega (arith, ints))
+below_after h b e o line (inr less) (inl lower) overhang demerits = let at = less.0 in inl (omega (arith, ints))
+below_after h b e o line (inr less) (inr (same, inl lower)) overhang demerits =
+    let at = less.0 in
+    let below = less.1 in
+    inr (omega (arith, ints), inl (omega (arith, ints)))
+below_after h b e o line (inr less) (inr (same, inr rest)) overhang demerits =
+    let at = less.0 in
+    let below = less.1 in
+    let equal = rest.0 in
+    inr (omega (arith, ints), inl (omega (arith, ints)))
+
+-- If the offer that is held for their state is better, the offers of a group change nothing.
+pub beaten_offered :
+    (table : List Entry) (params : Params) (group : ActiveGroup) (place : ℕ) (alone : LineCost) (k : ℕ) (b : Entry) (held : Option Entry) (row : List (Option Entry))
+    → IsOf 0 table group → IsBestOf table group.start group.end k → slice_get table k ≡ Some b → slice_get row (rank alone.class) ≡ Some held
+    → IsBeaten held b params alone → IsOfferingBest table params group place alone row row
+beaten_offered table params group place alone k b held row of best stands_b stands is p cut late follow before =
+    record {
+      wide = before.wide;
+      held = λ s o at. longer s o (before.held s o at);
+      met = λ j o below offered. met j o below offered (cases_lt j group.start);
+    }
+  where
+    longer : (s : ℕ) (o : Entry) → IsHeld p table place group.start s o → IsHeld p table place group.end s o
+    longer s o h = record { k = h.k; below = omega (arith, h.below, best.low, best.high); offered = h.offered; here = h.here }
+
+    after : (j : ℕ) (o : Entry) → group.start ≤ j → j < group.end → IsOffered p table place j o → IsMet row o
+    after j o low high offered =
+        let e = offered.by in
+        let in_group = of j e low high offered.stands in
+        let made : offer_from params e j place alone ≡ o =
+        same_Some (offer_from params e j place alone) o (sym (offers p params group place alone e j cut late follow in_group.0) ∙ offered.offers) in
+        let there : slice_get row (rank alone.class) ≡ Some (Some is.entry) = stands ∙ ap Some is.is in
+        let h = before.held (rank alone.class) is.entry there in
+        let at_h = offered_at p table place h.k is.entry h.offered in
+        let at_o = offered_at p table place j o offered in
+        let class : o.end.class ≡ alone.class = ap (λ x. x.end.class) (sym made) in
+        let here : slot o.end ≡ rank alone.class = omega (arith, at_o.1, cut, ap rank class) in
+        let same : is.entry.end ≡ o.end = slot_apart is.entry.end o.end (at_h.0 ∙ sym at_o.0) (h.here ∙ sym here) in
+        let one : b ≡ best.entry = same_Some b best.entry (sym stands_b ∙ best.stands) in
+        let least : NotAfter (compared_numbers b) (compared_numbers e) =
+        subst (λ x. NotAfter (compared_numbers x) (compared_numbers e)) (sym one) (best.best j e low high offered.stands) in
+        let overhang : o.overhang ≡ e.overhang +ℤ is.line.overhang =
+        ap (λ x. x.overhang) (sym made) ∙ ap (λ x. e.overhang +ℤ x) (sym is.overhang) in
+        let demerits : o.demerits ≡ e.demerits +ℤ (line_after params e.end.class alone).demerits = ap (λ x. x.demerits) (sym made) in
+        let more : (e.demerits +ℤ is.line.demerits) ≤ℤ o.demerits = more_demerits e.demerits is.line.demerits (line_after params e.end.class alone).demerits o.demerits demerits (is.demerits e.end.class) in
+        record {
+          held = is.entry;
+          stands = ap (slice_get row) here ∙ there;
+          same = same;
+          before = below_after is.entry b e o is.line is.below least overhang more;
+        }
+      where
+        more_demerits : (d n m o : ℤ) → o ≡ d +ℤ m → n ≤ℤ m → (d +ℤ n) ≤ℤ o
+        more_demerits d n m o made most = omega (arith, ints)
+
+    met : (j : ℕ) (o : Entry) → j < group.end → IsOffered p table place j o → (j < group.start) ⊎ (group.start ≤ j) → IsMet row o
+    met j o high offered (inl low) = before.met j o low offered
+    met j o high offered (inr low) = after j o low high offered
