@@ -1,5 +1,5 @@
 -- The fonts that a page defines, slot by slot.
-use Rattle.std.proofs.Common.{◌≡◌, ◌≢◌, ℕ, zero, suc, ◌+◌, ◌<◌, List, [], ◌∷◌, ◌++◌, length, set, refl, ap, ap₂, sym, ◌∙◌, add-one, append-nil, get_or, arith}
+use Rattle.std.proofs.Common.{◌≡◌, ◌≢◌, ℕ, zero, suc, ◌+◌, ◌-◌, ◌<◌, List, [], ◌∷◌, ◌++◌, length, set, take, drop, refl, ap, ap₂, sym, ◌∙◌, add-one, append-nil, get_or, arith}
 use Rattle.std.specs.Prelude.{ℤ, pos, Option, Some, None, Bool, true, false, not, is_some, filter, if◌then◌else◌, ◌&&◌, ◌||◌}
 use Rattle.std.specs.List.{list_any}
 use Rattle.std.specs.Ordering.{int_eq}
@@ -12,6 +12,7 @@ use Rattle.std.proofs.lemmas.List.Elements.{filter-append}
 use Rattle.std.proofs.lemmas.List.Folds.{list_any-append}
 use Rattle.tfm_core.specs.Slots.{Slots, font_in}
 use Rattle.dvi_ops.specs.Instruction.{FontNum, Instruction, Do}
+use Rattle.dvi_ops.specs.Runs.{characters, woven}
 use Rattle.dvi_layout.specs.Sheets.{numbers_below, selects, font_of, is_among, is_fresh, is_marked_fresh, fresh_slots, in_rising_order}
 
 -- One more number passes a test, or does not.
@@ -113,3 +114,20 @@ fresh-is fonts defined marked is n all same =
 pub in_rising_order-is : (defined : List ℕ) (n : ℕ) → n ≡ 256 → filter (λ slot. is_among slot defined) (numbers_below n) ≡ in_rising_order defined
 unfolding in_rising_order
 in_rising_order-is defined n all = ap (λ k. filter (λ slot. is_among slot defined) (numbers_below k)) all
+
+-- Characters select no font.
+selects-characters : (slot : ℕ) (codes : List ℕ) (rest : List Instruction) → list_any (selects slot) (characters codes ++ rest) ≡ list_any (selects slot) rest
+selects-characters slot [] rest = refl
+selects-characters slot (c ∷ codes) rest = selects-characters slot codes rest
+
+-- So the fonts of a body are those that its other instructions select.
+pub selects-woven :
+    (slot from : ℕ) (codes places : List ℕ) (is : List Instruction) → length places ≡ length is
+    → list_any (selects slot) (woven from codes places is) ≡ list_any (selects slot) is
+selects-woven slot from codes [] [] paired =
+    ap (list_any (selects slot)) (sym (append-nil (characters codes))) ∙ selects-characters slot codes []
+selects-woven slot from codes [] (i ∷ is) paired = absurd (omega (arith, paired))
+selects-woven slot from codes (place ∷ places) [] paired = absurd (omega (arith, paired))
+selects-woven slot from codes (place ∷ places) (i ∷ is) paired =
+    selects-characters slot (take (place - from) codes) (i ∷ woven place (drop (place - from) codes) places is)
+    ∙ ap (λ (b : Bool). selects slot i || b) (selects-woven slot place (drop (place - from) codes) places is (omega (arith, paired)))

@@ -6,7 +6,9 @@ ghost use Rattle.dvi_ops.specs.declared.op.Op.TheVariants as ops;
 ghost use Rattle.dvi_ops.specs.declared.opcodes.TheConstants.{PADDING};
 ghost use Rattle.dvi_ops.specs.Layout.{bytes_of, define, padding_after};
 ghost use Rattle.dvi_ops.specs.Spelling.{HasSpelling};
+ghost use Rattle.dvi_ops.specs.Runs.{instructions_of};
 ghost use Rattle.dvi_ops.specs.View.{body_view, view};
+ghost use Rattle.ship_core.specs.Pushes.{max_pushed};
 ghost use Rattle.std.specs.List.{AllByRecursion, list_any};
 ghost use Rattle.std.specs.Ordering.{int_eq};
 ghost use Rattle.std.specs.Option.{option_map};
@@ -14,7 +16,7 @@ ghost use Rattle.dvi_layout.specs.Sheets.{definition_of, definitions_of, font_of
 ghost use Rattle.dvi_ops.specs.Forest.{Forest, flat, nests};
 ghost use Rattle.std.specs.Prelude.{filter};
 
-use dvi_ops::{BodyOp, FontDefinition, Op, Units, opcodes, spell, spell_body};
+use dvi_ops::{BodyOp, FontDefinition, Op, PageRuns, Units, opcodes, spell};
 use ship_core::pushed_after;
 use std::alloc::{AllocError, Global};
 use tfm_core::{FONT_SLOTS, Fonts, LoadedFont};
@@ -42,39 +44,23 @@ pub fn append_all(bytes: &mut Vec<u8>, ops: &[Op<'_>]) -> Result<(), AllocError>
     Ok(())
 }
 
-/// Appends the spellings of the instructions of a body. Where memory is refused, `bytes` is unchanged.
-pub fn append_body(bytes: &mut Vec<u8>, body: &[BodyOp<'_>]) -> Result<(), AllocError>
-    requires { AllByRecursion HasSpelling (map body_view body.now) }
-    ensures ok { OnOk result (bytes.new.items ≡ bytes.old.items ++ bytes_of (map body_view body.now)) }
-    ensures err { OnErr result (bytes.new.items ≡ bytes.old.items) }
-{
-    let held = bytes.len();
-    for op in body {
-        if spell_body(op, bytes).is_err() {
-            bytes.truncate(held);
-            return Err(AllocError);
-        }
-    }
-    Ok(())
-}
-
 /// Appends the spellings of a page with these counts and this body, from bop to eop. `last` is the place of the previous bop, or -1. Where memory is
 /// refused, a beginning of the spellings may be there.
 pub fn append_page(
     bytes: &mut Vec<u8>,
     counts: &[i32; 10],
-    body: &[BodyOp<'_>],
+    body: &PageRuns<'_>,
     last: i32,
 ) -> Result<(), AllocError>
-    requires { AllByRecursion HasSpelling (map body_view body.now) }
-    ensures { OnOk result (bytes.new.items ≡ bytes.old.items ++ bytes_of (Bop counts.now last ∷ (map body_view body.now ++ Eop ∷ []))) }
+    requires { AllByRecursion HasSpelling (instructions_of body.now) }
+    ensures { OnOk result (bytes.new.items ≡ bytes.old.items ++ bytes_of (Bop counts.now last ∷ (instructions_of body.now ++ Eop ∷ []))) }
 {
     let bop = Op::Bop {
         counts: *counts,
         pointer: last,
     };
     spell(&bop, bytes)?;
-    append_body(bytes, body)?;
+    body.append_to(bytes)?;
     spell(&Op::Eop, bytes)
 }
 
@@ -103,10 +89,10 @@ struct Passed {
     deepest: usize,
 }
 
-/// Passes over the instructions of a body once.
+/// Passes over instructions of a body once.
 fn pass_over(ops: &[BodyOp<'_>]) -> Passed
     ensures selected { (slot : ℕ) → slot < 256 → get_or result.selected slot false ≡ list_any (selects slot) (map body_view ops.now) }
-    ensures deepest { (forest : Forest) → map body_view ops.now ≡ flat forest → result.deepest ≡ nests forest }
+    ensures deepest { result.deepest ≡ max_pushed 0 (map body_view ops.now) }
 {
     let mut selected = [false; FONT_SLOTS];
     let mut pushed: usize = 0;
@@ -161,18 +147,18 @@ fn marked_fresh(
     Ok(slots)
 }
 
-/// The slots of the fonts that these instructions select and that are not defined yet, in rising order; and the greatest number of pushes that are
-/// open at once. One pass over the instructions gives both.
+/// The slots of the fonts that a body selects and that are not defined yet, in rising order; and the greatest number of pushes that are open at once.
+/// One pass over the instructions that are no characters gives both.
 pub fn fresh_slots(
     alloc: Global,
     fonts: &Fonts,
     defined: &[u8],
-    ops: &[BodyOp<'_>],
+    body: &PageRuns<'_>,
 ) -> Result<(Vec<u8>, usize), AllocError>
-    ensures slots { IfOk result (λ found. found.0.items ≡ fresh_slots fonts.now defined.now (map body_view ops.now)) }
-    ensures deepest { IfOk result (λ found. (forest : Forest) → map body_view ops.now ≡ flat forest → found.1 ≡ nests forest) }
+    ensures slots { IfOk result (λ found. found.0.items ≡ fresh_slots fonts.now defined.now (instructions_of body.now)) }
+    ensures deepest { IfOk result (λ found. (forest : Forest) → instructions_of body.now ≡ flat forest → found.1 ≡ nests forest) }
 {
-    let passed = pass_over(ops);
+    let passed = pass_over(&body.ops);
     let slots = marked_fresh(alloc, fonts, defined, &passed.selected)?;
     Ok((slots, passed.deepest))
 }

@@ -1,23 +1,23 @@
 //! A page that a file has room for: its reference point, its load, its edges, and its instructions as they are written.
 
-ghost use Rattle.std.specs.Prelude.{◌≡◌, ◌≤◌, ◌+ℤ◌, true, false, map, if◌then◌else◌, OnOk, IfOk, IfErr};
+ghost use Rattle.std.specs.Prelude.{◌≡◌, ◌≤◌, ◌+ℤ◌, true, false, if◌then◌else◌, OnOk, IfOk, IfErr};
 ghost use Rattle.dvi_ops.specs.Forest.{flat};
-ghost use Rattle.dvi_ops.specs.View.{body_view};
+ghost use Rattle.dvi_ops.specs.Runs.{instructions_of};
 ghost use Rattle.scaled_core.specs.Dimensions.{fits};
 ghost use Rattle.page_core.specs.Marks.{is_huge};
 ghost use Rattle.dvi_layout.specs.Admitted.{shipped_page};
 ghost use Rattle.dvi_layout.specs.Sheets.{written_body};
 
 use crate::fault::WriteFault;
-use dvi_ops::BodyOp;
-use move_core::reuse;
+use dvi_ops::PageRuns;
+use move_core::reuse_runs;
 use node_core::BoxNode;
 use page_core::PagePoint;
 use scaled_core::Dimen;
-use ship_core::{ShipFault, plan_with_room};
+use ship_core::{ShipFault, plan_runs};
 use std::alloc::Global;
 
-/// The greatest capacity for instructions of a page at the start. A page of a book has fewer instructions.
+/// The greatest capacity for characters of a page at the start. A page of a book has fewer characters.
 const MAX_ROOM: u64 = 16_384;
 
 /// The number of nodes of the box of a page, and the number of bytes in the texts of its specials.
@@ -36,7 +36,7 @@ pub struct AdmittedPage<'a> {
     pub load: PageLoad,
 }
 
-/// The capacity for instructions of a page with that many nodes: an eighth more, for the groups and the movements of its lines.
+/// The capacity for characters of a page with that many nodes. A quarter of it is for the other instructions, so a page of few nodes gets more.
 fn room_for(nodes: u64) -> usize
     // More room than the bound could be refused where the page itself finds memory.
     ensures { result ≤ 16384 }
@@ -48,18 +48,15 @@ fn room_for(nodes: u64) -> usize
 }
 
 /// The instructions of a page body as it is written. The fault is HugePage exactly where the page is huge, and OutOfMemory otherwise.
-pub fn written_body<'a>(
-    alloc: Global,
-    page: &AdmittedPage<'a>,
-) -> Result<Vec<BodyOp<'a>>, WriteFault>
-    ensures ok { IfOk result (λ ops. map body_view ops.items ≡ flat (written_body (shipped_page page.now))) }
+pub fn written_body<'a>(alloc: Global, page: &AdmittedPage<'a>) -> Result<PageRuns<'a>, WriteFault>
+    ensures ok { IfOk result (λ runs. instructions_of runs ≡ flat (written_body (shipped_page page.now))) }
     ensures fits { OnOk result (is_huge (shipped_page page.now) ≡ false) }
     ensures err { IfErr result (λ fault. fault
         ≡ (if is_huge (shipped_page page.now) then WriteFault.HugePage else WriteFault.OutOfMemory)) }
 {
     let room = room_for(page.load.nodes);
-    match plan_with_room(alloc, page.box_node, page.at, room) {
-        Ok(drawn) => Ok(reuse(drawn)?),
+    match plan_runs(alloc, page.box_node, page.at, room) {
+        Ok(drawn) => Ok(reuse_runs(drawn)?),
         Err(ShipFault::HugePage) => Err(WriteFault::HugePage),
         Err(ShipFault::OutOfMemory) => Err(WriteFault::OutOfMemory),
     }

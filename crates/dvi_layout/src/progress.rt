@@ -8,7 +8,8 @@ ghost use Rattle.dvi_ops.specs.declared.op.Op.TheVariants as ops;
 ghost use Rattle.dvi_ops.specs.Forest.{Forest, flat, nests};
 ghost use Rattle.dvi_ops.specs.Layout.{bytes_of, define};
 ghost use Rattle.dvi_ops.specs.Spelling.{HasSpelling};
-ghost use Rattle.dvi_ops.specs.View.{body_view, view};
+ghost use Rattle.dvi_ops.specs.Runs.{instructions_of};
+ghost use Rattle.dvi_ops.specs.View.{view};
 ghost use Rattle.node_core.specs.Nodes.{box_count, box_text};
 ghost use Rattle.page_core.specs.Marks.{is_huge};
 ghost use Rattle.page_core.specs.Pages.{page_at, reach_down, reach_right};
@@ -24,7 +25,7 @@ use crate::layout::{
     in_rising_order,
 };
 use crate::page::{AdmittedPage, PageLoad, reach_down, reach_right, written_body};
-use dvi_ops::{BodyOp, Op, Postamble, opcodes};
+use dvi_ops::{Op, PageRuns, Postamble, opcodes};
 use node_core::BoxNode;
 use node_core::limits::{MAX_PAGES, MAX_SHIPPED_NODES, MAX_SHIPPED_TEXT};
 use scaled_core::Dimen;
@@ -149,15 +150,16 @@ impl Progress {
         fonts: &Fonts,
         slots: &[u8],
         counts: &[i32; 10],
-        body: &[BodyOp<'_>],
+        body: &PageRuns<'_>,
     ) -> Result<(Vec<u8>, usize), AllocError>
-        requires { AllByRecursion HasSpelling (map body_view body.now) }
-        ensures bytes { IfOk result (λ page. page.0.items ≡ bytes_of ((opening self.now.pages ++ define (definitions_of fonts.now slots.now)) ++ (Bop counts.now self.now.last ∷ (map body_view body.now ++ Eop ∷ [])))) }
+        requires { AllByRecursion HasSpelling (instructions_of body.now) }
+        ensures bytes { IfOk result (λ page. page.0.items ≡ bytes_of ((opening self.now.pages ++ define (definitions_of fonts.now slots.now)) ++ (Bop counts.now self.now.last ∷ (instructions_of body.now ++ Eop ∷ [])))) }
         ensures bop { IfOk result (λ page. page.1 ≡ length (bytes_of (opening self.now.pages ++ define (definitions_of fonts.now slots.now)))) }
     {
         let mut before = opening(alloc, self.pages)?;
         append_definitions(fonts, slots, &mut before)?;
-        let mut bytes = Vec::with_capacity(alloc, body.len().saturating_add(body.len() / 2))?;
+        let movements = body.ops.len().saturating_mul(3);
+        let mut bytes = Vec::with_capacity(alloc, body.codes.len().saturating_add(movements))?;
         append_all(&mut bytes, &before)?;
         let bop = bytes.len();
         append_page(&mut bytes, counts, body, self.last)?;
@@ -192,9 +194,9 @@ impl Progress {
     }
 
     /// Adds the depth of a page with this body to the numbers: the greatest number of pushes that are open at once.
-    fn keep_depth(&mut self, body: &[BodyOp<'_>], deepest: usize)
-        requires { (forest : Forest) → map body_view body.now ≡ flat forest → deepest ≡ nests forest }
-        ensures { (forest : Forest) → map body_view body.now ≡ flat forest → self.new ≡ record self.old { deep = max self.old.deep (nests forest) } }
+    fn keep_depth(&mut self, body: &PageRuns<'_>, deepest: usize)
+        requires { (forest : Forest) → instructions_of body.now ≡ flat forest → deepest ≡ nests forest }
+        ensures { (forest : Forest) → instructions_of body.now ≡ flat forest → self.new ≡ record self.old { deep = max self.old.deep (nests forest) } }
     {
         let _body = body;
         self.deep = self.deep.max(deepest);

@@ -15,3 +15,4 @@ pub mod WholeFile
 pub mod Ranges
 pub mod KnownFiles
 pub mod NoFiles
+pub mod Runs

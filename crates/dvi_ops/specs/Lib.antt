@@ -6,6 +6,8 @@ pub mod Reading
 pub mod Body
 pub mod Forest
 pub mod Plain
+pub mod Rising
+pub mod Runs
 pub mod Walk
 pub mod Tokens
 pub mod Fonts

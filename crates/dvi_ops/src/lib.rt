@@ -10,12 +10,15 @@ pub mod op;
 pub mod opcodes;
 mod operand;
 pub mod page_body;
+mod page_runs;
 mod reading;
+mod run_spelling;
 mod spelling;
 
 pub use body_op::BodyOp;
 pub use body_spelling::spell_body;
 pub use fault::OpFault;
 pub use op::{FontDefinition, Op, Postamble, Units};
+pub use page_runs::PageRuns;
 pub use reading::next;
 pub use spelling::{counts_fit, spell};

@@ -27,12 +27,16 @@ fn append(out: &mut Vec<u8>, parts: &[&[u8]]) -> Result<(), AllocError>
     Ok(())
 }
 
-/// Appends a byte.
+/// Appends a byte. The first case is a store without a call, and most bytes take it.
 #[inline(always)]
 pub fn append_byte(out: &mut Vec<u8>, byte: u8) -> Result<(), AllocError>
     ensures ok { OnOk result (out.new.items ≡ out.old.items ++ byte ∷ []) }
     ensures err { OnErr result (out.new.items ≡ out.old.items) }
 {
+    if out.len() < out.capacity() {
+        out.push_reserved(byte);
+        return Ok(());
+    }
     out.push(byte)?;
     Ok(())
 }
@@ -77,7 +81,8 @@ pub fn size_of_code(value: i32) -> usize
     }
 }
 
-/// Appends the code for an operand of `size` bytes, and the `size` lowest bytes of a number. `first` is the code for an operand of one byte.
+/// Appends the code for an operand of `size` bytes, and the `size` lowest bytes of a number. `first` is the code for an operand of one byte. Room is made
+/// first, so each byte is a store without a call.
 #[tactic(auto, using(crate::proofs::Operands::operands))]
 pub fn append_coded(out: &mut Vec<u8>, first: u8, size: usize, value: i32) -> Result<(), AllocError>
     requires low { 1 ≤ size }
@@ -87,7 +92,14 @@ pub fn append_coded(out: &mut Vec<u8>, first: u8, size: usize, value: i32) -> Re
     ensures ok { OnOk result (out.new.items ≡ out.old.items ++ coded (first - 1) size value) }
     ensures err { OnErr result (out.new.items ≡ out.old.items) }
 {
-    append(out, &[&[first - 1 + size as u8], &word(value)[4 - size..]])
+    let word = word(value);
+    let digits = &word[4 - size..];
+    out.reserve(1 + size)?;
+    out.push_reserved(first - 1 + size as u8);
+    for digit in digits {
+        out.push_reserved(*digit);
+    }
+    Ok(())
 }
 
 /// Appends a character: set_char or set1 to set4.

@@ -11,3 +11,4 @@ pub mod Passing
 pub mod SameBody
 pub mod PlainBodies
 pub mod Sheets
+pub mod Apart

@@ -11,5 +11,5 @@ mod passes;
 pub mod plain;
 mod registers;
 
-pub use page::reuse;
+pub use page::{reuse, reuse_runs};
 pub use plain::is_plain_body;

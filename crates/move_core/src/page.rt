@@ -5,12 +5,13 @@ ghost use Rattle.std.specs.List.{AllByRecursion};
 ghost use Rattle.dvi_ops.specs.Instruction.{Axis};
 ghost use Rattle.dvi_ops.specs.Forest.{Forest, flat};
 ghost use Rattle.dvi_ops.specs.Layout.{IsWritable, bytes_of};
+ghost use Rattle.dvi_ops.specs.Runs.{instructions_of};
 ghost use Rattle.dvi_ops.specs.View.{body_view};
 ghost use Rattle.move_core.specs.Reused.{reused};
 ghost use Rattle.move_core.specs.SamePage.{AreBodies, HasNoHollow, IsPlainBody, MeansTheSame, NestsNoDeeper, PassesThroughNoOther, SetsAhead, UsesStored, still, unset};
 
-use crate::passes::{with_registers, without_empty_groups};
-use dvi_ops::BodyOp;
+use crate::passes::{has_empty_group, with_registers, without_empty_groups};
+use dvi_ops::{BodyOp, PageRuns};
 use std::alloc::AllocError;
 
 /// Writes the movements of a page body with w, x, y and z where their amounts come again, and removes empty groups. Where memory is refused, the list
@@ -43,4 +44,30 @@ pub fn reuse<'a>(ops: Vec<BodyOp<'a>>) -> Result<Vec<BodyOp<'a>>, AllocError>
 {
     let trimmed = without_empty_groups(ops)?;
     with_registers(trimmed)
+}
+
+/// As `reuse_runs`, for a body that may have empty groups. Few pages have them, so the body is listed here.
+fn reuse_list<'a>(runs: &PageRuns<'a>) -> Result<PageRuns<'a>, AllocError>
+    requires { IsPlainBody (instructions_of runs.now) }
+    ensures { IfOk result (λ written. (body : Forest) → instructions_of runs.now ≡ flat body → instructions_of written ≡ flat (reused body)) }
+{
+    let alloc = *runs.ops.allocator();
+    let drawn = runs.instructions(alloc)?;
+    let ops = reuse(drawn)?;
+    let written = PageRuns::of(alloc, &ops)?;
+    Ok(written)
+}
+
+/// As `reuse`, for a body whose characters stand apart. A character uses no register, so the movements are written as among the other instructions
+/// alone. Where a pop comes directly after a push there, characters may stand between the two: then all instructions are listed first.
+pub fn reuse_runs<'a>(runs: PageRuns<'a>) -> Result<PageRuns<'a>, AllocError>
+    requires { IsPlainBody (instructions_of runs) }
+    ensures { IfOk result (λ written. (body : Forest) → instructions_of runs.entry ≡ flat body → instructions_of written ≡ flat (reused body)) }
+{
+    if has_empty_group(&runs.ops) {
+        return reuse_list(&runs);
+    }
+    let PageRuns { codes, places, ops } = runs;
+    let ops = with_registers(ops)?;
+    Ok(PageRuns { codes, places, ops })
 }

@@ -38,7 +38,7 @@ fn is_push(op: &BodyOp<'_>) -> bool
 }
 
 /// Whether some pop comes directly after a push.
-fn has_empty_group(ops: &[BodyOp<'_>]) -> bool
+pub fn has_empty_group(ops: &[BodyOp<'_>]) -> bool
     ensures { result ≡ has_empty_group false (map body_view ops.now) }
 {
     let mut pushed = false;
@@ -73,12 +73,17 @@ fn is_move(op: &BodyOp<'_>) -> bool
     matches!(op, BodyOp::Right(_) | BodyOp::Down(_))
 }
 
-/// Appends the flag of an instruction, if it is a movement without a register.
+/// Appends the flag of an instruction, if it is a movement without a register. The first case is a store without a call.
+#[inline(always)]
 fn push_flag(flags: &mut Vec<bool>, op: &BodyOp<'_>, again: bool) -> Result<(), AllocError>
     ensures { OnOk result ((rest : List Instruction) → again ≡ again_in (body_view op.now) rest → reverse flags.old.items ≡ flags_of rest →
         reverse flags.new.items ≡ flags_of (body_view op.now ∷ rest)) }
 {
     if !is_move(op) {
+        return Ok(());
+    }
+    if flags.len() < flags.capacity() {
+        flags.push_reserved(again);
         return Ok(());
     }
     flags.push(again)?;
@@ -90,7 +95,7 @@ fn which_come_again(alloc: Global, ops: &[BodyOp<'_>]) -> Result<Vec<bool>, Allo
     ensures { IfOk result (λ flags. reverse flags.items ≡ flags_of (map body_view ops.now)) }
 {
     let mut later = Later::new(alloc);
-    let mut flags = Vec::new(alloc);
+    let mut flags = Vec::with_capacity(alloc, ops.len())?;
     for i in (0..ops.len()).rev() {
         let again = later.meet(alloc, ops[i])?;
         push_flag(&mut flags, &ops[i], again)?;

@@ -204,3 +204,7 @@ told P found at is holds = subst (λ (f : Option (Point ℤ)). IfSome f P) is ho
 
 pub told_on : (P : Type 0) (found : Option (Point ℤ)) (at : Point ℤ) → found ≡ Some at → OnSome found P → P
 told_on P found at is holds = subst (λ (f : Option (Point ℤ)). OnSome f P) is holds
+
+-- The facts about an index that was found.
+pub told_index : (P : ℕ → Type 0) (found : Option ℕ) (n : ℕ) → found ≡ Some n → IfSome found P → P n
+told_index P found n is holds = subst (λ (f : Option ℕ). IfSome f P) is holds

@@ -64,6 +64,29 @@ fn is_rigid(node: &Node) -> bool
     }
 }
 
+/// Moves a cursor past a glyph of a horizontal list at the position `at`, which it has reached, and returns the position after it, where that fits.
+#[inline(always)]
+pub fn go_past_glyph(
+    cursor: &mut Cursor,
+    box_node: &BoxNode,
+    begin: &ListOrigin,
+    at: &PagePosition,
+    glyph: &Glyph,
+) -> Option<PagePosition>
+    requires kind { box_node.now.kind ≡ Kind.Horizontal }
+    requires items_bounded { cursor.old.passed < max_nodes }
+    requires at { point_in box_node.now begin.now.h begin.now.v (place_at box_node.now.setting cursor.old) ≡ Some at.now }
+    ensures cursor { cursor.new ≡ one_more box_node.now.kind box_node.now.setting cursor.old (nodes.Glyph glyph.now) }
+    ensures here { result ≡ point_in box_node.now begin.now.h begin.now.v
+        (place_at box_node.now.setting (one_more box_node.now.kind box_node.now.setting cursor.old (nodes.Glyph glyph.now))) }
+{
+    let _kind = box_node.kind;
+    let _h = begin.h;
+    let distance = i64::from(glyph.width.get());
+    cursor.move_on(distance);
+    position_after(Kind::Horizontal, at, distance)
+}
+
 impl ItemWalk {
     /// A walk before the first item of a list.
     pub fn new(box_node: &BoxNode, begin: &ListOrigin) -> ItemWalk
@@ -101,27 +124,5 @@ impl ItemWalk {
         }
         self.cursor.pass(box_node.kind, &box_node.setting, node);
         self.here = place_of(box_node, begin, &self.cursor);
-    }
-
-    /// Moves past a glyph of a horizontal list at the position `at`, which the walk has reached.
-    #[inline(always)]
-    pub fn go_past_glyph(
-        &mut self,
-        box_node: &BoxNode,
-        begin: &ListOrigin,
-        at: &PagePosition,
-        glyph: &Glyph,
-    )
-        requires kind { box_node.now.kind ≡ Kind.Horizontal }
-        requires items_bounded { self.old.cursor.passed < max_nodes }
-        requires at { point_in box_node.now begin.now.h begin.now.v (place_at box_node.now.setting self.old.cursor) ≡ Some at.now }
-        ensures cursor { self.new.cursor ≡ one_more box_node.now.kind box_node.now.setting self.old.cursor (nodes.Glyph glyph.now) }
-        ensures here { self.new.here ≡ point_in box_node.now begin.now.h begin.now.v
-            (place_at box_node.now.setting (one_more box_node.now.kind box_node.now.setting self.old.cursor (nodes.Glyph glyph.now))) }
-    {
-        let _h = begin.h;
-        let distance = i64::from(glyph.width.get());
-        self.here = position_after(box_node.kind, at, distance);
-        self.cursor.move_on(distance);
     }
 }

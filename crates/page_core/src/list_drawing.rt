@@ -1,62 +1,115 @@
 //! The walk over the items of a box and of its inner boxes, which gives each mark to a sink and stops at the first number that does not fit.
 
-ghost use Rattle.std.specs.Prelude.{◌≡◌, ◌<◌, [], true, Some, is_some, IfOk, IfSome, OnSome};
+ghost use Rattle.std.specs.Prelude.{◌≡◌, ◌<◌, ◌≤◌, [], length, take, drop, true, false, Some, None, is_some, IfOk, IfSome, OnSome};
 ghost use Rattle.std.specs.List.{list_all};
-ghost use Rattle.node_core.specs.Nodes.{max_nodes};
+ghost use Rattle.node_core.specs.Nodes.{max_nodes, items_of};
 ghost use Rattle.scaled_core.specs.Dimensions.{fits};
-ghost use Rattle.pack_core.specs.Cursors.{one_more, place_at};
+ghost use Rattle.pack_core.specs.Cursors.{reached, one_more, place_at};
 ghost use Rattle.page_core.specs.Marks.{right_at, down_at, list_v, numbers_after, points_and_sizes};
 ghost use Rattle.node_core.specs.declared.tree.Kind.{Kind};
 ghost use Rattle.page_core.specs.Pictures.{Picture, blank, grouped, picture_after};
 ghost use Rattle.node_core.specs.declared.tree.Node.TheVariants as nodes;
 ghost use Rattle.page_core.specs.Placing.{Reaches, point_in, numbers_between, strokes_at, strokes_of, reference_h, reference_v};
 
-use crate::item_walk::{ItemWalk, ListOrigin, begin_of};
-use crate::placing::{PagePoint, PagePosition, place_glyph, place_item};
+use crate::item_walk::{ItemWalk, ListOrigin, begin_of, go_past_glyph};
+use crate::placing::{PagePoint, PagePosition, glyph_mark, place_item};
 use crate::sink::{BoxRef, MarkSink};
 use node_core::{BoxNode, Glyph, Kind, Node};
+use pack_core::Cursor;
 
-/// The glyph, if the item is a glyph in a horizontal list.
-#[inline(always)]
-fn glyph_across<'a>(kind: Kind, node: &'a Node) -> Option<&'a Glyph>
-    ensures { IfSome result (λ glyph. (kind ≡ Kind.Horizontal) × (node.now ≡ nodes.Glyph glyph.now)) }
-{
-    match (kind, node) {
-        (Kind::Horizontal, Node::Glyph(glyph)) => Some(glyph),
-        _ => None,
-    }
-}
-
-/// Draws a glyph of a horizontal list, and moves past it. It returns the position of the glyph; None exactly where one of its numbers does not fit.
+/// Draws a glyph of a horizontal list at the position `at`, and moves the cursor past it. It returns the position after the glyph; None exactly where
+/// one of its numbers does not fit.
 #[inline(always)]
 fn draw_glyph<B: BoxRef, S: MarkSink<B>>(
     sink: &mut S,
-    walk: &mut ItemWalk,
+    cursor: &mut Cursor,
     box_node: &BoxNode,
     begin: &ListOrigin,
     at: PagePosition,
     glyph: &Glyph,
 ) -> Result<Option<PagePosition>, S::Fault>
     requires kind { box_node.now.kind ≡ Kind.Horizontal }
-    requires items_bounded { walk.old.cursor.passed < max_nodes }
-    requires at { point_in box_node.now begin.now.h begin.now.v (place_at box_node.now.setting walk.old.cursor) ≡ Some at }
-    ensures cursor { IfOk result (λ drawn. OnSome drawn (walk.new.cursor ≡ one_more box_node.now.kind box_node.now.setting walk.old.cursor (nodes.Glyph glyph.now))) }
-    ensures here { IfOk result (λ drawn. OnSome drawn (walk.new.here ≡ point_in box_node.now begin.now.h begin.now.v
-        (place_at box_node.now.setting (one_more box_node.now.kind box_node.now.setting walk.old.cursor (nodes.Glyph glyph.now))))) }
-    ensures fits { IfOk result (λ drawn. is_some drawn ≡ list_all fits (numbers_between box_node.now begin.now.h begin.now.v (place_at box_node.now.setting walk.old.cursor)
-        (place_at box_node.now.setting (one_more box_node.now.kind box_node.now.setting walk.old.cursor (nodes.Glyph glyph.now))) (nodes.Glyph glyph.now))) }
+    requires items_bounded { cursor.old.passed < max_nodes }
+    requires at { point_in box_node.now begin.now.h begin.now.v (place_at box_node.now.setting cursor.old) ≡ Some at }
+    ensures cursor { cursor.new ≡ one_more box_node.now.kind box_node.now.setting cursor.old (nodes.Glyph glyph.now) }
+    ensures next { IfOk result (λ drawn. drawn ≡ point_in box_node.now begin.now.h begin.now.v
+        (place_at box_node.now.setting (one_more box_node.now.kind box_node.now.setting cursor.old (nodes.Glyph glyph.now)))) }
+    ensures fits { IfOk result (λ drawn. is_some drawn ≡ list_all fits (numbers_between box_node.now begin.now.h begin.now.v
+        (place_at box_node.now.setting cursor.old)
+        (place_at box_node.now.setting (one_more box_node.now.kind box_node.now.setting cursor.old (nodes.Glyph glyph.now)))
+        (nodes.Glyph glyph.now))) }
     ensures mark { IfOk result (λ drawn. OnSome drawn ((rest : Picture) → S.drawn_with box_node.now.kind sink.old
-        (strokes_of box_node.now at.h at.v (nodes.Glyph glyph.now) rest) ≡ S.drawn_with box_node.now.kind sink.new rest)) }
-    ensures place { IfOk result (λ drawn. IfSome drawn (λ place. place ≡ at)) }
+        (strokes_at box_node.now begin.now.h begin.now.v (place_at box_node.now.setting cursor.old) (nodes.Glyph glyph.now) rest)
+        ≡ S.drawn_with box_node.now.kind sink.new rest)) }
 {
-    walk.go_past_glyph(box_node, begin, &at, glyph);
-    let Some(next) = walk.here else {
+    let Some(next) = go_past_glyph(cursor, box_node, begin, &at, glyph) else {
         return Ok(None);
     };
     at.numbers_fit();
     next.numbers_fit();
-    sink.draw(box_node.kind, place_glyph(box_node, at, next, *glyph))?;
-    Ok(Some(at))
+    sink.draw(
+        Kind::Horizontal,
+        Some(glyph_mark(box_node, at, next, *glyph)),
+    )?;
+    Ok(Some(next))
+}
+
+/// Draws the glyphs of a horizontal list from the item at an index on, up to the first item that is no glyph, and moves past them. It returns the
+/// index of that item; None only where a number of an item does not fit. Most items are such glyphs, and in a loop of their own their place stays in
+/// registers.
+#[inline(always)]
+fn draw_glyphs<B: BoxRef, S: MarkSink<B>>(
+    sink: &mut S,
+    walk: &mut ItemWalk,
+    box_node: &BoxNode,
+    begin: &ListOrigin,
+    items: &[Node],
+    from: usize,
+) -> Result<Option<usize>, S::Fault>
+    requires within { from ≤ length items.now }
+    requires items_bounded { length items.now ≤ max_nodes }
+    requires cursor { walk.old.cursor ≡ reached box_node.now.kind box_node.now.setting (take from items.now) }
+    requires here { walk.old.here ≡ point_in box_node.now begin.now.h begin.now.v (place_at box_node.now.setting walk.old.cursor) }
+    ensures onward { IfOk result (λ drawn. IfSome drawn (λ next. from ≤ next)) }
+    ensures within { IfOk result (λ drawn. IfSome drawn (λ next. next ≤ length items.now)) }
+    ensures cursor { IfOk result (λ drawn. IfSome drawn (λ next.
+        walk.new.cursor ≡ reached box_node.now.kind box_node.now.setting (take next items.now))) }
+    ensures here { IfOk result (λ drawn. OnSome drawn (walk.new.here
+        ≡ point_in box_node.now begin.now.h begin.now.v (place_at box_node.now.setting walk.new.cursor))) }
+    ensures over { IfOk result (λ drawn. drawn ≡ None
+        → list_all fits (numbers_after box_node.now begin.now.h begin.now.v (take from items.now) (items_of (drop from items.now))) ≡ false) }
+    ensures left { IfOk result (λ drawn. IfSome drawn (λ next.
+        list_all fits (numbers_after box_node.now begin.now.h begin.now.v (take next items.now) (items_of (drop next items.now)))
+        ≡ list_all fits (numbers_after box_node.now begin.now.h begin.now.v (take from items.now) (items_of (drop from items.now))))) }
+    ensures marks { IfOk result (λ drawn. IfSome drawn (λ next.
+        S.drawn_with box_node.now.kind sink.new
+        (picture_after box_node.now begin.now.h begin.now.v (take next items.now) (items_of (drop next items.now)))
+        ≡ S.drawn_with box_node.now.kind sink.old
+        (picture_after box_node.now begin.now.h begin.now.v (take from items.now) (items_of (drop from items.now))))) }
+{
+    let (Kind::Horizontal, Some(first)) = (box_node.kind, walk.here) else {
+        return Ok(Some(from));
+    };
+    let mut cursor = walk.cursor;
+    let mut at = first;
+    for index in from..items.len() {
+        let Node::Glyph(glyph) = &items[index] else {
+            *walk = ItemWalk {
+                cursor,
+                here: Some(at),
+            };
+            return Ok(Some(index));
+        };
+        let Some(next) = draw_glyph(sink, &mut cursor, box_node, begin, at, glyph)? else {
+            return Ok(None);
+        };
+        at = next;
+    }
+    *walk = ItemWalk {
+        cursor,
+        here: Some(at),
+    };
+    Ok(Some(items.len()))
 }
 
 /// Draws an item at the position `at` in the list of a box, where the next item is at `next`. It returns the reference point of the item; None
@@ -84,7 +137,7 @@ fn draw_at<B: BoxRef, S: MarkSink<B>>(
 }
 
 /// Draws the next item of a list, and moves past it. It returns the reference point of the item; None exactly where one of its numbers does not fit.
-/// Specials and the items of an inner box are left to the caller. A glyph in a line has a path of its own, since most items are such glyphs.
+/// Specials and the items of an inner box are left to the caller.
 #[inline(always)]
 fn draw_item<B: BoxRef, S: MarkSink<B>>(
     sink: &mut S,
@@ -109,9 +162,6 @@ fn draw_item<B: BoxRef, S: MarkSink<B>>(
     let Some(at) = walk.here else {
         return Ok(None);
     };
-    if let Some(glyph) = glyph_across(box_node.kind, node) {
-        return draw_glyph(sink, walk, box_node, begin, at, glyph);
-    }
     walk.go_past(box_node, begin, &at, node);
     let Some(next) = walk.here else {
         return Ok(None);
@@ -160,7 +210,14 @@ fn draw_items<B: BoxRef, S: MarkSink<B>>(
     let box_node = tree.as_box();
     let mut walk = ItemWalk::new(box_node, begin);
     let items = box_node.list.as_slice();
-    for index in 0..items.len() {
+    let mut next = 0;
+    while next < items.len() {
+        let Some(index) = draw_glyphs(sink, &mut walk, box_node, begin, items, next)? else {
+            return Ok(false);
+        };
+        if index >= items.len() {
+            return Ok(true);
+        }
         let item = &items[index];
         let Some(at) = draw_item(sink, &mut walk, box_node, begin, item)? else {
             return Ok(false);
@@ -180,6 +237,7 @@ fn draw_items<B: BoxRef, S: MarkSink<B>>(
             }
             _ => {}
         }
+        next = index + 1;
     }
     Ok(true)
 }

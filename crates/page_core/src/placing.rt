@@ -1,11 +1,12 @@
 //! The places of the items of a box on a page, and their marks.
 
-ghost use Rattle.std.specs.Prelude.{◌≡◌, ◌+ℤ◌, ◌+◌, ◌^◌, [], ◌∷◌, pos, true, None, is_some, IfSome};
+ghost use Rattle.std.specs.Prelude.{◌≡◌, ◌+ℤ◌, ◌+◌, ◌^◌, [], ◌∷◌, pos, true, Some, None, is_some, IfSome};
 ghost use Rattle.std.specs.List.{list_all};
 ghost use Rattle.scaled_core.specs.Dimensions.{Within, fits, dimension_of};
 ghost use Rattle.page_core.specs.Marks.{size_in, right_at, down_at, rule_below, rule_tall, rule_wide, rule_mark, box_h, box_v, points_and_sizes};
 ghost use Rattle.page_core.specs.Pictures.{Picture, in_front};
 ghost use Rattle.page_core.specs.Placing.{fitting_point, Reaches, IsMarkEnd, strokes_in, strokes_of, reference_h, reference_v};
+ghost use Rattle.node_core.specs.declared.tree.Kind.{Kind};
 ghost use Rattle.node_core.specs.declared.tree.Node.TheVariants as nodes;
 
 use node_core::{BoxNode, Glyph, Kind, Node, Rule, RuleSize};
@@ -243,6 +244,32 @@ fn place_rule(
     })
 }
 
+/// The mark of a glyph at a position in the horizontal list of a box.
+#[inline(always)]
+pub fn glyph_mark(
+    box_node: &BoxNode,
+    at: PagePosition,
+    next: PagePosition,
+    glyph: Glyph,
+) -> PlacedMark
+    requires kind { box_node.now.kind ≡ Kind.Horizontal }
+    requires reaches { Reaches box_node.now.kind at.h next.h (nodes.Glyph glyph) }
+    ensures mark { (rest : Picture) → strokes_in (Some result) rest ≡ strokes_of box_node.now at.h at.v (nodes.Glyph glyph) rest }
+    ensures end { IsMarkEnd Kind.Horizontal result }
+{
+    let _kind = box_node.kind;
+    PlacedMark {
+        h: at.h,
+        v: at.v,
+        width: glyph.width,
+        end: next.h,
+        ink: MarkKind::Glyph {
+            slot: glyph.slot,
+            code: glyph.code,
+        },
+    }
+}
+
 /// The mark of a glyph at a position in the list of a box. In a vertical list there is none.
 #[inline(always)]
 pub fn place_glyph(
@@ -257,16 +284,7 @@ pub fn place_glyph(
 {
     match box_node.kind {
         Kind::Vertical => None,
-        Kind::Horizontal => Some(PlacedMark {
-            h: at.h,
-            v: at.v,
-            width: glyph.width,
-            end: next.h,
-            ink: MarkKind::Glyph {
-                slot: glyph.slot,
-                code: glyph.code,
-            },
-        }),
+        Kind::Horizontal => Some(glyph_mark(box_node, at, next, glyph)),
     }
 }
 

@@ -1,11 +1,11 @@
 -- The writer's drawing, as lists of instructions.
-use Rattle.std.proofs.Common.{◌≡◌, ℕ, zero, suc, List, [], ◌∷◌, ◌++◌, map, length, refl, append_assoc, ◌∙◌, ap, sym, arith}
+use Rattle.std.proofs.Common.{◌≡◌, ℕ, zero, suc, List, [], ◌∷◌, ◌++◌, length, refl, append_assoc, ◌∙◌, ap, sym, arith}
 use Rattle.std.specs.Prelude.{ℤ, pos, negsuc, ◌+ℤ◌, ◌-ℤ◌, Bool, true, false, if◌then◌else◌, Option, Some, None}
 use Rattle.std.specs.Option.{option_map}
 use Rattle.std.specs.Ordering.{int_eq}
 use Rattle.std.proofs.lemmas.List.{append-nil}
 use Rattle.dvi_ops.specs.Instruction.{Axis, Across, Downward, SetChar, FontNum, Xxx, Instruction, Do, Push, Pop}
-use Rattle.dvi_ops.specs.View.{body_view}
+use Rattle.dvi_ops.specs.Runs.{instructions_of}
 use Rattle.node_core.specs.declared.tree.Kind.{Kind}
 use Rattle.scaled_core.specs.Mark as body
 use Rattle.dvi_ops.specs.Forest.{Forest, Then, flat}
@@ -121,11 +121,11 @@ Draws kind from picture to rest = (makes kind from picture ≡ makes kind to res
 -- The drawing after a box in a group makes the same as the one before it, for the picture that follows, and leaves the same font.
 pub drawn_group :
     (kind own : Kind) (before opened inside after : Drawing) (inner rest : Picture)
-    → map body_view opened.ops.items ≡ map body_view before.ops.items ++ Push ∷ []
+    → instructions_of opened.ops ≡ instructions_of before.ops ++ Push ∷ []
     → opened.h ≡ before.h → opened.v ≡ before.v → opened.font ≡ before.font
-    → map body_view inside.ops.items ≡ makes own opened inner
+    → instructions_of inside.ops ≡ makes own opened inner
     → option_map pos inside.font ≡ leaves opened inner
-    → map body_view after.ops.items ≡ map body_view inside.ops.items ++ Pop ∷ []
+    → instructions_of after.ops ≡ instructions_of inside.ops ++ Pop ∷ []
     → after.h ≡ before.h → after.v ≡ before.v → after.font ≡ inside.font
     → Draws kind before (group own inner rest) after rest
 drawn_group kind own before opened inside after inner rest push h v font drawn left pop right down same =

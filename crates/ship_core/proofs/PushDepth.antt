@@ -1,16 +1,13 @@
 -- The greatest number of pushes that are open at once in a body is the depth of its groups.
-use Rattle.std.proofs.Common.{◌≡◌, ℕ, ◌+◌, ◌-◌, ◌<◌, ◌≤◌, max, List, [], ◌∷◌, ◌++◌, length, map, drop, get_or, append_assoc, refl, ap, add-one, drop-cons, arith}
+use Rattle.std.proofs.Common.{◌≡◌, ℕ, ◌+◌, ◌-◌, ◌<◌, ◌≤◌, max, List, [], ◌∷◌, ◌++◌, length, map, take, drop, get_or, append_assoc, refl, ap, sym, ◌∙◌, add-one, drop-cons, arith}
+use Rattle.std.specs.Prelude.{pos}
 use Rattle.std.proofs.lemmas.List.{append-nil, drop_all}
-use Rattle.dvi_ops.specs.Instruction.{Instruction, Do, Push, Pop, Bop, Eop, Pre, Post, PostPost}
+use Rattle.dvi_ops.specs.Instruction.{SetChar, Instruction, Do, Push, Pop, Bop, Eop, Pre, Post, PostPost}
 use Rattle.dvi_ops.specs.Forest.{Forest, Empty, Then, Group, flat, nests}
+use Rattle.dvi_ops.specs.Runs.{characters, woven}
 use Rattle.dvi_ops.specs.View.{body_view}
 use Rattle.dvi_ops.specs.declared.body_op.BodyOp.{BodyOp}
-use Rattle.ship_core.specs.Pushes.{pushed_after}
-
--- The greatest number of pushes that are open at once among these instructions, where `pushed` are open before them.
-abbrev pub max_pushed : (pushed : ℕ) → List Instruction → ℕ
-max_pushed pushed [] = pushed
-max_pushed pushed (i ∷ rest) = max pushed (max_pushed (pushed_after pushed i) rest)
+use Rattle.ship_core.specs.Pushes.{pushed_after, max_pushed}
 
 -- At least as many are open as before.
 pushed_before : (pushed : ℕ) (is : List Instruction) → pushed ≤ max_pushed pushed is
@@ -86,3 +83,21 @@ seen_more ops i pushed deepest next deeper d within before is most =
 pub seen_all : (ops : List BodyOp) (i pushed deepest : ℕ) → length ops ≤ i → IsSeen ops i pushed deepest → deepest ≡ max_pushed 0 (map body_view ops)
 seen_all ops i pushed deepest past before =
     omega (arith, ap (λ (rest : List BodyOp). max_pushed pushed (map body_view rest)) (drop_all i ops past), before.value, before.seen)
+
+-- Characters open nothing.
+pushed-characters : (pushed : ℕ) (codes : List ℕ) (rest : List Instruction) → max_pushed pushed (characters codes ++ rest) ≡ max_pushed pushed rest
+pushed-characters pushed [] rest = refl
+pushed-characters pushed (c ∷ codes) rest = omega (arith, pushed-characters pushed codes rest, pushed_before pushed rest)
+
+pushed-alone : (pushed : ℕ) (codes : List ℕ) → max_pushed pushed (characters codes) ≡ pushed
+pushed-alone pushed codes = ap (max_pushed pushed) (sym (append-nil (characters codes))) ∙ pushed-characters pushed codes []
+
+-- So the depth of a body is found without its characters.
+pub pushed-woven :
+    (pushed from : ℕ) (codes places : List ℕ) (is : List Instruction) → length places ≡ length is → max_pushed pushed (woven from codes places is) ≡ max_pushed pushed is
+pushed-woven pushed from codes [] [] paired = pushed-alone pushed codes
+pushed-woven pushed from codes [] (i ∷ is) paired = absurd (omega (arith, paired))
+pushed-woven pushed from codes (place ∷ places) [] paired = absurd (omega (arith, paired))
+pushed-woven pushed from codes (place ∷ places) (i ∷ is) paired =
+    pushed-characters pushed (take (place - from) codes) (i ∷ woven place (drop (place - from) codes) places is)
+    ∙ ap (max pushed) (pushed-woven (pushed_after pushed i) place (drop (place - from) codes) places is (omega (arith, paired)))

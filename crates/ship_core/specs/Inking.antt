@@ -1,11 +1,11 @@
 -- The instructions for the marks of a box, item by item (own; private calls and the sink of marks alone).
-use Rattle.std.specs.Prelude.{◌≡◌, ◌++◌, [], ◌∷◌, ℤ, pos, negsuc, zero, suc, if◌then◌else◌, List, map, Option, Some, None}
+use Rattle.std.specs.Prelude.{◌≡◌, ◌++◌, [], ◌∷◌, ℤ, pos, negsuc, zero, suc, if◌then◌else◌, List, Option, Some, None}
 use Rattle.std.specs.Ordering.{int_eq}
 use Rattle.std.specs.Option.{option_map}
 use Rattle.node_core.specs.declared.tree.Kind.{Kind}
 use Rattle.dvi_ops.specs.Instruction.{Axis, Move, By, FontNum, SetChar, Instruction, Do, Push}
 use Rattle.dvi_ops.specs.Forest.{flat}
-use Rattle.dvi_ops.specs.View.{body_view}
+use Rattle.dvi_ops.specs.Runs.{instructions_of}
 use Rattle.page_core.specs.declared.placing.MarkKind.{MarkKind}
 use Rattle.page_core.specs.declared.placing.MarkKind.TheVariants as ink
 use Rattle.ship_core.specs.declared.drawing.Drawing.{Drawing}
@@ -35,7 +35,7 @@ inked kind width (ink.Glyph slot code) = Do (SetChar (pos code)) ∷ []
 
 -- The instructions so far, and those for the picture that follows.
 abbrev pub makes : Kind → Drawing → Picture → List Instruction
-makes kind d rest = map body_view d.ops.items ++ flat (body_of_picture kind d.h d.v (option_map pos d.font) rest)
+makes kind d rest = instructions_of d.ops ++ flat (body_of_picture kind d.h d.v (option_map pos d.font) rest)
 
 -- The font after the picture that follows.
 abbrev pub leaves : Drawing → Picture → Option ℤ
@@ -43,7 +43,7 @@ leaves d rest = font_after (option_map pos d.font) rest
 
 -- The second drawing is the first one after a push, which returned the place: the same place and font, and one instruction more.
 pub record IsOpened (outer inside : Drawing) (at : Point ℤ) : Type 0 where
-  pub ops : map body_view inside.ops.items ≡ map body_view outer.ops.items ++ Push ∷ []
+  pub ops : instructions_of inside.ops ≡ instructions_of outer.ops ++ Push ∷ []
   pub h : inside.h ≡ outer.h
   pub v : inside.v ≡ outer.v
   pub font : inside.font ≡ outer.font

@@ -1,10 +1,11 @@
 //! The instructions that draw marks.
 
-ghost use Rattle.std.specs.Prelude.{◌≡◌, ◌-ℤ◌, ◌++◌, [], ◌∷◌, pos, map, None, Some, Option, IfOk, OnOk};
+ghost use Rattle.std.specs.Prelude.{◌≡◌, ◌-ℤ◌, ◌++◌, [], ◌∷◌, pos, None, Some, Option, IfOk, OnOk};
 ghost use Rattle.std.specs.Option.{option_map};
 ghost use Rattle.node_core.specs.declared.tree.Kind.{Kind};
 ghost use Rattle.dvi_ops.specs.Forest.{flat};
 ghost use Rattle.dvi_ops.specs.Instruction.{Across, Downward, Do, Push, Pop};
+ghost use Rattle.dvi_ops.specs.Runs.{instructions_of};
 ghost use Rattle.dvi_ops.specs.View.{body_view};
 ghost use Rattle.scaled_core.specs.Mark.{Special};
 ghost use Rattle.ship_core.specs.Drawing.{ruled, body_of_picture};
@@ -12,7 +13,7 @@ ghost use Rattle.page_core.specs.Pictures.{Picture, stroke};
 ghost use Rattle.page_core.specs.Placing.{IsMarkEnd, strokes_in};
 ghost use Rattle.ship_core.specs.Inking.{inked, makes, leaves, movement, selection};
 
-use dvi_ops::BodyOp;
+use dvi_ops::{BodyOp, PageRuns};
 use node_core::{BoxNode, Kind};
 use page_core::MarkSink;
 use page_core::placing::{MarkKind, PagePosition, PlacedMark, Point};
@@ -22,58 +23,34 @@ use std::alloc::{AllocError, Global};
 /// The instructions so far, the values of h and v after them, and the slot of the font that is selected after them.
 #[derive(Debug, Drop)]
 pub struct Drawing<'a> {
-    pub ops: Vec<BodyOp<'a>>,
+    pub ops: PageRuns<'a>,
     pub h: Dimen,
     pub v: Dimen,
     pub font: Option<u8>,
 }
 
-/// Appends an instruction. The first case is a store without a call, and most instructions take it.
-#[inline(always)]
-fn push_op<'a>(ops: &mut Vec<BodyOp<'a>>, op: BodyOp<'a>) -> Result<(), AllocError>
-    ensures { OnOk result (map body_view ops.new.items ≡ map body_view ops.old.items ++ body_view op.entry ∷ []) }
-{
-    if ops.len() < ops.capacity() {
-        ops.push_reserved(op);
-        return Ok(());
-    }
-    ops.push(op)?;
-    Ok(())
-}
-
 /// Appends a movement to the right, unless its amount is 0.
 #[inline(always)]
-fn append_right(ops: &mut Vec<BodyOp<'_>>, from: Dimen, to: Dimen) -> Result<(), AllocError>
-    ensures { OnOk result (map body_view ops.new.items ≡ map body_view ops.old.items ++ movement Across (to -ℤ from)) }
+fn append_right(ops: &mut PageRuns<'_>, from: Dimen, to: Dimen) -> Result<(), AllocError>
+    ensures { OnOk result (instructions_of ops.new ≡ instructions_of ops.old ++ movement Across (to -ℤ from)) }
 {
     let amount = to.get() - from.get();
     if amount == 0 {
         return Ok(());
     }
-    push_op(ops, BodyOp::Right(amount))
+    ops.push(BodyOp::Right(amount))
 }
 
 /// Appends a movement down, unless its amount is 0.
 #[inline(always)]
-fn append_down(ops: &mut Vec<BodyOp<'_>>, from: Dimen, to: Dimen) -> Result<(), AllocError>
-    ensures { OnOk result (map body_view ops.new.items ≡ map body_view ops.old.items ++ movement Downward (to -ℤ from)) }
+fn append_down(ops: &mut PageRuns<'_>, from: Dimen, to: Dimen) -> Result<(), AllocError>
+    ensures { OnOk result (instructions_of ops.new ≡ instructions_of ops.old ++ movement Downward (to -ℤ from)) }
 {
     let amount = to.get() - from.get();
     if amount == 0 {
         return Ok(());
     }
-    push_op(ops, BodyOp::Down(amount))
-}
-
-/// The instruction for a rule or a character in a list of that kind.
-#[inline(always)]
-fn op_for(kind: Kind, width: Dimen, ink: MarkKind) -> BodyOp<'static>
-    ensures { body_view result ∷ [] ≡ inked kind width ink }
-{
-    match ink {
-        MarkKind::Glyph { code, .. } => BodyOp::SetChar(code),
-        MarkKind::Rule(height) => rule_op(kind, height.get(), width.get()),
-    }
+    ops.push(BodyOp::Down(amount))
 }
 
 /// The instruction for a rule: set_rule in a horizontal list, since the next item is to its right. In a vertical list the next item is at the left
@@ -90,14 +67,17 @@ fn rule_op(kind: Kind, height: i32, width: i32) -> BodyOp<'static>
 /// Appends a rule or a character of a list of that kind.
 #[inline(always)]
 fn append_ink(
-    ops: &mut Vec<BodyOp<'_>>,
+    ops: &mut PageRuns<'_>,
     kind: Kind,
     width: Dimen,
     ink: MarkKind,
 ) -> Result<(), AllocError>
-    ensures { OnOk result (map body_view ops.new.items ≡ map body_view ops.old.items ++ inked kind width ink) }
+    ensures { OnOk result (instructions_of ops.new ≡ instructions_of ops.old ++ inked kind width ink) }
 {
-    push_op(ops, op_for(kind, width, ink))
+    match ink {
+        MarkKind::Glyph { code, .. } => ops.push_character(code),
+        MarkKind::Rule(height) => ops.push(rule_op(kind, height.get(), width.get())),
+    }
 }
 
 impl<'a> Drawing<'a> {
@@ -106,7 +86,7 @@ impl<'a> Drawing<'a> {
         ensures { IfOk result (λ drawing. (kind : Kind) (rest : Picture) → makes kind drawing rest ≡ flat (body_of_picture kind (pos 0) (pos 0) None rest)) }
     {
         Ok(Drawing {
-            ops: Vec::with_capacity(alloc, room)?,
+            ops: PageRuns::new(alloc, room)?,
             h: Dimen::ZERO,
             v: Dimen::ZERO,
             font: None,
@@ -120,8 +100,8 @@ impl<'a> Drawing<'a> {
         ensures h { OnOk result (self.new.h ≡ h) }
         ensures v { OnOk result (self.new.v ≡ v) }
         ensures font { OnOk result (self.new.font ≡ self.old.font) }
-        ensures ops { OnOk result (map body_view self.new.ops.items
-            ≡ (map body_view self.old.ops.items ++ movement Across (h -ℤ self.old.h)) ++ movement Downward (v -ℤ self.old.v)) }
+        ensures ops { OnOk result (instructions_of self.new.ops
+            ≡ (instructions_of self.old.ops ++ movement Across (h -ℤ self.old.h)) ++ movement Downward (v -ℤ self.old.v)) }
     {
         append_right(&mut self.ops, self.h, h)?;
         self.h = h;
@@ -136,12 +116,12 @@ impl<'a> Drawing<'a> {
         ensures h { OnOk result (self.new.h ≡ self.old.h) }
         ensures v { OnOk result (self.new.v ≡ self.old.v) }
         ensures font { OnOk result (self.new.font ≡ Some slot) }
-        ensures ops { OnOk result (map body_view self.new.ops.items ≡ map body_view self.old.ops.items ++ selection (option_map pos self.old.font) (pos slot)) }
+        ensures ops { OnOk result (instructions_of self.new.ops ≡ instructions_of self.old.ops ++ selection (option_map pos self.old.font) (pos slot)) }
     {
         if self.font == Some(slot) {
             return Ok(());
         }
-        push_op(&mut self.ops, BodyOp::FontNum(slot))?;
+        self.ops.push(BodyOp::FontNum(slot))?;
         self.font = Some(slot);
         Ok(())
     }
@@ -170,7 +150,7 @@ impl<'a> Drawing<'a> {
         ensures font { OnOk result ((rest : Picture) → leaves self.old (stroke (Special at.h at.v text.now) (pos 0) rest) ≡ leaves self.new rest) }
     {
         self.move_to(at.h, at.v)?;
-        push_op(&mut self.ops, BodyOp::Xxx(text))?;
+        self.ops.push(BodyOp::Xxx(text))?;
         Ok(())
     }
 
@@ -179,10 +159,10 @@ impl<'a> Drawing<'a> {
         ensures h { OnOk result (self.new.h ≡ self.old.h) }
         ensures v { OnOk result (self.new.v ≡ self.old.v) }
         ensures font { OnOk result (self.new.font ≡ self.old.font) }
-        ensures ops { OnOk result (map body_view self.new.ops.items ≡ map body_view self.old.ops.items ++ Push ∷ []) }
+        ensures ops { OnOk result (instructions_of self.new.ops ≡ instructions_of self.old.ops ++ Push ∷ []) }
         ensures place { IfOk result (λ before. before ≡ record { h = self.old.h; v = self.old.v }) }
     {
-        push_op(&mut self.ops, BodyOp::Push)?;
+        self.ops.push(BodyOp::Push)?;
         Ok(Point {
             h: self.h,
             v: self.v,
@@ -194,9 +174,9 @@ impl<'a> Drawing<'a> {
         ensures h { OnOk result (self.new.h ≡ before.h) }
         ensures v { OnOk result (self.new.v ≡ before.v) }
         ensures font { OnOk result (self.new.font ≡ self.old.font) }
-        ensures ops { OnOk result (map body_view self.new.ops.items ≡ map body_view self.old.ops.items ++ Pop ∷ []) }
+        ensures ops { OnOk result (instructions_of self.new.ops ≡ instructions_of self.old.ops ++ Pop ∷ []) }
     {
-        push_op(&mut self.ops, BodyOp::Pop)?;
+        self.ops.push(BodyOp::Pop)?;
         self.h = before.h;
         self.v = before.v;
         Ok(())

@@ -2,6 +2,7 @@
 
 ghost use Rattle.std.specs.Prelude.{◌≡◌, ◌↔◌, ℤ, List, true, false, map, is_none, IfOk, IfErr, OnOk, IfSome};
 ghost use Rattle.dvi_ops.specs.Forest.{flat};
+ghost use Rattle.dvi_ops.specs.Runs.{instructions_of};
 ghost use Rattle.dvi_ops.specs.View.{body_view};
 ghost use Rattle.scaled_core.specs.Dimensions.{fits};
 ghost use Rattle.page_core.specs.Marks.{is_huge};
@@ -9,7 +10,7 @@ ghost use Rattle.page_core.specs.Pages.{page_at};
 ghost use Rattle.ship_core.specs.Drawing.{body_of};
 
 use crate::drawing::Drawing;
-use dvi_ops::BodyOp;
+use dvi_ops::{BodyOp, PageRuns};
 use node_core::BoxNode;
 use page_core::huge::{ends_fit, is_huge};
 use page_core::{PagePoint, draw_list};
@@ -35,8 +36,8 @@ fn draw_page(
     box_node: &BoxNode,
     at: PagePoint,
     room: usize,
-) -> Result<Option<Vec<BodyOp<'_>>>, AllocError>
-    ensures ops { IfOk result (λ drawn. IfSome drawn (λ ops. (counts : List ℤ) → map body_view ops.items ≡ flat (body_of (page_at counts at.h at.v box_node.now)))) }
+) -> Result<Option<PageRuns<'_>>, AllocError>
+    ensures body { IfOk result (λ drawn. IfSome drawn (λ runs. (counts : List ℤ) → instructions_of runs ≡ flat (body_of (page_at counts at.h at.v box_node.now)))) }
     ensures huge { IfOk result (λ drawn. (counts : List ℤ) → is_huge (page_at counts at.h at.v box_node.now) ≡ is_none drawn) }
 {
     if !ends_fit(box_node, at) {
@@ -62,8 +63,7 @@ pub fn plan(alloc: Global, box_node: &BoxNode, at: PagePoint) -> Result<Vec<Body
     plan_with_room(alloc, box_node, at, 0)
 }
 
-/// As `plan`, with capacity for `room` instructions from the start. Drawing stops at the first number that does not fit, so one walk is enough; only
-/// where memory was refused, `is_huge` walks over the page again to find whether HugePage comes first.
+/// As `plan`, with capacity for `room` characters from the start.
 pub fn plan_with_room(
     alloc: Global,
     box_node: &BoxNode,
@@ -75,8 +75,29 @@ pub fn plan_with_room(
     ensures huge { IfErr result (λ fault. (counts : List ℤ)
         → (fault ≡ ShipFault.HugePage) ↔ (is_huge (page_at counts at.h at.v box_node.now) ≡ true)) }
 {
+    let runs = plan_runs(alloc, box_node, at, room)?;
+    match runs.instructions(alloc) {
+        Ok(ops) => Ok(ops),
+        Err(_) => Err(ShipFault::OutOfMemory),
+    }
+}
+
+/// As `plan`, with the characters apart from the other instructions, and with capacity for `room` characters from the start. Drawing stops at the first
+/// number that does not fit, so one walk is enough; only where memory was refused, `is_huge` walks over the page again to find whether HugePage comes
+/// first.
+pub fn plan_runs(
+    alloc: Global,
+    box_node: &BoxNode,
+    at: PagePoint,
+    room: usize,
+) -> Result<PageRuns<'_>, ShipFault>
+    ensures ok { IfOk result (λ runs. (counts : List ℤ) → instructions_of runs ≡ flat (body_of (page_at counts at.h at.v box_node.now))) }
+    ensures fits { OnOk result ((counts : List ℤ) → is_huge (page_at counts at.h at.v box_node.now) ≡ false) }
+    ensures huge { IfErr result (λ fault. (counts : List ℤ)
+        → (fault ≡ ShipFault.HugePage) ↔ (is_huge (page_at counts at.h at.v box_node.now) ≡ true)) }
+{
     match draw_page(alloc, box_node, at, room) {
-        Ok(Some(ops)) => Ok(ops),
+        Ok(Some(runs)) => Ok(runs),
         Ok(None) => Err(ShipFault::HugePage),
         Err(_) => {
             if is_huge(box_node, at) {

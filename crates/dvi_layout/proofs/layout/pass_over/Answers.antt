@@ -7,7 +7,7 @@ use Rattle.dvi_ops.specs.Instruction.{Instruction}
 use Rattle.dvi_ops.specs.View.{body_view}
 use Rattle.dvi_ops.specs.declared.body_op.BodyOp.{BodyOp}
 use Rattle.dvi_ops.specs.declared.body_op.BodyOp.TheVariants as ops
-use Rattle.ship_core.proofs.PushDepth.{max_pushed, seen_more, seen_all, depth-flat}
+use Rattle.ship_core.proofs.PushDepth.{seen_more, seen_all}
 use Rattle.dvi_layout.specs.Sheets.{selects}
 use Rattle.dvi_layout.proofs.FreshFonts.{marked_more, marked_same}
 use Rattle.dvi_layout.proofs.layout.pass_over.Goals as goal
@@ -44,6 +44,4 @@ returns-clause-selected c slot within =
     ∙ ap (λ (os : List BodyOp). list_any (selects slot) (map body_view os)) (take_all c.loop-op.op-index c.args.ops.now c.loop-op-test.false)
 
 pub returns-clause-deepest : goal.returns-clause-deepest
-returns-clause-deepest c body is =
-    seen_all c.args.ops.now c.loop-op.op-index c.loop-op.pushed c.loop-op.deepest c.loop-op-test.false c.loop-op.invariant.1
-    ∙ (ap (max_pushed 0) is ∙ depth-flat body)
+returns-clause-deepest c = seen_all c.args.ops.now c.loop-op.op-index c.loop-op.pushed c.loop-op.deepest c.loop-op-test.false c.loop-op.invariant.1

@@ -1,4 +1,4 @@
-use Rattle.std.proofs.Common.{◌≡◌, ◌+◌, ◌*◌, [], take, drop}
+use Rattle.std.proofs.Common.{◌≡◌, ◌≤◌, ◌+◌, ◌-◌, ◌*◌, [], length, take, drop}
 use Rattle.std.specs.List.{list_all}
 use Rattle.node_core.specs.Items.{items_depth}
 use Rattle.node_core.specs.Nodes.{items_of}
@@ -15,10 +15,14 @@ decreases-draw_group g l = items_depth (g.B.BoxRef.box_node l.tree).list * 2 + 1
 abbrev pub decreases-draw_items : goal.decreases-draw_items
 decreases-draw_items g l = items_depth (g.B.BoxRef.box_node l.tree).list * 2
 
-abbrev pub invariant-draw_items-loop-index : goal.invariant-draw_items-loop-index
-invariant-draw_items-loop-index g l = record {
-  cursor : l.walk.cursor ≡ reached l.box_node.kind l.box_node.setting (take l.index l.items);
+abbrev pub invariant-draw_items-loop-next : goal.invariant-draw_items-loop-next
+invariant-draw_items-loop-next g l = record {
+  within : l.next ≤ length l.items;
+  cursor : l.walk.cursor ≡ reached l.box_node.kind l.box_node.setting (take l.next l.items);
   here : l.walk.here ≡ point_in l.box_node l.begin.h l.begin.v (place_at l.box_node.setting l.walk.cursor);
-  left : list_all fits (numbers_after l.box_node l.begin.h l.begin.v (take l.index l.items) (items_of (drop l.index l.items))) ≡ list_all fits (numbers_after l.box_node l.begin.h l.begin.v [] (items_of l.items));
-  marks : g.S.MarkSink.drawn_with l.box_node.kind l.sink (picture_after l.box_node l.begin.h l.begin.v (take l.index l.items) (items_of (drop l.index l.items))) ≡ g.S.MarkSink.drawn_with l.box_node.kind l.initial.sink (picture_after l.box_node l.begin.h l.begin.v [] (items_of l.items));
+  left : list_all fits (numbers_after l.box_node l.begin.h l.begin.v (take l.next l.items) (items_of (drop l.next l.items))) ≡ list_all fits (numbers_after l.box_node l.begin.h l.begin.v [] (items_of l.items));
+  marks : g.S.MarkSink.drawn_with l.box_node.kind l.sink (picture_after l.box_node l.begin.h l.begin.v (take l.next l.items) (items_of (drop l.next l.items))) ≡ g.S.MarkSink.drawn_with l.box_node.kind l.initial.sink (picture_after l.box_node l.begin.h l.begin.v [] (items_of l.items));
 }
+
+abbrev pub decreases-draw_items-loop-next : goal.decreases-draw_items-loop-next
+decreases-draw_items-loop-next g l = length l.items - l.next

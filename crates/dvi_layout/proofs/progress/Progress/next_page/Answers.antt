@@ -1,6 +1,6 @@
-use Rattle.std.proofs.Common.{refl, length, map, ap, ap₂, ◌∙◌, arith}
+use Rattle.std.proofs.Common.{refl, length, ap, ap₂, ◌∙◌, arith}
 use Rattle.std.proofs.lemmas.Result.{err_from_is_err_and}
-use Rattle.dvi_ops.specs.View.{body_view}
+use Rattle.dvi_ops.specs.Runs.{instructions_of}
 use Rattle.dvi_layout.specs.Admitted.{shipped_page}
 use Rattle.dvi_layout.specs.Sheets.{fresh_slots}
 use Rattle.dvi_layout.specs.SoFar.{ProgressView}
@@ -11,25 +11,22 @@ use Rattle.dvi_layout.proofs.progress.Progress.next_page.Goals as goal
 pub lay_out-requires : goal.lay_out-requires
 lay_out-requires c =
     let page = shipped_page c.args.page.now in
-    rw (c.deref-3.ensures.value, c.in_ok-body.ensures.ok) (spelled_written page (next_short c.args.fonts.now c.args.self.now page c.requires.room))
+    rw (c.in_ok-body.ensures.ok) (spelled_written page (next_short c.args.fonts.now c.args.self.now page c.requires.room))
 
 pub keep_size-requires-clause-slots_bounded : goal.keep_size-requires-clause-slots_bounded
 keep_size-requires-clause-slots_bounded c =
     let page = shipped_page c.args.page.now in
-    let body = ap (map body_view) c.deref.ensures.value ∙ c.in_ok-body.ensures.ok in
-    let few = next_few c.args.fonts.now c.args.self.now page c.deref-4.result.now c.requires.room
-    (c.deref-4.ensures.value ∙ (c.in_ok-fresh.ensures.slots ∙ ap₂ (fresh_slots c.args.fonts.now) (c.as_slice.ensures ∙ ap (λ (s : ProgressView). s.defined) c.self.view_is) body)) in
+    let few = next_few c.args.fonts.now c.args.self.now page c.deref-2.result.now c.requires.room
+    (c.deref-2.ensures.value ∙ (c.in_ok-fresh.ensures.slots ∙ ap₂ (fresh_slots c.args.fonts.now) (c.as_slice.ensures ∙ ap (λ (s : ProgressView). s.defined) c.self.view_is) c.in_ok-body.ensures.ok)) in
     omega (arith, few, ap (λ (s : ProgressView). length s.defined) c.copied-after.ensures)
 
 pub keep_size-requires-clause-room : goal.keep_size-requires-clause-room
 keep_size-requires-clause-room c =
     let page = shipped_page c.args.page.now in
-    let body = ap (map body_view) c.deref.ensures.value ∙ c.in_ok-body.ensures.ok in
-    let again = ap (map body_view) c.deref-3.ensures.value ∙ c.in_ok-body.ensures.ok in
-    let fresh = c.deref-2.ensures.value ∙ (c.in_ok-fresh.ensures.slots ∙ ap₂ (fresh_slots c.args.fonts.now) (c.as_slice.ensures ∙ ap (λ (s : ProgressView). s.defined) c.self.view_is) body) in
+    let fresh = c.deref.ensures.value ∙ (c.in_ok-fresh.ensures.slots ∙ ap₂ (fresh_slots c.args.fonts.now) (c.as_slice.ensures ∙ ap (λ (s : ProgressView). s.defined) c.self.view_is) c.in_ok-body.ensures.ok) in
     omega (
       arith,
-      next_small c.args.fonts.now c.args.self.now page c.in_ok-bytes.bytes.items c.deref-2.result.now (map body_view c.deref-3.result.now) c.requires.room fresh again c.in_ok-bytes.ensures.bytes,
+      next_small c.args.fonts.now c.args.self.now page c.in_ok-bytes.bytes.items c.deref.result.now (instructions_of c.in_ok-body.body) c.requires.room fresh c.in_ok-body.ensures.ok c.in_ok-bytes.ensures.bytes,
       c.len.ensures,
       ap (λ (s : ProgressView). s.size) c.copied-after.ensures,
     )

@@ -1,7 +1,7 @@
-use Rattle.std.proofs.Common.{◌≡◌, ◌∙◌, ◌++◌, ap, map}
+use Rattle.std.proofs.Common.{◌≡◌, ◌∙◌, ◌++◌, ap}
 use Rattle.std.specs.Prelude.{pos, ◌-ℤ◌}
 use Rattle.std.specs.Option.{option_map}
-use Rattle.dvi_ops.specs.View.{body_view}
+use Rattle.dvi_ops.specs.Runs.{instructions_of}
 use Rattle.dvi_ops.specs.Instruction.{Across, Downward}
 use Rattle.ship_core.specs.Inking.{movement, inked}
 use Rattle.ship_core.specs.declared.drawing.Drawing.{Drawing}
@@ -14,25 +14,25 @@ returns-clause-ops c rest =
     let self = c.args.self.now in
     let mark = c.args.mark in
     let current = option_map pos self.font in
-    let moved = (map body_view self.ops.items ++ movement Across (mark.h -ℤ self.h)) ++ movement Downward (mark.v -ℤ self.v) in
+    let moved = (instructions_of self.ops ++ movement Across (mark.h -ℤ self.h)) ++ movement Downward (mark.v -ℤ self.v) in
     let joined = c.match-mark.self in
     let v : joined.v ≡ mark.v =
     elim c.match-mark.branch [ in-Glyph+in_ok-select w ↦ cc (w.in_ok-select.ensures.v, c.in_ok-move_to.ensures.v) | in_default w ↦ cc (c.in_ok-move_to.ensures.v) ] in
     let font : option_map pos joined.font ≡ left_by current mark.ink =
     elim c.match-mark.branch [ in-Glyph+in_ok-select w ↦ cc (w.in_ok-select.ensures.font) | in_default w ↦ cc (c.in_ok-move_to.ensures.font) ] in
-    let chose : map body_view joined.ops.items ≡ moved ++ chosen current mark.ink =
+    let chose : instructions_of joined.ops ≡ moved ++ chosen current mark.ink =
     elim c.match-mark.branch [
       | in-Glyph+in_ok-select w ↦
           selected_ops _ _ moved (option_map pos c.move_to.new.self.font) current w.in-Glyph.slot w.in-Glyph.code mark.ink w.in-Glyph.is
           (ap (option_map pos) c.in_ok-move_to.ensures.font) c.in_ok-move_to.ensures.ops
-          (ap (λ (d : Drawing). map body_view d.ops.items) w.self-is ∙ w.in_ok-select.ensures.ops)
+          (ap (λ (d : Drawing). instructions_of d.ops) w.self-is ∙ w.in_ok-select.ensures.ops)
       | in_default w ↦
           unselected_ops _ moved current w.in_default.field-0 mark.ink w.in_default.is
-          (ap (λ (d : Drawing). map body_view d.ops.items) w.self-is ∙ c.in_ok-move_to.ensures.ops)
+          (ap (λ (d : Drawing). instructions_of d.ops) w.self-is ∙ c.in_ok-move_to.ensures.ops)
     ] in
-    let inky : map body_view c.append_ink.new.ops.items ≡ (moved ++ chosen current mark.ink) ++ inked c.args.kind mark.width mark.ink =
+    let inky : instructions_of c.append_ink.new.ops ≡ (moved ++ chosen current mark.ink) ++ inked c.args.kind mark.width mark.ink =
     c.in_ok-append_ink.ensures ∙ ap (λ is. is ++ inked c.args.kind mark.width mark.ink) chose in
-    drawn_mark c.args.kind (map body_view self.ops.items) _ self.h self.v current (option_map pos joined.font) mark.h mark.v mark.width mark.end joined.v mark.ink rest inky c.requires font v
+    drawn_mark c.args.kind (instructions_of self.ops) _ self.h self.v current (option_map pos joined.font) mark.h mark.v mark.width mark.end joined.v mark.ink rest inky c.requires font v
 
 pub returns-clause-font : goal.returns-clause-font
 returns-clause-font c rest =

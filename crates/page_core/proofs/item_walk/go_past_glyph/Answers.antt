@@ -7,7 +7,7 @@ use Rattle.pack_core.specs.Items.{advance}
 use Rattle.page_core.specs.Marks.{right_at, down_at}
 use Rattle.page_core.specs.Placing.{fitting_point}
 use Rattle.page_core.proofs.Walked.{rigid_after, rigid_more}
-use Rattle.page_core.proofs.item_walk.ItemWalk.go_past_glyph.Goals as goal
+use Rattle.page_core.proofs.item_walk.go_past_glyph.Goals as goal
 
 pub returns-clause-cursor : goal.returns-clause-cursor
 returns-clause-cursor c =
@@ -15,7 +15,7 @@ returns-clause-cursor c =
     let x : Node = nodes.Glyph c.args.glyph.now in
     let width : to_z w64 (of_z w64 c.from-distance.result) ≡ c.args.glyph.now.width = omega (arith, ints, c.from-distance.ensures, c.get.ensures.value, c.get.ensures.fits) in
     let same : to_z w64 (of_z w64 c.from-distance.result) ≡ advance b.kind x = width ∙ sym (ap (λ (kind : Kind). advance kind x) c.requires.kind) in
-    c.move_on.ensures.value ∙ rigid_more b.kind b.setting c.args.self.now.cursor x _ refl same
+    c.move_on.ensures.value ∙ rigid_more b.kind b.setting c.args.cursor.now x _ refl same
 
 pub returns-clause-here : goal.returns-clause-here
 returns-clause-here c =
@@ -23,5 +23,7 @@ returns-clause-here c =
     let x : Node = nodes.Glyph c.args.glyph.now in
     let width : to_z w64 (of_z w64 c.from-distance.result) ≡ c.args.glyph.now.width = omega (arith, ints, c.from-distance.ensures, c.get.ensures.value, c.get.ensures.fits) in
     let same : to_z w64 (of_z w64 c.from-distance.result) ≡ advance b.kind x = width ∙ sym (ap (λ (kind : Kind). advance kind x) c.requires.kind) in
-    c.position_after-self.ensures ∙ (ap (λ n. fitting_point (right_at b.kind c.args.at.now.h n) (down_at b.kind c.args.at.now.v n)) same
-    ∙ rigid_after b c.args.begin.now.h c.args.begin.now.v c.args.self.now.cursor c.args.at.now x refl c.requires.at)
+    let n = to_z w64 (of_z w64 c.from-distance.result) in
+    c.position_after.ensures ∙ (ap (λ (kind : Kind). fitting_point (right_at kind c.args.at.now.h n) (down_at kind c.args.at.now.v n)) (sym c.requires.kind)
+    ∙ (ap (λ n. fitting_point (right_at b.kind c.args.at.now.h n) (down_at b.kind c.args.at.now.v n)) same
+    ∙ rigid_after b c.args.begin.now.h c.args.begin.now.v c.args.cursor.now c.args.at.now x refl c.requires.at))

@@ -1,0 +1,92 @@
+//! The body of a page with its characters apart from its other instructions.
+
+ghost use Rattle.std.specs.Prelude.{◌≡◌, ◌<◌, ◌++◌, [], ◌∷◌, pos, length, map, vec_len, vec_capacity, IfOk, OnOk};
+ghost use Rattle.dvi_ops.specs.Rising.{IsRising, IsRising-prop};
+
+use crate::body_op::BodyOp;
+use crate::spelling::append_byte;
+use std::alloc::{AllocError, Global};
+
+/// The body of a page: the codes of its characters, and its other instructions, each with the number of characters before it. Nearly all instructions
+/// of a page are characters, which take a byte here.
+#[derive(Debug, Drop)]
+pub struct PageRuns<'a> {
+    pub codes: Vec<u8>,
+    pub places: Vec<usize>,
+    pub ops: Vec<BodyOp<'a>>,
+    ghost paired: { length places.items ≡ length ops.items },
+    ghost rising: { IsRising 0 places.items (length codes.items) } by { IsRising-prop 0 places.items (length codes.items) },
+}
+
+/// Makes room for one more item. Mostly it is there.
+#[inline(always)]
+fn make_room<T>(list: &mut Vec<T>) -> Result<(), AllocError>
+    ensures items { list.new.items ≡ list.old.items }
+    ensures room { OnOk result (vec_len list.new < vec_capacity list.new) }
+{
+    if list.len() < list.capacity() {
+        return Ok(());
+    }
+    list.reserve(1)
+}
+
+impl<'a> PageRuns<'a> {
+    ghost use Rattle.dvi_ops.specs.Instruction.{Do, SetChar};
+    ghost use Rattle.dvi_ops.specs.Runs.{instructions_of};
+    ghost use Rattle.dvi_ops.specs.View.{body_view};
+
+    /// A body without instructions, with capacity for `room` characters and a quarter of that of other instructions.
+    #[tactic(auto, unfolding(crate::specs::Runs::instructions_of))]
+    pub fn new(alloc: Global, room: usize) -> Result<PageRuns<'a>, AllocError>
+        ensures { IfOk result (λ runs. instructions_of runs ≡ []) }
+    {
+        Ok(PageRuns {
+            codes: Vec::with_capacity(alloc, room)?,
+            places: Vec::with_capacity(alloc, room / 4)?,
+            ops: Vec::with_capacity(alloc, room / 4)?,
+        })
+    }
+
+    /// The body with these instructions.
+    pub fn of(alloc: Global, ops: &[BodyOp<'a>]) -> Result<PageRuns<'a>, AllocError>
+        ensures { IfOk result (λ runs. instructions_of runs ≡ map body_view ops.now) }
+    {
+        let mut runs = PageRuns::new(alloc, 0)?;
+        for op in ops {
+            runs.append(*op)?;
+        }
+        Ok(runs)
+    }
+
+    /// Appends an instruction.
+    fn append(&mut self, op: BodyOp<'a>) -> Result<(), AllocError>
+        ensures { OnOk result (instructions_of self.new ≡ instructions_of self.old ++ body_view op.entry ∷ []) }
+    {
+        match op {
+            BodyOp::SetChar(code) => self.push_character(code),
+            other => self.push(other),
+        }
+    }
+
+    /// Appends a character.
+    #[tactic(auto, unfolding(crate::specs::Runs::instructions_of))]
+    #[inline(always)]
+    pub fn push_character(&mut self, code: u8) -> Result<(), AllocError>
+        ensures { OnOk result (instructions_of self.new ≡ instructions_of self.old ++ Do (SetChar (pos code)) ∷ []) }
+    {
+        append_byte(&mut self.codes, code)?;
+        Ok(())
+    }
+
+    /// Appends an instruction that is no character. A character may be appended too, but takes more memory than by `push_character`.
+    #[tactic(auto, unfolding(crate::specs::Runs::instructions_of))]
+    pub fn push(&mut self, op: BodyOp<'a>) -> Result<(), AllocError>
+        ensures { OnOk result (instructions_of self.new ≡ instructions_of self.old ++ body_view op.entry ∷ []) }
+    {
+        make_room(&mut self.places)?;
+        make_room(&mut self.ops)?;
+        self.places.push_reserved(self.codes.len());
+        self.ops.push_reserved(op);
+        Ok(())
+    }
+}
