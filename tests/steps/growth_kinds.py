@@ -21,10 +21,11 @@ MAY_TAKE_MEMORY = {
 }
 NOTHING, WHOLE, COMMAND, DEVICE, END, END_DEVICE, TEXTS, STOPPED = "nwcdefts"
 # Only the room for the words, if there are any, is replaced later. The device grows only when its room is used up. A line is answered as soon as it was run,
-# so the texts grow between the commands; a run on a device in memory shows no difference between such a growth and one before the run.
-# In the scripts here at most one `ship` of a huge page grows before it is refused.
-# Where the last line of 61 does not fit, no growth for the lines before it hides this, and there is one at least for each of them.
-WHOLE_RUNS = {"a_line_too_large": "w{60,}"}
+# so the texts grow between the commands; a run on a device in memory shows no difference between such a growth and one before the run. Each answer takes room for
+# the longest one, so the texts at the end may find room.
+# A `ship` of a huge page takes up to three pieces before it is refused: for its characters, for the other instructions, and for their places.
+# Where the last line of 61 does not fit, the growth for the plan of all lines does not hide this.
+WHOLE_RUNS = {"a_line_too_large": "w", "refusals_leave_the_job": "w{0,3}"}
 # The room for the answers of a session is there from the start; each line takes some for its command.
 ORDER_OF_A_READING = re.compile("n+w?n+")
 
@@ -32,7 +33,7 @@ ORDER_OF_A_READING = re.compile("n+w?n+")
 def order_of(name, task):
     """The order of the kinds in runs of a script by a task, or in memory."""
     whole = WHOLE_RUNS.get(name, "w?")
-    return re.compile({None: f"n+[cdn]*{whole}[cdn]*c[cdn]*d[cdn]*e+f?n+", "typeset": f"n+w?n+[ct]*{whole}[ct]*c[ct]*e+t*",
+    return re.compile({None: f"n+[cdn]*{whole}[cdn]*c[cdn]*d[cdn]*e+f?n*", "typeset": f"n+w?n+[ct]*{whole}[ct]*c[ct]*e+t*",
                        "session": f"n+w?n+[cs]*{whole}[cs]*c[cs]*e+"}[task])
 
 

@@ -1,6 +1,6 @@
 -- The innermost open list, and the one around it, while the code empties, fills, changes and closes them.
-use Rattle.std.proofs.Common.{◌≡◌, ◌≢◌, ◌∙◌, ℕ, ◌-◌, ◌==◌, ◌≤◌, List, [], ◌∷◌, ◌++◌, length, take, set, get_or, false, true, Option, Some, None, Result, Ok, Err, OnErr, refl, ap, sym, arith}
-use Rattle.std.specs.Prelude.{pos, IsSome, slice_get, slice_set}
+use Rattle.std.proofs.Common.{◌≡◌, ◌≢◌, ◌∙◌, ℕ, ◌-◌, ◌==◌, ◌≤◌, List, [], ◌∷◌, ◌++◌, length, take, set, get_or, false, true, Option, Some, None, Result, Ok, Err, OnErr, refl, ap, sym, subst, arith}
+use Rattle.std.specs.Prelude.{pos, IsSome, slice_get}
 use Rattle.std.proofs.Math.Seq.{take-set-lt}
 use Rattle.std.proofs.lemmas.Bool.{eqb-true}
 use Rattle.std.proofs.lemmas.List.{take-set-le, length-take-le, length-set}
@@ -13,16 +13,22 @@ use Rattle.pack_core.specs.declared.pack.Packed as packs
 use Rattle.job_commands.specs.declared.command.Command.TheVariants.{End}
 use Rattle.job_commands.specs.declared.command.Opening.{Opening}
 use Rattle.job_commands.specs.declared.replies.Refusal.{Refusal}
-use Rattle.vert_core.specs.declared.paragraph.SetParagraph.{SetParagraph}
+use Rattle.node_core.proofs.NodeLemmas.{items_of-nodes_of}
+use Rattle.vert_core.specs.declared.appending.AppendedParagraph.{AppendedParagraph}
+use Rattle.vert_core.specs.declared.appending.UnappendedLines.{UnappendedLines}
+use Rattle.vert_core.specs.Appended.{IsAppended, IsUnappended}
+use Rattle.vert_core.specs.Paragraphs.{IsUnset}
+use Rattle.vert_core.specs.Setting.{setting}
 use Rattle.job_machine.specs.declared.OpenList.{OpenList}
 use Rattle.job_machine.specs.declared.ListPurpose.TheVariants.{Box}
 use Rattle.job_machine.specs.State.{State, innermost, outer, with_innermost, items_in}
 use Rattle.job_machine.specs.OpenLists.{packed_list}
-use Rattle.job_machine.specs.Paragraphs.{with_lines}
+use Rattle.job_machine.specs.Paragraphs.{depth_in, with_lines}
 use Rattle.job_machine.specs.Checks.{checks, place_checks, packed_checks, purpose_checks, close_checks, first_refusal}
 use Rattle.job_machine.specs.Effects.{list_with_box, with_box}
 use Rattle.job_machine.proofs.ListElements.{set_back, get_set, get_take, get_some}
 use Rattle.job_lists.specs.EmptiedNest.{refilled_nest, emptied_nest}
+use Rattle.job_lists.specs.EndedParagraphs.{IsEnded, IsRefused}
 
 -- The innermost list is emptied, and gets its own items back.
 pub refilled-emptied : (nest : List OpenList) (l : OpenList) → innermost nest ≡ Some l
@@ -82,16 +88,63 @@ closing_into params nest b l changed count after many enough is turned left =
     around_left nest changed count after many enough left
     ∙ (ap (with_innermost (outer nest)) turned ∙ sym (ap (with_box params (outer nest) (pos 0) b) at))
 
--- The lines of a paragraph are appended to the list around the innermost one, which is then dropped.
-pub lines_left : (nest : List OpenList) (set : SetParagraph) (l changed : OpenList) (count : ℕ) (after : List OpenList)
-    → count ≡ length nest → 2 ≤ length nest → l ≡ get_or nest (count - 2) l
-    → changed ≡ record l { list = items_of (nodes_of l.list ++ nodes_of set.items); previous_depth = set.depth }
-    → after ≡ take (length (slice_set nest (count - 2) changed) - 1) (slice_set nest (count - 2) changed)
-    → after ≡ with_lines (outer nest) (innermost (outer nest)) (Ok set)
-lines_left nest set l changed count after many enough is turned left =
-    let at = around_found nest l count many enough is in
-    around_left nest changed count after many enough left
-    ∙ (ap (with_innermost (outer nest)) turned ∙ sym (ap (λ (o : Option OpenList). with_lines (outer nest) o (Ok set)) at))
+-- The lines of a paragraph are appended to the list around the innermost one, whose items were taken. `bare` is the nest while they are.
+module _
+    (params : Params) (nest bare : List OpenList) (inner l : OpenList) (count : ℕ) (items : Items) (is : innermost nest ≡ Some inner)
+    (taken : bare ≡ emptied_nest nest (innermost nest)) (many : count ≡ length nest) (enough : 2 ≤ length nest) (read : l ≡ get_or bare (count - 2) l)
+    (own : nodes_of items ≡ nodes_of (items_in (innermost nest)))
+  where
+    bare_is : bare ≡ emptied_nest nest (Some inner)
+    bare_is = taken ∙ ap (emptied_nest nest) is
+
+    pub as_many : length bare ≡ length nest
+    as_many = ap length bare_is ∙ length-set nest (length nest - 1) (record inner { list = none })
+
+    outer_is : outer bare ≡ outer nest
+    outer_is = ap outer bare_is ∙ outer-emptied nest inner
+
+    -- The list around the innermost one, also where its items are not taken.
+    pub found_around : innermost (outer nest) ≡ Some l
+    found_around = ap innermost (sym outer_is) ∙ around_found bare l count (many ∙ sym as_many) (omega (arith, enough, as_many)) read
+
+    pub ended_nest :
+        (changed : OpenList) (after : List OpenList) (told : AppendedParagraph)
+        → IsAppended (setting (nodes_of items) params l.previous_depth) (nodes_of l.list) (nodes_of changed.list) told
+        → changed ≡ record l { list = changed.list; previous_depth = told.depth }
+        → after ≡ take (length (set bare (count - 2) changed) - 1) (set bare (count - 2) changed)
+        → IsEnded params (outer nest) (items_in (innermost nest)) after told
+    ended_nest changed after told appended turned left =
+        let lines = appended.set in
+        let list_is : changed.list ≡ items_of (nodes_of l.list ++ nodes_of lines.items) = sym (items_of-nodes_of changed.list) ∙ ap items_of appended.items in
+        let changed_is : changed ≡ record l { list = items_of (nodes_of l.list ++ nodes_of lines.items); previous_depth = lines.depth } =
+        turned
+        ∙ (ap (λ (more : Items). record l { list = more; previous_depth = told.depth }) list_is
+        ∙ ap (λ depth. record l { list = items_of (nodes_of l.list ++ nodes_of lines.items); previous_depth = depth }) appended.depth) in
+        record {
+          set = lines;
+          is_set =
+              ap (λ (o : Option OpenList). setting (nodes_of (items_in (innermost nest))) params (depth_in o)) found_around
+              ∙ (ap (λ (xs : List Node). setting xs params l.previous_depth) (sym own) ∙ appended.is_set);
+          shallow = appended.shallow;
+          short = omega (arith, appended.short, ap (λ (o : Option OpenList). length (nodes_of (items_in o))) found_around);
+          nest =
+              around_left bare changed count after (many ∙ sym as_many) (omega (arith, enough, as_many)) left
+              ∙ (ap (λ (lists : List OpenList). with_innermost lists changed) outer_is
+              ∙ (ap (with_innermost (outer nest)) changed_is ∙ sym (ap (λ (o : Option OpenList). with_lines (outer nest) o (Ok lines)) found_around)));
+          lines = appended.lines;
+          pass = appended.pass;
+          overhang = appended.overhang;
+          demerits = appended.demerits;
+        }
+
+    pub refused_nest :
+        (unappended : UnappendedLines)
+        → IsUnappended (setting (nodes_of items) params l.previous_depth) (IsUnset (nodes_of items) params l.previous_depth) (nodes_of l.list) unappended
+        → IsRefused params (outer nest) (items_in (innermost nest)) unappended
+    refused_nest unappended refused =
+        subst (λ (o : Option OpenList). IsUnappended (setting (nodes_of (items_in (innermost nest))) params (depth_in o)) (IsUnset (nodes_of (items_in (innermost nest))) params (depth_in o)) (nodes_of (items_in o)) unappended)
+        (sym found_around)
+        (subst (λ (xs : List Node). IsUnappended (setting xs params l.previous_depth) (IsUnset xs params l.previous_depth) (nodes_of l.list) unappended) own refused)
 
 -- Where a closed list is refused, it gets the items of its box back.
 pub put_back : (nest now : List OpenList) (items : Items) (l : OpenList) → innermost nest ≡ Some l → now ≡ emptied_nest nest (innermost nest) → items ≡ items_in (innermost nest)

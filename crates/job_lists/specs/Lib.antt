@@ -1,3 +1,4 @@
 pub mod BoundedLists
 pub mod EmptiedNest
+pub mod EndedParagraphs
 pub mod Lending

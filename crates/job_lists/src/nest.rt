@@ -8,9 +8,7 @@ ghost use Rattle.job_machine.specs.Checks.{box_checks, first_refusal};
 ghost use Rattle.job_machine.specs.Effects.{with_nodes, with_rule, with_box, without_last};
 ghost use Rattle.job_lists.specs.EmptiedNest.{emptied_nest, refilled_nest};
 ghost use Rattle.job_lists.specs.Lending.{LendsInnermost};
-ghost use Rattle.job_machine.specs.Paragraphs.{with_lines};
-ghost use Rattle.vert_core.specs.Paragraphs.{unbroken};
-ghost use Rattle.vert_core.specs.Setting.{setting};
+ghost use Rattle.job_lists.specs.EndedParagraphs.{IsEnded, IsRefused};
 ghost use Rattle.std.specs.Borrow.{sem};
 
 use crate::open_lists::{append_lines, append_with_glue, pack};
@@ -23,7 +21,7 @@ use smallvec::SmallVec;
 use std::alloc::{AllocError, Global};
 use std::marker::Model;
 use std::mem::replace;
-use vert_core::{CountedParagraph, ParagraphFault, SetParagraph, set_paragraph};
+use vert_core::{AppendedParagraph, UnappendedLines};
 
 /// The innermost of these lists, mutably. It takes the lists and not the `Nest`, whose invariant a lent list would have to keep.
 fn innermost_of(lists: &mut SmallVec<OpenList, 4>) -> Option<&mut OpenList>
@@ -249,16 +247,6 @@ impl Nest {
         let _ = self.lists.pop();
     }
 
-    /// Drops the innermost list, and keeps its allocation for the next paragraph.
-    fn leave_paragraph(&mut self)
-        ensures { self.new ≡ outer self.old }
-    {
-        if let Some(closed) = self.lists.pop() {
-            self.spare = closed.list;
-            self.spare.truncate(0);
-        }
-    }
-
     /// The list around the innermost one.
     pub fn around(&self) -> Option<&OpenList>
         ensures { option_copied result ≡ innermost (outer self.now) }
@@ -291,46 +279,37 @@ impl Nest {
         Ok(())
     }
 
-    /// Sets the paragraph of the innermost list, after a box of that depth. The lists do not change.
-    /// `OutOfMemory` is reported only for a paragraph that may be broken.
-    #[tactic(auto, using(job_machine::proofs::States::same_innermost, crate::proofs::BoundedLists::innermost_bounded))]
-    pub(crate) fn set_innermost(
+    /// Sets the paragraph of the innermost list, appends its lines to the list around it, and drops the innermost list, whose allocation is kept for
+    /// the next paragraph. Where the lines are not appended, nothing changes.
+    #[tactic(auto, using(crate::proofs::BoundedLists::innermost_bounded))]
+    pub(crate) fn append_paragraph(
         &mut self,
-        previous_depth: Dimen,
         params: &Params,
-    ) -> Result<CountedParagraph, ParagraphFault>
-        requires { IsSome (innermost self.old) }
-        ensures ok { IfOk result (λ counted. setting (nodes_of (items_in (innermost self.old))) params.now previous_depth ≡ Ok counted.set) }
-        ensures fits { OnOk result (unbroken (nodes_of (items_in (innermost self.old))) params.now.par_fill_skip ≡ None) }
-        ensures memory { IfErr result (λ fault. fault ≡ ParagraphFault.OutOfMemory → unbroken (nodes_of (items_in (innermost self.old))) params.now.par_fill_skip ≡ None) }
-        ensures refused { IfErr result (λ fault. fault ≢ ParagraphFault.OutOfMemory → setting (nodes_of (items_in (innermost self.old))) params.now previous_depth ≡ Err fault) }
-        ensures same { self.new ≡ self.old }
-    {
-        let alloc = *self.lists.allocator();
-        let Some(innermost) = innermost_of(&mut self.lists) else {
-            unreachable!()
-        };
-        set_paragraph(alloc, &mut innermost.list, params, previous_depth)
-    }
-
-    /// Appends the lines of a paragraph to the list around the innermost one, and drops the innermost one.
-    /// Where memory is refused, nothing changes.
-    #[tactic(auto, using(crate::proofs::BoundedLists::bounded_with_nodes))]
-    pub(crate) fn close_paragraph(&mut self, set: SetParagraph) -> Result<(), AllocError>
-        requires open { IsSome (innermost (outer self.old)) }
-        requires room { length (nodes_of (items_in (innermost (outer self.old)))) + length (nodes_of set.items) ≤ MAX_ITEMS }
-        ensures ok { OnOk result (self.new ≡ with_lines (outer self.old) (innermost (outer self.old)) (Ok set)) }
+    ) -> Result<AppendedParagraph, UnappendedLines>
+        requires { IsSome (innermost (outer self.old)) }
+        ensures ok { IfOk result (IsEnded params.now (outer self.old) (items_in (innermost self.old)) self.new) }
+        ensures refused { IfErr result (IsRefused params.now (outer self.old) (items_in (innermost self.old))) }
         ensures err { OnErr result (self.new ≡ self.old) }
     {
+        let alloc = *self.lists.allocator();
         let count = self.lists.len();
         if count < 2 {
             unreachable!()
         }
+        let mut items = NodeList::from_vec(self.take_items());
         let Some(around) = self.lists.get_mut(count - 2) else {
             unreachable!()
         };
-        append_lines(around, set)?;
-        self.leave_paragraph();
-        Ok(())
+        match append_lines(around, &mut items, alloc, params) {
+            Ok(appended) => {
+                self.spare = items;
+                let _ = self.lists.pop();
+                Ok(appended)
+            }
+            Err(unappended) => {
+                self.refill(items);
+                Err(unappended)
+            }
+        }
     }
 }

@@ -4,6 +4,9 @@ ghost use Rattle.std.specs.Prelude.{◌≡◌, ◌<◌, ◌≤◌, ◌+◌, ◌+
 ghost use Rattle.node_core.specs.Items.{none};
 ghost use Rattle.node_core.specs.Nodes.{max_nodes, items_of, nodes_of};
 ghost use Rattle.vert_core.specs.Interline.{interline, glue_of, appended};
+ghost use Rattle.vert_core.specs.Appended.{IsAppended, IsUnappended};
+ghost use Rattle.vert_core.specs.Paragraphs.{unbroken, IsUnset};
+ghost use Rattle.vert_core.specs.Setting.{setting};
 ghost use Rattle.job_machine.specs.State.{nodes_in};
 ghost use Rattle.job_machine.specs.OpenLists.{packed_by, glue_in, box_items, packed_as, packed_list};
 ghost use Rattle.job_machine.specs.Checks.{box_checks, inner_checks, first_refusal};
@@ -15,10 +18,11 @@ use node_core::limits::MAX_ITEMS;
 use node_core::{BoxNode, Glue, Kind, NodeList, Params};
 use pack_core::{Packed, Target, TooLarge, hpack, vpack, vtop};
 use scaled_core::Dimen;
-use std::alloc::{AllocError, Global};
+use std::alloc::Global;
 use std::mem::replace;
 use vert_core::{
-    DimensionTooLarge, SetParagraph, append_with_glue as append_to_items, interline_glue,
+    AppendedParagraph, DimensionTooLarge, UnappendedLines, append_paragraph,
+    append_with_glue as append_to_items, interline_glue,
 };
 
 /// The box of a form and a target that a list becomes, or the list where a size does not fit.
@@ -191,15 +195,30 @@ pub fn append_with_glue(
     }
 }
 
-/// Appends the lines of a paragraph, with their glue and penalties. The previous depth is then that of the last line.
-/// Where memory is refused, the list is unchanged.
-pub(crate) fn append_lines(open_list: &mut OpenList, set: SetParagraph) -> Result<(), AllocError>
-    requires { length (nodes_of open_list.old.list) + length (nodes_of set.items) ≤ max_nodes }
-    ensures ok { OnOk result (open_list.new ≡ record open_list.old { list = items_of (nodes_of open_list.old.list ++ nodes_of set.items); previous_depth = set.depth }) }
+/// Appends the lines of a paragraph of these items, which go into the lines, with their glue and penalties. The previous depth is then that of the last
+/// line. Where the lines are not appended, both lists are unchanged.
+pub(crate) fn append_lines(
+    open_list: &mut OpenList,
+    items: &mut NodeList,
+    alloc: Global,
+    params: &Params,
+) -> Result<AppendedParagraph, UnappendedLines>
+    requires items_bounded { length (nodes_of items.old) ≤ MAX_ITEMS }
+    requires list_bounded { length (nodes_of open_list.old.list) ≤ MAX_ITEMS }
+    ensures ok { IfOk result (IsAppended (setting (nodes_of items.old) params.now open_list.old.previous_depth) (nodes_of open_list.old.list) (nodes_of open_list.new.list)) }
+    ensures fits { OnOk result (unbroken (nodes_of items.old) params.now.par_fill_skip ≡ None) }
+    ensures changed { IfOk result (λ told. open_list.new ≡ record open_list.old { list = open_list.new.list; previous_depth = told.depth }) }
+    ensures emptied { OnOk result (items.new ≡ none) }
+    ensures refused { IfErr result (IsUnappended (setting (nodes_of items.old) params.now open_list.old.previous_depth) (IsUnset (nodes_of items.old) params.now open_list.old.previous_depth) (nodes_of open_list.old.list)) }
     ensures err { OnErr result (open_list.new ≡ open_list.old) }
+    ensures same { OnErr result (items.new ≡ items.old) }
 {
-    let mut items = set.items;
-    open_list.list.append(&mut items)?;
-    open_list.previous_depth = set.depth;
-    Ok(())
+    let previous_depth = open_list.previous_depth;
+    match append_paragraph(alloc, items, &mut open_list.list, params, previous_depth) {
+        Ok(appended) => {
+            open_list.previous_depth = appended.depth;
+            Ok(appended)
+        }
+        Err(unappended) => Err(unappended),
+    }
 }

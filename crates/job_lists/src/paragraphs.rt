@@ -1,6 +1,8 @@
 //! Paragraphs are opened inside vertical lists, and end as lines in the list around them.
 
 ghost use Rattle.std.specs.Prelude.{◌≡◌, ◌++◌, ◌∷◌, [], None, Ok, IfOk, OnOk, OnErr};
+ghost use Rattle.vert_core.specs.declared.paragraph.SetParagraph.{SetParagraph};
+ghost use Rattle.job_lists.specs.EndedParagraphs.{refusal_of};
 ghost use Rattle.job_machine.specs.State.{innermost, outer, items_in};
 ghost use Rattle.job_machine.specs.OpenLists.{opened_list};
 ghost use Rattle.job_machine.specs.Checks.{par_checks, first_refusal};
@@ -11,10 +13,10 @@ use crate::nest::Nest;
 use break_core::Pass;
 use job_commands::{Answer, Refusal, Reply};
 use job_machine::ListPurpose;
-use node_core::limits::{MAX_DEPTH, MAX_ITEMS, MAX_OPEN_LISTS};
-use node_core::{Kind, NodeList, Params};
+use node_core::limits::MAX_OPEN_LISTS;
+use node_core::{Kind, Params};
 use std::alloc::AllocError;
-use vert_core::{ParagraphFault, SetParagraph};
+use vert_core::{AppendedParagraph, ParagraphFault, UnappendedLines};
 
 /// The number of the pass that found the breaks: 0 for an empty paragraph, which has none.
 fn pass_number(pass: Option<Pass>) -> u8
@@ -29,14 +31,14 @@ fn pass_number(pass: Option<Pass>) -> u8
 }
 
 /// The answer to `end` for a paragraph that was set.
-fn answer_of(set: &SetParagraph) -> Answer
-    ensures { result ≡ paragraph_answer (Ok set.now) }
+fn answer_of(told: &AppendedParagraph) -> Answer
+    ensures { (set : SetParagraph) → told.now.lines ≡ set.lines → told.now.pass ≡ set.pass → told.now.overhang ≡ set.overhang → told.now.demerits ≡ set.demerits → result ≡ paragraph_answer (Ok set) }
 {
     Answer::Paragraph {
-        lines: set.lines,
-        pass: pass_number(set.pass),
-        overhang: set.overhang,
-        demerits: set.demerits,
+        lines: told.lines,
+        pass: pass_number(told.pass),
+        overhang: told.overhang,
+        demerits: told.demerits,
     }
 }
 
@@ -52,18 +54,15 @@ fn refusal_for(fault: ParagraphFault) -> Option<Refusal>
     }
 }
 
-/// Why the lines of a paragraph may not be appended to a list of `count` items, if they may not: a line nests too deep, or else the list would be too long.
-fn refusal_of_lines(count: usize, items: &NodeList) -> Option<Refusal>
-    ensures { result ≡ first_refusal (lines_checks count items.now) }
+/// The refusal of lines that are not appended. None where memory was refused.
+fn refusal_of(unappended: UnappendedLines) -> Option<Refusal>
+    ensures { result ≡ refusal_of unappended }
 {
-    let length = items.len();
-    if items.depth() > MAX_DEPTH {
-        return Some(Refusal::TooDeep);
+    match unappended {
+        UnappendedLines::Unset(fault) => refusal_for(fault),
+        UnappendedLines::TooDeep => Some(Refusal::TooDeep),
+        UnappendedLines::TooLong => Some(Refusal::ListTooLong),
     }
-    if count.saturating_add(length) > MAX_ITEMS {
-        return Some(Refusal::ListTooLong);
-    }
-    None
 }
 
 impl Nest {
@@ -94,32 +93,22 @@ impl Nest {
     ///
     /// `NoOpenList` where no list is around it, else the fault of a paragraph that is not set, else `TooDeep` or `ListTooLong` for its lines.
     /// Where it is refused, or memory is, nothing changes. `AllocError` is returned only where a list is around it and it may be broken.
-    #[tactic(auto, using(crate::proofs::ParagraphEnds::only_memory, crate::proofs::ParagraphEnds::early_free))]
+    #[tactic(auto, using(crate::proofs::ParagraphEnds::not_refused, crate::proofs::ParagraphEnds::ended_lists, crate::proofs::ParagraphEnds::refused_so, crate::proofs::ParagraphEnds::memory_refused))]
     pub fn end_paragraph(&mut self, params: &Params) -> Result<Reply, AllocError>
         ensures reply { IfOk result (λ reply. reply ≡ reply_by (first_refusal (paragraph_checks params.now (outer self.old) (items_in (innermost self.old)))) (paragraph_answer (set_after params.now (outer self.old) (items_in (innermost self.old))))) }
         ensures state { OnOk result (self.new ≡ state_by (first_refusal (paragraph_checks params.now (outer self.old) (items_in (innermost self.old)))) self.old (with_paragraph params.now (outer self.old) (items_in (innermost self.old)))) }
         ensures err { OnErr result (self.new ≡ self.old) }
         ensures early { OnErr result (first_refusal (early_paragraph_checks params.now (outer self.old) (items_in (innermost self.old))) ≡ None) }
     {
-        let Some(around) = self.around() else {
+        if self.around().is_none() {
             return Ok(Err(Refusal::NoOpenList));
-        };
-        let depth = around.previous_depth;
-        let count = around.list.len();
-        let set = match self.set_innermost(depth, params) {
-            Ok(counted) => counted.set,
-            Err(fault) => {
-                return match refusal_for(fault) {
-                    Some(refusal) => Ok(Err(refusal)),
-                    None => Err(AllocError),
-                };
-            }
-        };
-        if let Some(refusal) = refusal_of_lines(count, &set.items) {
-            return Ok(Err(refusal));
         }
-        let answer = answer_of(&set);
-        self.close_paragraph(set)?;
-        Ok(Ok(answer))
+        match self.append_paragraph(params) {
+            Ok(told) => Ok(Ok(answer_of(&told))),
+            Err(unappended) => match refusal_of(unappended) {
+                Some(refusal) => Ok(Err(refusal)),
+                None => Err(AllocError),
+            },
+        }
     }
 }

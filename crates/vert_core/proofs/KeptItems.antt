@@ -46,7 +46,7 @@ without_kept list i x within is kept =
     ∙ sym (from_item list i x within is)
 
 -- Dropping items does not make a list longer.
-length-without_first : (list : List Node) → length (without_first list) ≤ length list
+pub length-without_first : (list : List Node) → length (without_first list) ≤ length list
 length-without_first [] = omega arith
 length-without_first (x ∷ rest) = cases (length-without_first rest) (cases_Bool (is_dropped x))
   where

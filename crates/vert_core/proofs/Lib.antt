@@ -4,6 +4,11 @@ pub mod Shortened
 pub mod KeptItems
 pub mod Measured
 pub mod Stacks
+pub mod Filled
+pub mod PlannedLines
+pub mod PlannedOrder
+pub mod Nesting
+pub mod AppendedLines
 pub mod Endings
 pub mod FewLines
 pub mod SetLists

@@ -81,7 +81,7 @@ set_is list params previous set is =
     (is.demerits ∙ is.broken.demerits)
 
 -- A finished list that was set.
-list_set :
+pub list_set :
     (list : List Node) (params : Params) (previous : ℤ) (set : SetParagraph) → refusal list ≡ None → IsSet list params previous set
     → list_setting list params previous ≡ Ok set
 unfolding list_setting

@@ -1,6 +1,5 @@
 -- Why a finished list is not set, by the fault of its breaks or of its lines.
-use Rattle.std.proofs.Common.{◌≡◌, Option, Some, None, List, ℤ, Bool, true, false, refl, ap, sym}
-use Rattle.std.specs.Prelude.{if◌then◌else◌}
+use Rattle.std.proofs.Common.{◌≡◌, Option, Some, None, List, ℤ, false, refl, ap, sym}
 use Rattle.std.specs.Option.{unwrap_or}
 use Rattle.node_core.specs.declared.params.Params.{Params}
 use Rattle.node_core.specs.declared.tree.Node.{Node}
@@ -29,14 +28,9 @@ unset_list list params previous breaking.InfiniteShrink is = endless (refusal li
 unset_list list params previous breaking.TooManyBreaks is = many (refusal list) is
 unset_list list params previous breaking.OutOfMemory is = free_at_memory list is
 
-large : (b : Bool) → stacking.DimensionTooLarge ≡ (if b then stacking.OutOfMemory else stacking.DimensionTooLarge) → b ≡ false
-large true is = absurd (cc)
-large false is = refl
-
-pub unstacked_list : (list : List Node) (params : Params) (previous : ℤ) (breaks : Breaks) (fault : LinesFault)
+pub unplanned_list : (list : List Node) (params : Params) (previous : ℤ) (breaks : Breaks) (fault : LinesFault)
     → refusal list ≡ None → IsBroken (facts_of list) params breaks
-    → fault ≡ (if lines_fit (with_breaks list params previous breaks) then stacking.OutOfMemory else stacking.DimensionTooLarge)
+    → (fault ≡ stacking.DimensionTooLarge → lines_fit (with_breaks list params previous breaks) ≡ false)
     → IsUnsetList list params previous (unstacked_by fault)
-unstacked_list list params previous breaks stacking.DimensionTooLarge free broken is =
-    (free, (breaks, broken, large (lines_fit (with_breaks list params previous breaks)) is))
-unstacked_list list params previous breaks stacking.OutOfMemory free broken is = free
+unplanned_list list params previous breaks stacking.DimensionTooLarge free broken large = (free, (breaks, broken, large refl))
+unplanned_list list params previous breaks stacking.OutOfMemory free broken large = free

@@ -3,9 +3,12 @@
 pub mod Interline
 pub mod Lines
 pub mod Measuring
+pub mod Planned
 pub mod Finished
 pub mod Paragraphs
 pub mod Rows
 pub mod LeastLists
 pub mod Setting
+pub mod Appended
 pub mod Tried
+pub mod PlannedParagraphs

@@ -6,17 +6,22 @@
 #![tactic(auto)]
 
 mod append;
+mod appending;
+mod filling;
 mod finishing;
 pub mod glue_laws;
 mod interline;
+mod levels;
 mod line_boxes;
 mod measuring;
 mod paragraph;
 pub mod paragraph_laws;
 mod penalties;
+mod planning;
 mod stacking;
 
 pub use append::{AppendFault, Unappended, append_box, append_with_glue};
+pub use appending::{AppendedParagraph, UnappendedLines, append_paragraph};
 pub use finishing::{finish_paragraph, unfinish_paragraph};
 pub use interline::{DimensionTooLarge, interline_glue};
 pub use line_boxes::LinesFault;

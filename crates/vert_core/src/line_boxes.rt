@@ -1,14 +1,14 @@
 //! The items in the boxes of the lines of a paragraph.
 
-ghost use Rattle.std.specs.Prelude.{◌≡◌, ◌≤◌, ◌+◌, ◌++◌, ◌∷◌, [], length, drop, slice_get, IfOk, OnOk};
+ghost use Rattle.std.specs.Prelude.{◌≡◌, ◌<◌, ◌+◌, ◌++◌, ◌∷◌, [], length, drop, take, slice_get, IfSome};
 ghost use Rattle.std.specs.List.{cons_option};
-ghost use Rattle.node_core.specs.Nodes.{max_nodes, items_of};
 ghost use Rattle.break_lines.specs.LineItems.{at_break, without_first, kept};
+ghost use Rattle.vert_core.specs.Planned.{front, line_of};
 ghost use Rattle.vert_core.specs.declared.line_boxes.LinesFault.TheVariants.{OutOfMemory};
 
-use node_core::{Node, NodeList};
+use node_core::Node;
 use scaled_core::Dimen;
-use std::alloc::{AllocError, Global};
+use std::alloc::AllocError;
 use thiserror::Error;
 
 /// Why the lines of a paragraph were not stacked.
@@ -54,7 +54,8 @@ fn after(nodes: &[Node], place: usize) -> &[Node]
 
 /// The items that a line keeps before the place where it ends.
 pub(crate) fn front_of(nodes: &[Node], begin: Option<usize>, end: usize) -> &[Node]
-    ensures { result.now ++ at_break (slice_get nodes.now end) ≡ kept nodes.now begin end }
+    ensures items { result.now ++ at_break (slice_get nodes.now end) ≡ kept nodes.now begin end }
+    ensures front { result.now ≡ front nodes.now begin end }
 {
     let front = &nodes[..end.min(nodes.len())];
     match begin {
@@ -63,9 +64,10 @@ pub(crate) fn front_of(nodes: &[Node], begin: Option<usize>, end: usize) -> &[No
     }
 }
 
-/// What a line keeps of the item at its end, if anything.
-pub(crate) fn kept_at(nodes: &[Node], end: usize) -> Option<Node>
-    ensures { cons_option result [] ≡ at_break (slice_get nodes.now end) }
+/// What a line keeps of the item at its end, if anything: a kern without its width, or a penalty.
+fn kept_at(nodes: &[Node], end: usize) -> Option<Node>
+    ensures kept { cons_option result [] ≡ at_break (slice_get nodes.now end) }
+    ensures within { IfSome result (λ _. end < length nodes.now) }
 {
     match nodes.get(end) {
         Some(Node::Kern(_)) => Some(Node::Kern(Dimen::ZERO)),
@@ -74,53 +76,21 @@ pub(crate) fn kept_at(nodes: &[Node], end: usize) -> Option<Node>
     }
 }
 
-/// Appends a copy of a node. The items that are most frequent in lines are copied here, without a call.
-fn push_copy(alloc: Global, nodes: &mut Vec<Node>, node: &Node) -> Result<(), AllocError>
-    ensures { OnOk result (nodes.new.items ≡ nodes.old.items ++ node.now ∷ []) }
+/// Replaces the item at an index, and drops the items after it.
+fn end_with(items: &mut Vec<Node>, index: usize, node: Node)
+    requires { index < length items.old.items }
+    ensures { items.new.items ≡ take index items.old.items ++ node ∷ [] }
 {
-    match node {
-        Node::Glyph(glyph) => nodes.push(Node::Glyph(*glyph))?,
-        Node::FontKern(width) => nodes.push(Node::FontKern(*width))?,
-        Node::Glue(glue) => nodes.push(Node::Glue(*glue))?,
-        _ => nodes.push(node.copy(alloc)?)?,
-    }
-    Ok(())
+    items[index] = node;
+    items.truncate(index + 1);
 }
 
-/// Copies of the nodes, with room for this number of nodes.
-fn copies(alloc: Global, nodes: &[Node], count: usize) -> Result<Vec<Node>, AllocError>
-    ensures { IfOk result (λ copies. copies.items ≡ nodes.now) }
+/// Keeps this number of items, and after them what a line keeps of the item at its end.
+pub(crate) fn keep_line(items: &mut Vec<Node>, count: usize)
+    ensures { items.new.items ≡ line_of count items.old.items }
 {
-    let mut copies = Vec::with_capacity(alloc, count)?;
-    for node in nodes {
-        push_copy(alloc, &mut copies, node)?;
+    match kept_at(items, count) {
+        Some(kept) => end_with(items, count, kept),
+        None => items.truncate(count),
     }
-    Ok(copies)
-}
-
-/// Appends a node, if there is one.
-fn push_some(nodes: &mut Vec<Node>, node: Option<Node>) -> Result<(), AllocError>
-    ensures { OnOk result (nodes.new.items ≡ nodes.old.items ++ cons_option node []) }
-{
-    if let Some(node) = node {
-        nodes.push(node)?;
-    }
-    Ok(())
-}
-
-/// Copies of the items that a line keeps, with room for this number of items.
-#[tactic(auto, using(crate::proofs::KeptItems::length_kept))]
-pub(crate) fn line_list(
-    alloc: Global,
-    nodes: &[Node],
-    begin: Option<usize>,
-    end: usize,
-    count: usize,
-) -> Result<NodeList, AllocError>
-    requires { length nodes.now ≤ max_nodes }
-    ensures { IfOk result (λ list. list ≡ items_of (kept nodes.now begin end)) }
-{
-    let mut items = copies(alloc, front_of(nodes, begin, end), count)?;
-    push_some(&mut items, kept_at(nodes, end))?;
-    Ok(NodeList::from_vec(items))
 }

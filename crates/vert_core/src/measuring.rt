@@ -7,9 +7,10 @@ ghost use Rattle.pack_core.specs.Boxes.{packed_of};
 ghost use Rattle.vert_core.specs.Interline.{interline, glue_of};
 ghost use Rattle.vert_core.specs.Lines.{line_places, line_begin, lines_fit};
 ghost use Rattle.vert_core.specs.Measuring.{paragraph_of, items_at, box_at, fits_at};
+ghost use Rattle.vert_core.specs.Planned.{first_index};
 
 use crate::interline::interline_glue;
-use crate::line_boxes::{front_of, kept_at};
+use crate::line_boxes::front_of;
 use break_core::LineEnd;
 use break_lines::line_size;
 use node_core::{Glue, Node, Params};
@@ -24,12 +25,12 @@ pub(crate) struct BrokenList<'a> {
     pub(crate) params: &'a Params,
 }
 
-/// A line as it will be stacked: its box without the items, the glue before it, and the number of items that it keeps.
+/// A line as it will be stacked: its box without the items, the glue before it, and where its items begin.
 #[derive(Clone, Copy, Debug)]
 pub(crate) struct MeasuredLine {
     pub(crate) shell: Shell,
     pub(crate) glue: Option<Glue>,
-    pub(crate) count: usize,
+    pub(crate) begin: usize,
 }
 
 /// The place where a line begins, or `None` for the start of the list.
@@ -62,8 +63,8 @@ pub(crate) fn measure_line(
     requires line_bounded { line < length broken.now.ends.now }
     ensures fits { is_some result ≡ fits_at broken.now line previous_depth }
     ensures packed { IfSome result (λ measured. (packed_of (items_of (items_at broken.now line)) measured.shell).box_node ≡ box_at broken.now line) }
+    ensures begin { IfSome result (λ measured. measured.begin ≡ first_index broken.now.nodes.now (line_begin (line_places broken.now.ends.now) line) (get_or (line_places broken.now.ends.now) line 0)) }
     ensures glue { IfSome result (λ measured. measured.glue ≡ glue_of (interline broken.now.params.now previous_depth measured.shell.height)) }
-    ensures count { IfSome result (λ measured. measured.count ≡ length (items_at broken.now line)) }
 {
     let begin = line_begin(broken.ends, line);
     let end = line_end(broken.ends, line);
@@ -73,8 +74,8 @@ pub(crate) fn measure_line(
     let Ok(glue) = interline_glue(previous_depth, shell.height, broken.params) else {
         return None;
     };
-    let count = front.len() + usize::from(kept_at(broken.nodes, end).is_some());
-    Some(MeasuredLine { shell, glue, count })
+    let begin = end.min(broken.nodes.len()) - front.len();
+    Some(MeasuredLine { shell, glue, begin })
 }
 
 /// Whether each line fits, the first one after a previous depth.

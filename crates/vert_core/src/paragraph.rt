@@ -1,22 +1,29 @@
 //! Setting paragraphs: they are finished, broken into lines, and stacked as in a vertical list.
 
-ghost use Rattle.std.specs.Prelude.{◌≡◌, ◌≤◌, ◌+◌, ◌<◌, ℤ, length, None, IfOk, IfErr, OnOk};
+ghost use Rattle.std.specs.Prelude.{◌≡◌, ◌≤◌, ◌+◌, ◌++◌, ◌<◌, [], ℤ, length, flat_map, None, IfOk, IfErr, OnOk, OnErr};
 ghost use Rattle.std.specs.Option.{unwrap_or};
+ghost use Rattle.node_core.specs.Items.{none};
 ghost use Rattle.node_core.specs.Nodes.{max_nodes, nodes_of};
 ghost use Rattle.break_lines.specs.Facts.{facts_of, refusal};
 ghost use Rattle.break_core.specs.Passes.{IsBroken};
 ghost use Rattle.break_core.specs.Trials.{passes_run};
+ghost use Rattle.vert_core.specs.declared.paragraph.ParagraphFault.TheVariants.{OutOfMemory};
 ghost use Rattle.vert_core.specs.Finished.{finished};
 ghost use Rattle.vert_core.specs.Paragraphs.{set_empty, unbroken, unset_by, unstacked_by, IsSet, IsSetParagraph, IsUnsetList, IsUnset};
+ghost use Rattle.vert_core.specs.Planned.{AreInOrder, moved, stacked};
+ghost use Rattle.vert_core.specs.PlannedParagraphs.{IsPlanned};
 ghost use Rattle.vert_core.specs.Tried.{TrialsAreBounded, AreFewTrials};
 
+use crate::filling::move_items;
 use crate::finishing::{finish_paragraph, refusal_of_finished, unfinish_paragraph};
 use crate::line_boxes::LinesFault;
-use crate::stacking::lines;
+use crate::measuring::BrokenList;
+use crate::planning::{PlannedLines, plan_lines_that_fit};
+use crate::stacking::stack_lines;
 use break_core::{BreakFault, Breaks, ListMeter, Pass, active_breaks};
 use node_core::{Node, NodeList, Params};
 use scaled_core::Dimen;
-use std::alloc::Global;
+use std::alloc::{AllocError, Global};
 use std::mem::replace;
 use thiserror::Error;
 
@@ -76,6 +83,14 @@ impl From<LinesFault> for ParagraphFault {
     }
 }
 
+impl From<AllocError> for ParagraphFault {
+    ghost from_gives = { λ _ fault. fault ≡ OutOfMemory };
+
+    fn from(_error: AllocError) -> ParagraphFault {
+        ParagraphFault::OutOfMemory
+    }
+}
+
 /// A paragraph that was set, and the number of lines that were tried for it.
 #[derive(Debug, Drop)]
 pub struct CountedParagraph {
@@ -100,7 +115,7 @@ fn set_empty(alloc: Global, previous_depth: Dimen) -> CountedParagraph
 }
 
 /// Why a paragraph was not set whose list could not be finished: it cannot be broken, or otherwise memory was refused.
-fn unfinished_fault(nodes: &[Node], params: &Params) -> ParagraphFault
+pub(crate) fn unfinished_fault(nodes: &[Node], params: &Params) -> ParagraphFault
     requires { length nodes.now ≤ max_nodes }
     ensures { (previous : ℤ) → IsUnsetList (finished nodes.now params.now.par_fill_skip) params.now previous result }
 {
@@ -131,24 +146,85 @@ fn counted_breaks(
     Ok((breaks, meter.all_trials()))
 }
 
-/// Sets a finished list of at most 131,072 nodes.
-fn set_finished(
+/// A finished list that is broken, with its lines as they will be stacked.
+#[derive(Debug, Drop)]
+pub(crate) struct PlannedParagraph {
+    pub(crate) plan: PlannedLines,
+    pub(crate) breaks: Breaks,
+    pub(crate) trials: u128,
+}
+
+/// Breaks a finished list of at most 131,072 nodes, and plans its lines.
+pub(crate) fn plan_finished(
     alloc: Global,
     nodes: &[Node],
     params: &Params,
     previous_depth: Dimen,
-) -> Result<CountedParagraph, ParagraphFault>
+) -> Result<PlannedParagraph, ParagraphFault>
     requires { length nodes.now ≤ max_nodes }
-    ensures ok { IfOk result (λ counted. IsSet nodes.now params.now previous_depth counted.set) }
-    ensures fits { OnOk result (refusal nodes.now ≡ None) }
-    ensures trials { IfOk result (λ counted. AreFewTrials (facts_of nodes.now) params.now counted.set.pass counted.trials) }
+    ensures ok { IfOk result (IsPlanned nodes.now params.now previous_depth) }
     ensures refused { IfErr result (IsUnsetList nodes.now params.now previous_depth) }
 {
     let (breaks, trials) = counted_breaks(alloc, nodes, params)?;
-    let stacked = lines(alloc, nodes, &breaks, params, previous_depth)?;
+    let broken = BrokenList {
+        nodes,
+        ends: &breaks.lines,
+        params,
+    };
+    let plan = plan_lines_that_fit(alloc, &broken, previous_depth)?;
+    Ok(PlannedParagraph {
+        plan,
+        breaks,
+        trials,
+    })
+}
+
+/// Moves the items of a finished list into its lines, and these to the end of another list. Where memory is refused, both are as they were before.
+pub(crate) fn stack_planned(
+    nodes: &mut Vec<Node>,
+    plan: PlannedLines,
+    around: &mut Vec<Node>,
+) -> Result<(), AllocError>
+    requires list_bounded { length nodes.old.items ≤ max_nodes }
+    requires in_order { AreInOrder (length nodes.old.items + 1) plan.lines.items }
+    requires count { plan.count ≡ length (flat_map stacked (moved nodes.old.items (length nodes.old.items) plan.lines.items)) }
+    ensures ok { OnOk result (around.new.items ≡ around.old.items ++ flat_map stacked (moved nodes.old.items (length nodes.old.items) plan.lines.items)) }
+    ensures emptied { OnOk result (nodes.new.items ≡ []) }
+    ensures err { OnErr result (nodes.new.items ≡ nodes.old.items) }
+    ensures same { OnErr result (around.new.items ≡ around.old.items) }
+{
+    around.reserve(plan.count)?;
+    let filled = move_items(nodes, plan.lines)?;
+    stack_lines(around, filled);
+    Ok(())
+}
+
+/// Sets a finished list of at most 131,072 nodes, whose items go into the lines. Where it is not set, it is as it was before.
+fn set_finished(
+    alloc: Global,
+    nodes: &mut Vec<Node>,
+    params: &Params,
+    previous_depth: Dimen,
+) -> Result<CountedParagraph, ParagraphFault>
+    requires { length nodes.old.items ≤ max_nodes }
+    ensures ok { IfOk result (λ counted. IsSet nodes.old.items params.now previous_depth counted.set) }
+    ensures fits { OnOk result (refusal nodes.old.items ≡ None) }
+    ensures trials { IfOk result (λ counted. AreFewTrials (facts_of nodes.old.items) params.now counted.set.pass counted.trials) }
+    ensures refused { IfErr result (IsUnsetList nodes.old.items params.now previous_depth) }
+    ensures emptied { OnOk result (nodes.new.items ≡ []) }
+    ensures err { OnErr result (nodes.new.items ≡ nodes.old.items) }
+{
+    let PlannedParagraph {
+        plan,
+        breaks,
+        trials,
+    } = plan_finished(alloc, nodes, params, previous_depth)?;
+    let depth = plan.depth;
+    let mut items = Vec::new(alloc);
+    stack_planned(nodes, plan, &mut items)?;
     let set = SetParagraph {
-        items: NodeList::from_vec(stacked.nodes),
-        depth: stacked.depth,
+        items: NodeList::from_vec(items),
+        depth,
         lines: breaks.lines.len(),
         pass: Some(breaks.pass),
         overhang: breaks.overhang,
@@ -157,7 +233,7 @@ fn set_finished(
     Ok(CountedParagraph { set, trials })
 }
 
-/// Sets a list of at most 131,070 items. The list is finished for this, and then restored.
+/// Sets a list of at most 131,070 items, which go into the lines. Where it is not set, it is as it was before.
 fn set_items(
     alloc: Global,
     nodes: &mut Vec<Node>,
@@ -169,17 +245,23 @@ fn set_items(
     ensures fits { OnOk result (refusal (finished nodes.old.items params.now.par_fill_skip) ≡ None) }
     ensures trials { IfOk result (λ counted. AreFewTrials (facts_of (finished nodes.old.items params.now.par_fill_skip)) params.now counted.set.pass counted.trials) }
     ensures refused { IfErr result (IsUnsetList (finished nodes.old.items params.now.par_fill_skip) params.now previous_depth) }
-    ensures same { nodes.new.items ≡ nodes.old.items }
+    ensures emptied { OnOk result (nodes.new.items ≡ []) }
+    ensures err { OnErr result (nodes.new.items ≡ nodes.old.items) }
 {
     let Ok(replaced) = finish_paragraph(nodes, params.par_fill_skip) else {
         return Err(unfinished_fault(nodes, params));
     };
-    let set = set_finished(alloc, nodes, params, previous_depth);
-    unfinish_paragraph(nodes, replaced);
-    set
+    match set_finished(alloc, nodes, params, previous_depth) {
+        Ok(counted) => Ok(counted),
+        Err(fault) => {
+            unfinish_paragraph(nodes, replaced);
+            Err(fault)
+        }
+    }
 }
 
-/// Sets a paragraph of at most 131,070 items after a previous depth, and leaves its list as it was.
+/// Sets a paragraph of at most 131,070 items after a previous depth. Its items go into its lines, so its list is then empty. Where it is not set, its
+/// list is as it was before the call.
 ///
 /// The fault is `InfiniteShrink` exactly when glue of the finished list shrinks in an infinite order, and `TooManyBreaks` exactly when there is no
 /// such glue but more than 8,192 legal places; refused memory hides neither. Otherwise it is `DimensionTooLarge` if a line does not fit, which refused
@@ -196,7 +278,8 @@ pub fn set_paragraph(
     ensures fits { OnOk result (unbroken (nodes_of list.old) params.now.par_fill_skip ≡ None) }
     ensures trials { IfOk result (λ counted. AreFewTrials (facts_of (finished (nodes_of list.old) params.now.par_fill_skip)) params.now counted.set.pass counted.trials) }
     ensures refused { IfErr result (IsUnset (nodes_of list.old) params.now previous_depth) }
-    ensures same { list.new ≡ list.old }
+    ensures emptied { OnOk result (list.new ≡ none) }
+    ensures err { OnErr result (list.new ≡ list.old) }
 {
     if list.is_empty() {
         return Ok(set_empty(alloc, previous_depth));

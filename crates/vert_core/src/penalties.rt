@@ -1,11 +1,11 @@
 //! The penalties between the lines of a paragraph (TeX: The Program, part 39, §890).
 
-ghost use Rattle.std.specs.Prelude.{◌≡◌, ◌<◌, ◌+◌, ◌++◌, pos, if◌then◌else◌, OnOk, OnErr};
+ghost use Rattle.std.specs.Prelude.{◌≡◌, ◌<◌, ◌+◌, pos, if◌then◌else◌};
 ghost use Rattle.scaled_core.specs.Dimensions.{Within};
-ghost use Rattle.vert_core.specs.Lines.{penalty_after, penalty_nodes, after_line};
+ghost use Rattle.vert_core.specs.Lines.{penalty_after};
+ghost use Rattle.vert_core.specs.Planned.{penalty_between};
 
-use node_core::{IntParameter, Node, Params};
-use std::alloc::AllocError;
+use node_core::{IntParameter, Params};
 
 /// The number if it is wanted, and otherwise 0.
 fn number_if(wanted: bool, number: IntParameter) -> i32
@@ -27,31 +27,13 @@ fn penalty_after(params: &Params, count: usize, line: usize) -> i32
     params.interline_penalty.get() + club + widow
 }
 
-/// Appends a penalty to a list, unless it is 0. If memory is refused, the list is as it was before the call.
-fn push_penalty(nodes: &mut Vec<Node>, penalty: i32) -> Result<(), AllocError>
-    ensures ok { OnOk result (nodes.new.items ≡ nodes.old.items ++ penalty_nodes penalty) }
-    ensures err { OnErr result (nodes.new.items ≡ nodes.old.items) }
-{
-    if penalty == 0 {
-        return Ok(());
-    }
-    nodes.push(Node::Penalty(penalty))?;
-    Ok(())
-}
-
-/// Appends what comes after line number `line` of `count` lines. If memory is refused, the list is as it was before the call.
-pub fn push_after_line(
-    nodes: &mut Vec<Node>,
-    params: &Params,
-    count: usize,
-    line: usize,
-) -> Result<(), AllocError>
+/// The penalty after line number `line` of `count` lines, or 0 after the last one.
+pub(crate) fn penalty_between(params: &Params, count: usize, line: usize) -> i32
     requires { line < count }
-    ensures ok { OnOk result (nodes.new.items ≡ nodes.old.items ++ after_line params.now count line) }
-    ensures err { OnErr result (nodes.new.items ≡ nodes.old.items) }
+    ensures { result ≡ penalty_between params.now count line }
 {
     if line + 1 == count {
-        return Ok(());
+        return 0;
     }
-    push_penalty(nodes, penalty_after(params, count, line))
+    penalty_after(params, count, line)
 }

@@ -1,18 +1,18 @@
 //! Stacking the lines of a paragraph as in a vertical list (TeX: The Program, part 39, §877 to §890).
 
-ghost use Rattle.std.specs.Prelude.{◌≡◌, ◌≤◌, ◌<◌, ◌++◌, pos, true, length, if◌then◌else◌, OnOk, OnErr, IfOk, IfErr};
+ghost use Rattle.std.specs.Prelude.{◌≡◌, ◌≤◌, ◌<◌, ◌+◌, ◌++◌, [], true, length, reverse, flat_map, vec_len, vec_capacity, if◌then◌else◌, OnOk, OnErr, IfOk, IfErr};
+ghost use Rattle.std.specs.List.{cons_option};
 ghost use Rattle.node_core.specs.Nodes.{max_nodes};
-ghost use Rattle.vert_core.specs.Interline.{appended};
-ghost use Rattle.vert_core.specs.Lines.{broken_list, after_line, line_brings, vertical_items, last_depth, lines_fit};
-ghost use Rattle.vert_core.specs.Measuring.{paragraph_of, box_at, fits_at};
+ghost use Rattle.vert_core.specs.Lines.{broken_list, penalty_nodes, vertical_items, last_depth, lines_fit};
+ghost use Rattle.vert_core.specs.Measuring.{paragraph_of};
+ghost use Rattle.vert_core.specs.Planned.{closed_box, stacked};
 
-use crate::append::push_with_glue;
-use crate::line_boxes::{LinesFault, line_list};
-use crate::measuring::{BrokenList, line_begin, line_end, lines_fit, measure_line};
-use crate::penalties::push_after_line;
+use crate::filling::copy_items;
+use crate::line_boxes::{LinesFault, keep_line};
+use crate::measuring::BrokenList;
+use crate::planning::{PlannedLine, fault_of, plan_lines};
 use break_core::Breaks;
-use node_core::{BoxNode, Glue, Node, Params};
-use pack_core::packed_of;
+use node_core::{BoxNode, Node, NodeList, Params};
 use scaled_core::Dimen;
 use std::alloc::Global;
 
@@ -23,56 +23,66 @@ pub struct VerticalItems {
     pub depth: Dimen,
 }
 
-/// Appends the box of line number `line` of a broken list, with the glue before it, if there is any, and the penalty after it.
-fn stack_line(
-    list: &mut Vec<Node>,
-    glue: Option<Glue>,
-    line_box: BoxNode,
-    broken: &BrokenList,
-    line: usize,
-) -> Result<(), LinesFault>
-    requires { line < length broken.now.ends.now }
-    ensures { OnOk result (list.new.items ≡
-        list.old.items ++ (appended glue (pos 0) line_box ++ after_line broken.now.params.now (length broken.now.ends.now) line)) }
+/// Appends a node, if there is one, to a list with room for it.
+fn put_some(list: &mut Vec<Node>, node: Option<Node>)
+    requires { vec_len list.old + length (cons_option node []) ≤ vec_capacity list.old }
+    ensures items { list.new.items ≡ list.old.items ++ cons_option node [] }
+    ensures capacity { vec_capacity list.new ≡ vec_capacity list.old }
 {
-    match push_with_glue(list, glue, Dimen::ZERO, line_box) {
-        Err(_) => Err(LinesFault::OutOfMemory),
-        Ok(()) => Ok(push_after_line(list, broken.params, broken.ends.len(), line)?),
+    if let Some(node) = node {
+        list.push_reserved(node);
     }
 }
 
-/// Appends a line to a list with this previous depth, and returns the depth of the line.
-fn add_line(
-    alloc: Global,
-    list: &mut Vec<Node>,
-    broken: &BrokenList,
-    previous_depth: Dimen,
-    line: usize,
-) -> Result<Dimen, LinesFault>
-    requires list_bounded { length broken.now.nodes.now ≤ max_nodes }
-    requires line_bounded { line < length broken.now.ends.now }
-    ensures ok { OnOk result (list.new.items ≡
-        list.old.items ++ line_brings broken.now.params.now (length broken.now.ends.now) line previous_depth (box_at broken.now line)) }
-    ensures depth { IfOk result (λ depth. depth ≡ (box_at broken.now line).depth) }
-    ensures fits { OnOk result (fits_at broken.now line previous_depth ≡ true) }
+/// The node of a penalty, unless it is 0.
+fn penalty_node(penalty: i32) -> Option<Node>
+    ensures { cons_option result [] ≡ penalty_nodes penalty }
 {
-    let Some(measured) = measure_line(broken, previous_depth, line) else {
-        return Err(LinesFault::DimensionTooLarge);
-    };
-    let items = line_list(
-        alloc,
-        broken.nodes,
-        line_begin(broken.ends, line),
-        line_end(broken.ends, line),
-        measured.count,
-    )?;
-    let line_box = packed_of(items, &measured.shell).box_node;
-    stack_line(list, measured.glue, line_box, broken, line)?;
-    Ok(measured.shell.depth)
+    if penalty == 0 {
+        return None;
+    }
+    Some(Node::Penalty(penalty))
 }
 
-/// The items that the lines of a broken list add to a vertical list with this previous depth.
-fn stack_lines(
+/// The box of a line, with the items that the line keeps of those in it.
+fn closed_box(line: PlannedLine) -> BoxNode
+    ensures { result ≡ closed_box line }
+{
+    let count = line.end.saturating_sub(line.begin);
+    let mut box_node = line.box_node;
+    // A list is never longer than the limit, and this one does not get longer.
+    let _whole = box_node.list.len();
+    let mut items = box_node.list.into_vec();
+    keep_line(&mut items, count);
+    box_node.list = NodeList::with_measures(items);
+    box_node
+}
+
+/// Appends a line to a list with room for it: its glue, its box, and its penalty.
+#[tactic(auto, unfolding(crate::specs::Planned::stacked))]
+fn stack_line(list: &mut Vec<Node>, line: PlannedLine)
+    requires { vec_len list.old + length (stacked line) ≤ vec_capacity list.old }
+    ensures items { list.new.items ≡ list.old.items ++ stacked line }
+    ensures capacity { vec_capacity list.new ≡ vec_capacity list.old }
+{
+    let after = penalty_node(line.penalty);
+    put_some(list, line.glue.map(Node::Glue));
+    list.push_reserved(Node::Box(Dimen::ZERO, closed_box(line)));
+    put_some(list, after);
+}
+
+/// Appends lines that have their items, and of which the last one comes first, to a list with room for them.
+pub(crate) fn stack_lines(list: &mut Vec<Node>, mut lines: Vec<PlannedLine>)
+    requires { vec_len list.old + length (flat_map stacked (reverse lines.items)) ≤ vec_capacity list.old }
+    ensures { list.new.items ≡ list.old.items ++ flat_map stacked (reverse lines.items) }
+{
+    while let Some(line) = lines.pop() {
+        stack_line(list, line);
+    }
+}
+
+/// The items that the lines of a broken list add to a vertical list with this previous depth, with copies of the items of the list.
+fn copied_lines(
     alloc: Global,
     broken: &BrokenList,
     previous_depth: Dimen,
@@ -80,15 +90,16 @@ fn stack_lines(
     requires { length broken.now.nodes.now ≤ max_nodes }
     ensures ok { IfOk result (λ items. items.nodes.items ≡ vertical_items (paragraph_of broken.now previous_depth)) }
     ensures depth { IfOk result (λ items. items.depth ≡ last_depth (paragraph_of broken.now previous_depth)) }
-    ensures lines_present { OnErr result (0 < length broken.now.ends.now) }
     ensures fits { OnOk result (lines_fit (paragraph_of broken.now previous_depth) ≡ true) }
 {
-    let mut list = Vec::new(alloc);
-    let mut depth = previous_depth;
-    for line in 0..broken.ends.len() {
-        depth = add_line(alloc, &mut list, broken, depth, line)?;
-    }
-    Ok(VerticalItems { nodes: list, depth })
+    let plan = plan_lines(alloc, broken, previous_depth)?;
+    let mut nodes = Vec::with_capacity(alloc, plan.count)?;
+    let filled = copy_items(alloc, broken.nodes, plan.lines)?;
+    stack_lines(&mut nodes, filled);
+    Ok(VerticalItems {
+        nodes,
+        depth: plan.depth,
+    })
 }
 
 /// The items that the lines of a paragraph add to a vertical list with this previous depth. `nodes` is the finished list of at most 131,072 nodes,
@@ -117,20 +128,15 @@ pub fn lines(
         ends: &breaks.lines,
         params,
     };
-    match stack_lines(alloc, &broken, previous_depth) {
+    if breaks.lines.is_empty() {
+        return Ok(VerticalItems {
+            nodes: Vec::new(alloc),
+            depth: previous_depth,
+        });
+    }
+    match copied_lines(alloc, &broken, previous_depth) {
         Ok(items) => Ok(items),
         // A line after the one for which memory was refused may not fit, so all lines are measured. Lines that are stacked are measured only once.
         Err(_) => Err(fault_of(&broken, previous_depth)),
     }
-}
-
-/// Why the lines of a broken list are not stacked.
-fn fault_of(broken: &BrokenList, previous_depth: Dimen) -> LinesFault
-    requires { length broken.now.nodes.now ≤ max_nodes }
-    ensures { result ≡ (if lines_fit (paragraph_of broken.now previous_depth) then LinesFault.OutOfMemory else LinesFault.DimensionTooLarge) }
-{
-    if lines_fit(broken, previous_depth) {
-        return LinesFault::OutOfMemory;
-    }
-    LinesFault::DimensionTooLarge
 }

@@ -1,48 +1,95 @@
-use Rattle.std.proofs.Common.{◌∙◌, length, ap, rules, arith}
+use Rattle.std.proofs.Common.{◌≡◌, ◌∙◌, ◌++◌, ◌+◌, [], List, length, flat_map, ap, sym, subst, rules, arith}
+use Rattle.node_core.specs.declared.tree.Node.{Node}
 use Rattle.node_core.specs.Nodes.{items_of}
-use Rattle.vert_core.specs.Paragraphs.{with_breaks, unset_by, unstacked_by, IsUnsetList}
+use Rattle.vert_core.specs.declared.paragraph.ParagraphFault.TheVariants.{OutOfMemory}
+use Rattle.vert_core.specs.Lines.{vertical_items}
+use Rattle.vert_core.specs.Paragraphs.{with_breaks, IsUnsetList}
+use Rattle.vert_core.specs.Planned.{AreInOrder, moved, stacked}
+use Rattle.vert_core.specs.PlannedParagraphs.{IsPlanned}
+use Rattle.vert_split.proofs.Rests.{handed_on}
 use Rattle.vert_core.proofs.FewLines.{few_lines, few_items}
 use Rattle.vert_core.proofs.Stacks.{count_places}
-use Rattle.vert_split.proofs.Rests.{handed_on}
-use Rattle.vert_core.proofs.Unset.{unset_list, unstacked_list}
+use Rattle.vert_core.proofs.PlannedOrder.{broken_in_order, moved_items, moved_count}
 use Rattle.vert_core.proofs.paragraph.set_finished.Goals as goal
+
+pub stack_planned-requires-clause-in_order : goal.stack_planned-requires-clause-in_order
+stack_planned-requires-clause-in_order c =
+    let list = c.args.nodes.now.items in
+    let planned = subst (λ (l : List Node). IsPlanned l c.args.params.now c.args.previous_depth c.in_ok-plan.field-0) c.deref.ensures.value c.in_ok-plan.ensures.ok in
+    subst (AreInOrder (length list + 1)) (sym planned.lines) (broken_in_order list c.args.params.now c.args.previous_depth c.in_ok-plan.field-0.breaks planned.broken)
+
+pub stack_planned-requires-clause-count : goal.stack_planned-requires-clause-count
+stack_planned-requires-clause-count c =
+    let list = c.args.nodes.now.items in
+    let planned = subst (λ (l : List Node). IsPlanned l c.args.params.now c.args.previous_depth c.in_ok-plan.field-0) c.deref.ensures.value c.in_ok-plan.ensures.ok in
+    let order = subst (AreInOrder (length list + 1)) (sym planned.lines) (broken_in_order list c.args.params.now c.args.previous_depth c.in_ok-plan.field-0.breaks planned.broken) in
+    moved_count list c.in_ok-plan.field-0.plan.lines.items c.in_ok-plan.field-0.plan.count order planned.count
 
 pub from_vec-requires : goal.from_vec-requires
 from_vec-requires c =
-    let breaks = c.in_ok-breaks.breaks in
-    let p = with_breaks c.args.nodes.now c.args.params.now c.args.previous_depth breaks in
-    let few = few_lines c.args.nodes.now c.args.params.now breaks c.in_ok-breaks.ensures.fits c.in_ok-breaks.ensures.broken in
-    record { list_bounded = omega (arith, few, few_items p, count_places breaks.lines.items, ap length c.in_ok-stacked.ensures.ok) }
+    let list = c.args.nodes.now.items in
+    let params = c.args.params.now in
+    let breaks = c.in_ok-plan.field-0.breaks in
+    let lines = c.in_ok-plan.field-0.plan.lines.items in
+    let planned = subst (λ (l : List Node). IsPlanned l params c.args.previous_depth c.in_ok-plan.field-0) c.deref.ensures.value c.in_ok-plan.ensures.ok in
+    let order = subst (AreInOrder (length list + 1)) (sym planned.lines) (broken_in_order list params c.args.previous_depth breaks planned.broken) in
+    let empty : c.new-items.result.items ≡ [] = search rules in
+    let items : c.stack_planned.new.around.items ≡ vertical_items (with_breaks list params c.args.previous_depth breaks) =
+    c.in_ok-stack_planned.ensures.ok
+    ∙ (ap (λ (xs : List Node). xs ++ flat_map stacked (moved list (length list) lines)) empty ∙ moved_items list params c.args.previous_depth breaks lines planned.lines order) in
+    record {
+      list_bounded =
+          omega (
+            arith,
+            few_lines list params breaks planned.free planned.broken,
+            few_items (with_breaks list params c.args.previous_depth breaks),
+            count_places breaks.lines.items,
+            ap length items,
+          );
+    }
 
 pub returns-clause-ok : goal.returns-clause-ok
-returns-clause-ok c = record {
-  breaks = c.in_ok-breaks.breaks;
-  broken = c.in_ok-breaks.ensures.broken;
-  fit = c.in_ok-stacked.ensures.fits;
-  items = c.from_vec.ensures.items ∙ ap items_of c.in_ok-stacked.ensures.ok;
-  depth = c.in_ok-stacked.ensures.depth;
-  lines = search rules;
-  pass = search rules;
-  overhang = search rules;
-  demerits = search rules;
-}
+returns-clause-ok c =
+    let list = c.args.nodes.now.items in
+    let params = c.args.params.now in
+    let breaks = c.in_ok-plan.field-0.breaks in
+    let lines = c.in_ok-plan.field-0.plan.lines.items in
+    let planned = subst (λ (l : List Node). IsPlanned l params c.args.previous_depth c.in_ok-plan.field-0) c.deref.ensures.value c.in_ok-plan.ensures.ok in
+    let order = subst (AreInOrder (length list + 1)) (sym planned.lines) (broken_in_order list params c.args.previous_depth breaks planned.broken) in
+    let empty : c.new-items.result.items ≡ [] = search rules in
+    let items : c.stack_planned.new.around.items ≡ vertical_items (with_breaks list params c.args.previous_depth breaks) =
+    c.in_ok-stack_planned.ensures.ok
+    ∙ (ap (λ (xs : List Node). xs ++ flat_map stacked (moved list (length list) lines)) empty ∙ moved_items list params c.args.previous_depth breaks lines planned.lines order) in
+    record {
+      breaks = breaks;
+      broken = planned.broken;
+      fit = planned.fit;
+      items = c.from_vec.ensures.items ∙ ap items_of items;
+      depth = planned.depth;
+      lines = search rules;
+      pass = search rules;
+      overhang = search rules;
+      demerits = search rules;
+    }
 
 pub returns-clause-trials : goal.returns-clause-trials
-returns-clause-trials c = (c.in_ok-breaks.ensures.tried, c.in_ok-breaks.ensures.trials)
+returns-clause-trials c =
+    let planned = subst (λ (l : List Node). IsPlanned l c.args.params.now c.args.previous_depth c.in_ok-plan.field-0) c.deref.ensures.value c.in_ok-plan.ensures.ok in
+    planned.trials
 
-pub returns-in_err-breaks-clause-refused : goal.returns-in_err-breaks-clause-refused
-returns-in_err-breaks-clause-refused c =
-    let list = c.args.nodes.now in
-    let fault = c.in_err-breaks.field-0.0 in
-    handed_on (IsUnsetList list c.args.params.now c.args.previous_depth) c.from_residual.result (unset_by fault)
-    c.from_residual.ensures.1
-    (unset_list list c.args.params.now c.args.previous_depth fault c.in_err-breaks.ensures.fault)
+pub returns-clause-fits : goal.returns-clause-fits
+returns-clause-fits c =
+    let planned = subst (λ (l : List Node). IsPlanned l c.args.params.now c.args.previous_depth c.in_ok-plan.field-0) c.deref.ensures.value c.in_ok-plan.ensures.ok in
+    planned.free
 
-pub returns-in_err-stacked-clause-refused : goal.returns-in_err-stacked-clause-refused
-returns-in_err-stacked-clause-refused c =
-    let list = c.args.nodes.now in
-    let fault = c.in_err-stacked.field-0.0 in
-    handed_on (IsUnsetList list c.args.params.now c.args.previous_depth) c.from_residual-in_err-stacked.result (unstacked_by fault)
-    c.from_residual-in_err-stacked.ensures.1
-    (unstacked_list list c.args.params.now c.args.previous_depth c.in_ok-breaks.breaks fault c.in_ok-breaks.ensures.fits c.in_ok-breaks.ensures.broken
-    c.in_err-stacked.ensures.fault)
+pub returns-in_err-plan-clause-refused : goal.returns-in_err-plan-clause-refused
+returns-in_err-plan-clause-refused c =
+    let refused = subst (λ (l : List Node). IsUnsetList l c.args.params.now c.args.previous_depth c.in_err-plan.field-0.0) c.deref.ensures.value c.in_err-plan.ensures.refused in
+    handed_on (IsUnsetList c.args.nodes.now.items c.args.params.now c.args.previous_depth) c.from_residual.result c.in_err-plan.field-0.0
+    c.from_residual.ensures.1 refused
+
+pub returns-in_err-stack_planned-clause-refused : goal.returns-in_err-stack_planned-clause-refused
+returns-in_err-stack_planned-clause-refused c =
+    let planned = subst (λ (l : List Node). IsPlanned l c.args.params.now c.args.previous_depth c.in_ok-plan.field-0) c.deref.ensures.value c.in_ok-plan.ensures.ok in
+    handed_on (IsUnsetList c.args.nodes.now.items c.args.params.now c.args.previous_depth) c.from_residual-in_err-stack_planned.result OutOfMemory
+    c.from_residual-in_err-stack_planned.ensures.1 planned.free

@@ -1,13 +1,13 @@
-use Rattle.std.proofs.Common.{◌≡◌, true}
-use Rattle.std.specs.Prelude.{flat_map}
-use Rattle.std.specs.List.{list_all}
-use Rattle.break_lines.specs.Legal.{up_to}
-use Rattle.vert_core.specs.Lines.{broken_list, depth_before, brought_by, line_fits}
+use Rattle.std.proofs.Common.{◌≡◌, ◌++◌, reverse, flat_map, vec_len, vec_capacity}
+use Rattle.vert_core.specs.Planned.{stacked}
 use Rattle.vert_core.proofs.stacking.stack_lines.Given as goal
 
+-- What is stacked and what the other lines will add make the whole, for which there is room.
 abbrev pub invariant-loop-line : goal.invariant-loop-line
 invariant-loop-line l = record {
-  items : l.list.items ≡ flat_map (brought_by (broken_list l.broken.nodes.now l.broken.ends.now l.broken.params.now l.fn.previous_depth)) (up_to l.line);
-  depth : l.depth ≡ depth_before (broken_list l.broken.nodes.now l.broken.ends.now l.broken.params.now l.fn.previous_depth) l.line;
-  fit : list_all (line_fits (broken_list l.broken.nodes.now l.broken.ends.now l.broken.params.now l.fn.previous_depth)) (up_to l.line) ≡ true;
+  whole : l.list.items ++ flat_map stacked (reverse l.lines.items) ≡ l.fn.list.items ++ flat_map stacked (reverse l.fn.lines.items);
+  capacity : vec_capacity l.list ≡ vec_capacity l.fn.list;
 }
+
+abbrev pub decreases-loop-line : goal.decreases-loop-line
+decreases-loop-line l = vec_len l.lines

@@ -1,5 +1,5 @@
 use Rattle.std.proofs.Common.{◌≡◌, take}
-use Rattle.vert_core.proofs.line_boxes.copies.Given as goal
+use Rattle.vert_core.proofs.filling.copies.Given as goal
 
 abbrev pub invariant-loop-node : goal.invariant-loop-node
 invariant-loop-node l = l.copies.items ≡ take l.node-index l.nodes

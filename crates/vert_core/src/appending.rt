@@ -1,0 +1,158 @@
+//! The lines of a paragraph at the end of a vertical list.
+
+ghost use Rattle.std.specs.Prelude.{◌≡◌, ◌≤◌, ◌+◌, [], length, None, IfOk, IfErr, OnOk, OnErr};
+ghost use Rattle.node_core.specs.Items.{none};
+ghost use Rattle.node_core.specs.Nodes.{max_nodes, nodes_of};
+ghost use Rattle.break_lines.specs.Facts.{refusal};
+ghost use Rattle.vert_core.specs.Appended.{IsAppended, IsUnappended};
+ghost use Rattle.vert_core.specs.Finished.{finished};
+ghost use Rattle.vert_core.specs.Paragraphs.{unbroken, IsUnset, IsUnsetList};
+ghost use Rattle.vert_core.specs.Setting.{list_setting, setting};
+
+use crate::finishing::{finish_paragraph, unfinish_paragraph};
+use crate::levels::levels_of_lines;
+use crate::paragraph::{
+    ParagraphFault, PlannedParagraph, plan_finished, stack_planned, unfinished_fault,
+};
+use break_core::Pass;
+use node_core::limits::{MAX_DEPTH, MAX_ITEMS};
+use node_core::{Node, NodeList, Params};
+use scaled_core::Dimen;
+use std::alloc::Global;
+use std::mem::replace;
+use thiserror::Error;
+
+/// A paragraph whose lines were appended to a list.
+#[derive(Clone, Copy, Debug, PartialEq, Eq)]
+pub struct AppendedParagraph {
+    /// The new previous depth.
+    pub depth: Dimen,
+    /// The number of its lines.
+    pub lines: usize,
+    /// The pass that admitted its breaks, or `None` if the paragraph is empty.
+    pub pass: Option<Pass>,
+    /// The total overhang of the overfull lines, in scaled points.
+    pub overhang: i64,
+    pub demerits: i64,
+}
+
+/// Why the lines of a paragraph were not appended to a list.
+#[derive(Clone, Copy, Debug, PartialEq, Eq, Error)]
+pub enum UnappendedLines {
+    /// The paragraph was not set.
+    #[error("a paragraph is not set: {0}")]
+    Unset(ParagraphFault),
+    /// Boxes would nest more than 200 deep.
+    #[error("boxes nest too deep")]
+    TooDeep,
+    /// The list would have more than 65,536 items.
+    #[error("a list is too long")]
+    TooLong,
+}
+
+/// Appends the lines of a finished list of at most 131,072 nodes, whose items go into the lines. Where they are not appended, both lists are as they
+/// were before.
+fn append_finished(
+    alloc: Global,
+    nodes: &mut Vec<Node>,
+    around: &mut Vec<Node>,
+    params: &Params,
+    previous_depth: Dimen,
+) -> Result<AppendedParagraph, UnappendedLines>
+    requires { length nodes.old.items ≤ max_nodes }
+    ensures ok { IfOk result (IsAppended (list_setting nodes.old.items params.now previous_depth) around.old.items around.new.items) }
+    ensures fits { OnOk result (refusal nodes.old.items ≡ None) }
+    ensures emptied { OnOk result (nodes.new.items ≡ []) }
+    ensures refused { IfErr result (IsUnappended (list_setting nodes.old.items params.now previous_depth) (IsUnsetList nodes.old.items params.now previous_depth) around.old.items) }
+    ensures err { OnErr result (nodes.new.items ≡ nodes.old.items) }
+    ensures same { OnErr result (around.new.items ≡ around.old.items) }
+{
+    let planned = match plan_finished(alloc, nodes, params, previous_depth) {
+        Ok(planned) => planned,
+        Err(fault) => return Err(UnappendedLines::Unset(fault)),
+    };
+    let PlannedParagraph { plan, breaks, .. } = planned;
+    if levels_of_lines(nodes, &plan.lines) > MAX_DEPTH {
+        return Err(UnappendedLines::TooDeep);
+    }
+    if around.len().saturating_add(plan.count) > MAX_ITEMS {
+        return Err(UnappendedLines::TooLong);
+    }
+    let told = AppendedParagraph {
+        depth: plan.depth,
+        lines: breaks.lines.len(),
+        pass: Some(breaks.pass),
+        overhang: breaks.overhang,
+        demerits: breaks.demerits,
+    };
+    match stack_planned(nodes, plan, around) {
+        Ok(()) => Ok(told),
+        Err(_) => Err(UnappendedLines::Unset(ParagraphFault::OutOfMemory)),
+    }
+}
+
+/// Appends the lines of a list of at most 131,070 items, which go into the lines. Where they are not appended, both lists are as they were before.
+fn append_items(
+    alloc: Global,
+    nodes: &mut Vec<Node>,
+    around: &mut Vec<Node>,
+    params: &Params,
+    previous_depth: Dimen,
+) -> Result<AppendedParagraph, UnappendedLines>
+    requires { length nodes.old.items + 2 ≤ max_nodes }
+    ensures ok { IfOk result (IsAppended (list_setting (finished nodes.old.items params.now.par_fill_skip) params.now previous_depth) around.old.items around.new.items) }
+    ensures fits { OnOk result (refusal (finished nodes.old.items params.now.par_fill_skip) ≡ None) }
+    ensures emptied { OnOk result (nodes.new.items ≡ []) }
+    ensures refused { IfErr result (IsUnappended (list_setting (finished nodes.old.items params.now.par_fill_skip) params.now previous_depth) (IsUnsetList (finished nodes.old.items params.now.par_fill_skip) params.now previous_depth) around.old.items) }
+    ensures err { OnErr result (nodes.new.items ≡ nodes.old.items) }
+    ensures same { OnErr result (around.new.items ≡ around.old.items) }
+{
+    let Ok(replaced) = finish_paragraph(nodes, params.par_fill_skip) else {
+        return Err(UnappendedLines::Unset(unfinished_fault(nodes, params)));
+    };
+    match append_finished(alloc, nodes, around, params, previous_depth) {
+        Ok(told) => Ok(told),
+        Err(fault) => {
+            unfinish_paragraph(nodes, replaced);
+            Err(fault)
+        }
+    }
+}
+
+/// Sets a paragraph of at most 131,070 items after a previous depth, and appends its lines to a list of at most 65,536 items. Its items go into its
+/// lines, so its list is then empty. Where the lines are not appended, both lists are as they were before the call.
+///
+/// The fault is `Unset` with the fault of `set_paragraph` where it is not set, else `TooDeep` where boxes of its lines nest more than 200 deep, else
+/// `TooLong` where the other list would have more than 65,536 items, else `Unset` for refused memory.
+pub fn append_paragraph(
+    alloc: Global,
+    list: &mut NodeList,
+    around: &mut NodeList,
+    params: &Params,
+    previous_depth: Dimen,
+) -> Result<AppendedParagraph, UnappendedLines>
+    requires list_bounded { length (nodes_of list.old) + 2 ≤ max_nodes }
+    requires around_bounded { length (nodes_of around.old) ≤ MAX_ITEMS }
+    ensures ok { IfOk result (IsAppended (setting (nodes_of list.old) params.now previous_depth) (nodes_of around.old) (nodes_of around.new)) }
+    ensures fits { OnOk result (unbroken (nodes_of list.old) params.now.par_fill_skip ≡ None) }
+    ensures emptied { OnOk result (list.new ≡ none) }
+    ensures refused { IfErr result (IsUnappended (setting (nodes_of list.old) params.now previous_depth) (IsUnset (nodes_of list.old) params.now previous_depth) (nodes_of around.old)) }
+    ensures err { OnErr result (list.new ≡ list.old) }
+    ensures same { OnErr result (around.new ≡ around.old) }
+{
+    if list.is_empty() {
+        return Ok(AppendedParagraph {
+            depth: previous_depth,
+            lines: 0,
+            pass: None,
+            overhang: 0,
+            demerits: 0,
+        });
+    }
+    let mut nodes = replace(list, NodeList::new(alloc)).into_vec();
+    let mut items = replace(around, NodeList::new(alloc)).into_vec();
+    let told = append_items(alloc, &mut nodes, &mut items, params, previous_depth);
+    *list = NodeList::from_vec(nodes);
+    *around = NodeList::from_vec(items);
+    told
+}
