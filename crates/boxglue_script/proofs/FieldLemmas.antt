@@ -7,7 +7,8 @@ use Rattle.std.proofs.lemmas.List.Sums.{fails_before_first, passes_at_first}
 use Rattle.std.proofs.lemmas.List.{drop_more, take_all, drop_all}
 use Rattle.std.proofs.lemmas.Bool.{cases_lt}
 use Rattle.boxglue_script.specs.ScriptLines.{fields_of, is_space, is_filled}
-use Rattle.boxglue_script.specs.Reading.{front_field, after_field, without_spaces, in_field}
+use Rattle.boxglue_script.specs.Names.{name_of}
+use Rattle.boxglue_script.specs.Reading.{front_field, after_field, without_spaces, in_field, first_word, named_by, command_by, command_of}
 
 -- A space at the beginning of a line gives no field.
 pub fields-space : (byte : ℕ) (line : List ℕ) → is_space byte ≡ true → fields_of (byte ∷ line) ≡ fields_of line
@@ -88,3 +89,15 @@ fields_none line h =
     (fields-without_spaces line ∙ none.0, none.1)
 
 pub ruleset next_field = (fields_none, fields_first)
+
+command_by_word : (line word : List ℕ) → front_field line ≡ word → command_by (first_word word) (fields_of (after_field line)) ≡ command_of (fields_of line)
+unfolding command_of
+command_by_word line [] is = sym (ap command_of (fields_none line (ap length is)).0)
+command_by_word line (byte ∷ word) is =
+    sym (ap command_of (fields_first line (omega (arith, ap length is))) ∙ ap (λ (x : List ℕ). named_by (name_of x) (fields_of (after_field line))) is)
+
+-- The command of the fields of a line, by its first field and those after it.
+pub line_command : (line word rest : List ℕ) (fields : List (List ℕ)) → word ≡ front_field line → rest ≡ after_field line → fields ≡ fields_of rest
+    → command_by (first_word word) fields ≡ command_of (fields_of line)
+line_command line word rest fields front after rest_fields =
+    ap (λ (x : List (List ℕ)). command_by (first_word word) x) (rest_fields ∙ ap fields_of after) ∙ command_by_word line word (sym front)

@@ -1,4 +1,5 @@
 pub mod LineLemmas
+pub mod PlainTexts
 pub mod FieldLemmas
 pub mod Numbers
 pub mod CountNumbers

@@ -1,14 +1,15 @@
 -- The first line of a text, and the lines of two texts.
-use Rattle.std.proofs.Common.{◌≡◌, ◌⊎◌, inl, inr, ◌==◌, ℕ, suc, ◌+◌, ◌<◌, ◌≤◌, Bool, true, false, List, [], ◌∷◌, ◌++◌, length, get_or, take, drop, refl, ap, sym, ◌∙◌, arith, append_assoc, drop-cons}
-use Rattle.std.specs.Prelude.{map}
+use Rattle.std.proofs.Common.{◌≡◌, ◌⊎◌, inl, inr, ◌==◌, not, Option, None, Some, ℕ, suc, ◌+◌, ◌<◌, ◌≤◌, Bool, true, false, List, [], ◌∷◌, ◌++◌, length, get_or, take, drop, refl, ap, sym, ◌∙◌, arith, append_assoc, drop-cons}
+use Rattle.std.specs.Prelude.{map, unwrap_or}
 use Rattle.std.specs.List.{onto_first}
 use Rattle.std.proofs.Math.Dec.{eqb-suc-zero}
 use Rattle.std.specs.List.{slice_split, prefix_len, before_first, after_first}
 use Rattle.std.specs.Str.Lines.{lines, lines_of_parts, strip_carriage_return}
 use Rattle.std.proofs.lemmas.Bool.Decides.{nat_tests}
 use Rattle.std.proofs.lemmas.List.Splits.{slice_split_first, slice_split_none, slice_split-cons_yes, slice_split-cons_no, length-slice_split}
-use Rattle.std.proofs.lemmas.List.Sums.{fails_before_first, prefix_len_stops}
+use Rattle.std.proofs.lemmas.List.Sums.{fails_before_first, prefix_len_is, prefix_len_stops}
 use Rattle.std.proofs.lemmas.List.{take_all, drop_all, take-append-drop, append-nil, append_cancel_right, length-append}
+use Rattle.memchr.specs.Find.{IsFirstByte, is_byte}
 use Rattle.boxglue_script.specs.SaidLines.{IsWhole}
 use Rattle.boxglue_script.specs.Reading.{in_line}
 
@@ -115,3 +116,14 @@ splits_last text line rest none first =
     (text, sym (append-nil text) ∙ ap (λ (more : List ℕ). text ++ more) (sym none), first ∙ ap (λ (more : List ℕ). line ∷ lines more) none, inr none)
 
 pub ruleset splitting = (lines-first, lines-last)
+
+no_feed : (b : Bool) → (b ≡ true → ⊥) → not b ≡ true
+no_feed true other = absurd (other refl)
+no_feed false other = refl
+
+-- The number of bytes before the first line feed, by a search for it.
+pub first_feed : (text : List ℕ) (found : Option ℕ) → IsFirstByte (is_byte 10) text found → unwrap_or found (length text) ≡ prefix_len in_line text
+first_feed text None nowhere =
+    sym (prefix_len_is in_line text (length text) 0 (omega arith) (λ k below. no_feed (get_or text k 0 == 10) (nowhere k (omega arith) below)) (λ past. absurd (omega arith)))
+first_feed text (Some k) first =
+    sym (prefix_len_is in_line text k 0 (omega (arith, first.0.high)) (λ j below. no_feed (get_or text j 0 == 10) (first.0.before j (omega arith) below)) (λ inside. ap not first.1))

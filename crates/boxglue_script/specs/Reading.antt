@@ -1,5 +1,5 @@
 -- What the functions that read a script compute (own; private calls alone, no public clause speaks of it).
-use Rattle.std.specs.Prelude.{◌≡◌, ◌==◌, ℕ, ℤ, pos, negsuc, Bool, true, false, not, ◌&&◌, if◌then◌else◌, List, [], ◌∷◌, ◌++◌, ◌+◌, ◌-◌, Option, None, Some, Result, Ok, Err, IsOk, codes, drop, take, length, nat_lt, nat_le, unsigned_abs}
+use Rattle.std.specs.Prelude.{◌≡◌, ◌==◌, ℕ, ℤ, pos, negsuc, Bool, true, false, not, ◌&&◌, ◌||◌, if◌then◌else◌, List, [], ◌∷◌, ◌++◌, ◌+◌, ◌-◌, Option, None, Some, Result, Ok, Err, IsOk, codes, drop, take, length, nat_lt, nat_le, unsigned_abs}
 use Rattle.std.specs.List.{prefix_len, list_all}
 use Rattle.std.specs.Char.{digit_value}
 use Rattle.std.specs.Str.{bytes_eq}
@@ -40,6 +40,10 @@ use Rattle.boxglue_script.specs.Grammar.{register_count, slot_count, character_c
 -- A byte before the end of a line: any but a line feed.
 abbrev pub in_line : ℕ → Bool
 in_line byte = not (byte == 10)
+
+-- A byte of a plain text: printable, or a line feed.
+abbrev pub is_plain : ℕ → Bool
+is_plain byte = is_printable byte || byte == 10
 
 -- A byte of a field: any but a space.
 abbrev pub in_field : ℕ → Bool
@@ -443,6 +447,11 @@ named_by (Some name) fields = command_named name fields
 abbrev pub command_by : Result (List ℕ) Cause → List (List ℕ) → Result Command Cause
 command_by (Err cause) fields = Err cause
 command_by (Ok word) fields = named_by (name_of word) fields
+
+-- The first word of a line, which is its first field; the cause is Missing if there is none.
+abbrev pub first_word : List ℕ → Result (List ℕ) Cause
+first_word [] = Err Missing
+first_word (byte ∷ word) = Ok (byte ∷ word)
 
 -- The command that the fields of a line give, or the cause at the first bad field from the left.
 unfoldable pub command_of : List (List ℕ) → Result Command Cause

@@ -5,7 +5,7 @@ ghost use Rattle.tfm_core.specs.NamedBytes.{IsFontName};
 ghost use Rattle.job_commands.specs.declared.command.Command.TheVariants as commands;
 ghost use Rattle.boxglue_script.specs.Grammar.{register_count};
 ghost use Rattle.boxglue_script.specs.ScriptLines.{fields_of};
-ghost use Rattle.boxglue_script.specs.Reading.{last_count, counting, counting_of, size_of_font, last_number, map_ok, chosen_size_of, font_of, last_penalty, last_amount, opening, opening_with_register, opening_into, opening_of, shift_of, append_of, unboxing, split_into, split_height, split_to, split_of, glue, shrink_of, last_shrink_of, parts_of, glue_of, parameter_of, rule_of, command_named, command_of};
+ghost use Rattle.boxglue_script.specs.Reading.{last_count, counting, counting_of, size_of_font, last_number, map_ok, chosen_size_of, font_of, last_penalty, last_amount, opening, opening_with_register, opening_into, opening_of, shift_of, append_of, unboxing, split_into, split_height, split_to, split_of, glue, shrink_of, last_shrink_of, parts_of, glue_of, parameter_of, rule_of, command_named, command_by, first_word};
 
 use crate::amounts::Amount;
 use crate::cause::Cause;
@@ -319,16 +319,19 @@ impl<'a> Fields<'a> {
         }
     }
 
-    /// The command that the fields give, or the cause at the first bad field from the left. The error is a refused growth, only where they give a command.
-    #[tactic(auto, unfolding(crate::specs::Reading::command_of))]
-    pub fn command(&mut self, alloc: Global) -> Result<Result<Command, Cause>, AllocError>
-        ensures read { IfOk result (λ read. read ≡ command_of (fields_of self.old.rest.now)) }
-        ensures memory { OnErr result (IsOk (command_of (fields_of self.old.rest.now))) }
+    /// The command that a first word and the fields after it give, or the cause at the first bad field from the left. Where there is no field the
+    /// word is empty. The error is a refused growth, only where they give a command.
+    pub fn command(
+        &mut self,
+        alloc: Global,
+        word: &[u8],
+    ) -> Result<Result<Command, Cause>, AllocError>
+        ensures read { IfOk result (λ read. read ≡ command_by (first_word word.now) (fields_of self.old.rest.now)) }
+        ensures memory { OnErr result (IsOk (command_by (first_word word.now) (fields_of self.old.rest.now))) }
     {
-        let word = match self.field() {
-            Ok(word) => word,
-            Err(cause) => return Ok(Err(cause)),
-        };
+        if word.is_empty() {
+            return Ok(Err(Cause::Missing));
+        }
         match Name::of(word) {
             Some(name) => self.command_named(alloc, name),
             None => Ok(Err(Cause::Word)),

@@ -19,7 +19,7 @@ pub struct Fields<'a> {
 }
 
 impl<'a> Fields<'a> {
-    /// All fields of a line.
+    /// All fields of a line, or of the rest of one.
     pub fn new(line: &'a [u8]) -> Fields<'a>
         ensures { fields_of result.rest.now ≡ fields_of line.now }
     {

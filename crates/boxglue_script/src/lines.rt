@@ -1,11 +1,13 @@
 //! Lines of a text and fields of a line.
 
-ghost use Rattle.std.specs.Prelude.{◌≡◌, ◌⊎◌, ◌∷◌, ◌++◌, ◌<◌, ◌≤◌, ℕ, List, [], length};
+ghost use Rattle.std.specs.Prelude.{◌≡◌, ◌⊎◌, ◌∷◌, ◌++◌, ◌<◌, ◌≤◌, ℕ, List, [], drop, length};
 ghost use Rattle.std.specs.List.{list_all, prefix_len};
 ghost use Rattle.std.specs.Str.Lines.{lines, strip_carriage_return};
 ghost use Rattle.boxglue_script.specs.ScriptLines.{is_passed_over, is_printable, is_space};
 ghost use Rattle.boxglue_script.specs.SaidLines.{IsWhole};
-ghost use Rattle.boxglue_script.specs.Reading.{in_line, in_field, front_field, after_field, kept_text};
+ghost use Rattle.boxglue_script.specs.Reading.{in_line, is_plain, in_field, front_field, after_field};
+
+use memchr::memchr;
 
 /// The first line of a text that is not empty, without its end, and the text after it. A line ends with a line feed, which the last one need not have.
 /// What follows begins right after that end.
@@ -28,7 +30,7 @@ fn line_size(text: &[u8]) -> usize
     ensures size { result ≡ prefix_len in_line text.now }
     ensures size_bounded { result ≤ length text.now }
 {
-    text.iter().take_while(|byte| **byte != b'\n').count()
+    memchr(b'\n', text).unwrap_or(text.len())
 }
 
 /// The line without the one carriage return at its end, if there is one. Only one directly before a line feed is part of the line's end; any other one
@@ -53,11 +55,40 @@ pub fn is_passed_over(line: &[u8]) -> bool
     }
 }
 
-/// Whether each byte of a line is printable ASCII, 32 to 126.
+/// Whether each byte of a line is printable ASCII, 32 to 126. The loop has no way out, since without one the compiler tests 32 bytes at once.
 pub fn is_printable(line: &[u8]) -> bool
     ensures { result ≡ list_all is_printable line.now }
 {
-    line.iter().all(|byte| *byte >= 32 && *byte <= 126)
+    let mut printable = true;
+    for byte in line {
+        printable &= is_printable_byte(*byte);
+    }
+    printable
+}
+
+/// Whether each byte of a text is printable ASCII or a line feed, so that each line of it is printable. This loop has no way out either.
+pub fn is_plain(text: &[u8]) -> bool
+    ensures { result ≡ list_all is_plain text.now }
+{
+    let mut plain = true;
+    for byte in text {
+        plain &= is_plain_byte(*byte);
+    }
+    plain
+}
+
+/// Whether a byte is printable ASCII or a line feed.
+fn is_plain_byte(byte: u8) -> bool
+    ensures { result ≡ is_plain byte }
+{
+    is_printable_byte(byte) || byte == b'\n'
+}
+
+/// Whether a byte is printable ASCII.
+fn is_printable_byte(byte: u8) -> bool
+    ensures { result ≡ is_printable byte }
+{
+    byte >= 32 && byte <= 126
 }
 
 /// The first field of a line, empty if there is none, and the rest after it.
@@ -70,16 +101,14 @@ pub fn first_field(line: &[u8]) -> (&[u8], &[u8])
     line.split_at(field_size(line))
 }
 
-/// The first field of a line, and the text after it: all that follows the field and one space, unchanged, so that a text can begin or end with a space.
+/// The text after the first field of a line: all that follows one space, unchanged, so that a text can begin or end with a space.
 /// The text is empty if the field ends the line.
-pub fn field_and_text(line: &[u8]) -> (&[u8], &[u8])
-    ensures field { result.0.now ≡ front_field line.now }
-    ensures text { result.1.now ≡ kept_text line.now }
+pub fn text_after(rest: &[u8]) -> &[u8]
+    ensures { result.now ≡ drop 1 rest.now }
 {
-    let (field, rest) = first_field(line);
     match rest {
-        [] => (field, rest),
-        [_space, text @ ..] => (field, text),
+        [] => rest,
+        [_space, text @ ..] => text,
     }
 }
 

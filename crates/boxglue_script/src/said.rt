@@ -1,15 +1,18 @@
 //! What one line of an input says.
 
-ghost use Rattle.std.specs.Prelude.{◌≡◌, IfOk, OnErr, IsOk};
+ghost use Rattle.std.specs.Prelude.{◌≡◌, true, IfOk, OnErr, IsOk};
+ghost use Rattle.std.specs.List.{list_all};
 ghost use Rattle.job_commands.specs.declared.command.Command.{Command as ACommand};
 ghost use Rattle.boxglue_script.specs.declared.said.Said.{Said as ASaid};
+ghost use Rattle.boxglue_script.specs.ScriptLines.{is_printable};
+ghost use Rattle.boxglue_script.specs.Causes.{IsPrintable};
 ghost use Rattle.boxglue_script.specs.Script.{SaysLine};
 ghost use Rattle.boxglue_script.specs.SaidLines.{Says};
 ghost use Rattle.boxglue_script.specs.Reading.{line_of};
 
 use crate::cause::Cause;
 use crate::fields::Fields;
-use crate::lines::{field_and_text, is_passed_over, is_printable};
+use crate::lines::{first_field, is_passed_over, is_printable, text_after};
 use job_commands::{Characters, Command};
 use std::alloc::{AllocError, Global};
 
@@ -30,32 +33,51 @@ pub fn read_line(alloc: Global, line: &[u8]) -> Result<Said, AllocError>
     ensures only { IfOk result (λ said. (other : ASaid) → Says line.now other → other ≡ said) }
     ensures memory { OnErr result ((command : ACommand) × SaysLine line.now command) }
 {
+    read_line_of(alloc, line, false)
+}
+
+/// Reads one line, as `read_line`. A line of a plain text is printable, and is not tested again.
+pub(crate) fn read_line_of(alloc: Global, line: &[u8], plain: bool) -> Result<Said, AllocError>
+    requires { plain ≡ true → IsPrintable line.now }
+    ensures said { IfOk result (Says line.now) }
+    ensures only { IfOk result (λ said. (other : ASaid) → Says line.now other → other ≡ said) }
+    ensures memory { OnErr result ((command : ACommand) × SaysLine line.now command) }
+{
     if is_passed_over(line) {
         return Ok(Said::Nothing);
     }
-    match command_of(alloc, line)? {
+    match command_of(alloc, line, plain)? {
         Ok(command) => Ok(Said::Command(command)),
         Err(cause) => Ok(Said::Bad(cause)),
     }
+}
+
+/// Whether each byte of a line is printable, as each is in a plain text.
+fn has_printable_bytes(line: &[u8], plain: bool) -> bool
+    requires { plain ≡ true → IsPrintable line.now }
+    ensures { result ≡ list_all is_printable line.now }
+{
+    plain || is_printable(line)
 }
 
 /// The command of a line, or the cause why it has none. Byte comes first, since a line with a byte that is not printable is not cut into fields. A text
 /// may have any length here: how long a special may be is a limit of the job, so the other commands run. The error is a refused growth, only where the line
 /// gives a command.
 #[tactic(auto, unfolding(crate::specs::Reading::line_of, crate::specs::Reading::given))]
-fn command_of(alloc: Global, line: &[u8]) -> Result<Result<Command, Cause>, AllocError>
+fn command_of(alloc: Global, line: &[u8], plain: bool) -> Result<Result<Command, Cause>, AllocError>
+    requires { plain ≡ true → IsPrintable line.now }
     ensures read { IfOk result (λ read. read ≡ line_of line.now) }
     ensures memory { OnErr result (IsOk (line_of line.now)) }
 {
-    if !is_printable(line) {
+    if !has_printable_bytes(line, plain) {
         return Ok(Err(Cause::Byte));
     }
-    let (word, text) = field_and_text(line);
+    let (word, rest) = first_field(line);
     if word == b"text".as_slice() {
-        return Ok(Ok(Command::Text(Characters::new(text.to_vec(alloc)?))));
+        return Ok(Ok(Command::Text(Characters::new(text_after(rest).to_vec(alloc)?))));
     }
     if word == b"special".as_slice() {
-        return Ok(Ok(Command::Special(Characters::new(text.to_vec(alloc)?))));
+        return Ok(Ok(Command::Special(Characters::new(text_after(rest).to_vec(alloc)?))));
     }
-    Fields::new(line).command(alloc)
+    Fields::new(rest).command(alloc, word)
 }

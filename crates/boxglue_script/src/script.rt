@@ -1,13 +1,14 @@
 //! Reading a script.
 
-ghost use Rattle.std.specs.Prelude.{◌≡◌, ◌⊎◌, List, Err, IfOk, OnOk, IfErr};
+ghost use Rattle.std.specs.Prelude.{◌≡◌, ◌⊎◌, true, List, Err, IfOk, OnOk, IfErr};
+ghost use Rattle.boxglue_script.specs.Causes.{IsPrintable};
 ghost use Rattle.boxglue_script.specs.Script.{IsScript, Explains, IsOneFault, IsRightSoFar};
 ghost use Rattle.boxglue_script.specs.Reading.{GivesCommand, ReadsOn, StopsAtLine};
 ghost use Rattle.boxglue_script.specs.declared.script.ScriptFault.TheVariants.{OutOfMemory};
 
 use crate::cause::Cause;
-use crate::lines::first_line;
-use crate::said::{Said, read_line};
+use crate::lines::{first_line, is_plain};
+use crate::said::{Said, read_line_of};
 use job_commands::Command;
 use std::alloc::{AllocError, AllocFailed, Global};
 use thiserror::Error;
@@ -59,29 +60,33 @@ pub fn read_script(alloc: Global, text: &[u8]) -> Result<Vec<Line>, ScriptFault>
     ensures memory { result ≡ Err ScriptFault.OutOfMemory → IsRightSoFar text.now }
 {
     let mut found = Vec::new(alloc);
+    let plain = is_plain(text);
     let mut rest = text;
     let mut number = 0;
     while !rest.is_empty() {
         let (line, after) = first_line(rest);
         number += 1;
-        take_line(alloc, number, line, &mut found)?;
+        take_line(alloc, number, line, plain, &mut found)?;
         rest = after;
     }
     Ok(found)
 }
 
-/// Takes what a line says: appends its command, if it has one, to those of the lines before it. OutOfMemory only if it has one.
+/// Takes what a line says, which may be one of a plain text: appends its command, if it has one, to those of the lines before it. OutOfMemory only
+/// if it has one.
 fn take_line(
     alloc: Global,
     number: usize,
     line: &[u8],
+    plain: bool,
     found: &mut Vec<Line>,
 ) -> Result<(), ScriptFault>
+    requires { plain ≡ true → IsPrintable line.now }
     ensures ok { OnOk result (ReadsOn number line.now found.old.items found.new.items) }
     ensures bad { IfErr result (λ fault. (fault ≡ ScriptFault.OutOfMemory) ⊎ StopsAtLine number line.now found.old.items fault) }
     ensures memory { result ≡ Err ScriptFault.OutOfMemory → GivesCommand line.now }
 {
-    match read_line(alloc, line)? {
+    match read_line_of(alloc, line, plain)? {
         Said::Nothing => Ok(()),
         Said::Command(command) => Ok(found.push(Line { number, command })?),
         Said::Bad(cause) => Err(ScriptFault::BadScript {

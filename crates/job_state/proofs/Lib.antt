@@ -7,3 +7,4 @@ pub mod SizedGlyphs
 pub mod LoadedFonts
 pub mod TakenBoxes
 pub mod ShapedItems
+pub mod Tables

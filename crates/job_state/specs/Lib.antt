@@ -3,3 +3,4 @@ pub mod JobStateView
 pub mod StateCode
 pub mod Sized
 pub mod Loaded
+pub mod Registers

@@ -1,6 +1,6 @@
 //! The box registers of a job.
 
-ghost use Rattle.std.specs.Prelude.{◌≡◌, ◌<◌, List, Option, None, Some, IfOk, OnOk, OnErr, option_copied, replicate, slice_set};
+ghost use Rattle.std.specs.Prelude.{◌≡◌, ◌<◌, ◌≤◌, ◌-◌, ◌++◌, ◌∷◌, [], None, Some, IfOk, OnOk, OnErr, length, option_copied, replicate, slice_set, vec_capacity};
 ghost use Rattle.job_machine.specs.State.{held_in};
 ghost use Rattle.job_machine.specs.Checks.{split_checks, first_refusal};
 ghost use Rattle.job_machine.specs.Answers.{sizes_of, parts_answer, split_answer};
@@ -19,44 +19,49 @@ use vert_core::Split;
 /// What each register holds: a box, or nothing.
 #[derive(Debug, Drop)]
 pub struct Registers {
-    boxes: Vec<Option<BoxNode>>,
+    /// The registers up to the highest that has held a box: those above hold nothing. There is room for all, so that no call but `new` takes memory.
+    used: Vec<Option<BoxNode>>,
 }
 
 impl Model for Registers {
-    ghost use Rattle.std.specs.Prelude.{◌≡◌, List, Option, length};
+    ghost use Rattle.std.specs.Prelude.{◌≤◌, List, Option, vec_capacity};
     ghost use Rattle.std.specs.Coded.{coded_list, coded_option};
     ghost use Rattle.node_core.specs.declared.tree.BoxNode.{BoxNode};
     ghost use Rattle.node_core.specs.contracts.tree.BoxNode as box_node;
     ghost use Rattle.node_core.specs.declared.limits.TheConstants.{REGISTERS};
+    ghost use Rattle.job_state.specs.Registers.{filled_up};
 
     ghost Value = { List (Option BoxNode) };
 
     ghost coded = { coded_list (coded_option box_node.the_row.coded) };
 
-    ghost view = { λ registers. registers.boxes.items };
+    ghost view = { λ registers. filled_up REGISTERS registers.used.items };
 
-    ghost invariant = { λ registers. length registers.boxes.items ≡ REGISTERS };
+    ghost invariant = { λ registers. REGISTERS ≤ vec_capacity registers.used };
 }
 
 impl Registers {
-    /// Makes all registers void. It takes their whole memory, 2.3 MB, once: a table that grows could run out of memory at each `end`.
+    /// Makes all registers void. It takes room for all of them, 2.3 MB, once: a table that asks for more could run out of memory at each `end`.
+    /// The room is not written before it is used, so that a job of few registers stays small.
     ///
     /// Its one error is a refused growth.
     pub fn new(alloc: Global) -> Result<Registers, AllocError>
         ensures { IfOk result (λ registers. registers ≡ replicate REGISTERS None) }
     {
-        let mut boxes = Vec::with_capacity(alloc, REGISTERS)?;
-        for _ in 0..REGISTERS {
-            boxes.push(None)?;
-        }
-        Ok(Registers { boxes })
+        let used = Vec::with_capacity(alloc, REGISTERS)?;
+        Ok(Registers { used })
     }
 
     /// The box in a register; None if it is void.
     pub fn get(&self, register: Register) -> Option<&BoxNode>
         ensures { option_copied result ≡ held_in self.now register }
     {
-        self.boxes[register.number()].as_ref()
+        let number = register.number();
+        if number < self.used.len() {
+            self.used[number].as_ref()
+        } else {
+            None
+        }
     }
 
     /// Takes the box out of a register, which is then void.
@@ -64,14 +69,24 @@ impl Registers {
         ensures value { result ≡ held_in self.old register }
         ensures void { self.new ≡ slice_set self.old register None }
     {
-        self.boxes[register.number()].take()
+        let number = register.number();
+        if number < self.used.len() {
+            self.used[number].take()
+        } else {
+            None
+        }
     }
 
     /// Puts a box into a register, or makes it void.
     pub fn put(&mut self, register: Register, held: Option<BoxNode>)
         ensures { self.new ≡ slice_set self.old register held }
     {
-        self.boxes[register.number()] = held;
+        let number = register.number();
+        if number < self.used.len() {
+            self.used[number] = held;
+        } else if let Some(box_node) = held {
+            put_above(&mut self.used, number, box_node);
+        }
     }
 
     /// Puts the rest of a split box back into its register, and then the front into the other one. In this order the front stays if both are the same register.
@@ -122,6 +137,19 @@ impl Registers {
             }
         }
     }
+}
+
+/// Puts a box above all used registers, in room that is there.
+fn put_above(used: &mut Vec<Option<BoxNode>>, number: usize, box_node: BoxNode)
+    requires above { length used.old.items ≤ number }
+    requires room { number < vec_capacity used.old }
+    ensures items { used.new.items ≡ used.old.items ++ (replicate (number - length used.old.items) None ++ Some box_node ∷ []) }
+    ensures capacity { vec_capacity used.new ≡ vec_capacity used.old }
+{
+    for _ in used.len()..number {
+        used.push_reserved(None);
+    }
+    used.push_reserved(Some(box_node));
 }
 
 /// The sizes of a box, in scaled points.

@@ -1,8 +1,16 @@
 -- The commands that were found are those of the text, and the lines before the one at which memory was refused are right.
-use Rattle.std.proofs.Common.{◌+◌, ap, arith, Err}
+use Rattle.std.proofs.Common.{◌≡◌, ◌+◌, ◌∙◌, List, [], ap, refl, sym, subst, arith, Ok, Err}
+use Rattle.std.specs.Str.Lines.{lines}
 use Rattle.std.proofs.lemmas.Bool.Decides.{nat_tests}
-use Rattle.boxglue_script.proofs.ScriptLaws.{handed_is, read_more, read_whole, right_so_far, right_up_to, script_read, script_one}
+use Rattle.boxglue_script.proofs.ScriptLaws.{handed_is, read_more, read_whole, right_at_start, right_so_far, right_up_to, script_read, script_one}
+use Rattle.boxglue_script.proofs.PlainTexts.{ArePrintable, plain_lines}
+use Rattle.boxglue_script.specs.declared.script.Line.{Line}
+use Rattle.boxglue_script.specs.Reading.{Found, lines_then, reads}
 use Rattle.boxglue_script.proofs.script.read_script.Goals as goal
+
+nothing_found : (found : Found) → lines_then [] found ≡ found
+nothing_found (Err fault) = refl
+nothing_found (Ok more) = refl
 
 pub returns-clause-lines : goal.returns-clause-lines
 returns-clause-lines c =
@@ -28,4 +36,16 @@ loop-rest-preserved c =
       reading = read_more c.loop-rest.number c.args.text.now c.loop-rest.rest.now c.first_line.result.0.now c.first_line.result.1.now c.loop-rest.found.items c.take_line.new.found.items c.loop-rest.invariant.reading lines on;
       right = right_up_to (c.loop-rest.number + 1) c.args.text.now c.loop-rest.rest.now c.first_line.result.0.now c.first_line.result.1.now c.loop-rest.found.items c.take_line.new.found.items c.loop-rest.invariant.right lines on;
       counted = omega (arith, c.loop-rest.invariant.counted, c.first_line.ensures.shorter);
+      printable = λ plain. (subst ArePrintable c.first_line.ensures.lines (c.loop-rest.invariant.printable plain)).1;
     }
+
+pub loop-rest-init : goal.loop-rest-init
+loop-rest-init c = record {
+  reading = ap (λ (found : List Line). lines_then found (reads 1 (lines c.args.text.now))) c.new-found.ensures.items ∙ nothing_found (reads 1 (lines c.args.text.now));
+  right = right_at_start c.args.text.now;
+  counted = omega arith;
+  printable = λ plain. plain_lines c.args.text.now (sym c.is_plain-plain.ensures ∙ plain);
+}
+
+pub take_line-requires : goal.take_line-requires
+take_line-requires c = λ plain. (subst ArePrintable c.first_line.ensures.lines (c.loop-rest.invariant.printable plain)).0

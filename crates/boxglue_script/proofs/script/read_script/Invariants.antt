@@ -1,8 +1,9 @@
 -- The commands so far, followed by those of the rest of the text.
-use Rattle.std.proofs.Common.{◌≡◌, ◌+◌, ◌≤◌, length}
+use Rattle.std.proofs.Common.{◌≡◌, ◌+◌, ◌≤◌, true, length}
 use Rattle.std.specs.Str.Lines.{lines}
 use Rattle.boxglue_script.specs.Reading.{reads, lines_then}
 use Rattle.boxglue_script.proofs.ScriptLaws.{IsRightUpTo}
+use Rattle.boxglue_script.proofs.PlainTexts.{ArePrintable}
 use Rattle.boxglue_script.proofs.script.read_script.Given as goal
 
 abbrev pub invariant-loop-rest : goal.invariant-loop-rest
@@ -10,6 +11,7 @@ invariant-loop-rest l = record {
   reading : lines_then l.found.items (reads (l.number + 1) (lines l.rest)) ≡ reads 1 (lines l.text);
   right : IsRightUpTo l.text l.rest;
   counted : l.number + length l.rest ≤ length l.text;
+  printable : l.plain ≡ true → ArePrintable (lines l.rest);
 }
 
 abbrev pub decreases-loop-rest : goal.decreases-loop-rest

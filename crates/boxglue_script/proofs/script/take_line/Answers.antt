@@ -5,17 +5,17 @@ use Rattle.boxglue_script.specs.Reading.{ReadsOn}
 use Rattle.boxglue_script.proofs.SaidLaws.{gives_read, reads_on, stops_at}
 use Rattle.boxglue_script.proofs.script.take_line.Goals as goal
 
-pub returns-in_err-read_line-clause-memory : goal.returns-in_err-read_line-clause-memory
-returns-in_err-read_line-clause-memory c = λ _. let gives = c.in_err-read_line.ensures.memory in gives_read c.args.line.now gives.0 gives.1
+pub returns-in_err-read_line_of-clause-memory : goal.returns-in_err-read_line_of-clause-memory
+returns-in_err-read_line_of-clause-memory c = λ _. let gives = c.in_err-read_line_of.ensures.memory in gives_read c.args.line.now gives.0 gives.1
 
 pub returns-in_err-push-in-Command-clause-memory : goal.returns-in_err-push-in-Command-clause-memory
-returns-in_err-push-in-Command-clause-memory c = λ _. gives_read c.args.line.now c.in-Command.command (rw c.in-Command.is at c.in_ok-read_line.ensures.said)
+returns-in_err-push-in-Command-clause-memory c = λ _. gives_read c.args.line.now c.in-Command.command (rw c.in-Command.is at c.in_ok-read_line_of.ensures.said)
 
 pub returns-in_ok-push-in-Command-clause-ok : goal.returns-in_ok-push-in-Command-clause-ok
 returns-in_ok-push-in-Command-clause-ok c =
     subst (λ (found : List Line). ReadsOn c.args.number c.args.line.now c.args.found.now.items found) (sym c.in_ok-push-in-Command.ensures.items)
-    (reads_on c.args.number c.args.line.now c.args.found.now.items c.in-Command.command (rw c.in-Command.is at c.in_ok-read_line.ensures.said))
+    (reads_on c.args.number c.args.line.now c.args.found.now.items c.in-Command.command (rw c.in-Command.is at c.in_ok-read_line_of.ensures.said))
 
 pub returns-in-Bad-clause-bad : goal.returns-in-Bad-clause-bad
 returns-in-Bad-clause-bad c =
-    let bad = rw c.in-Bad.is at c.in_ok-read_line.ensures.said in inr (stops_at c.args.number c.args.line.now c.args.found.now.items c.in-Bad.cause bad.0 bad.1)
+    let bad = rw c.in-Bad.is at c.in_ok-read_line_of.ensures.said in inr (stops_at c.args.number c.args.line.now c.args.found.now.items c.in-Bad.cause bad.0 bad.1)
