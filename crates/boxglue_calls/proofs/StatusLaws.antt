@@ -7,9 +7,12 @@ use Rattle.job_commands.specs.declared.replies.Refusal.{Refusal}
 use Rattle.job_commands.specs.declared.replies.Refusal.TheVariants.{OutOfMemory}
 use Rattle.job_commands.specs.declared.replies.Summary.{Summary}
 use Rattle.job_commands.specs.Reply.{Reply}
+use Rattle.boxglue_program.specs.declared.outcome.Outcome.{Outcome}
+use Rattle.boxglue_program.specs.declared.outcome.Outcome.TheVariants.{Accepted, Refused, LackedMemory}
+use Rattle.boxglue_program.specs.Outcomes.{outcome_of, refusal_outcome, replies_outcome, run_outcome, worse}
 use Rattle.boxglue_program.specs.Runs.{is_accepted}
 use Rattle.boxglue_calls.specs.Buffers.{HandsOverBoth}
-use Rattle.boxglue_calls.specs.RunStatus.{refusal_status, replies_status, reply_status, run_status}
+use Rattle.boxglue_calls.specs.RunStatus.{outcome_status, refusal_status, replies_status, reply_status, run_status}
 
 max_turned : (a b c : ℕ) → max a (max b c) ≡ max (max a b) c
 max_turned a b c = omega arith
@@ -30,6 +33,35 @@ pub status_one_more : (status next new : ℕ) (replies : List Reply) (reply : Re
     → new ≡ replies_status (replies ++ reply ∷ [])
 status_one_more status next new replies reply h k is =
     is ∙ (ap (λ (n : ℕ). max n next) h ∙ (ap (λ (n : ℕ). max (replies_status replies) n) k ∙ sym (replies_more replies reply)))
+
+-- The status of what was refused is that of the replies.
+refusal_status_is : (refusal : Refusal) → outcome_status (refusal_outcome refusal) ≡ refusal_status refusal
+refusal_status_is OutOfMemory = refl
+refusal_status_is refusal = refl
+
+pub reply_status_is : {A : Type 0} (reply : Result A Refusal) → outcome_status (outcome_of reply) ≡ reply_status reply
+reply_status_is (Ok answer) = refl
+reply_status_is (Err refusal) = refusal_status_is refusal
+
+worse_status : (a b : Outcome) → outcome_status (worse a b) ≡ max (outcome_status a) (outcome_status b)
+worse_status Accepted b = omega arith
+worse_status Refused Accepted = refl
+worse_status Refused Refused = refl
+worse_status Refused LackedMemory = refl
+worse_status LackedMemory Accepted = refl
+worse_status LackedMemory Refused = refl
+worse_status LackedMemory LackedMemory = refl
+
+pub replies_status_is : (replies : List Reply) → outcome_status (replies_outcome replies) ≡ replies_status replies
+replies_status_is [] = refl
+replies_status_is (reply ∷ rest) =
+    worse_status (outcome_of reply) (replies_outcome rest)
+    ∙ (ap (λ (n : ℕ). max n (outcome_status (replies_outcome rest))) (reply_status_is reply) ∙ ap (λ (n : ℕ). max (reply_status reply) n) (replies_status_is rest))
+
+pub run_status_is : (replies : List Reply) (end : Result Summary Refusal) → outcome_status (run_outcome replies end) ≡ run_status replies end
+run_status_is replies end =
+    worse_status (replies_outcome replies) (outcome_of end)
+    ∙ (ap (λ (n : ℕ). max n (outcome_status (outcome_of end))) (replies_status_is replies) ∙ ap (λ (n : ℕ). max (replies_status replies) n) (reply_status_is end))
 
 refusal_status_small : (refusal : Refusal) → refusal_status refusal ≤ 7
 refusal_status_small OutOfMemory = omega arith

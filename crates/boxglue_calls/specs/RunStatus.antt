@@ -4,6 +4,8 @@ use Rattle.job_commands.specs.declared.replies.Refusal.{Refusal}
 use Rattle.job_commands.specs.declared.replies.Refusal.TheVariants.{OutOfMemory}
 use Rattle.job_commands.specs.declared.replies.Summary.{Summary}
 use Rattle.job_commands.specs.Reply.{Reply}
+use Rattle.boxglue_program.specs.declared.outcome.Outcome.{Outcome}
+use Rattle.boxglue_program.specs.declared.outcome.Outcome.TheVariants.{Accepted, Refused, LackedMemory}
 
 -- The status of a refusal: 7 where memory was refused, else 1.
 abbrev pub refusal_status : Refusal → ℕ
@@ -23,3 +25,9 @@ replies_status (reply ∷ rest) = max (reply_status reply) (replies_status rest)
 -- The status of a run with these replies and this end.
 abbrev pub run_status : List Reply → Result Summary Refusal → ℕ
 run_status replies end = max (replies_status replies) (reply_status end)
+
+-- The status of a run of which this was refused.
+abbrev pub outcome_status : Outcome → ℕ
+outcome_status Accepted = 0
+outcome_status Refused = 1
+outcome_status LackedMemory = 7

@@ -2,7 +2,6 @@
 //! its fonts are read. A call writes into buffers of its caller and returns a status. `boxglue_c` exports each of these functions to C.
 #![tactic(auto)]
 
-mod answered;
 pub mod buffers;
 mod edition;
 mod font_table;
@@ -14,7 +13,6 @@ pub mod run_status;
 mod runs;
 pub mod status;
 
-pub use answered::answer_each;
 pub use edition::version;
 pub use font_table::{DviFont, FontSizes, fonts};
 pub use given::{Font, are_named, font_files};

@@ -1,27 +1,26 @@
-//! The status of a run, from its replies.
+//! The status of a run, from what was refused of it.
 
 ghost use Rattle.std.specs.Prelude.{◌≡◌};
-ghost use Rattle.boxglue_calls.specs.RunStatus.{refusal_status, reply_status};
+ghost use Rattle.boxglue_calls.specs.RunStatus.{outcome_status, reply_status};
 
 use crate::status::{ACCEPTED, REFUSED, REFUSED_MEMORY};
+use boxglue_program::Outcome;
 use job_core::Refusal;
 
-/// The status of a refusal.
-fn refusal_status(refusal: Refusal) -> u32
-    ensures { result ≡ refusal_status refusal }
+/// The status of a run of which this was refused.
+pub fn outcome_status(outcome: Outcome) -> u32
+    ensures { result ≡ outcome_status outcome }
 {
-    match refusal {
-        Refusal::OutOfMemory => REFUSED_MEMORY,
-        _ => REFUSED,
+    match outcome {
+        Outcome::Accepted => ACCEPTED,
+        Outcome::Refused => REFUSED,
+        Outcome::LackedMemory => REFUSED_MEMORY,
     }
 }
 
-/// The status of a reply, or of the end of a job: that of its refusal, if it is one.
+/// The status of a reply, or of the end of a job.
 pub fn reply_status<T>(reply: &Result<T, Refusal>) -> u32
     ensures { result ≡ reply_status reply.now }
 {
-    match reply {
-        Ok(_) => ACCEPTED,
-        Err(refusal) => refusal_status(*refusal),
-    }
+    outcome_status(Outcome::of(reply))
 }

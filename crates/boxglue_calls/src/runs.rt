@@ -10,15 +10,14 @@ ghost use Rattle.boxglue_calls.specs.Fonts.{are_named, files_of};
 ghost use Rattle.boxglue_calls.specs.RunStatus.{run_status};
 ghost use Rattle.boxglue_calls.specs.Runs.{HandsOverRun, IsRun};
 
-use crate::answered::answer_each;
 use crate::buffers::hand_over_both;
 use crate::given::{Font, are_named, font_files};
-use crate::run_status::reply_status;
+use crate::run_status::outcome_status;
 use crate::status::{BAD_FONT_NAME, OUT_OF_MEMORY, REFUSED};
 use boxglue_program::{
-    Cause, FontFile, Line, Memory, ScriptFault, read_script, script_refusal_text, with_end,
+    Cause, FontFile, Line, Memory, ScriptFault, WholeRun, read_script, run_whole,
+    script_refusal_text,
 };
-use job_core::Job;
 use std::alloc::{AllocError, Global};
 
 /// How many bytes the two outputs of a run have.
@@ -38,22 +37,25 @@ struct Ran {
 }
 
 /// Runs the lines of a script with these font files on a device in memory, and ends the job.
-fn run_lines(alloc: Global, lines: &[Line], files: &[FontFile]) -> Result<Ran, AllocError>
+fn run_job(alloc: Global, lines: &[Line], files: &[FontFile]) -> Result<Ran, AllocError>
     ensures { IfOk result (λ ran. (replies : List Reply) × (end : Result Summary Refusal)
         × WasRun files.now 0 (commands_of lines.now) replies end ran.device.failures (Some ran.device.bytes)
         × (ran.answers.items ≡ answers_text (line_numbers lines.now) replies end) × (ran.status ≡ run_status replies end)) }
 {
-    let mut job = match Job::new(alloc, Memory::new(alloc), files) {
-        Ok(job) => job,
+    let whole = match run_whole(alloc, lines, files, Memory::new(alloc)) {
+        Ok(whole) => whole,
         Err(_) => return Err(AllocError),
     };
-    let (text, status) = answer_each(alloc, &mut job, lines);
-    let end = job.finish();
-    match with_end(text, &end) {
+    let WholeRun {
+        answers,
+        outcome,
+        device,
+    } = whole;
+    match answers {
         Some(answers) => Ok(Ran {
             answers,
-            device: job.into_device(),
-            status: status.max(reply_status(&end)),
+            device,
+            status: outcome_status(outcome),
         }),
         None => Err(AllocError),
     }
@@ -79,7 +81,7 @@ fn run_on_memory(alloc: Global, script: &[u8], fonts: &[Font<'_>]) -> Result<Ran
 {
     let files = font_files(alloc, fonts)?;
     match read_script(alloc, script) {
-        Ok(lines) => run_lines(alloc, &lines, &files),
+        Ok(lines) => run_job(alloc, &lines, &files),
         Err(ScriptFault::OutOfMemory) => Err(AllocError),
         Err(ScriptFault::BadScript { line, cause }) => refused_run(alloc, line, cause),
     }

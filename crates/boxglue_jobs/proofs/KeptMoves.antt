@@ -1,5 +1,6 @@
 -- What is kept after a piece, and after the end (own).
-use Rattle.std.proofs.Common.{◌≡◌, ◌≢◌, ◌<◌, ◌^◌, ℕ, true, List, length, Result, Err, OnOk, IfOk, IfErr, IfSome, refl, sym, ap, ◌∙◌, subst}
+use Rattle.std.proofs.Common.{◌≡◌, ◌≢◌, ◌<◌, ◌^◌, ◌++◌, ℕ, Bool, false, true, List, length, Result, Ok, Err, is_ok, OnOk, OnErr, IfOk, IfErr, IfSome, inl, inr, refl, sym, ap, ◌∙◌, subst}
+use Rattle.std.specs.Prelude.{if◌then◌else◌}
 use Rattle.job_commands.specs.declared.command.Command.{Command}
 use Rattle.job_commands.specs.declared.replies.Refusal.{Refusal}
 use Rattle.job_commands.specs.declared.replies.Refusal.TheVariants as refusals
@@ -45,6 +46,18 @@ ran_lines old new job script lines counted replies is piece ran idle grows each 
   counted = lines_is;
   taken = taken_is;
 }
+
+-- Answers that were kept, or lost.
+pub kept_answers : (old new text : List ℕ) (kept : Bool) (done status : ℕ) → (kept ≡ true → new ≡ old ++ text) → (kept ≡ false → new ≡ old) → status ≡ (if kept then done else 10)
+    → Answers old new text done status
+kept_answers old new text true done status added cut is = inl (added refl, is)
+kept_answers old new text false done status added cut is = inr (cut refl, is)
+
+-- The same of an answer that was appended, or for which memory was refused.
+pub appended_answer : {A E : Type 0} (r : Result A E) (old new text : List ℕ) (kept : Bool) (done status : ℕ) → kept ≡ is_ok r → OnOk r (new ≡ old ++ text) → OnErr r (new ≡ old)
+    → status ≡ (if kept then done else 10) → Answers old new text done status
+appended_answer (Ok x) old new text kept done status is added cut status_is = inl (added, status_is ∙ ap (λ (b : Bool). if b then done else 10) is)
+appended_answer (Err e) old new text kept done status is added cut status_is = inr (cut, status_is ∙ ap (λ (b : Bool). if b then done else 10) is)
 
 -- Numbered lines that were run and answered are a piece that was run.
 pub ran_piece : (old new : KeptState) (job : JobView) (script : List ℕ) (lines counted : List Line) (replies : List Reply) (done status : ℕ)

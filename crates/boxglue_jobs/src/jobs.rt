@@ -119,7 +119,7 @@ pub fn finish(alloc: Global, job: &mut JobHandle) -> u32
     let Some(mut kept) = take_out(alloc, job) else {
         return NO_JOB;
     };
-    let status = kept.finish(alloc);
+    let status = kept.finish();
     put(alloc, job, kept);
     status
 }

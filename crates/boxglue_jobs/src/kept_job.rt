@@ -1,6 +1,6 @@
 //! A job that is kept, with the answers and the bytes that were not handed over yet.
 
-ghost use Rattle.std.specs.Prelude.{◌≡◌, ◌<◌, ◌⊎◌, [], ◌∷◌, length, drop};
+ghost use Rattle.std.specs.Prelude.{◌≡◌, ◌<◌, ◌⊎◌, [], ◌∷◌, length, drop, if◌then◌else◌};
 ghost use Rattle.boxglue_calls.specs.Buffers.{Holds};
 ghost use Rattle.boxglue_jobs.specs.Rows.{bad_row};
 
@@ -8,12 +8,12 @@ use crate::numbering::{line_count, number_after, number_on};
 use crate::replied::reply_to_each;
 use crate::rows::{ReplyRow, bad_row, end_row};
 use crate::status::ANSWERS_LOST;
-use boxglue_calls::answer_each;
 use boxglue_calls::buffers::hand_over;
-use boxglue_calls::run_status::reply_status;
+use boxglue_calls::run_status::{outcome_status, reply_status};
 use boxglue_calls::status::{ACCEPTED, BUFFER_TOO_SMALL, OUT_OF_MEMORY, REFUSED};
 use boxglue_program::{
-    Cause, FontFile, Line, Memory, ScriptFault, read_script, script_refusal_text, with_end,
+    Cause, FontFile, Line, Memory, ScriptFault, push_end_line, push_script_refusal, read_script,
+    run_lines,
 };
 use job_core::Job;
 use std::alloc::{AllocError, Global};
@@ -57,6 +57,13 @@ fn refuse_in_rows(line: usize, cause: Cause, rows: &mut [ReplyRow]) -> u32
     REFUSED
 }
 
+/// The status of what was run, which is this one where its answers were kept.
+fn kept_status(kept: bool, done: u32) -> u32
+    ensures { result ≡ (if kept then done else 10) }
+{
+    if kept { done } else { ANSWERS_LOST }
+}
+
 impl KeptJob {
     ghost use Rattle.std.specs.Prelude.{◌≡◌, ◌≤◌, ◌⊎◌, ◌++◌, List, ℕ, [], length, IfOk, IfSome};
     ghost use Rattle.boxglue_program.specs.Texts.{script_refusal_text};
@@ -80,28 +87,11 @@ impl KeptJob {
         }
     }
 
-    /// Appends a text to the answers, and returns the status, which is this one where it was kept. None is a text for which memory was refused.
-    fn keep(&mut self, text: Option<Vec<u8>>, done: u32) -> u32
-        ensures answered { (lines : List ℕ) → IfSome text (λ kept. kept.items ≡ lines) → Answers self.old.answers self.new.answers lines done result }
-        ensures same { (self.new.job ≡ self.old.job) × (self.new.lines ≡ self.old.lines) × (self.new.taken ≡ self.old.taken) }
-    {
-        let Some(text) = text else {
-            return ANSWERS_LOST;
-        };
-        match self.answers.extend_from_slice(&text) {
-            Ok(()) => done,
-            Err(_) => ANSWERS_LOST,
-        }
-    }
-
     /// Answers a piece that is refused, with the number of its first bad line.
-    fn refuse(&mut self, alloc: Global, number: usize, cause: Cause) -> u32
+    fn refuse(&mut self, number: usize, cause: Cause) -> u32
         ensures { ((self.new ≡ record self.old { answers = self.old.answers ++ script_refusal_text number cause }) × (result ≡ 1)) ⊎ ((self.new ≡ self.old) × (result ≡ 2)) }
     {
-        let Ok(text) = script_refusal_text(alloc, number, cause) else {
-            return OUT_OF_MEMORY;
-        };
-        match self.answers.extend_from_slice(&text) {
+        match push_script_refusal(number, cause, &mut self.answers) {
             Ok(()) => REFUSED,
             Err(_) => OUT_OF_MEMORY,
         }
@@ -115,13 +105,13 @@ impl KeptJob {
             Ok(lines) => lines,
             Err(ScriptFault::OutOfMemory) => return OUT_OF_MEMORY,
             Err(ScriptFault::BadScript { line, cause }) => {
-                return self.refuse(alloc, number_after(self.lines, line), cause);
+                return self.refuse(number_after(self.lines, line), cause);
             }
         };
         number_on(self.lines, &mut lines);
-        let (text, done) = answer_each(alloc, &mut self.job, &lines);
+        let run = run_lines(&mut self.job, &lines, &mut self.answers);
         self.lines = number_after(self.lines, line_count(script));
-        self.keep(text, done)
+        kept_status(run.kept, outcome_status(run.outcome))
     }
 
     /// Runs the lines of a piece of a script, and writes the rows of their replies.
@@ -191,12 +181,12 @@ impl KeptJob {
     }
 
     /// Writes the end of the file.
-    pub fn finish(&mut self, alloc: Global) -> u32
+    pub fn finish(&mut self) -> u32
         ensures { FinishesKept self.old self.new result }
     {
         let end = self.job.finish();
-        let text = with_end(Some(Vec::new(alloc)), &end);
-        self.keep(text, reply_status(&end))
+        let kept = push_end_line(&end, &mut self.answers).is_ok();
+        kept_status(kept, reply_status(&end))
     }
 
     /// Writes the end of the file, and the row of its reply.

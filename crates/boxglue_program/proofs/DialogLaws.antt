@@ -4,12 +4,10 @@ use Rattle.std.specs.Prelude.{is_ok, Result, Ok, Err, OnOk, OnErr}
 use Rattle.std.specs.Io.KnownBytes.{Appends}
 use Rattle.std.specs.Str.Lines.{lines}
 use Rattle.std.proofs.lemmas.List.{append-nil}
-use Rattle.std.proofs.Math.Bool.{and-true}
-use Rattle.job_commands.specs.declared.command.Command.{Command as ACommand}
 use Rattle.job_commands.specs.Reply.{Reply}
 use Rattle.dvi_device.specs.Written.{written_then}
-use Rattle.job_core.specs.Jobs.{JobView, KeepsTo}
-use Rattle.job_core.proofs.WholeRuns.{no_run, one_run}
+use Rattle.job_core.specs.Jobs.{JobView, RunsTo}
+use Rattle.job_core.proofs.WholeRuns.{no_run}
 use Rattle.boxglue_script.specs.declared.cause.Cause.{Cause}
 use Rattle.boxglue_script.specs.declared.said.Said.TheVariants.{Nothing, Command, Bad}
 use Rattle.boxglue_script.specs.ScriptLines.{is_passed_over}
@@ -17,11 +15,15 @@ use Rattle.boxglue_script.specs.Causes.{IsCause}
 use Rattle.boxglue_script.specs.Script.{IsPassedOver, SaysLine}
 use Rattle.boxglue_script.specs.SaidLines.{IsWhole}
 use Rattle.boxglue_script.proofs.LineLemmas.{Splits, lines_joined}
-use Rattle.boxglue_program.specs.Texts.{answer_line, script_refusal_text}
-use Rattle.boxglue_program.specs.Runs.{WritesFront}
+use Rattle.boxglue_script.specs.declared.script.Line.{Line}
+use Rattle.boxglue_program.specs.declared.outcome.Outcome.{Outcome}
+use Rattle.boxglue_program.specs.Outcomes.{is_accepting, replies_outcome}
+use Rattle.boxglue_program.specs.Texts.{answer_line, answer_lines, script_refusal_text}
+use Rattle.boxglue_program.specs.Runs.{WritesFront, commands_of, line_numbers}
 use Rattle.boxglue_program.specs.Sessions.{DialogView, AnswersLines, StopsIn, IsSent}
 use Rattle.boxglue_program.specs.Dialogs.{dialog_of, OutboxView, outbox_of, Sends}
 use Rattle.boxglue_program.proofs.RunLaws.{grown_not}
+use Rattle.boxglue_program.proofs.OutcomeLaws.{accepting_all}
 use Rattle.boxglue_program.proofs.SessionLaws.{answered_both, none_answered, sent_both, sent_none, same_answered}
 
 -- A line that is passed over.
@@ -40,18 +42,21 @@ nothing_answered job before line says = record {
 }
 
 -- A line whose command was run.
-pub command_answered : (old new : JobView) (before : ℕ) (line : List ℕ) (command : ACommand) (reply : Reply) (accepted : Bool) → SaysLine line command → KeepsTo old command reply new
-    → accepted ≡ is_ok reply → (more : List ℕ) × (new.bytes_written ≡ written_then old.bytes_written more) → new.began ≡ old.began
-    → AnswersLines (dialog_of old before true) (line ∷ []) (answer_line (before + 1) reply) (dialog_of new (before + 1) accepted)
-command_answered old new before line command reply accepted says keeps fine grows began = record {
-  said = Command command ∷ [];
+pub command_answered : (old new : JobView) (before : ℕ) (line : List ℕ) (given : Line) (run : List Line) (replies : List Reply) (outcome : Outcome) (accepted : Bool) → SaysLine line given.command
+    → given.number ≡ before + 1 → run ≡ given ∷ [] → RunsTo old (commands_of run) replies new → length replies ≡ length run → outcome ≡ replies_outcome replies → accepted ≡ is_accepting outcome
+    → (more : List ℕ) × (new.bytes_written ≡ written_then old.bytes_written more) → new.began ≡ old.began
+    → AnswersLines (dialog_of old before true) (line ∷ []) (answer_lines (line_numbers run) replies) (dialog_of new (before + 1) accepted)
+command_answered old new before line given run [] outcome accepted says number is ran each outcome_is fine grows began = absurd (omega (arith, each, ap length is))
+command_answered old new before line given run (reply ∷ other ∷ more) outcome accepted says number is ran each outcome_is fine grows began = absurd (omega (arith, each, ap length is))
+command_answered old new before line given run (reply ∷ []) outcome accepted says number is ran each outcome_is fine grows began = record {
+  said = Command given.command ∷ [];
   replies = reply ∷ [];
   says = (says, tt);
-  ran = one_run old new command reply keeps;
+  ran = subst (λ (lines : List Line). RunsTo old (commands_of lines) (reply ∷ []) new) is ran;
   each = refl;
-  answers_are = sym (append-nil (answer_line (before + 1) reply));
+  answers_are = ap (λ (lines : List Line). answer_lines (line_numbers lines) (reply ∷ [])) is ∙ ap (λ (n : ℕ). answer_line n reply ++ []) number;
   counted = omega arith;
-  accepted = fine ∙ sym (and-true (is_ok reply));
+  accepted = fine ∙ (ap is_accepting outcome_is ∙ accepting_all (reply ∷ []));
   grows = grows;
   began = began;
 }

@@ -1,5 +1,6 @@
 pub mod SentParts
 pub mod RunLaws
+pub mod OutcomeLaws
 pub mod SessionLaws
 pub mod DialogLaws
 pub mod PieceLaws

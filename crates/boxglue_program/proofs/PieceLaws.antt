@@ -7,6 +7,7 @@ use Rattle.std.proofs.lemmas.List.{append-nil}
 use Rattle.job_core.specs.Jobs.{JobView}
 use Rattle.boxglue_script.specs.SaidLines.{IsWhole}
 use Rattle.boxglue_program.specs.Sessions.{IsSent, DialogView, AnswersLines, SessionView, Exchanges, LacksRoom, StopsIn}
+use Rattle.boxglue_program.specs.Dialogs.{IsCut}
 use Rattle.boxglue_program.proofs.SessionLaws.{none_answered, sent_none}
 use Rattle.boxglue_program.proofs.DialogLaws.{stops_further, stops_at_once, stops_at_rest}
 
@@ -29,11 +30,10 @@ text_and_rest : (kept piece whole rest text : List ℕ) → Cut kept piece whole
 text_and_rest kept piece whole rest text cut =
     ap (λ (l : List ℕ). l ++ rest) cut.text_is ∙ (append_assoc kept whole rest ∙ ap (λ (l : List ℕ). kept ++ l) (sym cut.split))
 
--- A piece was cut after its last line feed, and its whole lines were put after the bytes kept before.
-pub cut_of : (kept piece front whole rest joined text : List ℕ) → piece ≡ whole ++ rest → whole ≡ front → IsWhole front → 0 < length whole
-    → joined ≡ kept ++ whole → text ≡ joined → Cut kept piece whole rest text
-cut_of kept piece front whole rest joined text split same ends some is told = record
-    { split = split; ends = subst IsWhole (sym same) ends; some = some; text_is = told ∙ is }
+-- The whole lines of a piece were put after the bytes kept before.
+pub cut_of : (kept piece whole rest joined text : List ℕ) → IsCut piece whole rest → 0 < length whole → joined ≡ kept ++ whole → text ≡ joined
+    → Cut kept piece whole rest text
+cut_of kept piece whole rest joined text cut some is told = record { split = cut.split; ends = cut.ends; some = some; text_is = told ∙ is }
 
 -- No line ends in the piece, and it is kept.
 pub none_taken : {A E : Type 0} (r : Result A E) (kept more piece whole rest : List ℕ) (dialog : DialogView) (reads : Bool) (old : Option (List ℕ))
@@ -95,23 +95,22 @@ stopped_at_rest (Err e) kept piece whole rest text dialog new reads now old afte
   sent,
 )
 
--- What came of a reader, if something came.
-pub count_consumed : (read : Option ℕ) (count most : ℕ) (bytes : List ℕ) (old new : Option (List ℕ)) → read ≡ Some count
-    → IfSome read (λ n. (n ≤ most) × Consumes old new (take n bytes))
-    → (count ≤ most) × Consumes old new (take count bytes)
-count_consumed read count most bytes old new is consumed = rw is at consumed
+-- One reading brought a piece, which may be read.
+pub record Comes (left count : ℕ) (text : List ℕ) (old new : Option (List ℕ)) : Type 0 where
+  pub consumed : Consumes old new (take count text)
+  pub left_is : left - count + length (take count text) ≡ left
 
--- The same bytes came, by the buffer that they came into.
-pub piece_consumed : (count most : ℕ) (bytes text : List ℕ) (old new : Option (List ℕ)) → text ≡ bytes
-    → (count ≤ most) × Consumes old new (take count bytes) → Consumes old new (take count text)
-piece_consumed count most bytes text old new same consumed = rw same consumed.1
-
--- How many bytes may be read after a piece.
-pub left_after : (left count most : ℕ) (bytes text : List ℕ) → text ≡ bytes → most ≡ length bytes → count ≤ most → count ≤ left
-    → left - count + length (take count text) ≡ left
-left_after left count most bytes text same long within fits =
-    let size : length (take count text) ≡ count = length-take-le count text (omega (arith, ap length same, long, within)) in
-    omega (arith, size, fits)
+-- What came into a buffer, by what a reading says of it.
+pub piece_comes : (read : Option ℕ) (count most left : ℕ) (bytes text : List ℕ) (old new : Option (List ℕ)) → read ≡ Some count
+    → IfSome read (λ n. (n ≤ most) × Consumes old new (take n bytes)) → text ≡ bytes → most ≡ length bytes → count ≤ left → Comes left count text old new
+piece_comes read count most left bytes text old new is said same long fits =
+    let came = count_came read count most bytes old new is said in
+    let size : length (take count text) ≡ count = length-take-le count text (omega (arith, ap length same, long, came.0)) in
+    record { consumed = rw same came.1; left_is = omega (arith, size, fits) }
+  where
+    count_came : (read : Option ℕ) (count most : ℕ) (bytes : List ℕ) (old new : Option (List ℕ)) → read ≡ Some count → IfSome read (λ n. (n ≤ most) × Consumes old new (take n bytes))
+        → (count ≤ most) × Consumes old new (take count bytes)
+    count_came read count most bytes old new is said = rw is at said
 
 -- One reading brought a piece that was taken.
 pub piece_exchanged : (old was new : SessionView) (piece : List ℕ) (before after : Option (List ℕ)) → was ≡ old

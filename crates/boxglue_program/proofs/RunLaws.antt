@@ -1,5 +1,5 @@
 -- A job that runs the commands of a script and is finished.
-use Rattle.std.proofs.Common.{◌≡◌, ◌⊎◌, ◌+◌, ◌&&◌, ◌∷◌, inl, inr, ℕ, Bool, true, false, List, [], ◌++◌, length, take, drop, Option, Some, None, IfSome, Result, Ok, Err, IfOk, OnOk, OnErr, is_err, is_ok, refl, sym, append_assoc, arith, ◌∙◌, ap, subst, ⊎_elim}
+use Rattle.std.proofs.Common.{◌≡◌, ◌⊎◌, ◌+◌, ◌∷◌, inl, inr, ℕ, Bool, true, false, List, [], ◌++◌, length, take, drop, Option, Some, None, IfSome, Result, Ok, Err, IfOk, OnOk, OnErr, is_err, refl, sym, append_assoc, arith, ◌∙◌, ap, subst, ⊎_elim}
 use Rattle.job_commands.specs.declared.command.Command.{Command}
 use Rattle.job_commands.specs.declared.replies.Refusal.{Refusal}
 use Rattle.job_commands.specs.declared.replies.Refusal.TheVariants as refusals
@@ -26,13 +26,10 @@ use Rattle.job_core.proofs.RestsOfFiles.{beginning, completed, rest_completed, p
 use Rattle.job_core.proofs.LosslessRuns.{run_rises, end_rises, run_kept, end_kept}
 use Rattle.std.specs.Io.KnownBytes.{Keeps}
 use Rattle.std.proofs.lemmas.List.{append-nil, length-append}
-use Rattle.std.proofs.Math.Bool.{and-true}
 use Rattle.std.proofs.Math.Seq.{take-append_seam}
-use Rattle.std.proofs.lemmas.List.Folds.{list_all-append}
-use Rattle.std.specs.List.{list_all}
 use Rattle.boxglue_script.specs.declared.script.Line.{Line}
 use Rattle.boxglue_program.specs.Texts.{hexadecimal_text, answer_line, answer_lines}
-use Rattle.boxglue_program.specs.Runs.{DeviceView, device_view, commands_of, line_numbers, IsProperFrontOf, WasRun, IsUntouched, IsAnswered, RanScript, RefusedScript, IsAnsweredInMemory, LacksMemory, CompletesFile, IsAnswerOfRest, RanOverRest, NeverLost, IsAnsweredOverRest, IsLeftOverRest}
+use Rattle.boxglue_program.specs.Runs.{DeviceView, device_view, commands_of, line_numbers, IsProperFrontOf, WasRun, IsUntouched, IsAnswered, RanScript, RefusedScript, IsAnsweredInMemory, LacksMemory, CompletesFile, IsAnswerOfRest, RanOverRest, IsAnsweredOverRest, IsLeftOverRest}
 use Rattle.boxglue_program.specs.declared.run.RunFault.TheVariants.{Memory}
 use Rattle.boxglue_program.proofs.SentParts.{sent_part, pages_held}
 
@@ -347,16 +344,6 @@ answers_more (front ∷ lines) (first ∷ replies) line reply h =
     ap (λ (rest : List ℕ). answer_line front.number first ++ rest) (answers_more lines replies line reply (omega (arith, h)))
     ∙ sym (append_assoc (answer_line front.number first) (answer_lines (line_numbers lines) replies) (answer_line line.number reply))
 
-all_more : (replies : List Reply) (reply : Reply) → list_all is_ok (replies ++ reply ∷ []) ≡ (list_all is_ok replies && is_ok reply)
-all_more replies reply = list_all-append is_ok replies (reply ∷ []) ∙ ap (λ (b : Bool). list_all is_ok replies && b) (and-true (is_ok reply))
-
-pub both : (a b c d : Bool) → a ≡ c → b ≡ d → (a && b) ≡ (c && d)
-both a b c d h k = ap (λ (x : Bool). x && b) h ∙ ap (λ (x : Bool). c && x) k
-
-pub accepted_one_more : (accepted fine : Bool) (replies : List Reply) (reply : Reply) → accepted ≡ list_all is_ok replies → fine ≡ is_ok reply
-    → (accepted && fine) ≡ list_all is_ok (replies ++ reply ∷ [])
-accepted_one_more accepted fine replies reply h k = both accepted fine (list_all is_ok replies) (is_ok reply) h k ∙ sym (all_more replies reply)
-
 -- A run with one more line.
 pub ran_one_more : (old now new : JobView) (front more : List Line) (line : Line) (replies : List Reply) (reply : Reply) → more ≡ front ++ line ∷ []
     → RunsTo old (commands_of front) replies now → KeepsTo now line.command reply new → RunsTo old (commands_of more) (replies ++ reply ∷ []) new
@@ -378,9 +365,26 @@ pub length_more : (front more : List Line) (line : Line) (replies : List Reply) 
     → length (replies ++ reply ∷ []) ≡ length more
 length_more front more line replies reply is h = length-append replies (reply ∷ []) ∙ (ap (λ (n : ℕ). n + 1) h ∙ (sym (length-append front (line ∷ [])) ∙ ap length (sym is)))
 
-pub answers_one_more : {A : Type 0} (bytes : A → List ℕ) (front more : List Line) (line : Line) (replies : List Reply) (reply : Reply) (text : Option A) → more ≡ front ++ line ∷ []
-    → length replies ≡ length front → IfSome text (λ t. bytes t ≡ answer_lines (line_numbers front) replies ++ answer_line line.number reply)
-    → IfSome text (λ t. bytes t ≡ answer_lines (line_numbers more) (replies ++ reply ∷ []))
-answers_one_more bytes front more line replies reply text is h t =
-    subst (λ (all : List ℕ). IfSome text (λ t. bytes t ≡ all))
-    (sym (answers_more front replies line reply h) ∙ ap (λ (xs : List Line). answer_lines (line_numbers xs) (replies ++ reply ∷ [])) (sym is)) t
+-- The answers with one more, where the memory for it was there.
+pub answers_one_more : (start now new : List ℕ) (front more : List Line) (line : Line) (replies : List Reply) (reply : Reply) (kept fine : Bool) → more ≡ front ++ line ∷ []
+    → length replies ≡ length front → (kept ≡ true → now ≡ start ++ answer_lines (line_numbers front) replies)
+    → (fine ≡ true → (kept ≡ true) × (new ≡ now ++ answer_line line.number reply))
+    → fine ≡ true → new ≡ start ++ answer_lines (line_numbers more) (replies ++ reply ∷ [])
+answers_one_more start now new front more line replies reply kept fine is h had added given =
+    let here = added given in
+    here.1
+    ∙ (ap (λ (text : List ℕ). text ++ answer_line line.number reply) (had here.0)
+    ∙ (append_assoc start (answer_lines (line_numbers front) replies) (answer_line line.number reply)
+    ∙ ap (λ (text : List ℕ). start ++ text)
+    (sym (answers_more front replies line reply h) ∙ ap (λ (xs : List Line). answer_lines (line_numbers xs) (replies ++ reply ∷ [])) (sym is))))
+
+-- What was there is still there, whether a text was added or not.
+pub begun_further : (start now new text : List ℕ) (fine : Bool) → (more : List ℕ) × (now ≡ start ++ more) → (fine ≡ true → new ≡ now ++ text) → (fine ≡ false → new ≡ now)
+    → (more : List ℕ) × (new ≡ start ++ more)
+begun_further start now new text true (more, is) added cut = (more ++ text, added refl ∙ (ap (λ (l : List ℕ). l ++ text) is ∙ append_assoc start more text))
+begun_further start now new text false (more, is) added cut = (more, cut refl ∙ is)
+
+-- What was there is left if the rest is cut off.
+pub cut_back : (start now new : List ℕ) (size : ℕ) → size ≡ length start → (more : List ℕ) × (now ≡ start ++ more) → new ≡ take size now → new ≡ start
+cut_back start now new size is (more, begun) cut =
+    cut ∙ (ap (λ (l : List ℕ). take size l) begun ∙ (ap (λ (n : ℕ). take n (start ++ more)) is ∙ take-append_seam start more))

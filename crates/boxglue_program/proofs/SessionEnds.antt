@@ -26,7 +26,7 @@ pub record DoneSoFar (start now : SessionView) (text answers : List ℕ) (before
   pub sent : IsSent start.reads now.reads before after answers
   pub left : now.left + length text ≡ start.left
 
-no_feed : (kept : List ℕ) → kept ≡ [] → Contains kept 10 → ⊥
+pub no_feed : (kept : List ℕ) → kept ≡ [] → Contains kept 10 → ⊥
 no_feed kept none (k, inside, is) = let size : length kept ≡ 0 = ap length none in omega (arith, size, inside)
 
 pub done_at_start : (start : SessionView) (before : Option (List ℕ)) → start.kept ≡ [] → DoneSoFar start start [] [] before before

@@ -1,8 +1,9 @@
 -- What the functions below a session do (own; private calls alone, no public clause speaks of it).
-use Rattle.std.specs.Prelude.{◌≡◌, ◌++◌, ℕ, Bool, List, Option, refl}
+use Rattle.std.specs.Prelude.{◌≡◌, ◌++◌, ℕ, Bool, List, Contains, Option, refl}
 use Rattle.std.specs.Coded.{Coded, code_by, coded×, coded_ℕ, coded_bool, coded_list}
 use Rattle.job_core.specs.Jobs.{JobView}
 use Rattle.job_core.specs.JobViewCode.{coded_job_view}
+use Rattle.boxglue_script.specs.SaidLines.{IsWhole}
 use Rattle.boxglue_program.specs.Sessions.{DialogView, SessionView, IsSent}
 
 -- A dialog by its parts.
@@ -23,6 +24,16 @@ pub record Sends (old new : OutboxView) (before after : Option (List ℕ)) (text
   pub sent : List ℕ
   pub split : old.waiting ++ text ≡ sent ++ new.waiting
   pub is_sent : IsSent old.reads new.reads before after sent
+
+-- A session by its parts.
+abbrev pub session_of : JobView → ℕ → Bool → Bool → List ℕ → ℕ → SessionView
+session_of job lines accepted reads kept left = record { dialog = dialog_of job lines accepted; reads = reads; kept = kept; left = left }
+
+-- A piece was cut after its last line feed.
+pub record IsCut (piece whole rest : List ℕ) : Type 0 where
+  pub split : piece ≡ whole ++ rest
+  pub ends : IsWhole whole
+  pub unended : Contains rest 10 → ⊥
 
 -- How the logic stores the view of a session.
 abbrev pub coded_session : Coded SessionView

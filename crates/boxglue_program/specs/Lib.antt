@@ -1,4 +1,5 @@
 pub mod Texts
+pub mod Outcomes
 pub mod Runs
 pub mod Rows
 pub mod Sessions

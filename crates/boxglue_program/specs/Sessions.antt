@@ -2,7 +2,7 @@
 use Rattle.std.specs.Prelude.{◌≡◌, ◌≢◌, ◌⊎◌, ◌≤◌, ◌<◌, ◌+◌, ◌++◌, ◌&&◌, ℕ, Bool, true, false, List, [], ◌∷◌, length, Option, Result}
 use Rattle.std.specs.List.{list_all, Contains}
 use Rattle.std.specs.Str.Lines.{lines}
-use Rattle.std.specs.Io.KnownBytes.{Appends, Keeps, Consumes, IsAtEnd}
+use Rattle.std.specs.Io.KnownBytes.{Appends, Keeps}
 use Rattle.job_commands.specs.declared.command.Command.{Command as ACommand}
 use Rattle.job_commands.specs.declared.replies.Refusal.{Refusal}
 use Rattle.job_commands.specs.declared.replies.Summary.{Summary}

@@ -4,49 +4,21 @@ ghost use Rattle.std.specs.Prelude.{◌≡◌, ◌++◌, ◌∷◌, ◌<◌, ◌
 ghost use Rattle.std.specs.Str.Lines.{lines};
 ghost use Rattle.job_commands.specs.declared.replies.Refusal.{Refusal as ARefusal};
 ghost use Rattle.job_commands.specs.declared.replies.Summary.{Summary as ASummary};
-ghost use Rattle.dvi_device.specs.Written.{written_then};
-ghost use Rattle.job_core.specs.Jobs.{KeepsTo};
-ghost use Rattle.boxglue_program.specs.Texts.{answer_line, end_line, script_refusal_text};
+ghost use Rattle.boxglue_program.specs.Texts.{end_line};
 ghost use Rattle.boxglue_program.specs.Sessions.{AnswersLines, DialogView, EndsRun, IsSent, StopsIn};
 ghost use Rattle.boxglue_program.specs.Dialogs.{dialog_of, outbox_of, Sends};
 
-use crate::texts::{push_answer_line, push_end_line, push_script_refusal};
+use crate::run::run_lines;
+use crate::texts::{ANSWER_SIZE, push_end_line, push_script_refusal};
 use crate::writing::write_text;
-use boxglue_script::{Cause, Said, first_line, read_line};
-use job_core::{Command, Device, Job, Reply};
+use boxglue_script::{Line, Said, first_line, read_line};
+use job_core::{Device, Job};
 use std::alloc::{AllocError, Global};
 use std::io::Write;
-
-/// Room for one answer. The longest is that of a split: two numbers, six dimensions, and the words between them.
-const ANSWER_SIZE: usize = 512;
+use std::slice::from_ref;
 
 /// Room for the answers that wait.
 pub(crate) const OUTBOX_SIZE: usize = 65_536;
-
-/// Runs a command on a job, and appends the line that answers it. Returns the reply.
-///
-/// Room for the answer is taken first. The error is a refused growth: the command was not run, and nothing is appended.
-pub fn answer_command<D: Device>(
-    job: &mut Job<D>,
-    number: usize,
-    command: &Command,
-    answers: &mut Vec<u8>,
-) -> Result<Reply, AllocError>
-    ensures keeps { IfOk result (λ reply. KeepsTo job.old command.now reply job.new) }
-    ensures answered { IfOk result (λ reply. answers.new.items ≡ answers.old.items ++ answer_line number reply) }
-    ensures unchanged { OnErr result (job.new ≡ job.old) }
-    ensures cut { OnErr result (answers.new.items ≡ answers.old.items) }
-    ensures idle { job.old.state.over ≡ true → job.new ≡ job.old }
-    ensures grows { (more : List ℕ) × (job.new.bytes_written ≡ written_then job.old.bytes_written more) }
-    ensures began { job.new.began ≡ job.old.began }
-{
-    answers.reserve(ANSWER_SIZE)?;
-    let reply = job.step(command);
-    let Ok(()) = push_answer_line(number, &reply, answers) else {
-        unreachable!()
-    };
-    Ok(reply)
-}
 
 /// Runs a line on a job after so many lines, and appends its answer, if it has one. Returns whether it was not refused. If memory is refused, nothing was
 /// run, and nothing is appended.
@@ -66,26 +38,19 @@ fn answer_line<D: Device>(
     match read_line(alloc, line)? {
         Said::Nothing => Ok(true),
         Said::Command(command) => {
-            let reply = answer_command(job, before + 1, &command, answers)?;
-            Ok(reply.is_ok())
+            answers.reserve(ANSWER_SIZE)?;
+            let line = Line {
+                number: before + 1,
+                command,
+            };
+            let run = run_lines(job, from_ref(&line), answers);
+            Ok(run.outcome.is_accepting())
         }
         Said::Bad(cause) => {
-            refuse_line(before + 1, cause, answers)?;
+            push_script_refusal(before + 1, cause, answers)?;
             Ok(false)
         }
     }
-}
-
-/// Appends the answer to a bad line. If memory is refused, nothing is appended.
-fn refuse_line(number: usize, cause: Cause, answers: &mut Vec<u8>) -> Result<(), AllocError>
-    ensures ok { OnOk result (answers.new.items ≡ answers.old.items ++ script_refusal_text number cause) }
-    ensures cut { OnErr result (answers.new.items ≡ answers.old.items) }
-{
-    answers.reserve(ANSWER_SIZE)?;
-    let Ok(()) = push_script_refusal(number, cause, answers) else {
-        unreachable!()
-    };
-    Ok(())
 }
 
 /// A job, how many lines of its input were run, and whether nothing was refused.

@@ -1,6 +1,7 @@
 //! Laws that compare the definitions of texts with known answers, a law about every run, and laws that compare a session with a run and with its pieces.
 
-ghost use Rattle.std.specs.Prelude.{◌≡◌, ◌+◌, ◌++◌, [], ℕ, Bool, List, Option, Result, OnOk, IfSome, length, take, drop};
+ghost use Rattle.std.specs.Prelude.{◌≡◌, ◌+◌, ◌++◌, [], ℕ, Bool, List, Option, Result, is_ok, OnOk, IfSome, length, take, drop};
+ghost use Rattle.std.specs.List.{list_all};
 ghost use Rattle.std.specs.Str.Lines.{lines};
 ghost use Rattle.job_commands.specs.declared.command.Command.{Command};
 ghost use Rattle.job_commands.specs.declared.replies.Refusal.{Refusal};
@@ -12,7 +13,8 @@ ghost use Rattle.boxglue_script.specs.declared.said.Said.{Said};
 ghost use Rattle.boxglue_script.specs.Script.{IsScript};
 ghost use Rattle.boxglue_script.specs.SaidLines.{IsWhole, SayEach, lines_said};
 ghost use Rattle.boxglue_program.specs.Rows.{OneRuleAnswers, TextAnswers};
-ghost use Rattle.boxglue_program.specs.Runs.{line_numbers, RanScript, WasRun};
+ghost use Rattle.boxglue_program.specs.Outcomes.{is_accepting, replies_outcome, run_outcome};
+ghost use Rattle.boxglue_program.specs.Runs.{is_accepted, line_numbers, RanScript, WasRun};
 ghost use Rattle.boxglue_program.specs.Sessions.{session_text, AnswersLines, DialogView, RanSession};
 ghost use Rattle.boxglue_program.specs.Texts.{answers_text, end_line};
 
@@ -24,6 +26,12 @@ pub fn one_rule_answers()
 /// The known text of answers and refusals of fonts, texts and specials.
 pub fn text_answers()
     ensures { TextAnswers }
+{}
+
+/// Nothing was refused of commands exactly where each is accepted, and of a run where its end is accepted too.
+pub fn outcomes_of_replies()
+    ensures commands { (replies : List Reply) → is_accepting (replies_outcome replies) ≡ list_all is_ok replies }
+    ensures run { (replies : List Reply) (end : Result Summary Refusal) → is_accepting (run_outcome replies end) ≡ is_accepted replies end }
 {}
 
 /// A run without a page has sent nothing, if its end succeeded.

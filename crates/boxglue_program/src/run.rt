@@ -1,23 +1,25 @@
 //! Running a script.
 
-ghost use Rattle.std.specs.Prelude.{◌≡◌, ◌<◌, ◌+◌, ◌^◌, ◌⊎◌, ℕ, true, List, [], length, Some, Result, is_ok, IfOk, IfErr, IfSome};
-ghost use Rattle.std.specs.List.{list_all};
+ghost use Rattle.std.specs.Prelude.{◌≡◌, ◌<◌, ◌≤◌, ◌+◌, ◌*◌, ◌^◌, ◌++◌, ◌⊎◌, ℕ, false, true, List, [], length, Some, Result, IfOk, IfErr, IfSome, vec_len, vec_capacity};
 ghost use Rattle.std.specs.Io.KnownBytes.{Appends};
-ghost use Rattle.job_commands.specs.declared.replies.Refusal.{Refusal};
-ghost use Rattle.job_commands.specs.declared.replies.Summary.{Summary};
+ghost use Rattle.job_commands.specs.declared.replies.Refusal.{Refusal as ARefusal};
+ghost use Rattle.job_commands.specs.declared.replies.Summary.{Summary as ASummary};
 ghost use Rattle.job_commands.specs.Reply.{Reply};
 ghost use Rattle.dvi_device.specs.Written.{written_then};
 ghost use Rattle.dvi_device.specs.Pasts.{KeepsPast};
 ghost use Rattle.job_core.specs.Jobs.{RunsTo, due};
-ghost use Rattle.boxglue_program.specs.Texts.{answer_lines, answers_text};
-ghost use Rattle.boxglue_program.specs.Runs.{commands_of, line_numbers, is_accepted, device_of, device_view, fault_view, WasRun, IsAnswered, IsUntouched, WasRunWhole, IsLeft, IsAnswerOfRest, IsAnsweredOverRest, IsLeftOverRest};
+ghost use Rattle.boxglue_program.specs.Texts.{answer_line, answer_lines, answers_text, end_line};
+ghost use Rattle.boxglue_program.specs.Outcomes.{replies_outcome, run_outcome};
+ghost use Rattle.boxglue_program.specs.Runs.{commands_of, line_numbers, device_of, device_view, fault_view, WasRun, IsAnswered, IsUntouched, WasRunWhole, IsLeft, IsAnswerOfRest, IsAnsweredOverRest, IsLeftOverRest};
 
-use crate::texts::{script_refusal_text, with_answer, with_end};
+use crate::outcome::Outcome;
+use crate::texts::{push_answer_line, push_end_line, script_refusal_text};
 use crate::writing::{Unwritten, write_text};
 use boxglue_script::{Cause, Line, ScriptFault, read_script};
-use job_core::{Device, FontFile, Job, Rest};
+use job_core::{Device, FontFile, Job, Refusal, Reply, Rest, Summary};
 use std::alloc::Global;
 use std::io::Write;
+use std::mem::replace;
 use thiserror::Error;
 
 /// Why the answers of a script were not written. Each case returns the device, which shows what was sent.
@@ -70,15 +72,15 @@ pub fn answer_script<D: Device>(
             };
         }
     };
-    let Ran {
-        text,
-        accepted,
+    let WholeRun {
+        answers,
+        outcome,
         device,
     } = run_whole(alloc, &lines, files, device)?;
-    match text {
+    match answers {
         Some(text) => Ok(Answered {
             text,
-            accepted,
+            accepted: outcome.is_accepting(),
             device,
         }),
         None => Err(device),
@@ -157,62 +159,108 @@ pub fn run_rest<D: Device, W: Write>(
     }
 }
 
-/// A run that was finished: the text of its answers, None if memory was refused for it, and the device.
-#[derive(Drop)]
-struct Ran<D> {
-    text: Option<Vec<u8>>,
-    accepted: bool,
-    device: D,
+/// A run that was finished: the text of its answers, None if memory was refused for it; what was refused; and the device.
+#[derive(Debug, Drop)]
+pub struct WholeRun<D> {
+    pub answers: Option<Vec<u8>>,
+    pub outcome: Outcome,
+    pub device: D,
 }
 
 /// Runs the lines of a script on a new job, and finishes it. If memory is refused for the job, nothing was run, and the error is the device. If it is
 /// refused for a text, the run continues without texts, so that the file is the whole one.
-fn run_whole<D: Device>(
+pub fn run_whole<D: Device>(
     alloc: Global,
     lines: &[Line],
     files: &[FontFile],
     device: D,
-) -> Result<Ran<D>, D>
+) -> Result<WholeRun<D>, D>
     requires countable { D.failed device + 1 < 2 ^ 64 }
     requires fresh { IfSome (D.bytes_written device) (λ bytes. bytes ≡ []) }
-    ensures ran { IfOk result (λ ran. (replies : List Reply) × (end : Result Summary Refusal)
+    ensures ran { IfOk result (λ ran. (replies : List Reply) × (end : Result ASummary ARefusal)
         × (run : WasRun files.now (D.failed device) (commands_of lines.now) replies end (D.failed ran.device) (D.bytes_written ran.device))
-        × KeepsPast (D.past device) (due run.last) (D.past ran.device) × IfSome ran.text (λ text. text.items ≡ answers_text (line_numbers lines.now) replies end) × (ran.accepted ≡ is_accepted replies end)) }
+        × KeepsPast (D.past device) (due run.last) (D.past ran.device)
+        × IfSome ran.answers (λ text. text.items ≡ answers_text (line_numbers lines.now) replies end) × (ran.outcome ≡ run_outcome replies end)) }
     ensures none { IfErr result (λ back. IsUntouched (D.failed device) (D.failed back) (D.bytes_written back)) }
     ensures began { IfOk result (λ ran. (D.past ran.device).made ≡ (D.past device).made) }
     ensures kept { IfErr result (λ back. (D.past back).made ≡ (D.past device).made) }
 {
     let mut job = Job::new(alloc, device, files)?;
-    let (text, accepted) = run_lines(alloc, &mut job, lines);
+    let mut answers = Vec::new(alloc);
+    let run = run_lines(&mut job, lines, &mut answers);
     let end = job.finish();
-    Ok(Ran {
-        text: with_end(text, &end),
-        accepted: accepted & end.is_ok(),
+    Ok(WholeRun {
+        answers: with_end(answers, run.kept, &end),
+        outcome: run.outcome.worse(Outcome::of(&end)),
         device: job.into_device(),
     })
 }
 
-/// Runs lines of a script in order on a job of the caller. Returns the text of their answers, one line each, and whether no command was refused.
+/// The answers with the last line, if all lines before it are there. None if memory is refused, or was refused before.
+fn with_end(answers: Vec<u8>, kept: bool, end: &Result<Summary, Refusal>) -> Option<Vec<u8>>
+    ensures { (front : List ℕ) → (kept ≡ true → answers.items ≡ front) → IfSome result (λ text. text.items ≡ front ++ end_line end.now) }
+{
+    if !kept {
+        return None;
+    }
+    let mut text = answers;
+    push_end_line(end, &mut text).ok()?;
+    Some(text)
+}
+
+/// How some lines were run.
+#[derive(Clone, Copy, Debug, PartialEq, Eq)]
+pub struct LinesRun {
+    /// What was refused of them.
+    pub outcome: Outcome,
+    /// Whether the answers of all of them are there. If not, none is.
+    pub kept: bool,
+}
+
+/// Runs lines of a script in order on a job of the caller, and appends their answers, one line each, to those that are there.
 ///
-/// Each line is answered at once, so that no command and no reply is kept for its text. There is no text where memory for it was refused; the lines were
-/// run all the same. A job that is over stays as it was: each line is answered JobOver. What the device has reported stands, and only more bytes follow it.
-pub fn run_lines<D: Device>(
-    alloc: Global,
-    job: &mut Job<D>,
-    lines: &[Line],
-) -> (Option<Vec<u8>>, bool)
+/// Each line is answered at once, so that no command and no reply is kept for its text. Where memory for a text is refused, the lines are run all the
+/// same, and no answer is appended. It is not refused where there is room for 512 bytes a line. A job that is over stays as it was: each line is
+/// answered JobOver. What the device has reported stands, and only more bytes follow it.
+pub fn run_lines<D: Device>(job: &mut Job<D>, lines: &[Line], answers: &mut Vec<u8>) -> LinesRun
     ensures ran { (replies : List Reply) × RunsTo job.old (commands_of lines.now) replies job.new × (length replies ≡ length lines.now)
-        × IfSome result.0 (λ text. text.items ≡ answer_lines (line_numbers lines.now) replies) × (result.1 ≡ list_all is_ok replies) }
+        × (result.kept ≡ true → answers.new.items ≡ answers.old.items ++ answer_lines (line_numbers lines.now) replies)
+        × (result.kept ≡ false → answers.new.items ≡ answers.old.items) × (result.outcome ≡ replies_outcome replies) }
+    ensures room { vec_len answers.old + 512 * length lines.now ≤ vec_capacity answers.old → result.kept ≡ true }
     ensures idle { job.old.state.over ≡ true → job.new ≡ job.old }
     ensures grows { (more : List ℕ) × (job.new.bytes_written ≡ written_then job.old.bytes_written more) }
     ensures began { job.new.began ≡ job.old.began }
 {
-    let mut text = Some(Vec::new(alloc));
-    let mut accepted = true;
+    let before = answers.len();
+    let mut outcome = Outcome::Accepted;
+    let mut kept = true;
     for line in lines {
         let reply = job.step(&line.command);
-        accepted &= reply.is_ok();
-        text = with_answer(text, line.number, &reply);
+        outcome = outcome.worse(Outcome::of(&reply));
+        kept = push_next_answer(kept, line.number, &reply, answers);
     }
-    (text, accepted)
+    if !kept {
+        answers.truncate(before);
+    }
+    LinesRun { outcome, kept }
+}
+
+/// Appends an answer if those before it are there. Returns whether it is there too.
+///
+/// The text is moved here while it grows: as a value of this call its length is not written back after each of the many short pieces.
+fn push_next_answer(kept: bool, number: usize, reply: &Reply, answers: &mut Vec<u8>) -> bool
+    ensures ok { result ≡ true → (kept ≡ true) × (answers.new.items ≡ answers.old.items ++ answer_line number reply.now) }
+    ensures cut { result ≡ false → answers.new.items ≡ answers.old.items }
+    ensures room { kept ≡ true → vec_len answers.old + 512 ≤ vec_capacity answers.old → result ≡ true }
+    ensures grown { vec_capacity answers.old ≤ vec_capacity answers.new }
+    ensures short { vec_len answers.new ≤ vec_len answers.old + 512 }
+{
+    if !kept {
+        return false;
+    }
+    let alloc = *answers.allocator();
+    let mut text = replace(answers, Vec::new(alloc));
+    let pushed = push_answer_line(number, reply, &mut text).is_ok();
+    *answers = text;
+    pushed
 }

@@ -6,7 +6,7 @@ ghost use Rattle.std.specs.Str.Lines.{lines};
 ghost use Rattle.std.specs.Io.KnownBytes.{Consumes, IsAtEnd, Keeps};
 ghost use Rattle.boxglue_script.specs.SaidLines.{IsWhole};
 ghost use Rattle.boxglue_program.specs.Sessions.{AnswersLines, RanSession, LacksSessionMemory, IsUnreadable, IsCutOff, IsSent, StopsIn};
-ghost use Rattle.boxglue_program.specs.Dialogs.{dialog_of};
+ghost use Rattle.boxglue_program.specs.Dialogs.{dialog_of, IsCut};
 
 use crate::dialog::{Dialog, OUTBOX_SIZE, Outbox};
 use job_core::{Device, FontFile, Job};
@@ -105,6 +105,13 @@ fn whole_size(piece: &[u8]) -> usize
     0
 }
 
+/// Cuts a piece after its last line feed: the lines that end in it, and what follows them.
+fn split_lines(piece: &[u8]) -> (&[u8], &[u8])
+    ensures { IsCut piece.now result.0.now result.1.now }
+{
+    piece.split_at(whole_size(piece))
+}
+
 /// Runs the lines that end in a piece, with the bytes kept before it, and keeps what follows the last line feed.
 fn take_piece<D: Device, W: Write>(
     dialog: &mut Dialog<D>,
@@ -126,7 +133,7 @@ fn take_piece<D: Device, W: Write>(
     ensures rest { Contains kept.new.items 10 → ⊥ }
     ensures counted { dialog.new.lines + length kept.new.items ≤ dialog.old.lines + length kept.old.items + length piece.now }
 {
-    let (whole, rest) = piece.split_at(whole_size(piece));
+    let (whole, rest) = split_lines(piece);
     if whole.is_empty() {
         return kept.extend_from_slice(rest);
     }

@@ -1,6 +1,6 @@
 //! The texts of answers.
 
-ghost use Rattle.std.specs.Prelude.{◌≡◌, ◌++◌, ◌+◌, ◌*◌, ◌<◌, ◌≤◌, length, ℕ, List, codes, decimal, OnOk, OnErr, IfOk, IfSome};
+ghost use Rattle.std.specs.Prelude.{◌≡◌, ◌++◌, ◌+◌, ◌*◌, ◌<◌, ◌≤◌, length, codes, decimal, OnOk, OnErr, IfOk};
 ghost use Rattle.std.specs.Fmt.{signed_decimal};
 ghost use Rattle.scaled_core.specs.Rooms.{TakesRoom};
 ghost use Rattle.boxglue_program.specs.Texts.{cause_name, kind_name, points_text, sizes_text, rest_text, lines_text, costs_text, answer_text, reply_text, answer_line, summary_text, end_line, line_feed, script_refusal_text};
@@ -12,6 +12,9 @@ use job_core::{Answer, Refusal, Reply, Sizes, Summary};
 use node_core::Kind;
 use scaled_core::{Dimen, print_dimen};
 use std::alloc::{AllocError, Global};
+
+/// Room for one line of answers. The longest is that of a split: two numbers, six dimensions, and the words between them.
+pub(crate) const ANSWER_SIZE: usize = 512;
 
 /// The name of the cause that makes a script bad.
 fn cause_name(cause: Cause) -> &'static str
@@ -239,7 +242,8 @@ fn push_reply(reply: &Reply, out: &mut Vec<u8>) -> Result<(), AllocError>
     }
 }
 
-/// Appends the line that answers the line of a script with this number. Most answers are `ok`, so this one is appended as one piece.
+/// Appends the line that answers the line of a script with this number. If memory is refused, nothing was appended, as room is taken first. Most
+/// answers are `ok`, so this one is appended as one piece.
 #[tactic(auto, unfolding(crate::specs::Texts::answer_line, crate::specs::Texts::answer_text))]
 pub(crate) fn push_answer_line(
     number: usize,
@@ -247,8 +251,10 @@ pub(crate) fn push_answer_line(
     out: &mut Vec<u8>,
 ) -> Result<(), AllocError>
     ensures ok { OnOk result (out.new.items ≡ out.old.items ++ answer_line number reply.now) }
-    ensures room { TakesRoom 402 out.old out.new result }
+    ensures cut { OnErr result (out.new.items ≡ out.old.items) }
+    ensures room { TakesRoom 512 out.old out.new result }
 {
+    out.reserve(ANSWER_SIZE)?;
     push_number(number as u64, out)?;
     if let Ok(Answer::Done) = reply {
         return push_text(": ok\n", out);
@@ -274,36 +280,17 @@ fn push_summary(end: &Result<Summary, Refusal>, out: &mut Vec<u8>) -> Result<(),
     }
 }
 
-/// Appends the last line of the answers.
+/// Appends the last line of the answers. If memory is refused, nothing was appended.
 #[tactic(auto, unfolding(crate::specs::Texts::end_line))]
-pub(crate) fn push_end_line(
-    end: &Result<Summary, Refusal>,
-    out: &mut Vec<u8>,
-) -> Result<(), AllocError>
+pub fn push_end_line(end: &Result<Summary, Refusal>, out: &mut Vec<u8>) -> Result<(), AllocError>
     ensures ok { OnOk result (out.new.items ≡ out.old.items ++ end_line end.now) }
-    ensures room { TakesRoom 110 out.old out.new result }
+    ensures cut { OnErr result (out.new.items ≡ out.old.items) }
+    ensures room { TakesRoom 512 out.old out.new result }
 {
+    out.reserve(ANSWER_SIZE)?;
     push_text("end: ", out)?;
     push_summary(end, out)?;
     push_text("\n", out)
-}
-
-/// The text of the answers with one more line. None if memory is refused, or was refused before.
-pub fn with_answer(text: Option<Vec<u8>>, number: usize, reply: &Reply) -> Option<Vec<u8>>
-    ensures { (front : List ℕ) → IfSome text (λ old. old.items ≡ front) → IfSome result (λ new. new.items ≡ front ++ answer_line number reply.now) }
-{
-    let mut text = text?;
-    push_answer_line(number, reply, &mut text).ok()?;
-    Some(text)
-}
-
-/// The text of all answers with the last line. None if memory is refused, or was refused before.
-pub fn with_end(text: Option<Vec<u8>>, end: &Result<Summary, Refusal>) -> Option<Vec<u8>>
-    ensures { (front : List ℕ) → IfSome text (λ old. old.items ≡ front) → IfSome result (λ new. new.items ≡ front ++ end_line end.now) }
-{
-    let mut text = text?;
-    push_end_line(end, &mut text).ok()?;
-    Some(text)
 }
 
 /// The text for a bad script: the number of its first bad line, and the cause.
@@ -319,16 +306,13 @@ pub fn script_refusal_text(
     Ok(text)
 }
 
-/// Appends the text for a bad line: its number, and the cause.
+/// Appends the text for a bad line: its number, and the cause. If memory is refused, nothing was appended.
 #[tactic(auto, unfolding(crate::specs::Texts::script_refusal_text))]
-pub(crate) fn push_script_refusal(
-    line: usize,
-    cause: Cause,
-    out: &mut Vec<u8>,
-) -> Result<(), AllocError>
+pub fn push_script_refusal(line: usize, cause: Cause, out: &mut Vec<u8>) -> Result<(), AllocError>
     ensures ok { OnOk result (out.new.items ≡ out.old.items ++ script_refusal_text line cause) }
-    ensures room { TakesRoom 80 out.old out.new result }
+    ensures cut { OnErr result (out.new.items ≡ out.old.items) }
 {
+    out.reserve(ANSWER_SIZE)?;
     push_text("refused 2 BadScript ", out)?;
     push_number(line as u64, out)?;
     push_cause(cause, out)

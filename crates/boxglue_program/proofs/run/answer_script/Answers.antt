@@ -1,12 +1,14 @@
 -- The run of the script, and the past of its device.
-use Rattle.std.proofs.Common.{◌≡◌, inl, Some}
+use Rattle.std.proofs.Common.{◌≡◌, inl, Some, ap, ◌∙◌}
+use Rattle.boxglue_program.specs.Outcomes.{is_accepting}
 use Rattle.boxglue_program.proofs.RunLaws.{if_some}
+use Rattle.boxglue_program.proofs.OutcomeLaws.{accepting_run}
 use Rattle.boxglue_program.proofs.run.answer_script.Goals as goal
 
 pub returns-in-Some-clause-answers : goal.returns-in-Some-clause-answers
 returns-in-Some-clause-answers g c =
-    let ran = rw c.deref.ensures.value at c.in_ok-text.ensures.ran in
-    let is : c.in_ok-text.field-0.text ≡ Some c.in-Some.text = cc in
+    let ran = rw c.deref.ensures.value at c.in_ok-answers.ensures.ran in
+    let is : c.in_ok-answers.field-0.answers ≡ Some c.in-Some.text = cc in
     inl (record {
       ran = record {
         lines = c.in-Ok.lines.items;
@@ -14,8 +16,8 @@ returns-in-Some-clause-answers g c =
         end = ran.1;
         script = c.in-Ok.ensures.lines;
         run = ran.2;
-        answer_is = if_some c.in_ok-text.field-0.text c.in-Some.text _ is ran.4;
-        fine_is = ran.5;
+        answer_is = if_some c.in_ok-answers.field-0.answers c.in-Some.text _ is ran.4;
+        fine_is = c.is_accepting.ensures ∙ (ap is_accepting ran.5 ∙ accepting_run ran.0 ran.1);
       };
       past = ran.3;
     })

@@ -1,14 +1,28 @@
 -- One more line was run and answered.
-use Rattle.std.proofs.Common.{◌≡◌, ◌+◌, ◌++◌, ◌∷◌, [], List, length, take, is_ok, IfSome, ap, subst, sym, ◌∙◌}
-use Rattle.std.specs.List.{list_all}
+use Rattle.std.proofs.Common.{◌≡◌, ◌+◌, ◌++◌, ◌∷◌, [], ℕ, Bool, false, true, List, length, take, arith, ap, subst, sym, ◌∙◌}
 use Rattle.std.proofs.lemmas.List.{take_all, take_more}
 use Rattle.job_commands.specs.Reply.{Reply}
+use Rattle.boxglue_program.specs.declared.outcome.Outcome.{Outcome}
+use Rattle.boxglue_program.specs.Outcomes.{replies_outcome}
 use Rattle.boxglue_program.specs.Runs.{commands_of, line_numbers}
-use Rattle.boxglue_program.specs.Texts.{answer_lines}
+use Rattle.boxglue_program.specs.Texts.{answer_line, answer_lines}
 use Rattle.job_core.specs.Jobs.{JobView, RunsTo}
 use Rattle.boxglue_script.specs.declared.script.Line.{Line}
-use Rattle.boxglue_program.proofs.RunLaws.{ran_one_more, answers_one_more, accepted_one_more, length_more, grown_further}
+use Rattle.boxglue_program.proofs.RunLaws.{ran_one_more, answers_one_more, begun_further, cut_back, length_more, grown_further}
+use Rattle.boxglue_program.proofs.OutcomeLaws.{outcome_one_more}
 use Rattle.boxglue_program.proofs.run.run_lines.Goals as goal
+
+-- What is known of the lines that were run.
+abbrev RanSoFar : (old new : JobView) (start now : List ℕ) → Bool → Outcome → List Line → Type 0
+RanSoFar old new start now kept outcome xs =
+    (replies : List Reply) × RunsTo old (commands_of xs) replies new × (length replies ≡ length xs)
+    × (kept ≡ true → now ≡ start ++ answer_lines (line_numbers xs) replies) × (outcome ≡ replies_outcome replies)
+
+not_kept : (new text : List ℕ) (kept : Bool) → kept ≡ false → kept ≡ true → new ≡ text
+not_kept new text kept is given = absurd (cc)
+
+not_lost : (new text : List ℕ) (kept : Bool) → kept ≡ true → kept ≡ false → new ≡ text
+not_lost new text kept is given = absurd (cc)
 
 pub loop-line-preserved : goal.loop-line-preserved
 loop-line-preserved g c =
@@ -17,6 +31,10 @@ loop-line-preserved g c =
     let line = c.line-item.result in
     let reply = c.step-reply.result in
     let before = c.loop-line.invariant.ran in
+    let push = c.push_next_answer-kept in
+    let start = c.args.answers.now.items in
+    let now = c.loop-line.answers.items in
+    let new = push.new.answers.items in
     let taken : take (i + 1) lines ≡ take i lines ++ line ∷ [] =
     take_more lines i line c.loop-line-test.true ∙ ap (λ (x : Line). take i lines ++ x ∷ []) (sym c.line-item.is) in
     record {
@@ -24,9 +42,13 @@ loop-line-preserved g c =
         before.0 ++ reply ∷ [],
         ran_one_more c.args.job.now c.loop-line.job c.step-reply.new.self (take i lines) (take (i + 1) lines) line before.0 reply taken before.1 c.step-reply.ensures.keeps,
         length_more (take i lines) (take (i + 1) lines) line before.0 reply taken before.2,
-        answers_one_more _ (take i lines) (take (i + 1) lines) line before.0 reply _ taken before.2 (c.with_answer-text.ensures _ before.3),
-        accepted_one_more _ _ before.0 reply before.4 c.is_ok-accepted.ensures.value,
+        answers_one_more start now new (take i lines) (take (i + 1) lines) line before.0 reply c.loop-line.kept push.result taken before.2 before.3 push.ensures.ok,
+        outcome_one_more c.loop-line.outcome c.of.result c.worse-outcome.result before.0 reply before.4 c.of.ensures c.worse-outcome.ensures,
       );
+      begun = begun_further start now new (answer_line line.number reply) push.result c.loop-line.invariant.begun (λ given. (push.ensures.ok given).1) push.ensures.cut;
+      short = omega (arith, c.loop-line.invariant.short, push.ensures.short);
+      grown = omega (arith, c.loop-line.invariant.grown, push.ensures.grown);
+      room = λ fits. push.ensures.room (c.loop-line.invariant.room fits) (omega (arith, fits, c.loop-line.invariant.short, c.loop-line.invariant.grown, c.loop-line-test.true));
       idle = λ over.
           let same = c.loop-line.invariant.idle over in
           c.step-reply.ensures.idle (ap (λ (job : JobView). job.state.over) same ∙ over) ∙ same;
@@ -34,10 +56,19 @@ loop-line-preserved g c =
       began = c.step-reply.ensures.began ∙ c.loop-line.invariant.began;
     }
 
-pub returns-clause-ran : goal.returns-clause-ran
-returns-clause-ran g c =
+pub returns-then-not-kept-clause-ran : goal.returns-then-not-kept-clause-ran
+returns-then-not-kept-clause-ran g c =
     let lines = c.args.lines.now in
+    let start = c.args.answers.now.items in
     let all : take c.loop-line.line-index lines ≡ lines = take_all c.loop-line.line-index lines c.loop-line-test.false in
-    subst
-    (λ (xs : List Line). (replies : List Reply) × RunsTo c.args.job.now (commands_of xs) replies c.loop-line.job × (length replies ≡ length xs)
-    × IfSome c.loop-line.text (λ text. text.items ≡ answer_lines (line_numbers xs) replies) × (c.loop-line.accepted ≡ list_all is_ok replies)) all c.loop-line.invariant.ran
+    let ran = subst (λ (xs : List Line). RanSoFar c.args.job.now c.loop-line.job start c.loop-line.answers.items c.loop-line.kept c.loop-line.outcome xs) all c.loop-line.invariant.ran in
+    let size : c.len-before.result ≡ length start = omega (arith, c.len-before.ensures, c.args.answers.now.ok.0) in
+    (ran.0, ran.1, ran.2, not_kept c.truncate.new.self.items _ c.loop-line.kept c.if-not-kept.true, λ is. cut_back start c.loop-line.answers.items c.truncate.new.self.items c.len-before.result size c.loop-line.invariant.begun c.truncate.ensures.items, ran.4)
+
+pub returns-else-not-kept-clause-ran : goal.returns-else-not-kept-clause-ran
+returns-else-not-kept-clause-ran g c =
+    let lines = c.args.lines.now in
+    let start = c.args.answers.now.items in
+    let all : take c.loop-line.line-index lines ≡ lines = take_all c.loop-line.line-index lines c.loop-line-test.false in
+    let ran = subst (λ (xs : List Line). RanSoFar c.args.job.now c.loop-line.job start c.loop-line.answers.items c.loop-line.kept c.loop-line.outcome xs) all c.loop-line.invariant.ran in
+    (ran.0, ran.1, ran.2, ran.3, not_lost c.loop-line.answers.items start c.loop-line.kept c.if-not-kept.false, ran.4)

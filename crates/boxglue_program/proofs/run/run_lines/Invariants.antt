@@ -1,9 +1,9 @@
 -- The lines so far were run and answered.
-use Rattle.std.proofs.Common.{◌≡◌, ℕ, true, List, length, take, is_ok, IfSome}
-use Rattle.std.specs.List.{list_all}
+use Rattle.std.proofs.Common.{◌≡◌, ◌≤◌, ◌+◌, ◌*◌, ◌++◌, ℕ, true, List, length, take, vec_len, vec_capacity}
 use Rattle.job_commands.specs.Reply.{Reply}
 use Rattle.dvi_device.specs.Written.{written_then}
 use Rattle.job_core.specs.Jobs.{RunsTo}
+use Rattle.boxglue_program.specs.Outcomes.{replies_outcome}
 use Rattle.boxglue_program.specs.Runs.{commands_of, line_numbers}
 use Rattle.boxglue_program.specs.Texts.{answer_lines}
 use Rattle.boxglue_program.proofs.run.run_lines.Given as goal
@@ -11,7 +11,11 @@ use Rattle.boxglue_program.proofs.run.run_lines.Given as goal
 abbrev pub invariant-loop-line : goal.invariant-loop-line
 invariant-loop-line g l = record {
   ran : (replies : List Reply) × RunsTo l.initial.job (commands_of (take l.line-index l.lines)) replies l.job × (length replies ≡ length (take l.line-index l.lines))
-      × IfSome l.text (λ text. text.items ≡ answer_lines (line_numbers (take l.line-index l.lines)) replies) × (l.accepted ≡ list_all is_ok replies);
+      × (l.kept ≡ true → l.answers.items ≡ l.initial.answers.items ++ answer_lines (line_numbers (take l.line-index l.lines)) replies) × (l.outcome ≡ replies_outcome replies);
+  begun : (more : List ℕ) × (l.answers.items ≡ l.initial.answers.items ++ more);
+  short : vec_len l.answers ≤ vec_len l.initial.answers + 512 * l.line-index;
+  grown : vec_capacity l.initial.answers ≤ vec_capacity l.answers;
+  room : vec_len l.initial.answers + 512 * length l.lines ≤ vec_capacity l.initial.answers → l.kept ≡ true;
   idle : l.initial.job.state.over ≡ true → l.job ≡ l.initial.job;
   grows : (more : List ℕ) × (l.job.bytes_written ≡ written_then l.initial.job.bytes_written more);
   began : l.job.began ≡ l.initial.job.began;

@@ -1,5 +1,5 @@
 -- The text in three pieces.
-use Rattle.std.proofs.Common.{◌≡◌, ◌++◌, List, ℕ, ap, ◌∙◌, append_assoc}
+use Rattle.std.proofs.Common.{◌≡◌, ◌++◌, List, ℕ, codes, ap, ◌∙◌, append_assoc}
 use Rattle.std.proofs.lemmas.Result.{on_ok_weaker}
 use Rattle.boxglue_program.specs.Texts.{script_refusal_text}
 use Rattle.boxglue_program.proofs.texts.push_script_refusal.Goals as goal
@@ -12,4 +12,6 @@ three_pieces old first second last one two three e f g =
 
 pub returns-clause-ok : goal.returns-clause-ok
 unfolding script_refusal_text
-returns-clause-ok c = on_ok_weaker c.push_cause.result (three_pieces _ _ _ _ _ _ _ c.in_ok-push_text.ensures.ok c.in_ok-push_number.ensures.ok) c.push_cause.ensures.ok
+returns-clause-ok c =
+    let first = c.in_ok-push_text.ensures.ok ∙ ap (λ (text : List ℕ). text ++ codes "refused 2 BadScript ") c.in_ok-reserve.ensures.items in
+    on_ok_weaker c.push_cause.result (three_pieces c.args.out.now.items _ _ _ _ _ _ first c.in_ok-push_number.ensures.ok) c.push_cause.ensures.ok

@@ -1,5 +1,5 @@
 -- One more line was run and answered.
-use Rattle.std.proofs.Common.{◌+◌, ◌<◌, ◌++◌, [], length, arith}
+use Rattle.std.proofs.Common.{◌<◌, ◌++◌, [], length, arith}
 use Rattle.std.proofs.lemmas.Bool.Decides.{nat_tests}
 use Rattle.boxglue_script.proofs.SaidLaws.{on_any_err}
 use Rattle.boxglue_program.specs.Dialogs.{dialog_of, outbox_of}
