@@ -21,7 +21,8 @@ class Job:
 
     def __init__(self, fonts: Fonts = ()) -> None:
         self._handle, self._lock = JobHandle(), threading.Lock()
-        # The buffers that calls of `take` filled, each with the size of what is in it: more than one where KeyboardInterrupt or MemoryError cut a call off.
+        # The buffers that calls of `take` filled and whose bytes no caller got yet, each with the size of what is in it: more than one where KeyboardInterrupt or
+        # MemoryError cut a call off.
         self._filled: list[tuple[Any, c_size_t]] = []
         self._free = weakref.finalize(self, library().boxglue_job_free, self._handle)
         # When the program ends, a thread that is a daemon may still be inside a call on this job. Its memory goes with the process.
@@ -64,19 +65,28 @@ class Job:
 
     def take(self) -> bytes:
         """The bytes of the DVI file that went out since the last call: pages as they were shipped, and the end of the file after `finish`."""
-        with self._lock:
-            room, status = DVI_ROOM, Status.BUFFER_TOO_SMALL
-            while status == Status.BUFFER_TOO_SMALL:
-                buffer, size = new_buffer(room), c_size_t()
-                self._filled.append((buffer, size))
-                status = library().boxglue_job_take(self._handle, buffer, room, byref(size))
-                room = size.value
-            # A buffer that was too small has nothing.
-            taken = b"".join(ctypes.string_at(buffer, size.value) for buffer, size in self._filled if size.value <= len(buffer))
-            self._filled = []
-        if status != Status.ACCEPTED:
-            fail(status)
-        return taken
+        handed: list[tuple[Any, c_size_t]] = []
+        try:
+            with self._lock:
+                room, status = DVI_ROOM, Status.BUFFER_TOO_SMALL
+                while status == Status.BUFFER_TOO_SMALL:
+                    buffer, size = new_buffer(room), c_size_t()
+                    self._filled.append((buffer, size))
+                    status = library().boxglue_job_take(self._handle, buffer, room, byref(size))
+                    room = size.value
+                if status != Status.ACCEPTED:
+                    self._filled = []
+                    fail(status)
+                # A buffer that was too small has nothing.
+                taken = b"".join(ctypes.string_at(buffer, size.value) for buffer, size in self._filled if size.value <= len(buffer))
+                handed, self._filled = self._filled, []
+            return taken
+        except BaseException:
+            # KeyboardInterrupt may come while the lock is released, when the buffers are handed on already. They come first in the next call then.
+            if handed:
+                with self._lock:
+                    self._filled[:0] = handed
+            raise
 
     def finish(self) -> Answers:
         """Ends the job, and returns the reply to its end. Take the last bytes then. A refusal is the reply, as ListsOpen, after which the job goes on."""

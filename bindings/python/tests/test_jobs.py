@@ -173,6 +173,32 @@ inside.wait(60)
 """
 
 
+class Released:
+    """A lock at whose first release KeyboardInterrupt comes."""
+
+    def __init__(self, lock):
+        self.lock, self.first = lock, True
+
+    def __enter__(self):
+        self.lock.acquire()
+
+    def __exit__(self, *_error):
+        self.lock.release()
+        if self.first:
+            self.first = False
+            raise KeyboardInterrupt
+
+
+def cuts_off(count):
+    """A profile function by which KeyboardInterrupt comes after so many calls of functions in C by the package."""
+    left = iter(range(count, -1, -1))
+
+    def profile(frame, event, _called):
+        if event == "c_return" and frame.f_globals["__name__"].startswith("boxglue") and not next(left):
+            raise KeyboardInterrupt
+    return profile
+
+
 class Ends(unittest.TestCase):
     def test_cut_off_after_a_call(self):
         """The replies to a call that was cut off before they were taken are not those of the next call."""
@@ -201,6 +227,39 @@ class Ends(unittest.TestCase):
                 self.assertRaises(KeyboardInterrupt, job.take)
             taken.append(job.take())
             self.assertEqual((b"".join(taken), job.take()), (wanted, b""))
+
+    def test_bytes_that_were_cut_off_at_the_end(self):
+        """Bytes are in the next call, also where the one that had them all was cut off before it returned them."""
+        wanted = boxglue.run(RULE).check().dvi
+        with boxglue.Job() as job:
+            job.commands(RULE).check()
+            with mock.patch.object(job, "_lock", Released(job._lock)):
+                self.assertRaises(KeyboardInterrupt, job.take)
+                job.finish().check()
+                self.assertEqual((job.take(), job.take()), (wanted, b""))
+
+    def test_cut_off_anywhere(self):
+        """A call that is cut off at any place hands its bytes over in the next one, and none twice."""
+        wanted, count, taken = boxglue.run(RULE).check().dvi, 0, b""
+        while not taken:
+            with boxglue.Job() as job:
+                job.commands(RULE).check()
+                job.finish().check()
+                sys.setprofile(cuts_off(count))
+                try:
+                    taken = job.take()
+                except KeyboardInterrupt:
+                    count += 1
+                finally:
+                    sys.setprofile(None)
+                self.assertEqual(taken + job.take(), wanted)
+        self.assertGreater(count, 5)
+
+    def test_closed_job_keeps_no_buffers(self):
+        job = boxglue.Job()
+        job.close()
+        self.assertRaises(boxglue.NoJob, job.take)
+        self.assertEqual(job._filled, [])
 
     def test_thread_inside_a_call(self):
         """A job is not freed while a thread is inside a call on it."""
