@@ -1,4 +1,4 @@
-/* Runs a script in the font `plain`: page SCRIPT METRICS OUT. It prints the answers, and writes the DVI file to OUT.
+/* Runs a script in the font cmtt10: page SCRIPT METRICS OUT. It prints the answers, and writes the DVI file to OUT.
  *
  *     cc -o page page.c $(pkg-config --cflags --libs boxglue)
  */
@@ -38,7 +38,7 @@ static uint8_t *buffer_of(size_t size) {
 int main(int count, char **words) {
     if (count != 4) return fprintf(stderr, "usage: page SCRIPT METRICS OUT\n"), 2;
     struct bytes script = file_of(words[1]), metrics = file_of(words[2]);
-    struct boxglue_font plain = {(const uint8_t *)"plain", 5, metrics.at, metrics.size};
+    struct boxglue_font font = {(const uint8_t *)"cmtt10", 6, metrics.at, metrics.size};
     struct boxglue_lengths sizes = {1 << 14, 1 << 16};
     uint8_t *answers = NULL, *dvi = NULL;
     uint32_t status;
@@ -48,7 +48,7 @@ int main(int count, char **words) {
         free(dvi);
         answers = buffer_of(answers_room);
         dvi = buffer_of(dvi_room);
-        status = boxglue_run(script.at, script.size, &plain, 1, answers, answers_room, dvi, dvi_room, &sizes);
+        status = boxglue_run(script.at, script.size, &font, 1, answers, answers_room, dvi, dvi_room, &sizes);
     } while (status == BOXGLUE_BUFFER_TOO_SMALL);
     if (status == BOXGLUE_OUT_OF_MEMORY) return 2;
     fwrite(answers, 1, sizes.answers, stdout);

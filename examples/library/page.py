@@ -1,10 +1,10 @@
-"""Runs a script in the font `plain`: page.py SCRIPT METRICS OUT. It prints the answers, and writes the DVI file to OUT."""
+"""Runs a script in the font cmtt10: page.py SCRIPT METRICS OUT. It prints the answers, and writes the DVI file to OUT."""
 import sys
 from pathlib import Path
 
 import boxglue
 
 script, metrics, out = map(Path, sys.argv[1:])
-ran = boxglue.run(script.read_bytes(), {"plain": metrics.read_bytes()})
+ran = boxglue.run(script.read_bytes(), {"cmtt10": metrics.read_bytes()})
 print(ran.answers, end="")
 out.write_bytes(ran.check().dvi)

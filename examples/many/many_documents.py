@@ -67,14 +67,14 @@ def main() -> int:
     """Makes the documents."""
     parser = argparse.ArgumentParser(description=(__doc__ or "").split("\n")[0])
     parser.add_argument("engine", choices=sorted(ENGINES))
-    parser.add_argument("metrics", type=Path, help="the metric file of the font `plain`, which examples/plain-metrics makes")
+    parser.add_argument("metrics", type=Path, help="the metric file of the font cmtt10, or the one that examples/plain-metrics makes")
     parser.add_argument("out", type=Path, help="the folder of the files; it is made where it is not there")
     parser.add_argument("--count", type=int, default=1000)
     parser.add_argument("--workers", type=int, default=2)
     words = parser.parse_args()
     words.out.mkdir(parents=True, exist_ok=True)
     refused = done = 0
-    for outcome in ENGINES[words.engine](words.count, words.workers, {"plain": words.metrics.read_bytes()}):
+    for outcome in ENGINES[words.engine](words.count, words.workers, {"cmtt10": words.metrics.read_bytes()}):
         keep(outcome, words.out)
         done, refused = done + 1, refused + (outcome.dvi is None)
         if done % 100 == 0 or done == words.count:

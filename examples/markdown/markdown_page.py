@@ -4,7 +4,7 @@
     examples/markdown/markdown_page.py --text=cmr10.tfm --bold=cmbx10.tfm --italic=cmti10.tfm --code=cmtt10.tfm page.md page.dvi
 
 The names of the fonts are those of the metric files. No width is computed here: a job measures the labels of lists before it gets the text, and its replies say
-when the pages have taken all of it."""
+how high the list of blocks is, and when the pages have taken all of it."""
 import argparse
 import os
 import re
@@ -136,37 +136,58 @@ class Setter:
         if before and before.kind != "heading":
             self.run(HEADING_GAP if block.kind == "heading" else ITEM_GAP if block.kind == before.kind == "item" else BLOCK_GAP)
 
-    def text(self, blocks):
-        """All blocks, in one vertical box."""
-        self.run("set tolerance 800", "set lineskip 0pt", "vbox into 0")
-        for before, block in zip([None, *blocks], blocks):
-            self.gap(block, before)
-            if block.kind == "heading":
-                self.heading(block)
-            elif block.kind == "rule":
-                self.run("rule * 0.4pt 0pt")
-            elif block.kind == "item":
-                self.item(block)
-            else:
-                self.paragraph(block.text, WIDTH)
-        self.run("glue 0pt plus 1fil", "end")
+    def block(self, block, before):
+        """A block, with what comes between it and the one before."""
+        self.gap(block, before)
+        if block.kind == "heading":
+            self.heading(block)
+        elif block.kind == "rule":
+            self.run("rule * 0.4pt 0pt")
+        elif block.kind == "item":
+            self.item(block)
+        else:
+            self.paragraph(block.text, WIDTH)
+
+
+@dataclass
+class Galley:
+    """A list of blocks in register 0, from whose top pages are cut. A box may be 16,383pt high, so a long text never lies in one."""
+    job: boxglue.Job
+    pages: int = 0
+    missing: int = 0
+
+    def append(self, commands):
+        """Puts commands at the end of the list. Returns its height in points."""
+        *replies, packed = replies_to(self.job, ["vbox into 0", "unvbox 0", *commands, "end"])
+        self.missing += sum(it.missing or 0 for it in replies if isinstance(it, boxglue.Added))
+        return packed.height / 65536
+
+    def ship(self, least):
+        """Ships pages until the list is less high than so many points."""
+        rest = least
+        while rest >= least:
+            self.pages += 1
+            _, split, _ = replies_to(self.job, [f"count 0 {self.pages}", f"vsplit 0 to {HEIGHT}pt into 1", "ship 1"])
+            rest = split.rest.height / 65536 if split.rest else -1
 
 
 def set_pages(blocks, names, fonts):
-    """The DVI file of some blocks, and how many characters are missing. Pages are split off until nothing is left."""
+    """The DVI file of some blocks, and how many characters are missing.
+
+    A page is cut off where two of them are there, so that each break is chosen among all places of its page."""
     with boxglue.Job(fonts) as job:
-        replies_to(job, font_commands(names))
+        replies_to(job, [*font_commands(names), "set tolerance 800", "set lineskip 0pt"])
         labels = [it.label for it in blocks if it.label]
-        setter = Setter(max(INDENT, widest(job, labels) + LABEL_GAP))
-        setter.text(blocks)
-        missing = sum(it.missing or 0 for it in replies_to(job, setter.commands) if isinstance(it, boxglue.Added))
-        page, rest = 0, True
-        while rest:
-            page += 1
-            _, split, _ = replies_to(job, [f"count 0 {page}", f"vsplit 0 to {HEIGHT}pt into 1", "ship 1"])
-            rest = split.rest
+        indent, galley = max(INDENT, widest(job, labels) + LABEL_GAP), Galley(job)
+        for before, block in zip([None, *blocks], blocks):
+            setter = Setter(indent)
+            setter.block(block, before)
+            if galley.append(setter.commands) >= 2 * HEIGHT:
+                galley.ship(2 * HEIGHT)
+        galley.append(["glue 0pt plus 1fil"])
+        galley.ship(0)
         job.finish().check()
-        return job.take(), missing
+        return job.take(), galley.missing
 
 
 def read_words():

@@ -35,9 +35,9 @@ def ship_pages(session, page, least):
 
 
 def main(out, metrics):
-    words, page = ["boxglue", "session", out, f"plain={metrics}"], 0
+    words, page = ["boxglue", "session", out, f"cmtt10={metrics}"], 0
     session = subprocess.Popen(words, stdin=subprocess.PIPE, stdout=subprocess.PIPE, text=True)
-    ask(session, "font 0 plain", "use 0", f"set hsize {WIDTH}pt", "set tolerance 10000")
+    ask(session, "font 0 cmtt10", "use 0", f"set hsize {WIDTH}pt", "set tolerance 10000")
     for paragraph in sys.stdin:
         ask(session, "vbox into 0", "unvbox 0", "par", f"text {paragraph.strip()}", "end", "glue 6pt", "end")
         page = ship_pages(session, page, HEIGHT)

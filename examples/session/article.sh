@@ -3,7 +3,7 @@
 set -euo pipefail
 width=300 height=150 page=0
 
-coproc boxglue session "$1" "plain=$2"
+coproc boxglue session "$1" "cmtt10=$2"
 session=$COPROC_PID to=${COPROC[1]}
 # Copies of its ends: bash closes its own as soon as the session is over.
 exec 3<&"${COPROC[0]}" 4>&"$to" {to}>&-
@@ -27,7 +27,7 @@ ship_pages() {
   done
 }
 
-ask 'font 0 plain' 'use 0' "set hsize ${width}pt" 'set tolerance 10000'
+ask 'font 0 cmtt10' 'use 0' "set hsize ${width}pt" 'set tolerance 10000'
 while read -r paragraph; do
   ask 'vbox into 0' 'unvbox 0' 'par' "text $paragraph" 'end' 'glue 6pt' 'end'
   ship_pages "$height"

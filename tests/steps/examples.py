@@ -160,7 +160,7 @@ def client_file(program, folder, client):
         require((ran.returncode, ran.stderr) == (0, ""), f"the status is {ran.returncode}; {ran.stderr[-200:]!r}")
         with open(f"{room}/out.dvi", "rb") as it:
             content = it.read()
-        pages = shown_on_pages(run(program, room, ["list", "out.dvi", "plain=plain.tfm"]))
+        pages = shown_on_pages(run(program, room, ["list", "out.dvi", "cmtt10=plain.tfm"]))
     require(len(pages) > 2 and ran.stdout == f"end: pages {len(pages)} bytes {len(content)}\n", f"the end is {ran.stdout!r}, and {len(pages)} pages are listed")
     require([it[-1:] for it in pages] == [[ord(str(number))] for number in range(1, len(pages) + 1)], "a page does not end in its number")
     require([code for page in pages for code in page[:-1]] == [ord(it) for it in text if not it.isspace()], "the pages do not show the article")

@@ -1,10 +1,11 @@
 """Callers of the library for C: those of docs/LIBRARY.md, in C, Python and Rust, compile and give the page of one rule; the tests of the binding for Python pass;
-the client of examples/markdown makes a page; and through the header a pointer with the size 0 may be null, in C and C++."""
+the client of examples/markdown makes a page, and a book; the driver of examples/library draws a page; and through the header a pointer with the size 0 may be null, in C and C++."""
 import os
 import re
 import subprocess
 import tempfile
 from functools import partial
+from xml.etree import ElementTree
 
 from steps.library_build import build_shared, built, compile_c, heap_archive, lacking, python_words, run_build
 from steps.outcome import lacks, without
@@ -54,9 +55,9 @@ def write(path, text):
         it.write(text)
 
 
-def run_wrong(words, env=None, wanted=WANTED, folder=None):
+def run_wrong(words, env=None, wanted=WANTED, folder=None, given=b""):
     """Runs a command, and says what is wrong, or returns None."""
-    ran = subprocess.run(words, capture_output=True, env=env, cwd=folder, timeout=LIMIT)
+    ran = subprocess.run(words, capture_output=True, env=env, cwd=folder, input=given, timeout=LIMIT)
     if ran.returncode:
         return f"the status is {ran.returncode}: {last_lines(ran.stderr)}"
     return None if wanted is None or ran.stdout == wanted else f"it prints {ran.stdout[:200]!r}"
@@ -138,12 +139,57 @@ def marks_in_numpy(root, archive, folder):
     return without("numpy")
 
 
-def client(root, archive, folder):
+def pages_of(path):
+    """The number of pages that the postamble of a DVI file gives."""
+    with open(path, "rb") as it:
+        dvi = it.read()
+    post_post = dvi.rstrip(b"\xdf")[:-1]
+    post = int.from_bytes(post_post[-4:], "big")
+    return int.from_bytes(dvi[post + 27:post + 29], "big")
+
+
+def client(text, least, root, archive, folder):
+    """The client for Markdown sets a text in at least so many pages."""
     with open(f"{folder}/plain.tfm", "wb") as it:
         it.write(metric_file())
+    write(f"{folder}/text.md", text(root))
     fonts = [f"--{name}={folder}/plain.tfm" for name in ("text", "bold", "italic", "code")]
-    words, env = python_words(root, archive, [f"{root}/examples/markdown/markdown_page.py", *fonts, f"{root}/examples/markdown/page.md", f"{folder}/page.dvi"])
-    return run_wrong(words, env, wanted=b"") or (None if os.path.getsize(f"{folder}/page.dvi") > 1000 else "the file has no page")
+    words, env = python_words(root, archive, [f"{root}/examples/markdown/markdown_page.py", *fonts, f"{folder}/text.md", f"{folder}/text.dvi"])
+    wrong = run_wrong(words, env, wanted=b"")
+    if wrong:
+        return wrong
+    pages = pages_of(f"{folder}/text.dvi")
+    return None if pages >= least else f"the text has {pages} pages"
+
+
+def driver(root, archive, folder):
+    """The driver for SVG draws each letter and each rule of a page."""
+    with open(f"{folder}/plain.tfm", "wb") as it:
+        it.write(metric_file())
+    with open(f"{root}/examples/first_page.box", encoding="ascii") as it:
+        script = it.read()
+    write(f"{folder}/page.py", "import sys, boxglue\nopen('page.dvi', 'wb').write(boxglue.run(sys.stdin.read(), {'cmtt10': open('plain.tfm', 'rb').read()}).dvi)\n")
+    words, env = python_words(root, archive, [f"{folder}/page.py"])
+    wrong = run_wrong(words, env, wanted=b"", folder=folder, given=script.encode())
+    words, env = python_words(root, archive, [f"{root}/examples/library/svg_pages.py", "page.dvi", "page", "cmtt10=plain.tfm"])
+    wrong = wrong or run_wrong(words, env, wanted=b"", folder=folder)
+    if wrong:
+        return wrong
+    drawing = ElementTree.parse(f"{folder}/page-1.svg").getroot()
+    letters = "".join(it.text for it in drawing.iter("{http://www.w3.org/2000/svg}text"))
+    wanted = "".join(re.sub(r"\s", "", it) for it in re.findall(r"^text (.*)$", script, re.M))
+    return None if letters == wanted else f"the page shows {letters[:60]!r}"
+
+
+def page_of_markdown(root):
+    """The text of the example."""
+    with open(f"{root}/examples/markdown/page.md", encoding="utf-8") as it:
+        return it.read()
+
+
+def book_of_markdown(root):
+    """The text of the example so often that it does not fit into one box."""
+    return page_of_markdown(root) * 1400
 
 
 def outcome(call, root, archive=None, *_programs):
@@ -161,6 +207,7 @@ def cases(programs, root):
              "LIBRARY.md in Python": partial(caller_in_python, 0),
              "LIBRARY.md in Python, replies and marks": typed_in_python, "LIBRARY.md in Python, a job": partial(caller_in_python, 2),
              "LIBRARY.md in Rust": caller_in_rust, "tests of bindings/python": partial(binding, "test_*.py"),
-             "types of bindings/python": types_of_binding, "marks of bindings/python in numpy": marks_in_numpy, "examples/markdown": client}
+             "types of bindings/python": types_of_binding, "marks of bindings/python in numpy": marks_in_numpy, "examples/markdown": partial(client, page_of_markdown, 1),
+             "examples/library/svg_pages.py": driver, "examples/markdown in 1,000 pages": partial(client, book_of_markdown, 1000)}
     calls |= {f"null pointers in {it}": partial(null_pointers, it) for it in LANGUAGES}
     return [(name, partial(outcome, call, root, *programs)) for name, call in calls.items()]

@@ -34,7 +34,7 @@ int main(void) {
     return version != BOXGLUE_VERSION;
 }
 """
-END, SIZE = b"end: pages 1 bytes 956\n", 956
+END, SIZE = b"end: pages 1 bytes 976\n", 976
 
 
 class Wrong(Exception):

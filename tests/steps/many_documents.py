@@ -86,7 +86,7 @@ def program_wrong(programs, root):
             env = {**environment(root, programs[0]), "PYTHONPATH": f"{root}/bindings/python:{root}/examples/many"}
             script = subprocess.run([sys.executable, "-c", shows], env=env, capture_output=True, timeout=LIMIT, check=True).stdout
             made = f"{folder()}/many-{number}.dvi"
-            subprocess.run([program, "typeset", made, f"plain={root}/examples/plain.tfm"], input=script, capture_output=True, timeout=LIMIT, check=True)
+            subprocess.run([program, "typeset", made, f"cmtt10={root}/examples/plain.tfm"], input=script, capture_output=True, timeout=LIMIT, check=True)
             if not filecmp.cmp(made, f"{out}/{number}.dvi", shallow=False):
                 return f"{os.path.basename(program)}: document {number} is another file"
     return None

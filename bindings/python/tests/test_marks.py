@@ -12,6 +12,8 @@ from boxglue import Glyph, MarkKind, Rule, Special, Units, _marks
 from .samples import RULE, TEXT, examples, listing_of, plain, refusal_of
 
 PT = 65536
+# The characters of the font `plain` at 10pt: 550498 * 2^-20 of the size, cut to scaled points.
+WIDTH = 550498 * 10 * PT >> 20
 SPECIALS = "hbox into 0\nspecial one\nkern 1pt\nspecial\nrule 1pt 2pt 0pt\nspecial " + "x" * 300 + "\nend\nship 0\ncount 3 -7\nhbox into 0\nspecial one\nend\nship 0\n"
 
 
@@ -28,7 +30,7 @@ class Documents(unittest.TestCase):
 
     def test_widths(self):
         glyphs = [it for it in boxglue.marks(boxglue.run(TEXT, plain()).dvi, plain()).marks if isinstance(it, Glyph)]
-        self.assertEqual([(it.font, chr(it.code), it.width) for it in glyphs], [(0, "a", 5 * PT), (0, "b", 5 * PT), (7, "c", 5 * PT // 2)])
+        self.assertEqual([(it.font, chr(it.code), it.width) for it in glyphs], [(0, "a", WIDTH), (0, "b", WIDTH), (7, "c", WIDTH // 2)])
 
     def test_specials(self):
         document = boxglue.marks(boxglue.run(SPECIALS).check().dvi)

@@ -13,16 +13,17 @@ from boxglue import Added, End, Measured, Ok, Packed, Paragraph, Refused, ReplyK
 from .samples import EXAMPLES, plain
 
 PT = 65536
+WIDTH = 2 * (550498 * 10 * PT >> 20)
 # A script with each kind of reply: its lines, and for each its reply and the text of that, from docs/COMMANDS.md, sections 3 and 4, and docs/FORMATS.md. The
-# characters `a` and `b` of the font `plain` are half as wide as its size, and `b` is 11/16 as high.
+# characters `a` and `b` of the font `plain` are 550498 * 2^-20 of its size wide, cut to scaled points, and `b` is 11/16 of it high.
 LINES = [
     ("font 0 plain at 10pt", Ok(1), "ok"),
     ("use 0", Ok(2), "ok"),
     ("hbox into 0", Ok(3), "ok"),
     ("text ab", Added(4, 2, 0), "added 2 missing 0"),
     ("char 127", Added(5, 0, 1), "added 0 missing 1"),
-    ("end", Packed(6, 10 * PT, 11 * PT * 10 // 16, 0, 0), "packed 10.0pt 6.875pt 0.0pt badness 0"),
-    ("measure 0", Measured(7, "hbox", 10 * PT, 11 * PT * 10 // 16, 0), "measured hbox 10.0pt 6.875pt 0.0pt"),
+    ("end", Packed(6, WIDTH, 11 * PT * 10 // 16, 0, 0), "packed 10.49991pt 6.875pt 0.0pt badness 0"),
+    ("measure 0", Measured(7, "hbox", WIDTH, 11 * PT * 10 // 16, 0), "measured hbox 10.49991pt 6.875pt 0.0pt"),
     # 6.875, 1, 10 and 1 are 18.875, so the glue stretches by all its 5.
     ("vbox to 23.875pt into 1", Ok(8), "ok"),
     ("copy 0", Added(9, 1), "added 1"),
@@ -32,7 +33,7 @@ LINES = [
     ("rule 1pt 1pt 0pt", Ok(13), "ok"),
     ("par", Ok(14), "ok"),
     ("end", Paragraph(15, 0, 0, 0, 0), "paragraph lines 0 pass 0 overhang 0 demerits 0"),
-    ("end", Packed(16, 10 * PT, 1564672, 0, 100), "packed 10.0pt 23.875pt 0.0pt badness 100"),
+    ("end", Packed(16, WIDTH, 1564672, 0, 100), "packed 10.49991pt 23.875pt 0.0pt badness 100"),
     ("ship 1", Shipped(17, 1), "shipped 1"),
     ("vbox into 2", Ok(18), "ok"),
     ("rule 10pt 5pt 0pt", Ok(19), "ok"),
