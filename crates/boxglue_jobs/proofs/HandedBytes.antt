@@ -5,7 +5,8 @@ use Rattle.std.proofs.Math.Seq.{drop-append_seam}
 use Rattle.std.specs.declared.option.Option.{Option}
 use Rattle.std.specs.declared.option.Option.TheVariants.{None, Some}
 use Rattle.dvi_device.specs.Written.{written_then}
-use Rattle.job_core.specs.Jobs.{JobView}
+use Rattle.dvi_write.specs.Writing.{GoesOn}
+use Rattle.job_core.specs.Jobs.{JobView, writing_of}
 use Rattle.boxglue_jobs.specs.Jobs.{HasHanded, KeptState, reported, sent_by}
 use Rattle.boxglue_jobs.specs.Pieces.{DoesCommands, FinishesKept, HandsAnswers, HandsBytes}
 use Rattle.boxglue_jobs.specs.Replies.{RepliesTo, RepliesToEnd, RowRoom}
@@ -17,10 +18,10 @@ reported_more None new more is = ([], ap reported is)
 reported_more (Some bytes) new more is = (more, ap reported is)
 
 -- A call that hands no byte over, and after which the bytes that were sent stand.
-pub still_handed : (old new : KeptState) (handed : List ℕ) → HasHanded old handed → (more : List ℕ) × (new.job.bytes_written ≡ written_then old.job.bytes_written more) → new.taken ≡ old.taken
+pub still_handed : (old new : KeptState) (handed : List ℕ) → HasHanded old handed → GoesOn (writing_of old.job) (writing_of new.job) → new.taken ≡ old.taken
     → HasHanded new handed
-still_handed old new handed has (more, is) taken =
-    let (after, grown) = reported_more old.job.bytes_written new.job.bytes_written more is in
+still_handed old new handed has goes taken =
+    let (after, grown) = reported_more old.job.bytes_written new.job.bytes_written goes.more goes.grows in
     record {
       rest = has.rest ++ after;
       sent = grown ∙ ap (λ (bytes : List ℕ). bytes ++ after) has.sent ∙ append_assoc handed has.rest after;
@@ -35,23 +36,23 @@ same_handed old new handed has job taken = record {
 }
 
 pub commands_handed : (script handed : List ℕ) (old new : KeptState) (status : ℕ) → HasHanded old handed → DoesCommands script old new status → HasHanded new handed
-commands_handed script handed old new status has (inl ran) = still_handed old new handed has ran.run.grows ran.run.taken
+commands_handed script handed old new status has (inl ran) = still_handed old new handed has ran.run.goes_on ran.run.taken
 commands_handed script handed old new status has (inr (inl bad)) =
     same_handed old new handed has (ap (λ (k : KeptState). k.job) bad.new_is) (ap (λ (k : KeptState). k.taken) bad.new_is)
 commands_handed script handed old new status has (inr (inr (same, lacks))) = subst (λ (k : KeptState). HasHanded k handed) (sym same) has
 
 pub finish_handed : (handed : List ℕ) (old new : KeptState) (status : ℕ) → HasHanded old handed → FinishesKept old new status → HasHanded new handed
-finish_handed handed old new status has ends = still_handed old new handed has ends.ended.grows ends.ended.taken
+finish_handed handed old new status has ends = still_handed old new handed has ends.ended.goes_on ends.ended.taken
 
 pub replies_handed : (script handed : List ℕ) (before after : RowRoom) (old new : KeptState) (status : ℕ) → HasHanded old handed → RepliesTo script before after old new status → HasHanded new handed
-replies_handed script handed before after old new status has (inl ran) = still_handed old new handed has ran.run.grows ran.run.taken
+replies_handed script handed before after old new status has (inl ran) = still_handed old new handed has ran.run.goes_on ran.run.taken
 replies_handed script handed before after old new status has (inr (inl bad)) = subst (λ (k : KeptState). HasHanded k handed) (sym bad.same) has
 replies_handed script handed before after old new status has (inr (inr (inl lacks))) = subst (λ (k : KeptState). HasHanded k handed) (sym lacks.same) has
 replies_handed script handed before after old new status has (inr (inr (inr (same, room, lacks)))) =
     subst (λ (k : KeptState). HasHanded k handed) (sym same) has
 
 pub end_handed : (handed : List ℕ) (row : ReplyRow) (old new : KeptState) (status : ℕ) → HasHanded old handed → RepliesToEnd row old new status → HasHanded new handed
-end_handed handed row old new status has ends = still_handed old new handed has ends.ended.grows ends.ended.taken
+end_handed handed row old new status has ends = still_handed old new handed has ends.ended.goes_on ends.ended.taken
 
 pub answers_handed : (text_old text_new handed : List ℕ) (size : ℕ) (old new : KeptState) (status : ℕ) → HasHanded old handed → HandsAnswers text_old text_new size old new status → HasHanded new handed
 answers_handed text_old text_new handed size old new status has hands =

@@ -6,10 +6,11 @@ use Rattle.job_commands.specs.declared.replies.Refusal.{Refusal}
 use Rattle.job_commands.specs.declared.replies.Refusal.TheVariants as refusals
 use Rattle.job_commands.specs.declared.replies.Summary.{Summary}
 use Rattle.job_commands.specs.Reply.{Reply}
-use Rattle.dvi_device.specs.Written.{written_then, GrowsByFront}
+use Rattle.dvi_device.specs.Written.{GrowsByFront}
 use Rattle.dvi_layout.specs.Layout.{whole}
 use Rattle.job_machine.specs.Machine.{Machine}
-use Rattle.job_core.specs.Jobs.{JobView, Represents, RunsTo, FinishesTo, before_writing}
+use Rattle.dvi_write.specs.Writing.{GoesOn}
+use Rattle.job_core.specs.Jobs.{JobView, Represents, RunsTo, FinishesTo, before_writing, writing_of}
 use Rattle.job_core.specs.Shown.{FilesPages}
 use Rattle.job_core.specs.Closing.{ClosesFile}
 use Rattle.boxglue_script.specs.declared.script.Line.{Line}
@@ -26,22 +27,18 @@ use Rattle.boxglue_jobs.specs.Rows.{reply_rows}
 use Rattle.boxglue_jobs.specs.declared.rows.ReplyRow.{ReplyRow}
 use Rattle.boxglue_jobs.proofs.PieceLaws.{commands_numbered, length_numbered}
 
--- What a job has sent has grown.
-abbrev Grows : JobView → JobView → Type 0
-Grows old new = (more : List ℕ) × (new.bytes_written ≡ written_then old.bytes_written more)
-
 -- Numbered lines that were run.
 abbrev pub ran_lines : (old new : KeptState) (job : JobView) (script : List ℕ) (lines counted : List Line) (replies : List Reply)
-    → counted ≡ numbered old.lines lines → IsScript script lines → RunsTo old.job (commands_of counted) replies job → (old.job.state.over ≡ true → job ≡ old.job) → Grows old.job job → length replies ≡ length counted
+    → counted ≡ numbered old.lines lines → IsScript script lines → RunsTo old.job (commands_of counted) replies job → (old.job.state.over ≡ true → job ≡ old.job) → GoesOn (writing_of old.job) (writing_of job) → length replies ≡ length counted
     → new.job ≡ job → new.lines ≡ number_after old.lines (line_count script) → new.taken ≡ old.taken → RunsLines old script new
-ran_lines old new job script lines counted replies is piece ran idle grows each job_is lines_is taken_is = record {
+ran_lines old new job script lines counted replies is piece ran idle goes each job_is lines_is taken_is = record {
   lines = lines;
   replies = replies;
   piece = piece;
   ran = subst (λ (j : JobView). RunsTo old.job (commands_of lines) replies j) (sym job_is)
       (subst (λ (cs : List Command). RunsTo old.job cs replies job) (ap commands_of is ∙ commands_numbered old.lines lines) ran);
   idle = λ over. job_is ∙ idle over;
-  grows = subst (λ (j : JobView). Grows old.job j) (sym job_is) grows;
+  goes_on = subst (λ (j : JobView). GoesOn (writing_of old.job) (writing_of j)) (sym job_is) goes;
   each = each ∙ ap length is ∙ length_numbered old.lines lines;
   counted = lines_is;
   taken = taken_is;
@@ -61,23 +58,23 @@ appended_answer (Err e) old new text kept done status is added cut status_is = i
 
 -- Numbered lines that were run and answered are a piece that was run.
 pub ran_piece : (old new : KeptState) (job : JobView) (script : List ℕ) (lines counted : List Line) (replies : List Reply) (done status : ℕ)
-    → counted ≡ numbered old.lines lines → IsScript script lines → RunsTo old.job (commands_of counted) replies job → (old.job.state.over ≡ true → job ≡ old.job) → Grows old.job job → length replies ≡ length counted
+    → counted ≡ numbered old.lines lines → IsScript script lines → RunsTo old.job (commands_of counted) replies job → (old.job.state.over ≡ true → job ≡ old.job) → GoesOn (writing_of old.job) (writing_of job) → length replies ≡ length counted
     → new.job ≡ job → new.lines ≡ number_after old.lines (line_count script) → new.taken ≡ old.taken
     → Answers old.answers new.answers (answer_lines (line_numbers counted) replies) done status → done ≡ replies_status replies → RunsPiece old script new status
-ran_piece old new job script lines counted replies done status is piece ran idle grows each job_is lines_is taken_is answered done_is = record {
-  run = ran_lines old new job script lines counted replies is piece ran idle grows each job_is lines_is taken_is;
+ran_piece old new job script lines counted replies done status is piece ran idle goes each job_is lines_is taken_is answered done_is = record {
+  run = ran_lines old new job script lines counted replies is piece ran idle goes each job_is lines_is taken_is;
   answered = subst (λ (n : ℕ). Answers old.answers new.answers (answer_lines (line_numbers (numbered old.lines lines)) replies) n status) done_is
       (subst (λ (ls : List Line). Answers old.answers new.answers (answer_lines (line_numbers ls) replies) done status) is answered);
 }
 
 -- Numbered lines that were run, and whose rows were written, are a piece that was run.
 pub replied_piece : (old new : KeptState) (job : JobView) (script : List ℕ) (lines counted : List Line) (replies : List Reply) (rows_old rows_new : List ReplyRow) (status : ℕ)
-    → counted ≡ numbered old.lines lines → IsScript script lines → RunsTo old.job (commands_of counted) replies job → (old.job.state.over ≡ true → job ≡ old.job) → Grows old.job job → length replies ≡ length counted
+    → counted ≡ numbered old.lines lines → IsScript script lines → RunsTo old.job (commands_of counted) replies job → (old.job.state.over ≡ true → job ≡ old.job) → GoesOn (writing_of old.job) (writing_of job) → length replies ≡ length counted
     → new.job ≡ job → new.lines ≡ number_after old.lines (line_count script) → new.taken ≡ old.taken
     → Holds rows_old rows_new (reply_rows (line_numbers counted) replies) → status ≡ replies_status replies → new.answers ≡ old.answers
     → (count : ℕ) → RepliesToPiece script (record { rows = rows_old; count = count }) (record { rows = rows_new; count = length lines }) old new status
-replied_piece old new job script lines counted replies rows_old rows_new status is piece ran idle grows each job_is lines_is taken_is written status_is answers_are count = record {
-  run = ran_lines old new job script lines counted replies is piece ran idle grows each job_is lines_is taken_is;
+replied_piece old new job script lines counted replies rows_old rows_new status is piece ran idle goes each job_is lines_is taken_is written status_is answers_are count = record {
+  run = ran_lines old new job script lines counted replies is piece ran idle goes each job_is lines_is taken_is;
   written = subst (λ (ls : List Line). Holds rows_old rows_new (reply_rows (line_numbers ls) replies)) is written;
   count_is = refl;
   status_is = status_is;
@@ -92,9 +89,9 @@ abbrev pub ended_job : (old new : KeptState) (job : JobView) (end : Result Summa
     → IfOk end (λ summary. (m : Machine) → Represents old.job m → summary.bytes ≡ length (whole m.state.fonts m.pages))
     → IfOk end (λ summary. summary.bytes < 2 ^ 31)
     → (end ≡ Err refusals.Device → (m : Machine) → Represents old.job m → GrowsByFront (before_writing old.job.bytes_written) job.bytes_written (whole m.state.fonts m.pages))
-    → Grows old.job job
+    → GoesOn (writing_of old.job) (writing_of job)
     → new.job ≡ job → new.lines ≡ old.lines → new.taken ≡ old.taken → EndsJob old new
-ended_job old new job end finished same idle dvi closed file size count small part grows job_is lines_is taken_is = record {
+ended_job old new job end finished same idle dvi closed file size count small part goes job_is lines_is taken_is = record {
   end = end;
   finished = subst (λ (j : JobView). FinishesTo old.job end j) (sym job_is) finished;
   same = subst (λ (j : JobView). IfErr end (λ refusal. refusal ≢ refusals.Device → j ≡ old.job)) (sym job_is) same;
@@ -107,7 +104,7 @@ ended_job old new job end finished same idle dvi closed file size count small pa
   small = small;
   part = subst (λ (j : JobView). end ≡ Err refusals.Device → (m : Machine) → Represents old.job m → GrowsByFront (before_writing old.job.bytes_written) j.bytes_written (whole m.state.fonts m.pages))
       (sym job_is) part;
-  grows = subst (λ (j : JobView). Grows old.job j) (sym job_is) grows;
+  goes_on = subst (λ (j : JobView). GoesOn (writing_of old.job) (writing_of j)) (sym job_is) goes;
   lines = lines_is;
   taken = taken_is;
 }

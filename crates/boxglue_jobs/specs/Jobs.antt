@@ -5,7 +5,6 @@ use Rattle.job_machine.specs.Machine.{first_machine}
 use Rattle.job_core.specs.Jobs.{JobView, Represents}
 
 -- What is kept: the job; how many lines the pieces had that were run; the answers that were not handed over yet; and how many bytes of the file were handed over.
--- Nothing was sent before a device in memory was made, so no clause here speaks of `job.began`.
 pub record KeptState : Type 0 where
   pub job : JobView
   pub lines : ℕ

@@ -4,10 +4,11 @@ use Rattle.job_commands.specs.declared.replies.Refusal.{Refusal}
 use Rattle.job_commands.specs.declared.replies.Refusal.TheVariants as refusals
 use Rattle.job_commands.specs.declared.replies.Summary.{Summary}
 use Rattle.job_commands.specs.Reply.{Reply}
-use Rattle.dvi_device.specs.Written.{written_then, GrowsByFront}
+use Rattle.dvi_device.specs.Written.{GrowsByFront}
 use Rattle.dvi_layout.specs.Layout.{whole}
 use Rattle.job_machine.specs.Machine.{Machine}
-use Rattle.job_core.specs.Jobs.{Represents, RunsTo, FinishesTo, before_writing}
+use Rattle.dvi_write.specs.Writing.{GoesOn}
+use Rattle.job_core.specs.Jobs.{Represents, RunsTo, FinishesTo, before_writing, writing_of}
 use Rattle.job_core.specs.Shown.{FilesPages}
 use Rattle.job_core.specs.Closing.{ClosesFile}
 use Rattle.boxglue_script.specs.declared.cause.Cause.{Cause}
@@ -32,7 +33,7 @@ pub record RunsLines (old : KeptState) (script : List ℕ) (new : KeptState) : T
   pub piece : IsScript script lines
   pub ran : RunsTo old.job (commands_of lines) replies new.job
   pub idle : old.job.state.over ≡ true → new.job ≡ old.job
-  pub grows : (more : List ℕ) × (new.job.bytes_written ≡ written_then old.job.bytes_written more)
+  pub goes_on : GoesOn (writing_of old.job) (writing_of new.job)
   pub each : length replies ≡ length lines
   pub counted : new.lines ≡ number_after old.lines (line_count script)
   pub taken : new.taken ≡ old.taken
@@ -70,7 +71,7 @@ pub record HandsBytes (dvi_old dvi_new : List ℕ) (size : ℕ) (old new : KeptS
   pub same : status ≡ 4 → new ≡ old
 
 -- The job was finished, or its end was refused, as `Job::finish` says. Left out are its clauses `unsent`, which follows from `same`, `front`,
--- from `part`, and `sent`, from `file` and `grows`.
+-- from `part`, and `sent`, from `file` and `goes_on`.
 pub record EndsJob (old new : KeptState) : Type 0 where
   pub end : Result Summary Refusal
   pub finished : FinishesTo old.job end new.job
@@ -83,7 +84,7 @@ pub record EndsJob (old new : KeptState) : Type 0 where
   pub count : IfOk end (λ summary. (m : Machine) → Represents old.job m → summary.bytes ≡ length (whole m.state.fonts m.pages))
   pub small : IfOk end (λ summary. summary.bytes < 2 ^ 31)
   pub part : end ≡ Err refusals.Device → (m : Machine) → Represents old.job m → GrowsByFront (before_writing old.job.bytes_written) new.job.bytes_written (whole m.state.fonts m.pages)
-  pub grows : (more : List ℕ) × (new.job.bytes_written ≡ written_then old.job.bytes_written more)
+  pub goes_on : GoesOn (writing_of old.job) (writing_of new.job)
   pub lines : new.lines ≡ old.lines
   pub taken : new.taken ≡ old.taken
 

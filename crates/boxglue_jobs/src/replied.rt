@@ -1,9 +1,9 @@
 //! Lines that are run and answered in rows.
 
-ghost use Rattle.std.specs.Prelude.{◌≡◌, ◌≤◌, true, ℕ, List, length};
+ghost use Rattle.std.specs.Prelude.{◌≡◌, ◌≤◌, true, List, length};
 ghost use Rattle.job_commands.specs.Reply.{Reply};
-ghost use Rattle.dvi_device.specs.Written.{written_then};
-ghost use Rattle.job_core.specs.Jobs.{RunsTo};
+ghost use Rattle.dvi_write.specs.Writing.{GoesOn};
+ghost use Rattle.job_core.specs.Jobs.{RunsTo, writing_of};
 ghost use Rattle.boxglue_program.specs.Runs.{commands_of, line_numbers};
 ghost use Rattle.boxglue_calls.specs.Buffers.{Holds};
 ghost use Rattle.boxglue_calls.specs.RunStatus.{replies_status};
@@ -26,7 +26,7 @@ pub(crate) fn reply_to_each<D: Device>(
     ensures ran { (replies : List Reply) × RunsTo job.old (commands_of lines.now) replies job.new × (length replies ≡ length lines.now)
         × Holds rows.old rows.new (reply_rows (line_numbers lines.now) replies) × (result ≡ replies_status replies) }
     ensures idle { job.old.state.over ≡ true → job.new ≡ job.old }
-    ensures grows { (more : List ℕ) × (job.new.bytes_written ≡ written_then job.old.bytes_written more) }
+    ensures goes_on { GoesOn (writing_of job.old) (writing_of job.new) }
 {
     let mut status = ACCEPTED;
     for at in 0..lines.len() {

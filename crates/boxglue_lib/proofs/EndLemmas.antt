@@ -19,7 +19,7 @@ use Rattle.boxglue_host.specs.Readings.{Files, IsFileReading, IsReadable, IsRead
 use Rattle.boxglue_lib.specs.Printed.{LacksMemoryForDvi}
 use Rattle.boxglue_lib.specs.Views.{HostView, IsSame, Streams, view_of}
 use Rattle.boxglue_lib.specs.Typesets.{HasTypeset, IsLeftAlone, IsLeftToFile, IsToFile, IsUsed, LeavesHost, OutFile, TellsUnwritten, script_rules, typesetting_rules}
-use Rattle.boxglue_program.specs.Runs.{IsUntouched, RanScript, RefusedScript, WasRunWhole, WritesFront, memory_line}
+use Rattle.boxglue_program.specs.Runs.{IsUntouched, RanScript, RefusedScript, WritesFront, memory_line}
 use Rattle.boxglue_program.proofs.WritingLemmas.{appends_both, appends_keeps, keeps_appends, keeps_front}
 use Rattle.boxglue_lib.specs.Ends.{EndsOutput, EndsTask, TaskHasEnded, TaskRules, TakesText, TellsErrors, TellsOutput, status_of}
 use Rattle.boxglue_lib.specs.declared.task_end.TaskEnd.{TaskEnd}
@@ -107,17 +107,26 @@ answered_to_file text files start begun failures back Same Kept answer fine file
       record { same = same refused.1; closed = opened ∙ closed refused.1; silent = counted ∙ ap (λ (n : ℕ). n == 0) (none refused.1) },
     )
 
+-- A file that was not created has reported no byte.
+pub unopened_silent : (begun : Bool) (written : Option (List ℕ)) → begun ≡ false → IfSome (written_to_file begun written) (λ bytes. bytes ≡ [])
+unopened_silent begun None closed = rw closed tt
+unopened_silent begun (Some bytes) closed = rw closed refl
+
+-- A script was run, with some answer.
+abbrev RanUnanswered : List ℕ → List NamedBytes → (n k : ℕ) → Option (List ℕ) → Type 0
+RanUnanswered text files n k bytes_written = (answer : List ℕ) × (fine : Bool) × RanScript text files n k bytes_written answer fine
+
 -- What is known of such a device if memory was refused.
 pub left_to_file : (text : List ℕ) (files : List NamedBytes) (start : ℕ) (begun : Bool) (failures : ℕ) (back : Option (List ℕ)) (file : OutFile)
     → start ≡ 0 → file.created ≡ begun → file.done ≡ (failures == 0) → file.written ≡ back → IsUsed file
-    → IsUntouched start failures (written_to_file begun back) ⊎ WasRunWhole text files start failures (written_to_file begun back) → IsLeftToFile text files file
+    → IsUntouched start failures (written_to_file begun back) ⊎ RanUnanswered text files start failures (written_to_file begun back) → IsLeftToFile text files file
 left_to_file text files start begun failures back file fresh opened counted kept used left =
     let at_start = subst
-    (λ (n : ℕ). IsUntouched n failures (written_to_file begun back) ⊎ WasRunWhole text files n failures (written_to_file begun back)) fresh left in
+    (λ (n : ℕ). IsUntouched n failures (written_to_file begun back) ⊎ RanUnanswered text files n failures (written_to_file begun back)) fresh left in
     let at_open = subst
-    (λ (is : Bool). IsUntouched 0 failures (written_to_file is back) ⊎ WasRunWhole text files 0 failures (written_to_file is back)) (sym opened) at_start in (
+    (λ (is : Bool). IsUntouched 0 failures (written_to_file is back) ⊎ RanUnanswered text files 0 failures (written_to_file is back)) (sym opened) at_start in (
       failures,
-      subst (λ (bytes : Option (List ℕ)). IsUntouched 0 failures (written_to_file file.created bytes) ⊎ WasRunWhole text files 0 failures (written_to_file file.created bytes)) (sym kept) at_open,
+      subst (λ (bytes : Option (List ℕ)). IsUntouched 0 failures (written_to_file file.created bytes) ⊎ RanUnanswered text files 0 failures (written_to_file file.created bytes)) (sym kept) at_open,
       counted,
       used,
     )

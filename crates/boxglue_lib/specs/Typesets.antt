@@ -5,7 +5,7 @@ use Rattle.std.specs.Io.KnownBytes.{Keeps}
 use Rattle.boxglue_host.specs.Hosts.{AreFilesOf, created_after, has_failed, written_to_file}
 use Rattle.boxglue_host.specs.Readings.{IsReading}
 use Rattle.boxglue_host.specs.declared.font_files.Unread.TheVariants.{OutOfMemory as WantsMemory, File}
-use Rattle.boxglue_program.specs.Runs.{IsUntouched, RanScript, RefusedScript, WasRunWhole}
+use Rattle.boxglue_program.specs.Runs.{IsUntouched, RanScript, RefusedScript}
 use Rattle.tfm_core.specs.NamedBytes.{NamedBytes}
 use Rattle.boxglue_words.specs.declared.fonts.NamedPath.{NamedPath}
 use Rattle.boxglue_lib.specs.Ends.{EndsOutput, TakesText, TaskRules, TellsErrors, line_of, status_of}
@@ -45,7 +45,7 @@ abbrev pub IsLeftToFile : (text : List ℕ) → List NamedBytes → OutFile → 
 IsLeftToFile text files file =
     (failed : ℕ)
     × (IsUntouched 0 failed (written_to_file file.created file.written)
-    ⊎ WasRunWhole text files 0 failed (written_to_file file.created file.written))
+    ⊎ ((answer : List ℕ) × (fine : Bool) × RanScript text files 0 failed (written_to_file file.created file.written) answer fine))
     × (file.done ≡ (failed == 0)) × IsUsed file
 
 -- The rules of a script that was read and is run on a new device that writes a file. All files were read, so no path is unread.

@@ -5,8 +5,9 @@ use Rattle.std.specs.Io.KnownBytes.{Appends}
 use Rattle.std.specs.Str.Lines.{lines}
 use Rattle.std.proofs.lemmas.List.{append-nil}
 use Rattle.job_commands.specs.Reply.{Reply}
-use Rattle.dvi_device.specs.Written.{written_then}
-use Rattle.job_core.specs.Jobs.{JobView, RunsTo}
+use Rattle.dvi_write.specs.Writing.{GoesOn}
+use Rattle.dvi_write.proofs.Writings.{goes_not}
+use Rattle.job_core.specs.Jobs.{JobView, RunsTo, writing_of}
 use Rattle.job_core.proofs.WholeRuns.{no_run}
 use Rattle.boxglue_script.specs.declared.cause.Cause.{Cause}
 use Rattle.boxglue_script.specs.declared.said.Said.TheVariants.{Nothing, Command, Bad}
@@ -22,7 +23,6 @@ use Rattle.boxglue_program.specs.Texts.{answer_line, answer_lines, script_refusa
 use Rattle.boxglue_program.specs.Runs.{WritesFront, commands_of, line_numbers}
 use Rattle.boxglue_program.specs.Sessions.{DialogView, AnswersLines, StopsIn, IsSent}
 use Rattle.boxglue_program.specs.Dialogs.{dialog_of, OutboxView, outbox_of, Sends}
-use Rattle.boxglue_program.proofs.RunLaws.{grown_not}
 use Rattle.boxglue_program.proofs.OutcomeLaws.{accepting_all}
 use Rattle.boxglue_program.proofs.SessionLaws.{answered_both, none_answered, sent_both, sent_none, same_answered}
 
@@ -37,18 +37,17 @@ nothing_answered job before line says = record {
   answers_are = refl;
   counted = omega arith;
   accepted = refl;
-  grows = grown_not job.bytes_written;
-  began = refl;
+  goes_on = goes_not (writing_of job);
 }
 
 -- A line whose command was run.
 pub command_answered : (old new : JobView) (before : ℕ) (line : List ℕ) (given : Line) (run : List Line) (replies : List Reply) (outcome : Outcome) (accepted : Bool) → SaysLine line given.command
     → given.number ≡ before + 1 → run ≡ given ∷ [] → RunsTo old (commands_of run) replies new → length replies ≡ length run → outcome ≡ replies_outcome replies → accepted ≡ is_accepting outcome
-    → (more : List ℕ) × (new.bytes_written ≡ written_then old.bytes_written more) → new.began ≡ old.began
+    → GoesOn (writing_of old) (writing_of new)
     → AnswersLines (dialog_of old before true) (line ∷ []) (answer_lines (line_numbers run) replies) (dialog_of new (before + 1) accepted)
-command_answered old new before line given run [] outcome accepted says number is ran each outcome_is fine grows began = absurd (omega (arith, each, ap length is))
-command_answered old new before line given run (reply ∷ other ∷ more) outcome accepted says number is ran each outcome_is fine grows began = absurd (omega (arith, each, ap length is))
-command_answered old new before line given run (reply ∷ []) outcome accepted says number is ran each outcome_is fine grows began = record {
+command_answered old new before line given run [] outcome accepted says number is ran each outcome_is fine goes = absurd (omega (arith, each, ap length is))
+command_answered old new before line given run (reply ∷ other ∷ more) outcome accepted says number is ran each outcome_is fine goes = absurd (omega (arith, each, ap length is))
+command_answered old new before line given run (reply ∷ []) outcome accepted says number is ran each outcome_is fine goes = record {
   said = Command given.command ∷ [];
   replies = reply ∷ [];
   says = (says, tt);
@@ -57,8 +56,7 @@ command_answered old new before line given run (reply ∷ []) outcome accepted s
   answers_are = ap (λ (lines : List Line). answer_lines (line_numbers lines) (reply ∷ [])) is ∙ ap (λ (n : ℕ). answer_line n reply ++ []) number;
   counted = omega arith;
   accepted = fine ∙ (ap is_accepting outcome_is ∙ accepting_all (reply ∷ []));
-  grows = grows;
-  began = began;
+  goes_on = goes;
 }
 
 -- A bad line.
@@ -73,8 +71,7 @@ bad_answered job before line cause says = record {
   answers_are = sym (append-nil (script_refusal_text (before + 1) cause));
   counted = omega arith;
   accepted = refl;
-  grows = grown_not job.bytes_written;
-  began = refl;
+  goes_on = goes_not (writing_of job);
 }
 
 -- Whether nothing was refused before counts too.
@@ -89,8 +86,7 @@ answered_after old new before next all text accepted fine ran = record {
   answers_are = ran.answers_are;
   counted = ran.counted;
   accepted = ap (λ (b : Bool). accepted && b) ran.accepted;
-  grows = ran.grows;
-  began = ran.began;
+  goes_on = ran.goes_on;
 }
 
 -- Nothing was sent, and nothing waits that did not.

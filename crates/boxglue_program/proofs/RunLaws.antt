@@ -7,9 +7,9 @@ use Rattle.job_commands.specs.declared.replies.Summary.{Summary}
 use Rattle.job_commands.specs.Reply.{Reply}
 use Rattle.tfm_core.specs.NamedBytes.{NamedBytes}
 use Rattle.dvi_device.specs.Written.{written_then, IsFrontOf}
-use Rattle.dvi_device.proofs.Tellings.{grown-grown}
 use Rattle.dvi_device.specs.Beginnings.{Beginning}
 use Rattle.dvi_device.specs.Pasts.{Past, Differs, KeepsPast, no_past}
+use Rattle.dvi_device.specs.Seen.{DeviceView, device_view}
 use Rattle.dvi_device.specs.Resumed.{Resumed, written_by, began_by, past_by, GoesOnAs, PassesOn}
 use Rattle.dvi_device.proofs.PastLaws.{no_difference}
 use Rattle.dvi_layout.specs.Layout.{front, whole}
@@ -18,19 +18,16 @@ use Rattle.job_core.specs.Closing.{ClosesFile}
 use Rattle.job_machine.specs.Machine.{Machine, first_machine}
 use Rattle.job_core.specs.Jobs.{JobView, due, Represents, KeepsTo, RunsTo, FinishesTo}
 use Rattle.job_core.proofs.Moves.{runs_more}
-use Rattle.dvi_device.specs.Held.{MemoryState}
+use Rattle.dvi_device.specs.Held.{MemoryState, new_memory}
 use Rattle.job_machine.proofs.RunLaws.{files_kept}
 use Rattle.job_core.proofs.Endings.{said}
-use Rattle.job_core.proofs.NewJobs.{front_none}
 use Rattle.job_core.proofs.RestsOfFiles.{beginning, completed, rest_completed, passed_on}
 use Rattle.job_core.proofs.LosslessRuns.{run_rises, end_rises, run_kept, end_kept}
-use Rattle.std.specs.Io.KnownBytes.{Keeps}
 use Rattle.std.proofs.lemmas.List.{append-nil, length-append}
 use Rattle.std.proofs.Math.Seq.{take-append_seam}
 use Rattle.boxglue_script.specs.declared.script.Line.{Line}
 use Rattle.boxglue_program.specs.Texts.{hexadecimal_text, answer_line, answer_lines}
-use Rattle.boxglue_program.specs.Runs.{DeviceView, device_view, commands_of, line_numbers, IsProperFrontOf, WasRun, IsUntouched, IsAnswered, RanScript, RefusedScript, IsAnsweredInMemory, LacksMemory, CompletesFile, IsAnswerOfRest, RanOverRest, IsAnsweredOverRest, IsLeftOverRest}
-use Rattle.boxglue_program.specs.declared.run.RunFault.TheVariants.{Memory}
+use Rattle.boxglue_program.specs.Runs.{commands_of, line_numbers, IsProperFrontOf, WasRun, RanOn, IsUntouched, IsAnswered, IsUnanswered, RanScript, RefusedScript, IsAnsweredInMemory, IsUnansweredInMemory, CompletesFile, IsAnswerOfRest, RanOverRest, IsAnsweredOverRest, IsUnansweredOverRest}
 use Rattle.boxglue_program.proofs.SentParts.{sent_part, pages_held}
 
 pub on_err : {A E : Type 0} {P : Type 0} (r : Result A E) → is_err r ≡ true → OnErr r P → P
@@ -44,14 +41,6 @@ on_ok (Err x) e h = absurd (cc)
 -- What holds of the value that is there.
 pub if_some : {A : Type 0} (o : Option A) (x : A) (P : A → Type 0) → o ≡ Some x → IfSome o P → P x
 if_some {A = A} o x P is holds = subst (λ (o : Option A). IfSome o P) is holds
-
--- A new job has reported nothing.
-pub new_untouched : (files : List NamedBytes) (job : JobView) (n k : ℕ) (bytes_written : Option (List ℕ)) → Represents job (first_machine files) → job.failed ≡ n → k ≡ job.failed → bytes_written ≡ job.bytes_written → IsUntouched n k bytes_written
-new_untouched files job n k bytes_written holds f g t = record {
-  silent = let P : Option (List ℕ) → Type 0 = λ o. IfSome o (λ bytes. bytes ≡ []) in
-      subst P (sym t) (said job.bytes_written job.bytes_written (front (first_machine files).state.fonts []) (λ bytes. bytes ≡ []) (holds.written refl).bytes_written (front_none (first_machine files).state.fonts));
-  failed_is = g ∙ f;
-}
 
 pub size_at : (end : Result Summary Refusal) (bytes_written : Option (List ℕ)) (run : JobView) (m : Machine) → Represents run m → IfOk end (λ summary. (m : Machine) → Represents run m → IfSome bytes_written (λ bytes. summary.bytes ≡ length bytes)) → IfOk end (λ summary. IfSome bytes_written (λ bytes. summary.bytes ≡ length bytes))
 size_at (Ok summary) bytes_written run m holds h = h m holds
@@ -128,7 +117,29 @@ memory_view = device_view (λ m. Some m.bytes) (λ m. m.failures) (λ m. no_past
 pub answered_alone : {D : Type 0} (text : List ℕ) (files : List NamedBytes) (device back : DeviceView D) (answer : List ℕ) (fine : Bool) → IsAnswered text files device back answer fine
     → RanScript text files device.failed back.failed back.bytes_written answer fine ⊎ (RefusedScript text answer fine × (back.itself ≡ device.itself))
 answered_alone text files device back answer fine (inl on) = inl on.ran
-answered_alone text files device back answer fine (inr refused) = inr refused
+answered_alone {D = D} text files device back answer fine (inr (bad, same)) = inr (bad, ap (λ (v : DeviceView D). v.itself) same)
+
+-- What a device was made with stays in a run.
+pub answered_made : {D : Type 0} (text : List ℕ) (files : List NamedBytes) (device back : DeviceView D) (answer : List ℕ) (fine : Bool) → IsAnswered text files device back answer fine
+    → back.past.made ≡ device.past.made
+answered_made text files device back answer fine (inl on) = on.past.made
+answered_made {D = D} text files device back answer fine (inr (bad, same)) = ap (λ (v : DeviceView D). v.past.made) same
+
+-- The same if there is no answer.
+pub unanswered_made : {D : Type 0} (text : List ℕ) (files : List NamedBytes) (device back : DeviceView D) → IsUnanswered text files device back → back.past.made ≡ device.past.made
+unanswered_made {D = D} text files device back (inl same) = ap (λ (v : DeviceView D). v.past.made) same
+unanswered_made text files device back (inr (answer, fine, on)) = on.past.made
+
+-- No answer, without the past of a device that had reported no byte.
+pub unanswered_alone : {D : Type 0} (text : List ℕ) (files : List NamedBytes) (device back : DeviceView D) → IfSome device.bytes_written (λ bytes. bytes ≡ [])
+    → IsUnanswered text files device back
+    → IsUntouched device.failed back.failed back.bytes_written
+    ⊎ ((answer : List ℕ) × (fine : Bool) × RanScript text files device.failed back.failed back.bytes_written answer fine)
+unanswered_alone {D = D} text files device back silent (inl same) = inl (record {
+  silent = subst (λ (v : DeviceView D). IfSome v.bytes_written (λ bytes. bytes ≡ [])) (sym same) silent;
+  failed_is = ap (λ (v : DeviceView D). v.failed) same;
+})
+unanswered_alone text files device back silent (inr (answer, fine, on)) = inr (answer, fine, on.ran)
 
 -- The answers, and then the bytes of the memory.
 pub answered_in_memory : (text : List ℕ) (files : List NamedBytes) (start memory : MemoryState) (answer whole : List ℕ) (fine : Bool) → start ≡ record { bytes = []; capacity = 0; failures = 0 }
@@ -145,24 +156,20 @@ answered_in_memory text files start memory answer whole fine fresh answered is =
     (answered_alone text files (memory_view start) (memory_view memory) answer fine answered)
 
 -- If memory is refused after the run, the whole script was run, or it is bad and the device is new.
-pub lacking_in_memory : (text : List ℕ) (files : List NamedBytes) (start memory : MemoryState) (answer : List ℕ) (fine : Bool) (old : Option (List ℕ)) → start ≡ record { bytes = []; capacity = 0; failures = 0 }
-    → IsAnswered text files (memory_view start) (memory_view memory) answer fine
-    → LacksMemory text files 0 memory.failures (Some memory.bytes) old old
-lacking_in_memory text files start memory answer fine old fresh answered =
-    record {
-      device = ⊎_elim
-          (λ (ran : RanScript text files start.failures memory.failures (Some memory.bytes) answer fine).
-          let P : ℕ → Type 0 = λ n. WasRun files n (commands_of ran.lines) ran.replies ran.end memory.failures (Some memory.bytes) in
-          inr (ran.lines, ran.replies, ran.end, ran.script, subst P (ap (λ (m : MemoryState). m.failures) fresh) ran.run))
-          (λ (refused : RefusedScript text answer fine × (memory ≡ start)).
-          inl (record { silent = ap (λ (m : MemoryState). m.bytes) (refused.1 ∙ fresh); failed_is = ap (λ (m : MemoryState). m.failures) (refused.1 ∙ fresh) }))
-          (answered_alone text files (memory_view start) (memory_view memory) answer fine answered);
-      silent = keeps_same old;
-    }
-  where
-    keeps_same : (old : Option (List ℕ)) → Keeps old old
-    keeps_same None = tt
-    keeps_same (Some bytes) = refl
+pub lacking_in_memory : (text : List ℕ) (files : List NamedBytes) (start memory : MemoryState) (answer : List ℕ) (fine : Bool) → start ≡ new_memory
+    → IsAnswered text files (memory_view start) (memory_view memory) answer fine → IsUnansweredInMemory text files memory
+lacking_in_memory text files start memory answer fine fresh answered = ⊎_elim
+    (λ (ran : RanScript text files start.failures memory.failures (Some memory.bytes) answer fine).
+    inr (answer, fine, subst (λ (n : ℕ). RanScript text files n memory.failures (Some memory.bytes) answer fine) (ap (λ (m : MemoryState). m.failures) fresh) ran))
+    (λ (refused : RefusedScript text answer fine × (memory ≡ start)). inl (refused.1 ∙ fresh))
+    (answered_alone text files (memory_view start) (memory_view memory) answer fine answered)
+
+-- The same if memory is refused before.
+pub unanswered_in_memory : (text : List ℕ) (files : List NamedBytes) (start memory : MemoryState) → start ≡ new_memory
+    → IsUnanswered text files (memory_view start) (memory_view memory) → IsUnansweredInMemory text files memory
+unanswered_in_memory text files start memory fresh (inl same) = inl (ap (λ (v : DeviceView MemoryState). v.itself) same ∙ fresh)
+unanswered_in_memory text files start memory fresh (inr (answer, fine, on)) =
+    inr (answer, fine, subst (λ (n : ℕ). RanScript text files n memory.failures (Some memory.bytes) answer fine) (ap (λ (m : MemoryState). m.failures) fresh) on.ran)
 
 -- If what was sent before is no beginning of the file, an end that succeeds has sent nothing.
 not_completed : (end : Result Summary Refusal) (reported inner : Option (List ℕ)) (sent all : List ℕ) → OnOk end (IfSome reported (λ bytes. bytes ≡ all))
@@ -216,6 +223,10 @@ module _ {D : Type 0} (bytes_written : D → Option (List ℕ)) (failed : D → 
   abbrev seen : D → DeviceView D
   seen = device_view bytes_written failed past
 
+  -- The inner device is as it was if the one around it is.
+  untouched : rest_view bytes_written failed rest ≡ rest_view bytes_written failed start → seen inner ≡ seen device
+  untouched back = ap seen (same ∙ ap (λ (v : DeviceView (Resumed D)). v.itself.device) back ∙ ap (λ (r : Resumed D). r.device) new)
+
   began_so : began_by bytes_written failed rest ≡ beginning sent (bytes_written device) (failed device)
   began_so = began ∙ ap (began_by bytes_written failed) new
 
@@ -232,10 +243,6 @@ module _ {D : Type 0} (bytes_written : D → Option (List ℕ)) (failed : D → 
   -- Later it has failed as often as that one and by itself.
   last_count : failed rest.device + rest.failures ≡ failed inner + rest.failures
   last_count = ap (λ (d : D). failed d + rest.failures) (sym same)
-
-  counts_over_rest : (P : ℕ → ℕ → Type 0) → P (failed start.device + start.failures) (failed rest.device + rest.failures) → P (failed device) (failed inner + rest.failures)
-  counts_over_rest P holds =
-      subst (λ (n : ℕ). P n (failed inner + rest.failures)) first_count (subst (P (failed start.device + start.failures)) last_count holds)
 
   -- Its own failures, if all bytes of the run are these.
   own_failures : (bytes : List ℕ) → KeepsPast (past_by bytes_written failed start) bytes (past_by bytes_written failed rest) → (rest.failures ≡ 0) ⊎ ((rest.failures ≡ 1) × Differs sent bytes)
@@ -282,17 +289,34 @@ module _ {D : Type 0} (bytes_written : D → Option (List ℕ)) (failed : D → 
   Counted text files answer fine n k = (ran : RanScript text files n k (written_by bytes_written rest) answer fine)
       → KeepsPast (past_by bytes_written failed start) (due ran.run.last) (past_by bytes_written failed rest) → RanOverRest text files sent (seen device) (seen inner) answer fine
 
+  -- A script that was run on it was run over the rest of a file.
+  over_rest_on : (text : List ℕ) (files : List NamedBytes) (answer : List ℕ) (fine : Bool)
+      → RanOn text files (rest_view bytes_written failed start) (rest_view bytes_written failed rest) answer fine
+      → ((all : List ℕ) → IfSome (written_by bytes_written rest) (λ bytes. bytes ≡ all) → IsFrontOf rest.sent all
+      → bytes_written inner ≡ written_then (bytes_written rest.start) (drop (length rest.sent) all))
+      → RanOverRest text files sent (seen device) (seen inner) answer fine
+  over_rest_on text files answer fine on got =
+      let last = subst (λ (k : ℕ). Counted text files answer fine (failed device) k) (sym last_count) (ran_over_rest text files answer fine got) in
+      let counted = subst (λ (n : ℕ). Counted text files answer fine n (failed rest.device + rest.failures)) (sym first_count) last in
+      counted on.ran on.past
+
   -- The answer to a script that was run over it, whatever the inner device reports.
   pub answered_over_rest : (text : List ℕ) (files : List NamedBytes) (answer : List ℕ) (fine : Bool)
       → IsAnswered text files (rest_view bytes_written failed start) (rest_view bytes_written failed rest) answer fine
       → ((all : List ℕ) → IfSome (written_by bytes_written rest) (λ bytes. bytes ≡ all) → IsFrontOf rest.sent all
       → bytes_written inner ≡ written_then (bytes_written rest.start) (drop (length rest.sent) all))
       → IsAnsweredOverRest text files sent (seen device) (seen inner) answer fine
-  answered_over_rest text files answer fine (inl on) got =
-      let last = subst (λ (k : ℕ). Counted text files answer fine (failed device) k) (sym last_count) (ran_over_rest text files answer fine got) in
-      let counted = subst (λ (n : ℕ). Counted text files answer fine n (failed rest.device + rest.failures)) (sym first_count) last in
-      inl (counted on.ran on.past)
-  answered_over_rest text files answer fine (inr (bad, back)) got = inr (bad, same ∙ ap (λ (r : Resumed D). r.device) (back ∙ new))
+  answered_over_rest text files answer fine (inl on) got = inl (over_rest_on text files answer fine on got)
+  answered_over_rest text files answer fine (inr (bad, back)) got = inr (bad, untouched back)
+
+  -- The same without an answer.
+  pub unanswered_over_rest : (text : List ℕ) (files : List NamedBytes)
+      → IsUnanswered text files (rest_view bytes_written failed start) (rest_view bytes_written failed rest)
+      → ((all : List ℕ) → IfSome (written_by bytes_written rest) (λ bytes. bytes ≡ all) → IsFrontOf rest.sent all
+      → bytes_written inner ≡ written_then (bytes_written rest.start) (drop (length rest.sent) all))
+      → IsUnansweredOverRest text files sent (seen device) (seen inner)
+  unanswered_over_rest text files (inl back) got = inl (untouched back)
+  unanswered_over_rest text files (inr (answer, fine, on)) got = inr (answer, fine, over_rest_on text files answer fine on got)
 
   -- The same where the inner device had reported exactly what was sent before.
   pub resumed : (text : List ℕ) (files : List NamedBytes) (answer : List ℕ) (fine : Bool)
@@ -302,18 +326,7 @@ module _ {D : Type 0} (bytes_written : D → Option (List ℕ)) (failed : D → 
   resumed text files answer fine (inl on) had got =
       inl (script_completes text files _ _ (failed rest.start) (failed device) rest.sent sent (bytes_written rest.start) (written_by bytes_written rest) (bytes_written inner) answer fine
       (beginning sent (Some sent) (failed device)) on.ran (began_so ∙ ap (λ (t : Option (List ℕ)). beginning sent t (failed device)) had) refl got passes)
-  resumed text files answer fine (inr (bad, back)) had got = inr (bad, ap bytes_written (same ∙ ap (λ (r : Resumed D). r.device) (back ∙ new)) ∙ had)
-
-  -- A run over it, to which memory was refused.
-  pub lacking_over_rest : (text : List ℕ) (files : List NamedBytes) (before after : Option (List ℕ))
-      → LacksMemory text files (failed start.device + start.failures) (failed rest.device + rest.failures) (written_by bytes_written rest) before after
-      → IsLeftOverRest text files sent (seen device) (Memory (seen inner)) before after
-  lacking_over_rest text files before after lacks = (
-    written_by bytes_written rest,
-    rest.failures,
-    over_rest,
-    counts_over_rest (λ n k. LacksMemory text files n k (written_by bytes_written rest) before after) lacks,
-  )
+  resumed text files answer fine (inr (bad, back)) had got = inr (bad, ap (λ (v : DeviceView D). v.bytes_written) (untouched back) ∙ had)
 
 -- The file of no pages is empty.
 no_whole : (m : Machine) → m.pages ≡ [] → whole m.state.fonts m.pages ≡ []
@@ -350,16 +363,6 @@ pub ran_one_more : (old now new : JobView) (front more : List Line) (line : Line
 ran_one_more old now new front more line replies reply is ran keeps =
     subst (λ (xs : List Command). RunsTo old xs (replies ++ reply ∷ []) new) (sym (ap commands_of is ∙ commands_more front line))
     (runs_more old now new (commands_of front) replies line.command reply ran keeps)
-
--- A device that took nothing.
-pub grown_not : (old : Option (List ℕ)) → (more : List ℕ) × (old ≡ written_then old more)
-grown_not None = ([], refl)
-grown_not (Some bytes) = ([], ap Some (sym (append-nil bytes)))
-
--- A device that has taken more twice has taken more.
-pub grown_further : (old now new : Option (List ℕ)) → (more : List ℕ) × (now ≡ written_then old more) → (more : List ℕ) × (new ≡ written_then now more) → (more : List ℕ) × (new ≡ written_then old more)
-grown_further old now new (first, now_is) (second, new_is) =
-    (first ++ second, new_is ∙ ap (λ (o : Option (List ℕ)). written_then o second) now_is ∙ grown-grown old first second)
 
 pub length_more : (front more : List Line) (line : Line) (replies : List Reply) (reply : Reply) → more ≡ front ++ line ∷ [] → length replies ≡ length front
     → length (replies ++ reply ∷ []) ≡ length more

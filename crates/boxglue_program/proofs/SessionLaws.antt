@@ -8,7 +8,8 @@ use Rattle.std.proofs.lemmas.List.Folds.{list_all-append}
 use Rattle.std.proofs.Math.Bool.{and-true}
 use Rattle.job_commands.specs.declared.command.Command.{Command as ACommand}
 use Rattle.job_commands.specs.Reply.{Reply}
-use Rattle.job_core.specs.Jobs.{RunsTo}
+use Rattle.dvi_write.proofs.Writings.{goes_further, goes_not}
+use Rattle.job_core.specs.Jobs.{RunsTo, writing_of}
 use Rattle.job_core.proofs.WholeRuns.{runs_joined, no_run}
 use Rattle.boxglue_script.specs.declared.script.Line.{Line}
 use Rattle.boxglue_script.specs.declared.said.Said.{Said}
@@ -18,7 +19,6 @@ use Rattle.boxglue_script.proofs.SaidLaws.{say_joined}
 use Rattle.boxglue_program.specs.Texts.{answer_line, script_refusal_text}
 use Rattle.boxglue_program.specs.Runs.{commands_of}
 use Rattle.boxglue_program.specs.Sessions.{session_text, are_accepted, IsSent, DialogView, AnswersLines}
-use Rattle.boxglue_program.proofs.RunLaws.{grown_not, grown_further}
 use Rattle.boxglue_program.proofs.WritingLemmas.{appends_both, appends_keeps}
 
 pub commands_joined : (front rest : List Line) → commands_of (front ++ rest) ≡ commands_of front ++ commands_of rest
@@ -98,8 +98,7 @@ none_answered old = record {
   answers_are = refl;
   counted = omega arith;
   accepted = sym (and-true old.accepted);
-  grows = grown_not old.job.bytes_written;
-  began = refl;
+  goes_on = goes_not (writing_of old.job);
 }
 
 -- Lines were run, and then others.
@@ -132,8 +131,7 @@ answered_both old middle new all more answers others first second =
           ∙ (ap (λ (b : Bool). b && are_accepted second.said second.replies) first.accepted
           ∙ (and_grouped old.accepted (are_accepted first.said first.replies) (are_accepted second.said second.replies)
           ∙ ap (λ (b : Bool). old.accepted && b) (sym (accepted_joined first.said second.said first.replies second.replies))));
-      grows = grown_further old.job.bytes_written middle.job.bytes_written new.job.bytes_written first.grows second.grows;
-      began = second.began ∙ first.began;
+      goes_on = goes_further (writing_of old.job) (writing_of middle.job) (writing_of new.job) first.goes_on second.goes_on;
     }
 
 -- The same lines and answers.

@@ -9,7 +9,8 @@ use Rattle.job_commands.specs.declared.replies.Summary.{Summary}
 use Rattle.job_commands.specs.Reply.{Reply}
 use Rattle.tfm_core.specs.NamedBytes.{NamedBytes}
 use Rattle.dvi_device.specs.Written.{written_then, IsFrontOf}
-use Rattle.dvi_device.specs.Pasts.{Past, Differs, KeepsPast}
+use Rattle.dvi_device.specs.Pasts.{Differs, KeepsPast}
+use Rattle.dvi_device.specs.Seen.{DeviceView, device_view}
 use Rattle.dvi_device.specs.Resumed.{PassesOn}
 use Rattle.dvi_ops.specs.Fonts.{WidthsByName}
 use Rattle.dvi_layout.specs.Layout.{front, whole}
@@ -17,7 +18,7 @@ use Rattle.dvi_layout.specs.Shippable.{IsFileOfPages}
 use Rattle.job_core.specs.Jobs.{due}
 use Rattle.job_core.specs.Shown.{GivesFiles}
 use Rattle.dvi_layout.specs.Closing.{IsClosedFor}
-use Rattle.dvi_device.specs.Held.{MemoryState}
+use Rattle.dvi_device.specs.Held.{MemoryState, new_memory}
 use Rattle.job_machine.specs.Machine.{Machine, first_machine}
 use Rattle.job_machine.specs.Runs.{Run, Finishes}
 use Rattle.boxglue_script.specs.declared.cause.Cause.{Cause}
@@ -90,17 +91,6 @@ pub record RefusedScript (text answer : List ℕ) (fine : Bool) : Type 0 where
   pub answer_is : answer ≡ script_refusal_text number cause
   pub fine_is : fine ≡ false
 
--- A device as contracts see it: the device itself; the bytes that it reports, if they are known; how often it has failed; and its past.
-pub record DeviceView (D : Type 0) : Type 0 where
-  pub itself : D
-  pub bytes_written : Option (List ℕ)
-  pub failed : ℕ
-  pub past : Past
-
--- A device as contracts see it, by what they know of each device of its kind.
-abbrev pub device_view : {D : Type 0} → (bytes_written : D → Option (List ℕ)) → (failed : D → ℕ) → (past : D → Past) → D → DeviceView D
-device_view bytes_written failed past device = record { itself = device; bytes_written = bytes_written device; failed = failed device; past = past device }
-
 -- The fault of a run, with its device as contracts see it.
 abbrev pub fault_view : {D : Type 0} → (D → DeviceView D) → RunFault D → RunFault (DeviceView D)
 fault_view seen (Memory back) = Memory (seen back)
@@ -114,31 +104,25 @@ pub record RanOn {D : Type 0} (text : List ℕ) (files : List NamedBytes) (devic
 -- The answer to a script, and the device after it: the answers and the device on which the script was run; or the one line and the device as it was.
 abbrev pub IsAnswered : {D : Type 0} → List ℕ → List NamedBytes → (device back : DeviceView D) → (answer : List ℕ) → (fine : Bool) → Type 0
 IsAnswered text files device back answer fine =
-    RanOn text files device back answer fine ⊎ (RefusedScript text answer fine × (back.itself ≡ device.itself))
+    RanOn text files device back answer fine ⊎ (RefusedScript text answer fine × (back ≡ device))
+
+-- Memory was refused for the answer to a script: nothing was run and the device is as it was, or the whole script was run on it.
+abbrev pub IsUnanswered : {D : Type 0} → List ℕ → List NamedBytes → (device back : DeviceView D) → Type 0
+IsUnanswered text files device back = (back ≡ device) ⊎ ((answer : List ℕ) × (fine : Bool) × RanOn text files device back answer fine)
 
 -- A device that has reported no byte and failed as often as before: nothing was run on it.
 pub record IsUntouched (n k : ℕ) (bytes_written : Option (List ℕ)) : Type 0 where
   pub silent : IfSome bytes_written (λ bytes. bytes ≡ [])
   pub failed_is : k ≡ n
 
--- A script was run, with some replies and some end.
-abbrev pub WasRunWhole : List ℕ → List NamedBytes → (n k : ℕ) → Option (List ℕ) → Type 0
-WasRunWhole text files n k bytes_written =
-    (lines : List Line) × (replies : List Reply) × (end : Result Summary Refusal) × IsScript text lines × WasRun files n (commands_of lines) replies end k bytes_written
-
 -- What was written is a beginning of a text, and not all of it.
 abbrev pub WritesFront : (old new : Option (List ℕ)) → List ℕ → Type 0
 WritesFront old new text = (count : ℕ) × (count < length text) × Appends old new (take count text)
 
--- Memory was refused: nothing was run, or the whole script was; and nothing was written.
-pub record LacksMemory (text : List ℕ) (files : List NamedBytes) (n k : ℕ) (bytes_written old new : Option (List ℕ)) : Type 0 where
-  pub device : IsUntouched n k bytes_written ⊎ WasRunWhole text files n k bytes_written
-  pub silent : Keeps old new
-
--- What is known if a run failed: memory was refused; or the writer took a beginning of the answer, once, and not all of it.
+-- What is known if a run failed: memory was refused, and nothing was written; or the writer took a beginning of the answer, once, and not all of it.
 abbrev pub IsLeft : {D : Type 0} → List ℕ → List NamedBytes → (device : DeviceView D) → RunFault (DeviceView D)
     → (old new : Option (List ℕ)) → Type 0
-IsLeft text files device (Memory back) old new = LacksMemory text files device.failed back.failed back.bytes_written old new
+IsLeft text files device (Memory back) old new = IsUnanswered text files device back × Keeps old new
 IsLeft text files device (Answers back) old new =
     (answer : List ℕ) × (fine : Bool) × IsAnswered text files device back answer fine × WritesFront old new answer
 
@@ -156,9 +140,15 @@ IsAnsweredInMemory text files memory answer fine = RanInMemory text files memory
 abbrev pub IsAnswerInMemory : List ℕ → List NamedBytes → (answer : List ℕ) → (fine : Bool) → Type 0
 IsAnswerInMemory text files answer fine = (memory : MemoryState) × IsAnsweredInMemory text files memory answer fine
 
--- What is known if a run on a device in memory failed: memory was refused; or the writer took a beginning of the answer, and not all of it.
+-- Memory was refused for the answer to a script whose device is in memory: nothing was run and this is new, or the whole script was run on it.
+abbrev pub IsUnansweredInMemory : List ℕ → List NamedBytes → MemoryState → Type 0
+IsUnansweredInMemory text files memory =
+    (memory ≡ new_memory) ⊎ ((answer : List ℕ) × (fine : Bool) × RanScript text files 0 memory.failures (Some memory.bytes) answer fine)
+
+-- What is known if a run on a device in memory failed: memory was refused, and nothing was written; or the writer took a beginning of the answer, and not all
+-- of it.
 abbrev pub IsLeftInMemory : List ℕ → List NamedBytes → RunFault MemoryState → (old new : Option (List ℕ)) → Type 0
-IsLeftInMemory text files (Memory memory) old new = LacksMemory text files 0 memory.failures (Some memory.bytes) old new
+IsLeftInMemory text files (Memory memory) old new = IsUnansweredInMemory text files memory × Keeps old new
 IsLeftInMemory text files (Answers memory) old new =
     (answer : List ℕ) × (fine : Bool) × IsAnsweredInMemory text files memory answer fine × WritesFront old new answer
 
@@ -208,21 +198,20 @@ pub record RanOverRest {D : Type 0} (text : List ℕ) (files : List NamedBytes) 
 abbrev pub IsAnsweredOverRest : {D : Type 0} → List ℕ → List NamedBytes → (sent : List ℕ) → (device back : DeviceView D)
     → (answer : List ℕ) → (fine : Bool) → Type 0
 IsAnsweredOverRest text files sent device back answer fine =
-    RanOverRest text files sent device back answer fine ⊎ (RefusedScript text answer fine × (back.itself ≡ device.itself))
+    RanOverRest text files sent device back answer fine ⊎ (RefusedScript text answer fine × (back ≡ device))
 
--- What is known if a run over the rest of a file failed: memory was refused; or the writer took a beginning of the answer, once, and not all of it.
+-- Memory was refused for the answer: nothing was run and the inner device is as it was, or the whole script was run.
+abbrev pub IsUnansweredOverRest : {D : Type 0} → List ℕ → List NamedBytes → (sent : List ℕ) → (device back : DeviceView D) → Type 0
+IsUnansweredOverRest text files sent device back =
+    (back ≡ device) ⊎ ((answer : List ℕ) × (fine : Bool) × RanOverRest text files sent device back answer fine)
+
+-- What is known if a run over the rest of a file failed: memory was refused, and nothing was written; or the writer took a beginning of the answer, once, and
+-- not all of it.
 abbrev pub IsLeftOverRest : {D : Type 0} → List ℕ → List NamedBytes → (sent : List ℕ) → (device : DeviceView D) → RunFault (DeviceView D)
     → (old new : Option (List ℕ)) → Type 0
-IsLeftOverRest text files sent device (Memory back) old new =
-    (reported : Option (List ℕ)) × (differing : ℕ) × PassesOn sent device.bytes_written back.bytes_written reported
-    × LacksMemory text files device.failed (back.failed + differing) reported old new
+IsLeftOverRest text files sent device (Memory back) old new = IsUnansweredOverRest text files sent device back × Keeps old new
 IsLeftOverRest text files sent device (Answers back) old new =
     (answer : List ℕ) × (fine : Bool) × IsAnsweredOverRest text files sent device back answer fine × WritesFront old new answer
-
--- The device that is returned if a run failed.
-abbrev pub device_of : {D : Type 0} → RunFault D → D
-device_of (Memory back) = back
-device_of (Answers back) = back
 
 -- The line for a refused growth of memory.
 abbrev pub memory_line : List ℕ

@@ -9,10 +9,10 @@ use Rattle.job_commands.specs.declared.replies.Summary.{Summary}
 use Rattle.job_commands.specs.Reply.{Reply}
 use Rattle.std.specs.Prelude.{is_ok}
 use Rattle.tfm_core.specs.NamedBytes.{NamedBytes}
-use Rattle.dvi_device.specs.Written.{written_then}
+use Rattle.dvi_write.specs.Writing.{GoesOn}
 use Rattle.job_machine.specs.Machine.{Machine, first_machine}
 use Rattle.job_machine.specs.Runs.{Run}
-use Rattle.job_core.specs.Jobs.{JobView, Represents, RunsTo}
+use Rattle.job_core.specs.Jobs.{JobView, Represents, RunsTo, writing_of}
 use Rattle.boxglue_script.specs.declared.said.Said.{Said}
 use Rattle.boxglue_script.specs.declared.said.Said.TheVariants.{Nothing, Command, Bad}
 use Rattle.boxglue_script.specs.SaidLines.{SayEach, IsWhole, lines_said, has_no_bad}
@@ -54,8 +54,7 @@ pub record AnswersLines (old : DialogView) (all : List (List ℕ)) (answers : Li
   pub answers_are : answers ≡ session_text (old.lines + 1) said replies
   pub counted : new.lines ≡ old.lines + length all
   pub accepted : new.accepted ≡ (old.accepted && are_accepted said replies)
-  pub grows : (more : List ℕ) × (new.job.bytes_written ≡ written_then old.job.bytes_written more)
-  pub began : new.job.began ≡ old.job.began
+  pub goes_on : GoesOn (writing_of old.job) (writing_of new.job)
 
 -- A job was finished with this end: what a new job had run up to then was run whole.
 abbrev pub EndsRun : JobView → Result Summary Refusal → (k : ℕ) → (bytes_written : Option (List ℕ)) → Type 0

@@ -4,6 +4,8 @@ ghost use Rattle.std.specs.Prelude.{◌≡◌, ◌++◌, ◌∷◌, ◌<◌, ◌
 ghost use Rattle.std.specs.Str.Lines.{lines};
 ghost use Rattle.job_commands.specs.declared.replies.Refusal.{Refusal as ARefusal};
 ghost use Rattle.job_commands.specs.declared.replies.Summary.{Summary as ASummary};
+ghost use Rattle.dvi_write.specs.Writing.{GoesOn};
+ghost use Rattle.job_core.specs.Jobs.{writing_of};
 ghost use Rattle.boxglue_program.specs.Texts.{end_line};
 ghost use Rattle.boxglue_program.specs.Sessions.{AnswersLines, DialogView, EndsRun, IsSent, StopsIn};
 ghost use Rattle.boxglue_program.specs.Dialogs.{dialog_of, outbox_of, Sends};
@@ -84,7 +86,7 @@ impl<D: Device> Dialog<D> {
             × (answers.new.items ≡ answers.old.items ++ end_line end) × (accepted ≡ (self.old.accepted && is_ok end))) }
         ensures none { OnErr result (self.new.job ≡ self.old.job) }
         ensures cut { OnErr result (answers.new.items ≡ answers.old.items) }
-        ensures began { self.new.job.began ≡ self.old.job.began }
+        ensures goes_on { GoesOn (writing_of self.old.job) (writing_of self.new.job) }
     {
         answers.reserve(ANSWER_SIZE)?;
         let end = self.job.finish();
@@ -194,7 +196,7 @@ impl Outbox {
             × AnswersLines (dialog_of dialog.old.job dialog.old.lines dialog.old.accepted) (lines text.now) answers middle
             × EndsRun middle.job end dialog.new.job.failed dialog.new.job.bytes_written
             × IsSent self.old.reads self.new.reads (W.contents writer.old) (W.contents writer.new) (answers ++ end_line end)
-            × (accepted ≡ (middle.accepted && is_ok end)) × (dialog.new.job.began ≡ middle.job.began)) }
+            × (accepted ≡ (middle.accepted && is_ok end)) × GoesOn (writing_of middle.job) (writing_of dialog.new.job)) }
         ensures stopped { OnErr result ((answers : List ℕ)
             × StopsIn text.now (dialog_of dialog.old.job dialog.old.lines dialog.old.accepted) answers dialog.new.job
             × IsSent self.old.reads self.new.reads (W.contents writer.old) (W.contents writer.new) answers) }
@@ -213,7 +215,7 @@ impl Outbox {
         ensures ended { IfOk result (λ accepted. (end : Result ASummary ARefusal) × EndsRun dialog.old.job end dialog.new.job.failed dialog.new.job.bytes_written
             × IsSent self.old.reads self.new.reads (W.contents writer.old) (W.contents writer.new) (end_line end) × (accepted ≡ (dialog.old.accepted && is_ok end))) }
         ensures none { OnErr result ((dialog.new.job ≡ dialog.old.job) × IsSent self.old.reads self.new.reads (W.contents writer.old) (W.contents writer.new) []) }
-        ensures began { dialog.new.job.began ≡ dialog.old.job.began }
+        ensures goes_on { GoesOn (writing_of dialog.old.job) (writing_of dialog.new.job) }
     {
         let ended = dialog.finish(&mut self.waiting);
         self.send(writer);

@@ -1,16 +1,17 @@
 //! Running a script.
 
-ghost use Rattle.std.specs.Prelude.{◌≡◌, ◌<◌, ◌≤◌, ◌+◌, ◌*◌, ◌^◌, ◌++◌, ◌⊎◌, ℕ, false, true, List, [], length, Some, Result, IfOk, IfErr, IfSome, vec_len, vec_capacity};
+ghost use Rattle.std.specs.Prelude.{◌≡◌, ◌<◌, ◌≤◌, ◌+◌, ◌*◌, ◌^◌, ◌++◌, ℕ, false, true, List, [], length, Some, Result, IfOk, IfErr, IfSome, vec_len, vec_capacity};
 ghost use Rattle.std.specs.Io.KnownBytes.{Appends};
 ghost use Rattle.job_commands.specs.declared.replies.Refusal.{Refusal as ARefusal};
 ghost use Rattle.job_commands.specs.declared.replies.Summary.{Summary as ASummary};
 ghost use Rattle.job_commands.specs.Reply.{Reply};
-ghost use Rattle.dvi_device.specs.Written.{written_then};
 ghost use Rattle.dvi_device.specs.Pasts.{KeepsPast};
-ghost use Rattle.job_core.specs.Jobs.{RunsTo, due};
+ghost use Rattle.dvi_device.specs.Seen.{device_view};
+ghost use Rattle.dvi_write.specs.Writing.{GoesOn};
+ghost use Rattle.job_core.specs.Jobs.{RunsTo, due, writing_of};
 ghost use Rattle.boxglue_program.specs.Texts.{answer_line, answer_lines, answers_text, end_line};
 ghost use Rattle.boxglue_program.specs.Outcomes.{replies_outcome, run_outcome};
-ghost use Rattle.boxglue_program.specs.Runs.{commands_of, line_numbers, device_of, device_view, fault_view, WasRun, IsAnswered, IsUntouched, WasRunWhole, IsLeft, IsAnswerOfRest, IsAnsweredOverRest, IsLeftOverRest};
+ghost use Rattle.boxglue_program.specs.Runs.{commands_of, line_numbers, fault_view, WasRun, IsAnswered, IsUnanswered, IsLeft, IsAnswerOfRest, IsAnsweredOverRest, IsLeftOverRest};
 
 use crate::outcome::Outcome;
 use crate::texts::{push_answer_line, push_end_line, script_refusal_text};
@@ -53,10 +54,8 @@ pub fn answer_script<D: Device>(
     requires fresh { IfSome (D.bytes_written device) (λ bytes. bytes ≡ []) }
     ensures answers { let seen = device_view D.bytes_written D.failed D.past in
         IfOk result (λ done. IsAnswered text.now files.now (seen device) (seen done.device) done.text.items done.accepted) }
-    ensures left { IfErr result (λ back. IsUntouched (D.failed device) (D.failed back) (D.bytes_written back)
-        ⊎ WasRunWhole text.now files.now (D.failed device) (D.failed back) (D.bytes_written back)) }
-    ensures began { IfOk result (λ done. (D.past done.device).made ≡ (D.past device).made) }
-    ensures kept { IfErr result (λ back. (D.past back).made ≡ (D.past device).made) }
+    ensures left { let seen = device_view D.bytes_written D.failed D.past in
+        IfErr result (λ back. IsUnanswered text.now files.now (seen device) (seen back)) }
 {
     let lines = match read_script(alloc, text) {
         Ok(lines) => lines,
@@ -108,8 +107,6 @@ pub fn run_script<D: Device, W: Write>(
         × Appends (W.contents writer.old) (W.contents writer.new) answer) }
     ensures left { let seen = device_view D.bytes_written D.failed D.past in
         IfErr result (λ fault. IsLeft text.now files.now (seen device) (fault_view seen fault) (W.contents writer.old) (W.contents writer.new)) }
-    ensures began { IfOk result (λ done. (D.past done.1).made ≡ (D.past device).made) }
-    ensures kept { IfErr result (λ fault. (D.past (device_of fault)).made ≡ (D.past device).made) }
 {
     let done = match answer_script(alloc, text, files, device) {
         Ok(done) => done,
@@ -181,9 +178,7 @@ pub fn run_whole<D: Device>(
         × (run : WasRun files.now (D.failed device) (commands_of lines.now) replies end (D.failed ran.device) (D.bytes_written ran.device))
         × KeepsPast (D.past device) (due run.last) (D.past ran.device)
         × IfSome ran.answers (λ text. text.items ≡ answers_text (line_numbers lines.now) replies end) × (ran.outcome ≡ run_outcome replies end)) }
-    ensures none { IfErr result (λ back. IsUntouched (D.failed device) (D.failed back) (D.bytes_written back)) }
-    ensures began { IfOk result (λ ran. (D.past ran.device).made ≡ (D.past device).made) }
-    ensures kept { IfErr result (λ back. (D.past back).made ≡ (D.past device).made) }
+    ensures none { IfErr result (λ back. back ≡ device) }
 {
     let mut job = Job::new(alloc, device, files)?;
     let mut answers = Vec::new(alloc);
@@ -228,8 +223,7 @@ pub fn run_lines<D: Device>(job: &mut Job<D>, lines: &[Line], answers: &mut Vec<
         × (result.kept ≡ false → answers.new.items ≡ answers.old.items) × (result.outcome ≡ replies_outcome replies) }
     ensures room { vec_len answers.old + 512 * length lines.now ≤ vec_capacity answers.old → result.kept ≡ true }
     ensures idle { job.old.state.over ≡ true → job.new ≡ job.old }
-    ensures grows { (more : List ℕ) × (job.new.bytes_written ≡ written_then job.old.bytes_written more) }
-    ensures began { job.new.began ≡ job.old.began }
+    ensures goes_on { GoesOn (writing_of job.old) (writing_of job.new) }
 {
     let before = answers.len();
     let mut outcome = Outcome::Accepted;

@@ -4,6 +4,9 @@
 ghost use Rattle.std.specs.Prelude.{◌≡◌, ◌≤◌, ◌<◌, ◌+◌, ◌++◌, ◌^◌, ℕ, true, List, [], length, take, drop, Contains, None, Ok, Err, IfOk, IfErr, IfSome, OnOk, OnErr, vec_len};
 ghost use Rattle.std.specs.Str.Lines.{lines};
 ghost use Rattle.std.specs.Io.KnownBytes.{Consumes, IsAtEnd, Keeps};
+ghost use Rattle.dvi_device.specs.Seen.{device_view};
+ghost use Rattle.dvi_write.specs.Writing.{IsDeviceOf};
+ghost use Rattle.job_core.specs.Jobs.{writing_of};
 ghost use Rattle.boxglue_script.specs.SaidLines.{IsWhole};
 ghost use Rattle.boxglue_program.specs.Sessions.{AnswersLines, RanSession, LacksSessionMemory, IsUnreadable, IsCutOff, IsSent, StopsIn};
 ghost use Rattle.boxglue_program.specs.Dialogs.{dialog_of, IsCut};
@@ -147,7 +150,9 @@ fn take_piece<D: Device, W: Write>(
 impl<D: Device> Session<D> {
     ghost use Rattle.std.specs.Prelude.{◌≡◌, ◌≤◌, ◌<◌, ◌+◌, ◌≢◌, ◌^◌, ℕ, List, [], length, Ok, Err, IfOk, IfErr, IfSome};
     ghost use Rattle.std.specs.Io.KnownBytes.{Consumes, IsAtEnd, Keeps};
-    ghost use Rattle.job_core.specs.Jobs.{JobView};
+    ghost use Rattle.dvi_device.specs.Seen.{device_view};
+    ghost use Rattle.dvi_write.specs.Writing.{IsDeviceOf, IsMadeOver};
+    ghost use Rattle.job_core.specs.Jobs.{JobView, writing_of};
     ghost use Rattle.boxglue_program.specs.Sessions.{EndsSession, Exchanges, IsNewSession, IsSent, LacksRoom, StopsIn};
 
     /// A new session with these font files, which may read `limit` bytes in all. The device must have reported no byte yet. If memory is refused, the error is
@@ -157,7 +162,7 @@ impl<D: Device> Session<D> {
         requires fresh { IfSome (D.bytes_written device) (λ bytes. bytes ≡ []) }
         ensures new { IfOk result (IsNewSession files.now (D.failed device)) }
         ensures limited { IfOk result (λ session. session.left ≡ limit) }
-        ensures began { IfOk result (λ session. session.dialog.job.began ≡ D.past device) }
+        ensures made { IfOk result (λ session. IsMadeOver (device_view D.bytes_written D.failed D.past device) (writing_of session.dialog.job)) }
         ensures device_returned { IfErr result (λ back. back ≡ device) }
     {
         let Ok(waiting) = Vec::with_capacity(alloc, OUTBOX_SIZE) else {
@@ -234,7 +239,7 @@ impl<D: Device> Session<D> {
         ensures memory { IfErr result.outcome (λ fault. (fault ≡ SessionFault.OutOfMemory) × (answers : List ℕ) × (job : JobView)
             × StopsIn self.kept self.dialog answers job × IsSent self.reads result.written (W.contents writer.old) (W.contents writer.new) answers
             × (D.failed result.device ≡ job.failed) × (D.bytes_written result.device ≡ job.bytes_written)) }
-        ensures began { (D.past result.device).made ≡ self.dialog.job.began.made }
+        ensures made { (D.past result.device).made ≡ self.dialog.job.began.made }
     {
         let Session {
             mut dialog,
@@ -253,9 +258,7 @@ impl<D: Device> Session<D> {
     pub fn stop(self, fault: SessionFault) -> SessionEnd<D>
         ensures outcome { result.outcome ≡ Err fault }
         ensures written { result.written ≡ self.reads }
-        ensures bytes_written { D.bytes_written result.device ≡ self.dialog.job.bytes_written }
-        ensures failed { D.failed result.device ≡ self.dialog.job.failed }
-        ensures began { (D.past result.device).made ≡ self.dialog.job.began.made }
+        ensures device { IsDeviceOf (writing_of self.dialog.job) (device_view D.bytes_written D.failed D.past result.device) }
     {
         let Session {
             dialog,
@@ -276,9 +279,7 @@ fn close<D: Device>(
 ) -> SessionEnd<D>
     ensures outcome { result.outcome ≡ outcome }
     ensures written { result.written ≡ outbox.now.reads }
-    ensures bytes_written { D.bytes_written result.device ≡ dialog.job.bytes_written }
-    ensures failed { D.failed result.device ≡ dialog.job.failed }
-    ensures began { (D.past result.device).made ≡ dialog.job.began.made }
+    ensures device { IsDeviceOf (writing_of dialog.job) (device_view D.bytes_written D.failed D.past result.device) }
 {
     let Dialog {
         alloc: _alloc,
@@ -320,7 +321,7 @@ pub fn run_session<D: Device, R: Read, W: Write>(
         × Consumes (R.remaining reader.old) (R.remaining reader.new) (text ++ lost) × IsUnreadable limit text lost
         × IsCutOff text files.now (D.failed device) (D.failed result.device) (D.bytes_written result.device) answer
         × IsSent true result.written (W.contents writer.old) (W.contents writer.new) answer }
-    ensures began { (D.past result.device).made ≡ (D.past device).made }
+    ensures made { (D.past result.device).made ≡ (D.past device).made }
 {
     let mut session = match Session::new(alloc, files, device, limit) {
         Ok(session) => session,

@@ -4,3 +4,4 @@ pub mod Fused
 pub mod Resumed
 pub mod Beginnings
 pub mod Pasts
+pub mod Seen

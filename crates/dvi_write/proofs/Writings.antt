@@ -1,6 +1,6 @@
 -- A writer, and the pages that it has written.
 use Rattle.std.proofs.Common.{◌≡◌, ◌≢◌, ℕ, ◌+◌, ◌<◌, ◌^◌, List, [], ◌∷◌, ◌++◌, length, take, inl, inr, refl, ap, sym, subst, ◌∙◌, arith, append-nil, length-append}
-use Rattle.std.specs.Prelude.{Bool, true, false, if◌then◌else◌, ◌⊎◌, Option, Some, None, Result, Ok, Err, OnOk, OnErr}
+use Rattle.std.specs.Prelude.{Bool, true, false, if◌then◌else◌, ◌⊎◌, Option, Some, None, Result, Ok, Err, is_err, OnOk, OnErr}
 use Rattle.std.proofs.Math.Seq.{take-append-add}
 use Rattle.std.proofs.lemmas.List.{nil_from_length}
 use Rattle.scaled_core.proofs.EachOf.{all_append}
@@ -17,7 +17,7 @@ use Rattle.dvi_layout.specs.Layout.{front, whole}
 use Rattle.dvi_layout.specs.Shippable.{IsRightPage}
 use Rattle.dvi_layout.specs.SoFar.{ProgressView, nothing_so_far, next_bytes, with_next, last_bytes}
 use Rattle.dvi_layout.specs.Limits.{HasRoom, limit_of}
-use Rattle.dvi_write.specs.Writing.{Writing, HasWritten, RefusesPage, refusal_of}
+use Rattle.dvi_write.specs.Writing.{GoesOn, HasWritten, RefusesPage, Writing, refusal_of}
 use Rattle.dvi_layout.proofs.Rooms.{small}
 use Rattle.dvi_layout.proofs.NextPages.{front-append, so_far-append, whole-is}
 use Rattle.dvi_layout.proofs.MoreFonts.{front_more, so_far_more, pages_more}
@@ -25,6 +25,30 @@ use Rattle.dvi_layout.proofs.MoreFonts.{front_more, so_far_more, pages_more}
 grown-none : (bytes_written : Option (List ℕ)) → bytes_written ≡ written_then bytes_written []
 grown-none None = refl
 grown-none (Some bytes) = ap Some (sym (append-nil bytes))
+
+-- Nothing more was sent.
+pub goes_not : (w : Writing) → GoesOn w w
+goes_not w = record { more = []; grows = grown-none w.bytes_written; began = refl }
+
+-- A call of the device that failed sent a beginning of the bytes.
+pub goes_by_front : {A E : Type 0} (r : Result A E) (old new : Writing) (bytes : List ℕ) → is_err r ≡ true → OnErr r (GrowsByFront old.bytes_written new.bytes_written bytes)
+    → new.began ≡ old.began → GoesOn old new
+goes_by_front (Ok x) old new bytes failed grows began = absurd (cc)
+goes_by_front (Err e) old new bytes failed grows began = record { more = take grows.0 bytes; grows = grows.2; began = began }
+
+-- One that did not fail sent all of them.
+pub goes_by_all : {A E : Type 0} (r : Result A E) (old new : Writing) (bytes : List ℕ) → is_err r ≡ false → OnOk r (new.bytes_written ≡ written_then old.bytes_written bytes)
+    → new.began ≡ old.began → GoesOn old new
+goes_by_all (Ok x) old new bytes fine grows began = record { more = bytes; grows = grows; began = began }
+goes_by_all (Err e) old new bytes fine grows began = absurd (cc)
+
+-- More was sent twice.
+pub goes_further : (old now new : Writing) → GoesOn old now → GoesOn now new → GoesOn old new
+goes_further old now new first second = record {
+  more = first.more ++ second.more;
+  grows = second.grows ∙ (ap (λ (o : Option (List ℕ)). written_then o second.more) first.grows ∙ grown-grown old.bytes_written first.more second.more);
+  began = second.began ∙ first.began;
+}
 
 -- A new writer has written no page.
 pub written_none : (fonts : Slots) (w : Writing) → w.so_far ≡ nothing_so_far → w.over ≡ false → w.past ≡ w.began → HasWritten fonts w.bytes_written w []

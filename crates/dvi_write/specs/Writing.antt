@@ -4,6 +4,7 @@ use Rattle.std.specs.List.{AllByRecursion}
 use Rattle.page_core.specs.Marks.{ShippedPage}
 use Rattle.dvi_device.specs.Written.{written_then}
 use Rattle.dvi_device.specs.Pasts.{Past, past_after}
+use Rattle.dvi_device.specs.Seen.{DeviceView}
 use Rattle.dvi_layout.specs.declared.fault.WriteFault.{WriteFault}
 use Rattle.dvi_layout.specs.declared.fault.WriteFault.TheVariants.{JobOver, OutOfMemory, Device}
 use Rattle.tfm_core.specs.Slots.{Slots}
@@ -21,6 +22,25 @@ pub record Writing : Type 0 where
   pub past : Past
   pub began : Past
   pub over : Bool
+
+-- A writer was made over a device, to which it has sent nothing.
+pub record IsMadeOver {D : Type 0} (device : DeviceView D) (w : Writing) : Type 0 where
+  pub bytes_written : w.bytes_written ≡ device.bytes_written
+  pub failed : w.failed ≡ device.failed
+  pub began : w.began ≡ device.past
+
+-- The device of a writer is this one. What it was made with is the same as when the writer was made.
+pub record IsDeviceOf {D : Type 0} (w : Writing) (device : DeviceView D) : Type 0 where
+  pub bytes_written : device.bytes_written ≡ w.bytes_written
+  pub failed : device.failed ≡ w.failed
+  pub past : device.past ≡ w.past
+  pub made : device.past.made ≡ w.began.made
+
+-- The device of a writer has reported more bytes, or no more, after those that it had reported. Its past when the writer was made stays what it was.
+pub record GoesOn (old new : Writing) : Type 0 where
+  pub more : List ℕ
+  pub grows : new.bytes_written ≡ written_then old.bytes_written more
+  pub began : new.began ≡ old.began
 
 -- The writer has written these pages with these fonts to a device that reported `before` at the start: all their bytes up to the last eop were sent,
 -- once and in order, and no others. The device has met as many of the bytes that it was to meet.

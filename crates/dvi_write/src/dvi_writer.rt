@@ -42,6 +42,7 @@ impl<D: Device> DviWriter<D> {
     ghost use Rattle.std.specs.Prelude.{◌≡◌, ◌≢◌, ◌<◌, ◌+◌, ◌^◌, ◌++◌, ◌⊎◌, ◌∷◌, [], true, false, ℕ, List, Option, Some, None, length, IfOk, IfErr, OnOk, OnErr, Err, Result, nat_eq};
     ghost use Rattle.dvi_device.specs.Written.{written_then, GrowsByFront};
     ghost use Rattle.dvi_device.specs.Pasts.{KeepsPast, Passes, past_after};
+    ghost use Rattle.dvi_device.specs.Seen.{device_view};
     ghost use Rattle.dvi_ops.specs.Fonts.{WidthsByName};
     ghost use Rattle.page_core.specs.Marks.{ShippedPage};
     ghost use Rattle.dvi_layout.specs.declared.fault.WriteFault.{WriteFault};
@@ -52,15 +53,14 @@ impl<D: Device> DviWriter<D> {
     ghost use Rattle.dvi_layout.specs.Closing.{IsClosedFor};
     ghost use Rattle.dvi_layout.specs.Shippable.{GivesFonts, IsFileOfPages, IsRightPage, IsShippable};
     ghost use Rattle.page_core.specs.Pages.{page_with};
-    ghost use Rattle.dvi_write.specs.Writing.{EndsWith, HasWritten, MayFail, RefusesPage, refusal_of};
+    ghost use Rattle.dvi_write.specs.Writing.{EndsWith, GoesOn, HasWritten, IsDeviceOf, IsMadeOver, MayFail, RefusesPage, refusal_of};
 
     /// A writer to a device. It takes no memory, and sends nothing. What the device reported before is named in the clauses, so that callers need not
     /// begin with a fresh device.
     pub fn new(device: D) -> DviWriter<D>
         requires { D.failed device + 1 < 2 ^ 64 }
         ensures written { (fonts : Slots) → HasWritten fonts (D.bytes_written device) result [] }
-        ensures failed { result.failed ≡ D.failed device }
-        ensures began { result.began ≡ D.past device }
+        ensures made { IsMadeOver (device_view D.bytes_written D.failed D.past device) result }
     {
         DviWriter {
             progress: Progress::new(),
@@ -86,19 +86,14 @@ impl<D: Device> DviWriter<D> {
 
     /// Lends the device.
     pub fn device(&self) -> &D
-        ensures bytes_written { D.bytes_written result.now ≡ self.now.bytes_written }
-        ensures failed { D.failed result.now ≡ self.now.failed }
-        ensures past { D.past result.now ≡ self.now.past }
+        ensures { IsDeviceOf self.now (device_view D.bytes_written D.failed D.past result.now) }
     {
         &self.device
     }
 
-    /// Returns the device, which was made with what it was made with when the writer was.
+    /// Returns the device.
     pub fn into_device(self) -> D
-        ensures bytes_written { D.bytes_written result ≡ self.bytes_written }
-        ensures failed { D.failed result ≡ self.failed }
-        ensures past { D.past result ≡ self.past }
-        ensures made { (D.past result).made ≡ self.began.made }
+        ensures { IsDeviceOf self (device_view D.bytes_written D.failed D.past result) }
     {
         let DviWriter {
             progress: _progress,
@@ -121,7 +116,7 @@ impl<D: Device> DviWriter<D> {
         ensures counted { OnErr result (self.new.failed ≡ self.old.failed + 1) }
         ensures over { OnErr result (self.new.over ≡ true) }
         ensures past { Passes result self.old.past bytes.now self.new.past }
-        ensures began { self.new.began ≡ self.old.began }
+        ensures goes_on { GoesOn self.old self.new }
     {
         if write_all(&mut self.device, bytes).is_err() {
             self.over = true;
@@ -196,8 +191,7 @@ impl<D: Device> DviWriter<D> {
         ensures failed { result ≡ Err WriteFault.Device → self.new.failed ≡ self.old.failed + 1 }
         ensures over { result ≡ Err WriteFault.Device → self.new.over ≡ true }
         ensures so_far { result ≡ Err WriteFault.Device → self.new.so_far ≡ self.old.so_far }
-        ensures grows { (more : List ℕ) × (self.new.bytes_written ≡ written_then self.old.bytes_written more) }
-        ensures began { self.new.began ≡ self.old.began }
+        ensures goes_on { GoesOn self.old self.new }
     {
         let next = self.prepare(alloc, box_node, offsets, counts, fonts)?;
         self.send(&next.bytes)?;
@@ -234,8 +228,7 @@ impl<D: Device> DviWriter<D> {
         ensures failed { result ≡ Err WriteFault.Device → self.new.failed ≡ self.old.failed + 1 }
         ensures over { OnOk result (self.new.over ≡ true) }
         ensures lost { result ≡ Err WriteFault.Device → self.new.over ≡ true }
-        ensures grows { (more : List ℕ) × (self.new.bytes_written ≡ written_then self.old.bytes_written more) }
-        ensures began { self.new.began ≡ self.old.began }
+        ensures goes_on { GoesOn self.old self.new }
     {
         if self.over {
             return Err(WriteFault::JobOver);

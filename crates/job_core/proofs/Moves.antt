@@ -62,11 +62,6 @@ written_on bytes_written new bytes is =
 pub grows_on : (bytes_written new : Option (List ℕ)) (bytes : List ℕ) → GrowsByFront (before_writing bytes_written) new bytes → GrowsByFront (before_writing new) new bytes
 grows_on bytes_written new bytes (n, less, is) = (n, less, written_on bytes_written new (take n bytes) is)
 
--- Bytes that follow each other are more bytes.
-pub grows_more : (old middle new : Option (List ℕ)) → ((more : List ℕ) × (middle ≡ written_then old more)) → ((more : List ℕ) × (new ≡ written_then middle more))
-    → (more : List ℕ) × (new ≡ written_then old more)
-grows_more old middle new (first, is) (last, goes) = (first ++ last, goes ∙ (ap (λ (bytes_written : Option (List ℕ)). written_then bytes_written last) is ∙ grown-grown old first last))
-
 -- A device that takes more bytes keeps the pages that it has.
 has_pages_on : (m : Machine) (old new : Option (List ℕ)) → HasPages m old → ((more : List ℕ) × (new ≡ written_then old more)) → HasPages m new
 has_pages_on m old new (first, is) (last, goes) =
@@ -262,11 +257,6 @@ sound_by s command None is numbers sound = record { fonts = loaded_after s comma
 pub sound_after : (s : State) (command : Command) (reply : Reply) → reply ≡ reply_to s command → IfOk reply (λ answer. GivesNumbersFor s command) → IsSound s
     → IsSound (state_after s command)
 sound_after s command reply says numbers sound = sound_by s command (first_refusal (checks s command)) refl (with_numbers s command reply says numbers) sound
-
--- A device that was not called got nothing more.
-pub grows_none : (bytes_written : Option (List ℕ)) → (more : List ℕ) × (bytes_written ≡ written_then bytes_written more)
-grows_none None = ([], refl)
-grows_none (Some bytes) = ([], ap Some (sym (append-nil bytes)))
 
 -- The view of a job with this writer and this state of the rest.
 abbrev view_at : Writing → State → JobView

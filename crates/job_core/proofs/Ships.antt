@@ -11,7 +11,7 @@ use Rattle.job_commands.specs.declared.replies.Refusal.{Refusal}
 use Rattle.job_commands.specs.declared.replies.Refusal.TheVariants.{JobOver, VoidBox, TooManyPages, TooMuchShipped, TooMuchSpecial, HugePage, Device}
 use Rattle.node_core.specs.declared.limits.TheConstants.{MAX_PAGES, MAX_SHIPPED_NODES, MAX_SHIPPED_TEXT}
 use Rattle.job_commands.specs.Reply.{Reply}
-use Rattle.dvi_device.specs.Written.{written_then, GrowsByFront}
+use Rattle.dvi_device.specs.Written.{GrowsByFront}
 use Rattle.dvi_device.specs.Pasts.{Past, KeepsPast}
 use Rattle.page_core.specs.Marks.{ShippedPage, is_huge}
 use Rattle.page_core.specs.declared.offsets.Offsets.{Offsets}
@@ -22,7 +22,7 @@ use Rattle.dvi_layout.specs.Layout.{front}
 use Rattle.dvi_layout.specs.SoFar.{ProgressView, with_next}
 use Rattle.dvi_layout.specs.Shippable.{IsShippable}
 use Rattle.page_core.specs.Pages.{page_with}
-use Rattle.dvi_write.specs.Writing.{Writing, HasWritten, EndsWith, refusal_of}
+use Rattle.dvi_write.specs.Writing.{Writing, HasWritten, EndsWith, GoesOn, refusal_of}
 use Rattle.job_machine.specs.State.{State, held_in, shipped_with}
 use Rattle.job_machine.specs.Checks.{checks, first_refusal}
 use Rattle.job_machine.specs.NextPages.{offsets_of, page_in, shipped_pages, is_huge_in}
@@ -147,14 +147,14 @@ module _ (kept : JobStateView) (w : Writing) (r : ℕ) (b : BoxNode) (page : Shi
         (ap (λ added. pages ++ added) (sym adds) ∙ ap (λ refused. state_by refused pages (pages ++ new_pages s (Ship r))) (sym (accepted none)))
         (on before pages written)
 
-    pub shipped : (count : ℕ) → count ≡ new.so_far.pages → new.failed ≡ w.failed → new.began ≡ w.began
+    pub shipped : (count : ℕ) → count ≡ new.so_far.pages → new.failed ≡ w.failed → GoesOn w new
         → ((before : Option (List ℕ)) (pages : List ShippedPage) → HasWritten kept.fonts before w pages → HasWritten kept.fonts before new (pages ++ page ∷ []))
         → KeepsTo (view_of kept w) (Ship r) (Ok (Shipped count)) (view_of now new)
-    shipped count counts stands began on =
+    shipped count counts stands goes on =
         replied (view_of kept w) (view_of now new) (Ship r) (Ok (Shipped count))
         (ap (λ n. reply_by None (Shipped n)) (counts ∙ pages) ∙ ap (λ refused. reply_by refused (Shipped (w.so_far.pages + 1))) (sym (accepted none)))
         (following ∙ ap (λ refused. state_by refused s (after s (Ship r))) (sym (accepted none)))
-        (λ running. goes_on on) (λ over. absurd (true_or_false over old_runs)) stands began
+        (λ running. goes_on on) (λ over. absurd (true_or_false over old_runs)) stands goes.began
 
   -- What holds of the bytes up to this page, by the fonts and pages of the machine.
   by_machine : (P : List ℕ → Type 0) → w.over ≡ false
@@ -181,23 +181,22 @@ module _ (kept : JobStateView) (w : Writing) (r : ℕ) (b : BoxNode) (page : Shi
   -- The reply if the page was not sent.
   pub unshipped_for : (new : Writing) (fault : WriteFault) → EndsWith w page fault → (fault ≢ faults.Device → new ≡ w) → (fault ≡ faults.Device → new.failed ≡ w.failed + 1)
       → (fault ≡ faults.Device → new.over ≡ true) → (fault ≡ faults.Device → new.so_far ≡ w.so_far) → w.over ≡ false
-      → ((more : List ℕ) × (new.bytes_written ≡ written_then w.bytes_written more))
+      → GoesOn w new
       → (fault ≡ faults.Device → (before : Option (List ℕ)) (pages : List ShippedPage) → HasWritten kept.fonts before w pages → GrowsByFront before new.bytes_written (front kept.fonts (pages ++ page ∷ [])))
       → (fault ≡ faults.Device → (before : Option (List ℕ)) (pages : List ShippedPage) → HasWritten kept.fonts before w pages → KeepsPast w.began (front kept.fonts (pages ++ page ∷ [])) new.past)
-      → new.began ≡ w.began
       → KeepsTo (view_of kept w) (Ship r) (Err (refusal_for fault)) (view_of kept new)
-  unshipped_for new fault (inl (inl some)) stays fails over keeps running grows part past began =
+  unshipped_for new fault (inl (inl some)) stays fails over keeps running goes part past =
       let other : fault ≢ faults.Device = λ lost. never_lost w page (some ∙ ap Some lost) in
       subst (λ (x : Writing). KeepsTo (view_of kept w) (Ship r) (Err (refusal_for fault)) (view_of kept x)) (sym (stays other))
       (refuses (view_of kept w) (Ship r) (refusal_for fault) (checked ∙ ap (option_map refusal_for) some))
-  unshipped_for new fault (inl (inr (none, wants))) stays fails over keeps running grows part past began =
+  unshipped_for new fault (inl (inr (none, wants))) stays fails over keeps running goes part past =
       let other : fault ≢ faults.Device = λ lost. cc in
       subst (λ (x : Writing). KeepsTo (view_of kept w) (Ship r) (Err (refusal_for fault)) (view_of kept x)) (sym (stays other))
       (lacking (view_of kept w) (Ship r) (Err (refusal_for fault)) (ap (λ fault. Err (refusal_for fault)) wants) tt (accepted none))
-  unshipped_for new fault (inr (none, lost)) stays fails over keeps running grows part past began =
+  unshipped_for new fault (inr (none, lost)) stays fails over keeps running goes part past =
       subst (λ (x : Refusal). KeepsTo (view_of kept w) (Ship r) (Err x) (view_of kept new)) (ap refusal_for (sym lost))
-      (losing_page (view_of kept w) (view_of kept new) r (accepted none) (stopped kept w new (keeps lost) (over lost)) (fails lost) grows (part_of new running (part lost))
-      (past_of new running began (past lost)))
+      (losing_page (view_of kept w) (view_of kept new) r (accepted none) (stopped kept w new (keeps lost) (over lost)) (fails lost) (goes.more, goes.grows) (part_of new running (part lost))
+      (past_of new running goes.began (past lost)))
 
 -- Device is the reply only if the device failed.
 pub is_lost : (fault : WriteFault) (reply : Reply) → reply ≡ Err (refusal_for fault) → reply ≡ Err Device → fault ≡ faults.Device

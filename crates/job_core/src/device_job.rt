@@ -12,6 +12,7 @@ ghost use Rattle.job_machine.specs.Checks.{first_refusal};
 ghost use Rattle.job_machine.specs.Effects.{new_pages};
 ghost use Rattle.job_machine.specs.Machine.{Machine, first_machine, reply_to, state_after};
 ghost use Rattle.job_machine.specs.Runs.{IsShip, MayRunOutOfMemory, early_checks};
+ghost use Rattle.dvi_write.specs.Writing.{GoesOn};
 ghost use Rattle.job_core.specs.Jobs.{Represents, KeepsTo, RunsTo, FinishesTo, before_writing};
 ghost use Rattle.job_core.specs.Sound.{IsSound, IsBoundedFile, refusal_for, view_of};
 ghost use Rattle.job_core.specs.Shown.{FilesPages};
@@ -60,8 +61,7 @@ fn ship_page<D: Device>(
     ensures unsent { IfErr result (λ refusal. refusal ≢ Refusal.Device → writer.new.bytes_written ≡ writer.old.bytes_written) }
     ensures part { result ≡ Err Refusal.Device → (m : Machine) → Represents (view_of kept.old writer.old) m
         → GrowsByFront (before_writing writer.old.bytes_written) writer.new.bytes_written (front m.state.fonts (m.pages ++ new_pages m.state (commands.Ship register))) }
-    ensures grows { (more : List ℕ) × (writer.new.bytes_written ≡ written_then writer.old.bytes_written more) }
-    ensures began { writer.new.began ≡ writer.old.began }
+    ensures goes_on { GoesOn writer.old writer.new }
 {
     let Some(box_node) = kept.held(register) else {
         return Err(Refusal::VoidBox);
@@ -145,7 +145,9 @@ impl<D: Device> Job<D> {
     ghost use Rattle.job_commands.specs.declared.command.Command.TheVariants as commands;
     ghost use Rattle.job_commands.specs.declared.replies.Refusal.{Refusal};
     ghost use Rattle.job_commands.specs.Reply.{Reply as AReply};
-    ghost use Rattle.job_core.specs.Jobs.{Represents, KeepsTo, RunsTo, FinishesTo, before_writing};
+    ghost use Rattle.dvi_device.specs.Seen.{device_view};
+    ghost use Rattle.dvi_write.specs.Writing.{GoesOn, IsDeviceOf, IsMadeOver};
+    ghost use Rattle.job_core.specs.Jobs.{Represents, KeepsTo, RunsTo, FinishesTo, before_writing, writing_of};
     ghost use Rattle.job_core.specs.Shown.{FilesPages};
     ghost use Rattle.job_core.specs.Closing.{ClosesFile};
 
@@ -156,9 +158,7 @@ impl<D: Device> Job<D> {
         requires countable { D.failed device + 1 < 2 ^ 64 }
         requires fresh { IfSome (D.bytes_written device) (λ bytes. bytes ≡ []) }
         ensures ok { IfOk result (λ job. Represents job (first_machine files.now)) }
-        ensures failed { IfOk result (λ job. job.failed ≡ D.failed device) }
-        ensures bytes_written { IfOk result (λ job. job.bytes_written ≡ D.bytes_written device) }
-        ensures began { IfOk result (λ job. job.began ≡ D.past device) }
+        ensures made { IfOk result (λ job. IsMadeOver (device_view D.bytes_written D.failed D.past device) (writing_of job)) }
         ensures device_returned { IfErr result (λ back. back ≡ device) }
     {
         let Ok(kept) = JobState::new(alloc, files) else {
@@ -182,8 +182,7 @@ impl<D: Device> Job<D> {
         ensures unsent { IfErr result (λ refusal. refusal ≢ Refusal.Device → self.new.bytes_written ≡ self.old.bytes_written) }
         ensures part { result ≡ Err Refusal.Device → (m : Machine) → Represents self.old m
             → GrowsByFront (before_writing self.old.bytes_written) self.new.bytes_written (front m.state.fonts (m.pages ++ new_pages m.state command.now)) }
-        ensures grows { (more : List ℕ) × (self.new.bytes_written ≡ written_then self.old.bytes_written more) }
-        ensures began { self.new.began ≡ self.old.began }
+        ensures goes_on { GoesOn (writing_of self.old) (writing_of self.new) }
     {
         if self.writer.is_over() {
             return Err(Refusal::JobOver);
@@ -202,8 +201,7 @@ impl<D: Device> Job<D> {
         ensures none { OnErr result (self.new ≡ self.old) }
         ensures cut { OnErr result (replies.new.items ≡ replies.old.items) }
         ensures idle { self.old.state.over ≡ true → self.new ≡ self.old }
-        ensures grows { (more : List ℕ) × (self.new.bytes_written ≡ written_then self.old.bytes_written more) }
-        ensures began { self.new.began ≡ self.old.began }
+        ensures goes_on { GoesOn (writing_of self.old) (writing_of self.new) }
     {
         replies.reserve(commands.len())?;
         for command in commands {
@@ -237,8 +235,7 @@ impl<D: Device> Job<D> {
         ensures sent { OnOk result ((m : Machine) → Represents self.old m → self.new.bytes_written ≡ written_then (before_writing self.old.bytes_written) (whole m.state.fonts m.pages)) }
         ensures part { result ≡ Err Refusal.Device → (m : Machine) → Represents self.old m → GrowsByFront (before_writing self.old.bytes_written) self.new.bytes_written (whole m.state.fonts m.pages) }
         ensures unsent { IfErr result (λ refusal. refusal ≢ Refusal.Device → self.new.bytes_written ≡ self.old.bytes_written) }
-        ensures grows { (more : List ℕ) × (self.new.bytes_written ≡ written_then self.old.bytes_written more) }
-        ensures began { self.new.began ≡ self.old.began }
+        ensures goes_on { GoesOn (writing_of self.old) (writing_of self.new) }
     {
         if self.writer.is_over() {
             return Err(Refusal::JobOver);
@@ -259,19 +256,14 @@ impl<D: Device> Job<D> {
 
     /// Lends the device.
     pub fn device(&self) -> &D
-        ensures bytes_written { D.bytes_written result.now ≡ self.now.bytes_written }
-        ensures failed { D.failed result.now ≡ self.now.failed }
-        ensures past { D.past result.now ≡ self.now.past }
+        ensures { IsDeviceOf (writing_of self.now) (device_view D.bytes_written D.failed D.past result.now) }
     {
         self.writer.device()
     }
 
     /// Returns the device, and drops the rest of the job.
     pub fn into_device(self) -> D
-        ensures bytes_written { D.bytes_written result ≡ self.bytes_written }
-        ensures failed { D.failed result ≡ self.failed }
-        ensures past { D.past result ≡ self.past }
-        ensures made { (D.past result).made ≡ self.began.made }
+        ensures { IsDeviceOf (writing_of self) (device_view D.bytes_written D.failed D.past result) }
     {
         let Job {
             alloc: _alloc,

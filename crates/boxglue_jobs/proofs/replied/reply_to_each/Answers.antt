@@ -3,7 +3,8 @@ use Rattle.std.proofs.Common.{◌≡◌, ◌+◌, ◌++◌, ◌∷◌, [], lengt
 use Rattle.std.proofs.lemmas.List.{length-take-le, take_all, take_more}
 use Rattle.job_core.specs.Jobs.{JobView}
 use Rattle.boxglue_script.specs.declared.script.Line.{Line}
-use Rattle.boxglue_program.proofs.RunLaws.{ran_one_more, grown_further, length_more}
+use Rattle.dvi_write.proofs.Writings.{goes_further}
+use Rattle.boxglue_program.proofs.RunLaws.{ran_one_more, length_more}
 use Rattle.boxglue_calls.proofs.StatusLaws.{status_one_more}
 use Rattle.boxglue_jobs.proofs.RowLaws.{all_replied, row_put}
 use Rattle.boxglue_jobs.proofs.replied.reply_to_each.Goals as goal
@@ -31,7 +32,7 @@ loop-at-preserved g c =
       idle = λ over.
           let same = c.loop-at.invariant.idle over in
           c.step-reply.ensures.idle (ap (λ (job : JobView). job.state.over) same ∙ over) ∙ same;
-      grows = grown_further c.args.job.now.bytes_written c.loop-at.job.bytes_written c.step-reply.new.self.bytes_written c.loop-at.invariant.grows c.step-reply.ensures.grows;
+      goes_on = goes_further _ _ _ c.loop-at.invariant.goes_on c.step-reply.ensures.goes_on;
     }
 
 pub returns-clause-ran : goal.returns-clause-ran

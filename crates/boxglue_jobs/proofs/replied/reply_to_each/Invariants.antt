@@ -1,8 +1,8 @@
 -- The lines so far were run, and their rows are written.
-use Rattle.std.proofs.Common.{◌≡◌, ◌++◌, ℕ, true, List, length, take, drop}
+use Rattle.std.proofs.Common.{◌≡◌, ◌++◌, true, List, length, take, drop}
 use Rattle.job_commands.specs.Reply.{Reply}
-use Rattle.dvi_device.specs.Written.{written_then}
-use Rattle.job_core.specs.Jobs.{RunsTo}
+use Rattle.dvi_write.specs.Writing.{GoesOn}
+use Rattle.job_core.specs.Jobs.{RunsTo, writing_of}
 use Rattle.boxglue_program.specs.Runs.{commands_of, line_numbers}
 use Rattle.boxglue_calls.specs.RunStatus.{replies_status}
 use Rattle.boxglue_jobs.specs.Rows.{reply_rows}
@@ -13,5 +13,5 @@ invariant-loop-at g l = record {
   ran : (replies : List Reply) × RunsTo l.initial.job (commands_of (take l.at l.lines)) replies l.job × (length replies ≡ length (take l.at l.lines))
       × (l.rows ≡ reply_rows (line_numbers (take l.at l.lines)) replies ++ drop l.at l.initial.rows) × (l.status ≡ replies_status replies);
   idle : l.initial.job.state.over ≡ true → l.job ≡ l.initial.job;
-  grows : (more : List ℕ) × (l.job.bytes_written ≡ written_then l.initial.job.bytes_written more);
+  goes_on : GoesOn (writing_of l.initial.job) (writing_of l.job);
 }

@@ -25,7 +25,7 @@ pub returns-clause-placed : goal.returns-clause-placed
 returns-clause-placed g c =
     let device = c.run_session-outcome.result.device in
     let alike = back_alike g.row.H.coded g.H.FileHost.written g.H.FileHost.failures device.path c.new-device.result.path c.args.out device.start.seen
-    c.new-device.result.start.seen c.args.host c.run_session-outcome.ensures.began c.new-device.ensures.path c.new-device.ensures.start in
+    c.new-device.result.start.seen c.args.host c.run_session-outcome.ensures.made c.new-device.ensures.path c.new-device.ensures.start in
     placed_since device.path.now c.args.out.now (g.H.FileHost.created device.start.seen) (g.H.FileHost.created c.args.host)
     (g.H.FileHost.created c.end_with.result.host) c.end_with.result.created alike.0 (ap g.H.FileHost.created alike.1) c.end_with.ensures.placed
 
@@ -33,5 +33,5 @@ pub returns-clause-unchanged : goal.returns-clause-unchanged
 returns-clause-unchanged g c =
     let device = c.run_session-outcome.result.device in
     let alike = back_alike g.row.H.coded g.H.FileHost.written g.H.FileHost.failures device.path c.new-device.result.path c.args.out device.start.seen
-    c.new-device.result.start.seen c.args.host c.run_session-outcome.ensures.began c.new-device.ensures.path c.new-device.ensures.start in
+    c.new-device.result.start.seen c.args.host c.run_session-outcome.ensures.made c.new-device.ensures.path c.new-device.ensures.start in
     λ closed fine. c.end_with.ensures.unchanged closed fine ∙ alike.1

@@ -24,7 +24,7 @@ returns-in_ok-reserve-in-Command-clause-ok g c =
       answer,
       appended c.args.answers.now.items c.reserve.new.self.items c.run_lines-run.new.answers.items answer c.in_ok-reserve-in-Command.ensures.items (ran.3 (run.room fits)),
       command_answered c.args.job.now c.run_lines-run.new.job c.args.before c.args.line.now (record { number = c.args.before + 1; command = c.in-Command.command }) c.from_ref.result.now ran.0 c.run_lines-run.result.outcome c.is_accepting.result says refl c.from_ref.ensures.value ran.1 ran.2 ran.5 c.is_accepting.ensures
-          run.grows run.began,
+          run.goes_on,
     )
 
 pub returns-in_ok-push_script_refusal-in-Bad-clause-ok : goal.returns-in_ok-push_script_refusal-in-Bad-clause-ok

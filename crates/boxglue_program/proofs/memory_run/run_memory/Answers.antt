@@ -1,7 +1,8 @@
 -- The answers, and then the bytes of the device.
 use Rattle.std.proofs.Common.{sym, ◌∙◌, ap, ◌++◌, List, ℕ}
 use Rattle.boxglue_program.specs.Texts.{hexadecimal_text}
-use Rattle.boxglue_program.proofs.RunLaws.{on_ok, answered_in_memory, lacking_in_memory}
+use Rattle.boxglue_program.proofs.RunLaws.{on_ok, answered_in_memory, lacking_in_memory, unanswered_in_memory}
+use Rattle.boxglue_program.proofs.SessionLaws.{kept_as}
 use Rattle.boxglue_program.proofs.memory_run.run_memory.Goals as goal
 
 pub returns-in-Ok-write_text-clause-answers : goal.returns-in-Ok-write_text-clause-answers
@@ -14,10 +15,13 @@ returns-in-Ok-write_text-clause-answers g c =
       c.in-Ok-write_text.ensures.all,
     )
 
+pub returns-in-Err-clause-left : goal.returns-in-Err-clause-left
+returns-in-Err-clause-left g c = (unanswered_in_memory c.args.text.now c.args.files.now c.new.result c.in-Err.memory c.new.ensures c.in-Err.ensures.left, kept_as _)
+
 pub returns-then-is_err-clause-left : goal.returns-then-is_err-clause-left
 returns-then-is_err-clause-left g c =
     let done = c.in-Ok.done in
-    lacking_in_memory c.args.text.now c.args.files.now c.new.result done.device done.text.items done.accepted _ c.new.ensures c.in-Ok.ensures.answers
+    (lacking_in_memory c.args.text.now c.args.files.now c.new.result done.device done.text.items done.accepted c.new.ensures c.in-Ok.ensures.answers, kept_as _)
 
 pub returns-clause-left : goal.returns-clause-left
 returns-clause-left g c =

@@ -1,6 +1,8 @@
 -- The run of the script, and the past of its device.
-use Rattle.std.proofs.Common.{◌≡◌, inl, Some, ap, ◌∙◌}
+use Rattle.std.proofs.Common.{◌≡◌, inl, inr, Some, ap, refl, ◌∙◌}
 use Rattle.boxglue_program.specs.Outcomes.{is_accepting}
+use Rattle.boxglue_program.specs.Runs.{is_accepted, line_numbers}
+use Rattle.boxglue_program.specs.Texts.{answers_text}
 use Rattle.boxglue_program.proofs.RunLaws.{if_some}
 use Rattle.boxglue_program.proofs.OutcomeLaws.{accepting_run}
 use Rattle.boxglue_program.proofs.run.answer_script.Goals as goal
@@ -21,3 +23,16 @@ returns-in-Some-clause-answers g c =
       };
       past = ran.3;
     })
+
+pub returns-clause-left : goal.returns-clause-left
+returns-clause-left g c =
+    let lines = c.in-Ok.lines.items in
+    let ran = rw c.deref.ensures.value at c.in_ok-answers.ensures.ran in
+    inr (
+      answers_text (line_numbers lines) ran.0 ran.1,
+      is_accepted ran.0 ran.1,
+      record {
+        ran = record { lines = lines; replies = ran.0; end = ran.1; script = c.in-Ok.ensures.lines; run = ran.2; answer_is = refl; fine_is = refl };
+        past = ran.3;
+      },
+    )

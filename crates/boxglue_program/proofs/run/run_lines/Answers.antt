@@ -8,7 +8,8 @@ use Rattle.boxglue_program.specs.Runs.{commands_of, line_numbers}
 use Rattle.boxglue_program.specs.Texts.{answer_line, answer_lines}
 use Rattle.job_core.specs.Jobs.{JobView, RunsTo}
 use Rattle.boxglue_script.specs.declared.script.Line.{Line}
-use Rattle.boxglue_program.proofs.RunLaws.{ran_one_more, answers_one_more, begun_further, cut_back, length_more, grown_further}
+use Rattle.boxglue_program.proofs.RunLaws.{ran_one_more, answers_one_more, begun_further, cut_back, length_more}
+use Rattle.dvi_write.proofs.Writings.{goes_further}
 use Rattle.boxglue_program.proofs.OutcomeLaws.{outcome_one_more}
 use Rattle.boxglue_program.proofs.run.run_lines.Goals as goal
 
@@ -52,8 +53,7 @@ loop-line-preserved g c =
       idle = λ over.
           let same = c.loop-line.invariant.idle over in
           c.step-reply.ensures.idle (ap (λ (job : JobView). job.state.over) same ∙ over) ∙ same;
-      grows = grown_further c.args.job.now.bytes_written c.loop-line.job.bytes_written c.step-reply.new.self.bytes_written c.loop-line.invariant.grows c.step-reply.ensures.grows;
-      began = c.step-reply.ensures.began ∙ c.loop-line.invariant.began;
+      goes_on = goes_further _ _ _ c.loop-line.invariant.goes_on c.step-reply.ensures.goes_on;
     }
 
 pub returns-then-not-kept-clause-ran : goal.returns-then-not-kept-clause-ran

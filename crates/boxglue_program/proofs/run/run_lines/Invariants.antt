@@ -1,8 +1,8 @@
 -- The lines so far were run and answered.
 use Rattle.std.proofs.Common.{◌≡◌, ◌≤◌, ◌+◌, ◌*◌, ◌++◌, ℕ, true, List, length, take, vec_len, vec_capacity}
 use Rattle.job_commands.specs.Reply.{Reply}
-use Rattle.dvi_device.specs.Written.{written_then}
-use Rattle.job_core.specs.Jobs.{RunsTo}
+use Rattle.dvi_write.specs.Writing.{GoesOn}
+use Rattle.job_core.specs.Jobs.{RunsTo, writing_of}
 use Rattle.boxglue_program.specs.Outcomes.{replies_outcome}
 use Rattle.boxglue_program.specs.Runs.{commands_of, line_numbers}
 use Rattle.boxglue_program.specs.Texts.{answer_lines}
@@ -17,6 +17,5 @@ invariant-loop-line g l = record {
   grown : vec_capacity l.initial.answers ≤ vec_capacity l.answers;
   room : vec_len l.initial.answers + 512 * length l.lines ≤ vec_capacity l.initial.answers → l.kept ≡ true;
   idle : l.initial.job.state.over ≡ true → l.job ≡ l.initial.job;
-  grows : (more : List ℕ) × (l.job.bytes_written ≡ written_then l.initial.job.bytes_written more);
-  began : l.job.began ≡ l.initial.job.began;
+  goes_on : GoesOn (writing_of l.initial.job) (writing_of l.job);
 }

@@ -17,14 +17,14 @@ returns-clause-ran g c =
     let run = was_run c.args.files.now (commands_of c.args.lines.now) ran.0 c.finish-end.result c.in_ok-job.job c.run_lines-run.new.job c.finish-end.new.self
     c.in_ok-job.ensures.ok ran.1 c.finish-end.ensures.finished c.finish-end.ensures.dvi c.finish-end.ensures.file c.finish-end.ensures.size c.finish-end.ensures.count c.finish-end.ensures.end
     (λ is m holds. said_part _ _ _ (c.finish-end.ensures.part is m holds)) in
-    let began = c.finish-end.ensures.began ∙ c.run_lines-run.ensures.began in
+    let began = c.finish-end.ensures.goes_on.began ∙ c.run_lines-run.ensures.goes_on.began in
     let past = was_run_past c.args.files.now (commands_of c.args.lines.now) ran.0 c.finish-end.result c.in_ok-job.job c.run_lines-run.new.job c.finish-end.new.self
     c.in_ok-job.ensures.ok ran.1 c.finish-end.ensures.finished began in
     let first = g.D.Device.past c.args.device in
     let last = g.D.Device.past c.into_device.result in
     let kept = subst (λ (p : Past). KeepsPast first (due run.last) p) (sym c.into_device.ensures.past)
-    (subst (λ (p : Past). KeepsPast p (due run.last) c.finish-end.new.self.past) c.in_ok-job.ensures.began past) in
-    let all = same_run_with c.args.files.now _ _ _ _ _ _ _ _ _ (λ (m : Machine). KeepsPast first (due m) last) (sym c.in_ok-job.ensures.failed)
+    (subst (λ (p : Past). KeepsPast p (due run.last) c.finish-end.new.self.past) c.in_ok-job.ensures.made.began past) in
+    let all = same_run_with c.args.files.now _ _ _ _ _ _ _ _ _ (λ (m : Machine). KeepsPast first (due m) last) (sym c.in_ok-job.ensures.made.failed)
     c.into_device.ensures.failed c.into_device.ensures.bytes_written run kept in (
       ran.0,
       c.finish-end.result,

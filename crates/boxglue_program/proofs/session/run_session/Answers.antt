@@ -45,7 +45,7 @@ returns-in-Err-exchange-clause-memory g c =
     (g.R.Read.remaining c.args.reader.now) (g.R.Read.remaining c.loop.reader) (g.R.Read.remaining c.exchange.new.reader)
     (g.W.Write.contents c.args.writer.now) (g.W.Write.contents c.loop.writer) (g.W.Write.contents c.exchange.new.writer)
     (g.D.Device.bytes_written c.stop.result.device) c.stop.result.outcome c.in-Err-exchange.fault c.stop.result.written c.in-Ok.ensures.new c.loop.invariant
-    (λ same. c.exchange.ensures.memory (err_at c.in-Err-exchange.is same)) c.stop.ensures.outcome c.stop.ensures.written c.stop.ensures.failed c.stop.ensures.bytes_written
+    (λ same. c.exchange.ensures.memory (err_at c.in-Err-exchange.is same)) c.stop.ensures.outcome c.stop.ensures.written c.stop.ensures.device.failed c.stop.ensures.device.bytes_written
 
 pub returns-in-Err-exchange-clause-unreadable : goal.returns-in-Err-exchange-clause-unreadable
 returns-in-Err-exchange-clause-unreadable g c =
@@ -53,7 +53,7 @@ returns-in-Err-exchange-clause-unreadable g c =
     (g.R.Read.remaining c.args.reader.now) (g.R.Read.remaining c.loop.reader) (g.R.Read.remaining c.exchange.new.reader)
     (g.W.Write.contents c.args.writer.now) (g.W.Write.contents c.loop.writer) (g.W.Write.contents c.exchange.new.writer)
     (g.D.Device.bytes_written c.stop.result.device) c.stop.result.outcome c.in-Err-exchange.fault c.stop.result.written c.in-Ok.ensures.new c.in-Ok.ensures.limited c.loop.invariant
-    (λ same. c.exchange.ensures.unread (err_at c.in-Err-exchange.is same)) c.stop.ensures.outcome c.stop.ensures.written c.stop.ensures.failed c.stop.ensures.bytes_written
+    (λ same. c.exchange.ensures.unread (err_at c.in-Err-exchange.is same)) c.stop.ensures.outcome c.stop.ensures.written c.stop.ensures.device.failed c.stop.ensures.device.bytes_written
 
 pub returns-clause-memory : goal.returns-clause-memory
 returns-clause-memory g c = λ is. absurd (other_fault c.stop-2.result.outcome c.stop-2.ensures.outcome is)
@@ -63,4 +63,4 @@ returns-clause-unreadable g c = λ _.
     run_not_ended c.args.files.now (g.D.Device.failed c.args.device) (g.D.Device.failed c.stop-2.result.device) c.args.limit c.in-Ok.session c.loop.session
     (g.R.Read.remaining c.args.reader.now) (g.R.Read.remaining c.loop.reader) (g.W.Write.contents c.args.writer.now) (g.W.Write.contents c.loop.writer)
     (g.D.Device.bytes_written c.stop-2.result.device) c.stop-2.result.outcome c.stop-2.result.written c.in-Ok.ensures.new c.in-Ok.ensures.limited c.loop.invariant
-    c.stop-2.ensures.outcome c.stop-2.ensures.written c.stop-2.ensures.failed c.stop-2.ensures.bytes_written
+    c.stop-2.ensures.outcome c.stop-2.ensures.written c.stop-2.ensures.device.failed c.stop-2.ensures.device.bytes_written

@@ -30,7 +30,7 @@ returns-in-Ok-clause-keeps g c =
     let is = sym c.held.ensures ∙ ap option_copied c.in-Some.is in
     let same = page_is (before_shipping kept) c.counts.result.now c.offsets.result b c.counts.ensures c.offsets.ensures in
     shipped kept c.args.writer.now c.args.register b page is same c.empty.new.self c.page.new.self c.fonts.result.now c.empty.ensures c.in-Ok.ensures.kept c.requires.running
-    c.in-Ok.ensures.running c.in-Ok.ensures.may c.pages.result c.pages.ensures c.in-Ok.ensures.stands c.page.ensures.began (rw c.fonts.ensures at c.in-Ok.ensures.written)
+    c.in-Ok.ensures.running c.in-Ok.ensures.may c.pages.result c.pages.ensures c.in-Ok.ensures.stands c.page.ensures.goes_on (rw c.fonts.ensures at c.in-Ok.ensures.written)
 
 pub returns-in-Ok-clause-sound : goal.returns-in-Ok-clause-sound
 returns-in-Ok-clause-sound g c =
@@ -60,9 +60,9 @@ returns-in-Err-clause-keeps g c =
     subst (λ (x : Refusal). KeepsTo (view_of kept w) (Ship c.args.register) (Err x) (view_of kept c.page.new.self)) (sym c.refusal_for.ensures)
     (unshipped_for kept w c.args.register b page is same c.page.new.self c.in-Err.fault c.in-Err.ensures.refused c.in-Err.ensures.same
     (λ lost. c.page.ensures.failed (c.in-Err.is ∙ ap (λ (f : WriteFault). Err f) lost)) (λ lost. c.page.ensures.over (c.in-Err.is ∙ ap (λ (f : WriteFault). Err f) lost))
-    (λ lost. c.page.ensures.so_far (c.in-Err.is ∙ ap (λ (f : WriteFault). Err f) lost)) c.requires.running c.page.ensures.grows
+    (λ lost. c.page.ensures.so_far (c.in-Err.is ∙ ap (λ (f : WriteFault). Err f) lost)) c.requires.running c.page.ensures.goes_on
     (λ lost. rw c.fonts.ensures at (c.page.ensures.part (c.in-Err.is ∙ ap (λ (f : WriteFault). Err f) lost)))
-    (λ lost. rw c.fonts.ensures at (c.page.ensures.past (c.in-Err.is ∙ ap (λ (f : WriteFault). Err f) lost))) c.page.ensures.began)
+    (λ lost. rw c.fonts.ensures at (c.page.ensures.past (c.in-Err.is ∙ ap (λ (f : WriteFault). Err f) lost))))
 
 pub returns-in-Err-clause-same : goal.returns-in-Err-clause-same
 returns-in-Err-clause-same g c = λ other. ap (λ (w : Writing). view_of c.args.kept.now w) (c.in-Err.ensures.same (is_other c.in-Err.fault (λ lost. other (c.refusal_for.ensures ∙ lost))))

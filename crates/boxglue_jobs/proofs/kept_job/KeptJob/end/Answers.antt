@@ -14,7 +14,7 @@ returns c =
     subst (λ (o : KeptState). RepliesToEnd c.end_row.result o new c.reply_status.result) c.self.view_is
     (record {
       ended = ended_job old new end.new.self end.result end.ensures.finished end.ensures.same end.ensures.idle end.ensures.dvi end.ensures.end end.ensures.file end.ensures.size end.ensures.count
-          end.ensures.small end.ensures.part end.ensures.grows refl refl refl;
+          end.ensures.small end.ensures.part end.ensures.goes_on refl refl refl;
       row_is = c.end_row.ensures;
       status_is = c.reply_status.ensures;
       answers = refl;

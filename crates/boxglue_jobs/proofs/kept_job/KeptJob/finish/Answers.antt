@@ -16,7 +16,7 @@ returns c =
     subst (λ (o : KeptState). FinishesKept o now c.kept_status.result) c.self.view_is
     (finished_kept old now
     (ended_job old now end.new.self end.result end.ensures.finished end.ensures.same end.ensures.idle end.ensures.dvi end.ensures.end end.ensures.file end.ensures.size end.ensures.count
-    end.ensures.small end.ensures.part end.ensures.grows refl refl refl)
+    end.ensures.small end.ensures.part end.ensures.goes_on refl refl refl)
     c.reply_status.result c.kept_status.result
     (appended_answer push.result old.answers now.answers (end_line end.result) c.is_ok-kept.result c.reply_status.result c.kept_status.result c.is_ok-kept.ensures.value push.ensures.ok push.ensures.cut c.kept_status.ensures)
     c.reply_status.ensures)

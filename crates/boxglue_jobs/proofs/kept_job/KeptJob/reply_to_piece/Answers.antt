@@ -16,4 +16,4 @@ returns c =
     λ count. subst
     (λ (o : KeptState). RepliesToPiece c.args.script.now (record { rows = c.args.rows.now; count = count }) (record { rows = each.new.rows; count = length c.args.lines.now }) o new each.result) c.self.view_is
     (replied_piece old new each.new.job c.args.script.now c.args.lines.now c.number_on.new.lines ran.0 c.args.rows.now each.new.rows each.result c.number_on.ensures c.requires.piece ran.1
-    each.ensures.idle each.ensures.grows ran.2 refl (c.number_after-self-inside.ensures ∙ ap (λ (n : ℕ). number_after old.lines n) c.line_count.ensures) refl ran.3 ran.4 refl count)
+    each.ensures.idle each.ensures.goes_on ran.2 refl (c.number_after-self-inside.ensures ∙ ap (λ (n : ℕ). number_after old.lines n) c.line_count.ensures) refl ran.3 ran.4 refl count)

@@ -19,7 +19,7 @@ returns-clause-ended g c =
       sent_both c.args.self.now.reads c.answer.new.self.reads c.finish.new.self.reads (g.W.Write.contents c.args.writer.now) (g.W.Write.contents c.answer.new.writer) (g.W.Write.contents c.finish.new.writer) lines.0 (end_line h.0)
           lines.2 h.2,
       h.3,
-      c.finish.ensures.began,
+      c.finish.ensures.goes_on,
     ))
     c.finish.ensures.ended
 

@@ -15,4 +15,4 @@ returns-in-Ok-clause-ended g c =
     let ran : AnswersLines was.dialog (lines was.kept) ends.0 ends.1 = subst (λ (text : List ℕ). AnswersLines was.dialog (lines text) ends.0 ends.1) c.deref.ensures.value ends.3 in
     session_finished c.args.self was c.close.result.outcome c.in-Ok.accepted c.answer_last.new.self.reads c.close.result.written (g.D.Device.failed c.close.result.device) c.answer_last.new.dialog.job.failed
     (g.D.Device.bytes_written c.close.result.device) c.answer_last.new.dialog.job.bytes_written (g.W.Write.contents c.args.writer.now) (g.W.Write.contents c.answer_last.new.writer) ends.0 ends.1 ends.2
-    c.self.view_is c.close.ensures.outcome c.close.ensures.failed c.close.ensures.bytes_written c.close.ensures.written ran ends.4 ends.5 ends.6
+    c.self.view_is c.close.ensures.outcome c.close.ensures.device.failed c.close.ensures.device.bytes_written c.close.ensures.written ran ends.4 ends.5 ends.6

@@ -31,4 +31,4 @@ returns-clause-written g c before pages written =
     let past = rw (c.deref.ensures.value, c.in_ok-next.ensures.bytes) at c.in_ok-send.ensures.past in
     written_more c.args.fonts.now before c.args.self.now _ pages page written c.in_ok-next.ensures.right c.in_ok-next.ensures.after
     (ap (λ (w : Writing). w.bytes_written) c.self.view_is ∙ bytes_written) (ap (λ (w : Writing). w.past) c.self.view_is ∙ past)
-    (ap (λ (w : Writing). w.began) c.self.view_is ∙ c.in_ok-send.ensures.began) (ap (λ (w : Writing). w.over) c.self.view_is ∙ c.in_ok-send.ensures.running)
+    (ap (λ (w : Writing). w.began) c.self.view_is ∙ c.send.ensures.goes_on.began) (ap (λ (w : Writing). w.over) c.self.view_is ∙ c.in_ok-send.ensures.running)

@@ -24,12 +24,12 @@ returns-clause-finished g c =
     rw (← c.self.view_is)
     (finished old _ _ (may_finish old.state running (sym c.is_open.ensures ∙ c.if-is_open.false))
     (stopped c.self.inside.kept c.self.inside.writer c.finish.new.self c.finish.ensures.so_far c.in-Ok.ensures.over)
-    (λ m holds. c.in-Ok.ensures.pages _ m.pages (has_written_by old m c.fonts.result.now holds running c.fonts.ensures)) c.in-Ok.ensures.stands c.finish.ensures.grows
+    (λ m holds. c.in-Ok.ensures.pages _ m.pages (has_written_by old m c.fonts.result.now holds running c.fonts.ensures)) c.in-Ok.ensures.stands (c.finish.ensures.goes_on.more, c.finish.ensures.goes_on.grows)
     (λ m holds.
     sent_by old m c.fonts.result.now c.finish.new.self.bytes_written holds c.fonts.ensures (c.in-Ok.ensures.whole _ m.pages (has_written_by old m c.fonts.result.now holds running c.fonts.ensures)))
     (λ m holds.
     let taken = c.in-Ok.ensures.past _ m.pages (has_written_by old m c.fonts.result.now holds running c.fonts.ensures) in
-    kept_by old m c.fonts.result.now old.began c.finish.new.self.began c.finish.new.self.past holds c.fonts.ensures c.finish.ensures.began
+    kept_by old m c.fonts.result.now old.began c.finish.new.self.began c.finish.new.self.past holds c.fonts.ensures c.finish.ensures.goes_on.began
     (keeps_taken old.began c.finish.new.self.past (whole c.fonts.result.now m.pages) (whole c.fonts.result.now m.pages) taken)))
 
 pub returns-clause-dvi : goal.returns-clause-dvi
@@ -69,9 +69,9 @@ returns-in-Err-Device-clause-finished g c =
     rw (← c.self.view_is)
     (losing old _ (may_finish old.state running (sym c.is_open.ensures ∙ c.if-is_open.false)) running
     (some_where c.self.inside.writer _ running c.in-Err-Device.ensures.refused)
-    (stopped c.self.inside.kept c.self.inside.writer c.finish.new.self c.finish.ensures.so_far (c.finish.ensures.lost lost)) more c.finish.ensures.grows
+    (stopped c.self.inside.kept c.self.inside.writer c.finish.new.self c.finish.ensures.so_far (c.finish.ensures.lost lost)) more (c.finish.ensures.goes_on.more, c.finish.ensures.goes_on.grows)
     (λ m holds.
     part_by old m c.fonts.result.now c.finish.new.self.bytes_written holds c.fonts.ensures (c.finish.ensures.part lost _ m.pages (has_written_by old m c.fonts.result.now holds running c.fonts.ensures)))
     (λ m holds.
-    kept_by old m c.fonts.result.now old.began c.finish.new.self.began c.finish.new.self.past holds c.fonts.ensures c.finish.ensures.began
+    kept_by old m c.fonts.result.now old.began c.finish.new.self.began c.finish.new.self.past holds c.fonts.ensures c.finish.ensures.goes_on.began
     (c.finish.ensures.past_lost lost _ m.pages (has_written_by old m c.fonts.result.now holds running c.fonts.ensures))))

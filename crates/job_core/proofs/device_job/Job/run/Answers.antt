@@ -2,8 +2,9 @@ use Rattle.std.proofs.Common.{◌≡◌, ◌+◌, ◌++◌, ◌∷◌, [], take,
 use Rattle.std.proofs.lemmas.List.{take_more}
 use Rattle.job_commands.specs.declared.command.Command.{Command}
 use Rattle.job_commands.specs.Reply.{Reply}
+use Rattle.dvi_write.proofs.Writings.{goes_further}
 use Rattle.job_core.specs.Jobs.{JobView, RunsTo}
-use Rattle.job_core.proofs.Moves.{grows_more, runs_more}
+use Rattle.job_core.proofs.Moves.{runs_more}
 use Rattle.job_core.proofs.device_job.Job.run.Goals as goal
 
 pub loop-command-preserved : goal.loop-command-preserved
@@ -26,7 +27,6 @@ loop-command-preserved g c =
       idle = λ over.
           let same = c.loop-command.invariant.idle over in
           c.step-reply.ensures.idle (ap (λ (job : JobView). job.state.over) same ∙ over) ∙ same;
-      grows = grows_more _ _ _ c.loop-command.invariant.grows c.step-reply.ensures.grows;
-      began = c.step-reply.ensures.began ∙ c.loop-command.invariant.began;
+      goes_on = goes_further _ _ _ c.loop-command.invariant.goes_on c.step-reply.ensures.goes_on;
       room = omega (arith, c.in-Ok.ensures.len, c.in-Ok.ensures.capacity);
     }

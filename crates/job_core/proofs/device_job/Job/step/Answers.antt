@@ -1,9 +1,10 @@
-use Rattle.std.proofs.Common.{refl, sym, subst, ◌∙◌, rules}
+use Rattle.std.proofs.Common.{sym, subst, ◌∙◌, rules}
 use Rattle.job_machine.specs.Runs.{IsShip}
 use Rattle.job_state.specs.JobStateView.{before_shipping}
 use Rattle.job_machine.specs.State.{State}
+use Rattle.dvi_write.proofs.Writings.{goes_not}
 use Rattle.job_core.specs.Sound.{IsSound, IsBoundedFile, view_of}
-use Rattle.job_core.proofs.Moves.{over_replies, obeyed, seen_reply, sound_after, bounded_after, stays_refused, grows_none, never_device, written_stays, true_or_false}
+use Rattle.job_core.proofs.Moves.{over_replies, obeyed, seen_reply, sound_after, bounded_after, stays_refused, never_device, written_stays, true_or_false}
 use Rattle.job_core.proofs.device_job.Job.step.Goals as goal
 
 pub returns-then-is_over-clause-keeps : goal.returns-then-is_over-clause-keeps
@@ -32,6 +33,5 @@ returns g c =
       unsent = written_stays c.in_ok-obey.field-0 w.bytes_written;
       part = λ is.
           absurd (never_device (view_of kept w).state c.args.command.now c.in_ok-obey.field-0 (seen_reply kept w c.args.command.now other running c.in_ok-obey.field-0 c.in_ok-obey.ensures.reply) is);
-      grows = grows_none w.bytes_written;
-      began = refl;
+      goes_on = goes_not w;
     })
