@@ -29,6 +29,7 @@ pub fn width_in_run(node: &Node) -> Option<i64>
 }
 
 /// Adds stretch in an order to the sums.
+#[inline(always)]
 fn add_stretch(sums: &mut Sums, order: Order, amount: i64)
     requires sums_bounded { IsPrefix (max_nodes + 1) sums.old }
     requires amount_bounded { Within (2 ^ 30) amount }
@@ -43,6 +44,7 @@ fn add_stretch(sums: &mut Sums, order: Order, amount: i64)
 }
 
 /// Adds shrink in an order to the sums: only that in the normal order counts.
+#[inline(always)]
 fn add_shrink(sums: &mut Sums, order: Order, amount: i64)
     requires shrink_bounded { Within (2 ^ 48) sums.old.shrink }
     requires amount_bounded { Within (2 ^ 30) amount }
@@ -55,6 +57,7 @@ fn add_shrink(sums: &mut Sums, order: Order, amount: i64)
 }
 
 /// Adds glue to the sums. Its stretch has one order, and so has its shrink; so at most three of the sums change.
+#[inline(always)]
 fn add_glue(sums: &mut Sums, glue: &Glue)
     requires { IsPrefix max_nodes sums.old }
     ensures value { sums.new ≡ plus sums.old (amounts_of (nodes.Glue glue.now)) }
@@ -66,6 +69,7 @@ fn add_glue(sums: &mut Sums, glue: &Glue)
 }
 
 /// Adds an item to the sums. An item that is not glue changes only the width.
+#[inline(always)]
 pub fn add_item(sums: &mut Sums, node: &Node)
     requires { IsPrefix max_nodes sums.old }
     ensures value { sums.new ≡ plus sums.old (amounts_of node.now) }

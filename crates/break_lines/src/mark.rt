@@ -12,9 +12,9 @@ use crate::item_sums::{Sums, minus};
 pub struct MeasuredBreak {
     pub position: usize,
     pub begin: usize,
-    pub penalty: i32,
     pub from_position: Sums,
     pub from_begin: Sums,
+    pub penalty: i32,
 }
 
 impl MeasuredBreak {

@@ -1,6 +1,6 @@
 //! The walk that measures a list, from its end to its beginning.
 
-ghost use Rattle.std.specs.Prelude.{◌≡◌, ◌≢◌, ◌+◌, ◌<◌, ◌≤◌, true, false, length, get_or, IsSome, IfOk, MatchOption};
+ghost use Rattle.std.specs.Prelude.{◌≡◌, ◌≢◌, ◌+◌, ◌<◌, ◌≤◌, true, false, length, get_or, vec_capacity, vec_len, IsSome, IfOk, OnOk, MatchOption};
 ghost use Rattle.node_core.specs.Nodes.{max_nodes};
 ghost use Rattle.break_lines.specs.Facts.{refusal};
 ghost use Rattle.break_lines.specs.Marks.{HasMeasuredFrom, IsMarked};
@@ -22,20 +22,32 @@ struct BreakWalk {
     from_begin: Sums,
 }
 
+/// Makes room for one more mark. There nearly always is some, and then this is one test.
+#[inline(always)]
+fn make_room(marks: &mut Vec<MeasuredBreak>) -> Result<(), AllocError>
+    ensures items { marks.new.items ≡ marks.old.items }
+    ensures room { OnOk result (vec_len marks.new < vec_capacity marks.new) }
+{
+    if marks.len() < marks.capacity() {
+        return Ok(());
+    }
+    marks.reserve(1)
+}
+
 impl BreakWalk {
     /// The walk over no items: the end of the list is a legal place.
     fn at_end(alloc: Global, nodes: &[Node]) -> Result<BreakWalk, AllocError>
         requires list_bounded { length nodes.now ≤ max_nodes }
         ensures { IfOk result (HasMeasuredFrom nodes.now (length nodes.now)) }
     {
-        // In text about every seventh item is a legal place, so mostly this capacity is enough.
-        let mut marks = Vec::with_capacity(alloc, nodes.len() / 8 + 2)?;
+        // In text about every sixth item is a legal place, so mostly this capacity is enough.
+        let mut marks = Vec::with_capacity(alloc, (nodes.len() / 5).min(MAX_PLACES) + 2)?;
         marks.push(MeasuredBreak {
             position: nodes.len(),
             begin: nodes.len() + 1,
-            penalty: -10_000,
             from_position: Sums::ZERO,
             from_begin: Sums::ZERO,
+            penalty: -10_000,
         })?;
         Ok(BreakWalk {
             marks,
@@ -46,14 +58,15 @@ impl BreakWalk {
     }
 
     /// The sums over the items from the first one that is not dropped, for a line that begins after the item before `index`.
-    fn line_start(&self, index: usize) -> Sums
-        ensures here { self.now.begin ≡ index → result ≡ self.now.sums }
-        ensures later { self.now.begin ≢ index → result ≡ self.now.from_begin }
+    #[inline(always)]
+    fn line_start(&self, index: usize) -> &Sums
+        ensures here { self.now.begin ≡ index → result.now ≡ self.now.sums }
+        ensures later { self.now.begin ≢ index → result.now ≡ self.now.from_begin }
     {
         if self.begin == index {
-            return self.sums;
+            return &self.sums;
         }
-        self.from_begin
+        &self.from_begin
     }
 
     /// Passes the glyphs and font kerns directly before the items that were passed, and returns the index of the first of them. They are most items
@@ -94,7 +107,7 @@ impl BreakWalk {
         if node.shrinks_infinitely() {
             return Ok(false);
         }
-        self.from_begin = self.line_start(index + 1);
+        self.from_begin = *self.line_start(index + 1);
         add_item(&mut self.sums, node);
         if !is_legal(nodes, index) {
             return Ok(true);
@@ -102,13 +115,14 @@ impl BreakWalk {
         if self.marks.len() >= MAX_PLACES {
             return Ok(false);
         }
-        self.marks.push(MeasuredBreak {
+        make_room(&mut self.marks)?;
+        self.marks.push_reserved(MeasuredBreak {
             position: index,
             begin: self.begin,
-            penalty: penalty_at(nodes, index),
             from_position: self.sums,
             from_begin: self.from_begin,
-        })?;
+            penalty: penalty_at(nodes, index),
+        });
         Ok(true)
     }
 
@@ -126,9 +140,9 @@ impl BreakWalk {
         marks.push(MeasuredBreak {
             position: 0,
             begin: 0,
-            penalty: 0,
             from_position: sums,
             from_begin: sums,
+            penalty: 0,
         })?;
         marks.reverse();
         Ok(marks)

@@ -4,6 +4,7 @@ use Rattle.std.specs.Prelude.{ℤ, pos, ◌+ℤ◌}
 use Rattle.std.proofs.lemmas.Int.{ints}
 use Rattle.std.proofs.lemmas.List.{take_more}
 use Rattle.node_core.specs.declared.tree.Kind.{Kind}
+use Rattle.node_core.specs.declared.tree.Kind.TheVariants as kinds
 use Rattle.node_core.specs.declared.tree.Glue.{Glue}
 use Rattle.node_core.specs.declared.tree.Node.{Node}
 use Rattle.node_core.specs.declared.tree.Node.TheVariants as nodes
@@ -108,6 +109,28 @@ with_item-no_glue totals node other =
       pending_depth = pending_after totals.pending_depth node;
       passed = totals.passed + 1;
     }
+
+-- Glue moves what follows it by its width, in a list of either kind.
+pub advance-glue : (kind : Kind) (glue : Glue) → advance kind (nodes.Glue glue) ≡ glue.width
+advance-glue kinds.Horizontal glue = refl
+advance-glue kinds.Vertical glue = refl
+
+-- The totals with one more item, part by part.
+pub with_item-parts :
+    (totals : ListTotals) (node : Node) (move : ℤ) (stretch shrink : OrderAmounts) (depth : ℤ)
+    → move ≡ totals.advance +ℤ advance totals.kind node
+    → stretch ≡ plus totals.stretch (λ order. stretch_in order node)
+    → shrink ≡ plus totals.shrink (λ order. shrink_in order node)
+    → depth ≡ pending_after totals.pending_depth node
+    → record { kind = totals.kind; advance = move; stretch = stretch; shrink = shrink; pending_depth = depth; passed = totals.passed + 1 } ≡ with_item totals node
+with_item-parts totals node move stretch shrink depth moves stretches shrinks pending = λ i. record {
+  kind = totals.kind;
+  advance = moves i;
+  stretch = stretches i;
+  shrink = shrinks i;
+  pending_depth = pending i;
+  passed = totals.passed + 1;
+}
 
 -- Each total of a list.
 pub totals-kind : (kind : Kind) (nodes : List Node) → (totals_of kind nodes).kind ≡ kind

@@ -9,7 +9,7 @@ ghost use Rattle.pack_core.specs.Glue.{stretch_totals, shrink_totals};
 ghost use Rattle.pack_core.specs.Orders.{order_amounts, plus};
 ghost use Rattle.pack_core.specs.Measures.{HasPassed};
 
-use crate::orders::{OrderAmounts, in_one_order, no_amounts, plus};
+use crate::orders::{OrderAmounts, no_amounts};
 use crate::sizes::{across_of, depth_of, height_of};
 use node_core::Node;
 
@@ -64,10 +64,8 @@ impl Across {
             }
             Node::Glue(glue) => {
                 self.width += i64::from(glue.width.get());
-                let stretch = in_one_order(glue.stretch_order, glue.stretch);
-                let shrink = in_one_order(glue.shrink_order, glue.shrink);
-                self.stretch = plus(&self.stretch, &stretch);
-                self.shrink = plus(&self.shrink, &shrink);
+                self.stretch.add(glue.stretch_order, glue.stretch);
+                self.shrink.add(glue.shrink_order, glue.shrink);
             }
             Node::FontKern(width) => self.width += i64::from(width.get()),
             Node::Kern(width) => self.width += i64::from(width.get()),

@@ -3,7 +3,7 @@
 ghost use Rattle.std.specs.Prelude.{◌≡◌, ◌+◌, ◌+ℤ◌, ◌^◌, ℕ, pos, if◌then◌else◌};
 ghost use Rattle.scaled_core.specs.Dimensions.{Fits, Within};
 ghost use Rattle.pack_core.specs.Items.{is_order};
-ghost use Rattle.pack_core.specs.Orders.{by_order, order_dimens, order_amounts, plus, AreWithin};
+ghost use Rattle.pack_core.specs.Orders.{order_amounts, plus, AreWithin};
 
 use node_core::Order;
 use scaled_core::Dimen;
@@ -47,46 +47,19 @@ fn increased(amount: i128, by: Dimen) -> i128
     amount + i128::from(by.get())
 }
 
-/// Each amount plus the dimension of its order.
-pub fn plus(amounts: &OrderAmounts, more: &OrderDimens) -> OrderAmounts
-    requires { AreWithin (2 ^ 100) amounts.now }
-    ensures value { result ≡ plus amounts.now (by_order more.now) }
-    ensures bound { (n : ℕ) → AreWithin n amounts.now → AreWithin (n + 2 ^ 31) result }
-{
-    OrderAmounts {
-        normal: increased(amounts.normal, more.normal),
-        fil: increased(amounts.fil, more.fil),
-        fill: increased(amounts.fill, more.fill),
-        filll: increased(amounts.filll, more.filll),
-    }
-}
-
-/// A dimension in one order, and 0 in the others.
-pub fn in_one_order(order: Order, amount: Dimen) -> OrderDimens
-    ensures { result ≡ order_dimens (λ other. if is_order other order then amount else pos 0) }
-{
-    let none = OrderDimens {
-        normal: Dimen::ZERO,
-        fil: Dimen::ZERO,
-        fill: Dimen::ZERO,
-        filll: Dimen::ZERO,
-    };
-    match order {
-        Order::Normal => OrderDimens {
-            normal: amount,
-            ..none
-        },
-        Order::Fil => OrderDimens {
-            fil: amount,
-            ..none
-        },
-        Order::Fill => OrderDimens {
-            fill: amount,
-            ..none
-        },
-        Order::Filll => OrderDimens {
-            filll: amount,
-            ..none
-        },
+impl OrderAmounts {
+    /// Adds a dimension to the amount of one order. The amounts of the other orders stay as they are.
+    #[inline(always)]
+    pub fn add(&mut self, order: Order, amount: Dimen)
+        requires { AreWithin (2 ^ 100) self.old }
+        ensures value { self.new ≡ plus self.old (λ other. if is_order other order then amount else pos 0) }
+        ensures bound { (n : ℕ) → AreWithin n self.old → AreWithin (n + 2 ^ 31) self.new }
+    {
+        match order {
+            Order::Normal => self.normal = increased(self.normal, amount),
+            Order::Fil => self.fil = increased(self.fil, amount),
+            Order::Fill => self.fill = increased(self.fill, amount),
+            Order::Filll => self.filll = increased(self.filll, amount),
+        }
     }
 }

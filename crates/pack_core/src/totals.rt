@@ -9,7 +9,7 @@ ghost use Rattle.pack_core.specs.Glue.{stretch_totals, shrink_totals};
 ghost use Rattle.pack_core.specs.Orders.{order_amounts, AreWithin};
 ghost use Rattle.pack_core.specs.ListTotals.{totals_of, with_item, pending_after};
 
-use crate::orders::{OrderAmounts, in_one_order, no_amounts, plus};
+use crate::orders::{OrderAmounts, no_amounts};
 use crate::sizes::{advance_of, depth_by_itself};
 use node_core::{ItemClass, Kind, Node};
 use scaled_core::Dimen;
@@ -61,17 +61,17 @@ impl Totals {
         ensures value { self.new ≡ with_item self.old node.now }
         ensures totals { (before : List Node) → self.old ≡ totals_of self.old.kind before → self.new ≡ totals_of self.old.kind (before ++ node.now ∷ []) }
     {
-        self.advance += i128::from(advance_of(self.kind, node));
-        self.pending_depth = pending_after(self.pending_depth, node);
         self.passed += 1;
-        // Only glue changes the amounts of the orders. Most items are not glue, so the additions are skipped for them.
+        // Only glue changes the amounts of the orders, and its advance is the same in both kinds of lists.
         let Node::Glue(glue) = node else {
+            self.advance += i128::from(advance_of(self.kind, node));
+            self.pending_depth = pending_after(self.pending_depth, node);
             return;
         };
-        let stretch = in_one_order(glue.stretch_order, glue.stretch);
-        let shrink = in_one_order(glue.shrink_order, glue.shrink);
-        self.stretch = plus(&self.stretch, &stretch);
-        self.shrink = plus(&self.shrink, &shrink);
+        self.advance += i128::from(glue.width.get());
+        self.pending_depth = Dimen::ZERO;
+        self.stretch.add(glue.stretch_order, glue.stretch);
+        self.shrink.add(glue.shrink_order, glue.shrink);
     }
 
     /// The totals of these items, in a list of this kind.

@@ -2,8 +2,7 @@
 use Rattle.std.proofs.Common.{◌≡◌, ◌≢◌, ◌↔◌, ℕ, ℤ, Bool, true, false, cond, ◌+◌, ◌++◌, ◌<◌, ◌≤◌, List, [], ◌∷◌, Option, Some, None, Result, Ok, Err, length, take, drop, get_or, refl, ap, sym, ◌∙◌, subst, arith, append-nil, append_assoc, length-append}
 use Rattle.std.specs.List.{slice_get}
 use Rattle.std.specs.Option.{is_some}
-use Rattle.std.specs.Result.{IfOk, OnOk, OnErr}
-use Rattle.shape_core.specs.declared.word.Missing.{Missing}
+use Rattle.std.specs.Result.{OnErr}
 use Rattle.std.proofs.Math.Nat.{min-le_right}
 use Rattle.std.proofs.lemmas.List.{drop_more, length-take}
 use Rattle.std.proofs.Math.ListN.{drop_of_length-le}
@@ -150,19 +149,13 @@ Shaping-is slot sizes steps word items n =
     (λ s. shaped-unique slot sizes steps s, λ same. Shaping-at slot sizes steps word items n same.0 same.1)
 
 -- The appended items are a shaping.
-Shaping-grown : (slot : ℕ) (sizes : ℕ → Option GlyphSize) (steps : ℕ → ℕ → Option Step) (word : List ℕ) (old new : List Node) (n : ℕ) → new ≡ old ++ shaped_items slot sizes steps word → n ≡ shaped_missing sizes steps word → (items : List Node) × (new ≡ old ++ items) × Shaping slot sizes steps word items n
+pub Shaping-grown : (slot : ℕ) (sizes : ℕ → Option GlyphSize) (steps : ℕ → ℕ → Option Step) (word : List ℕ) (old new : List Node) (n : ℕ) → new ≡ old ++ shaped_items slot sizes steps word → n ≡ shaped_missing sizes steps word → (items : List Node) × (new ≡ old ++ items) × Shaping slot sizes steps word items n
 Shaping-grown slot sizes steps word old new n e f =
     (shaped_items slot sizes steps word, e, Shaping-at slot sizes steps word (shaped_items slot sizes steps word) n refl f)
-
-pub Shaping-ok : {E : Type 0} (slot : ℕ) (sizes : ℕ → Option GlyphSize) (steps : ℕ → ℕ → Option Step) (word : List ℕ) (old new : List Node) (r : Result Missing E) → OnOk r (new ≡ old ++ shaped_items slot sizes steps word) → IfOk r (λ m. m.characters ≡ shaped_missing sizes steps word) → IfOk r (λ m. (items : List Node) × (new ≡ old ++ items) × Shaping slot sizes steps word items m.characters)
-Shaping-ok slot sizes steps word old new (Ok m) e f = Shaping-grown slot sizes steps word old new m.characters e f
-Shaping-ok slot sizes steps word old new (Err x) e f = tt
 
 -- No items are a shaping of the empty word.
 pub Shaping-nothing : (slot : ℕ) (sizes : ℕ → Option GlyphSize) (steps : ℕ → ℕ → Option Step) (word : List ℕ) (old : List Node) → length word ≡ 0 → (items : List Node) × (old ≡ old ++ items) × Shaping slot sizes steps word items 0
 Shaping-nothing slot sizes steps [] old e = ([], sym (append-nil old), empty)
 Shaping-nothing slot sizes steps (c ∷ word) old e = absurd (omega arith)
-
-pub ruleset shapings = (Shaping-ok)
 
 pub ruleset outcomes = (outcome-alone)

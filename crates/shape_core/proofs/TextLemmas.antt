@@ -126,8 +126,6 @@ part_length-of_word (c ∷ text) h e =
 
 pub ruleset prefixes = (prefix_len-le-length)
 
-pub ruleset lengths = (part_length-some, part_length-within, part_length-of_space, part_length-of_word)
-
 pub part_of-spaces : (part : List ℕ) → 0 < length part → get_or part 0 0 ≡ 32 → part_of part ≡ spaces
 part_of-spaces [] h e = absurd (omega arith)
 part_of-spaces (c ∷ text) h e = ap (λ b. cond b spaces (word (c ∷ text))) (eq-eqb c 32 e)
@@ -135,8 +133,6 @@ part_of-spaces (c ∷ text) h e = ap (λ b. cond b spaces (word (c ∷ text))) (
 pub part_of-word : (part : List ℕ) → 0 < length part → (get_or part 0 0 ≡ 32 → ⊥) → part_of part ≡ word part
 part_of-word [] h e = absurd (omega arith)
 part_of-word (c ∷ text) h e = ap (λ b. cond b spaces (word (c ∷ text))) (ne_eqb c 32 e)
-
-pub ruleset parts = (part_of-spaces, part_of-word)
 
 pub text_items-turn : (slot : ℕ) (sizes : ℕ → Option GlyphSize) (steps : ℕ → ℕ → Option Step) (blank : Glue) (text : List ℕ) → 0 < length text → text_items slot sizes steps blank text ≡ part_items slot sizes steps blank (part_of (take (part_length text) text)) ++ text_items slot sizes steps blank (drop (part_length text) text)
 unfolding text_items

@@ -3,14 +3,16 @@
 ghost use Rattle.std.specs.Prelude.{◌≡◌, ◌≢◌, ◌≤◌, ◌<◌, ◌++◌, ◌∷◌, [], length, take, OnOk, OnErr, IfOk};
 ghost use Rattle.std.specs.List.{prefix_len};
 ghost use Rattle.shape_core.specs.Shaping.{shaped_items, shaped_missing};
-ghost use Rattle.shape_core.specs.Texts.{is_other, is_space, part_items, part_length, part_missing, part_of, text_items, text_missing};
+ghost use Rattle.shape_core.specs.Fronts.{first_part};
+ghost use Rattle.shape_core.specs.Texts.{is_space, part_items, part_length, part_missing, text_items, text_missing};
 
 use crate::metrics::Metrics;
-use crate::word::{Missing, push, shape};
+use crate::word::{Missing, ShapedFront, push, shape, shape_front};
 use node_core::Node;
 use std::alloc::AllocError;
 
 /// The number of spaces at the beginning of a text.
+#[inline(always)]
 #[tactic(auto, using(crate::proofs::TextLemmas::prefixes))]
 fn space_count(text: &[u8]) -> usize
     ensures value { result ≡ prefix_len is_space text.now }
@@ -19,49 +21,31 @@ fn space_count(text: &[u8]) -> usize
     text.iter().take_while(|c| **c == b' ').count()
 }
 
-/// The number of characters before the first space of a text.
-#[tactic(auto, using(crate::proofs::TextLemmas::prefixes))]
-fn word_length(text: &[u8]) -> usize
-    ensures value { result ≡ prefix_len is_other text.now }
-    ensures length_bounded { result ≤ length text.now }
-{
-    text.iter().take_while(|c| **c != b' ').count()
-}
-
-/// The length of the run of spaces or the word at the beginning of a text.
-#[tactic(auto, using(crate::proofs::TextLemmas::lengths))]
-fn part_length(text: &[u8]) -> usize
-    requires { 0 < length text.now }
-    ensures value { result ≡ part_length text.now }
-    ensures not_empty { 0 < result }
-    ensures length_bounded { result ≤ length text.now }
-{
-    if text[0] == b' ' {
-        return space_count(text);
-    }
-    word_length(text)
-}
-
-/// Appends the items of a run of spaces or of a word.
-#[tactic(auto, using(crate::proofs::TextLemmas::parts))]
+/// Appends the items of the run of spaces or of the word that begins a text.
+#[inline(always)]
+#[tactic(auto, using(crate::proofs::FrontLemmas::parts))]
 fn shape_part<M: Metrics>(
     metrics: &M,
     slot: u8,
-    part: &[u8],
+    text: &[u8],
     nodes: &mut Vec<Node>,
-) -> Result<Missing, AllocError>
-    requires { 0 < length part.now }
-    ensures ok { OnOk result (nodes.new.items ≡ nodes.old.items ++ part_items slot (M.sizes metrics.now) (M.steps metrics.now) (M.blank metrics.now) (part_of part.now)) }
-    ensures number { IfOk result (λ missing. missing.characters ≡ part_missing (M.sizes metrics.now) (M.steps metrics.now) (part_of part.now)) }
-    ensures missing_bounded { IfOk result (λ missing. missing.characters ≤ length part.now) }
-    ensures err { OnErr result (nodes.new.items ≡ nodes.old.items) }
-    ensures growth { OnErr result (part_items slot (M.sizes metrics.now) (M.steps metrics.now) (M.blank metrics.now) (part_of part.now) ≢ []) }
+) -> Result<ShapedFront, AllocError>
+    requires { 0 < length text.now }
+    ensures ok { OnOk result (nodes.new.items ≡ nodes.old.items ++ part_items slot (M.sizes metrics.now) (M.steps metrics.now) (M.blank metrics.now) (first_part text.now)) }
+    ensures number { IfOk result (λ shaped. shaped.missing ≡ part_missing (M.sizes metrics.now) (M.steps metrics.now) (first_part text.now)) }
+    ensures length { IfOk result (λ shaped. shaped.length ≡ part_length text.now) }
+    ensures missing_bounded { IfOk result (λ shaped. shaped.missing ≤ shaped.length) }
+    ensures front { take (length nodes.old.items) nodes.new.items ≡ nodes.old.items }
+    ensures growth { OnErr result (part_items slot (M.sizes metrics.now) (M.steps metrics.now) (M.blank metrics.now) (first_part text.now) ≢ []) }
 {
-    if part[0] == b' ' {
+    if text[0] == b' ' {
         push(Node::Glue(metrics.space()), nodes)?;
-        return Ok(Missing { characters: 0 });
+        return Ok(ShapedFront {
+            missing: 0,
+            length: space_count(text),
+        });
     }
-    shape(metrics, slot, part, nodes)
+    shape_front(metrics, slot, text, true, nodes)
 }
 
 /// Appends the items of a text; if memory is refused, only the first of them.
@@ -80,9 +64,9 @@ fn shape_parts<M: Metrics>(
 {
     let mut characters = 0;
     while !text.is_empty() {
-        let (part, rest) = text.split_at(part_length(text));
-        characters += shape_part(metrics, slot, part, nodes)?.characters;
-        text = rest;
+        let part = shape_part(metrics, slot, text, nodes)?;
+        characters += part.missing;
+        text = text.split_at(part.length).1;
     }
     Ok(Missing { characters })
 }

@@ -1,8 +1,9 @@
 //! Shaping of words.
 
-ghost use Rattle.std.specs.Prelude.{◌≡◌, ◌≢◌, ◌≤◌, ◌+◌, ◌++◌, ◌∷◌, [], ℕ, List, None, Some, length, take, OnOk, OnErr, IfOk};
+ghost use Rattle.std.specs.Prelude.{◌≡◌, ◌≢◌, ◌≤◌, ◌<◌, ◌++◌, ◌∷◌, [], List, None, Some, length, slice_get, take, OnOk, OnErr, IfOk};
 ghost use Rattle.node_core.specs.declared.tree.Node.{Node};
-ghost use Rattle.shape_core.specs.Shaping.{Shaping, glyph_node, items_from, missing_from, outcome_at, outcome_items, outcome_missing, outcome_next, outcome_of, shaped_items, shaped_missing};
+ghost use Rattle.shape_core.specs.Fronts.{front_of};
+ghost use Rattle.shape_core.specs.Shaping.{Shaping, glyph_node, outcome_at, outcome_items, outcome_missing, outcome_next, outcome_of, shaped_items, shaped_missing};
 
 use crate::metrics::Metrics;
 use node_core::{Glyph, Node};
@@ -75,6 +76,7 @@ fn outcome_before<M: Metrics>(metrics: &M, code: u8, following: u8) -> Outcome
 }
 
 /// What a character becomes at the end of a word.
+#[inline(always)]
 #[tactic(auto, unfolding(crate::specs::Shaping::outcome_at))]
 fn last_outcome<M: Metrics>(metrics: &M, code: u8) -> Outcome
     ensures { result ≡ outcome_at (M.sizes metrics.now) (M.steps metrics.now) code None }
@@ -146,37 +148,77 @@ impl Outcome {
     }
 }
 
-/// Appends the items of a character and of the word after it; if memory is refused, only the first of them.
-fn shape_from<M: Metrics>(
+/// What was shaped at the beginning of a text: the number of its characters that the font does not have, and its length.
+#[derive(Clone, Copy, Debug, PartialEq, Eq)]
+pub(crate) struct ShapedFront {
+    pub missing: usize,
+    pub length: usize,
+}
+
+/// The character of a text at an index, or `None` at the end.
+#[inline(always)]
+fn character_at(text: &[u8], index: usize) -> Option<u8>
+    ensures { result ≡ slice_get text.now index }
+{
+    text.get(index).copied()
+}
+
+/// The character of a text at an index, or `None` at the end. If `until_space` is true, the text ends before its first space.
+/// No space stands before the index then.
+#[inline(always)]
+fn following_at(text: &[u8], index: usize, until_space: bool) -> Option<u8>
+    requires { index ≤ length (front_of until_space text.now) }
+    ensures { result ≡ slice_get (front_of until_space text.now) index }
+{
+    let Some(following) = character_at(text, index) else {
+        return None;
+    };
+    if until_space && following == b' ' {
+        return None;
+    }
+    Some(following)
+}
+
+/// Appends the items of a word that begins a text: it ends before the first space if `until_space` is true, and is the whole text otherwise.
+/// If memory is refused, only the first of the items are appended.
+#[inline(always)]
+#[tactic(auto, using(crate::proofs::FrontLemmas::starts))]
+pub(crate) fn shape_front<M: Metrics>(
     metrics: &M,
     slot: u8,
-    mut code: u8,
-    word: &[u8],
+    text: &[u8],
+    until_space: bool,
     nodes: &mut Vec<Node>,
-) -> Result<Missing, AllocError>
-    ensures ok { OnOk result (nodes.new.items ≡ nodes.old.items ++ items_from slot (M.sizes metrics.now) (M.steps metrics.now) code word.now) }
-    ensures number { IfOk result (λ missing. missing.characters ≡ missing_from (M.sizes metrics.now) (M.steps metrics.now) code word.now) }
-    ensures missing_bounded { IfOk result (λ missing. missing.characters ≤ length word.now + 1) }
+) -> Result<ShapedFront, AllocError>
+    requires { 0 < length (front_of until_space text.now) }
+    ensures ok { OnOk result (nodes.new.items ≡ nodes.old.items ++ shaped_items slot (M.sizes metrics.now) (M.steps metrics.now) (front_of until_space text.now)) }
+    ensures number { IfOk result (λ shaped. shaped.missing ≡ shaped_missing (M.sizes metrics.now) (M.steps metrics.now) (front_of until_space text.now)) }
+    ensures length { IfOk result (λ shaped. shaped.length ≡ length (front_of until_space text.now)) }
+    ensures missing_bounded { IfOk result (λ shaped. shaped.missing ≤ length (front_of until_space text.now)) }
     ensures front { take (length nodes.old.items) nodes.new.items ≡ nodes.old.items }
-    ensures growth { OnErr result (items_from slot (M.sizes metrics.now) (M.steps metrics.now) code word.now ≢ []) }
+    ensures growth { OnErr result (shaped_items slot (M.sizes metrics.now) (M.steps metrics.now) (front_of until_space text.now) ≢ []) }
 {
-    let mut characters = 0;
-    for following in word {
-        let outcome = outcome_before(metrics, code, *following);
+    let mut code = text[0];
+    let mut index = 1;
+    let mut missing = 0;
+    while let Some(following) = following_at(text, index, until_space) {
+        let outcome = outcome_before(metrics, code, following);
         outcome.append(slot, code, nodes)?;
-        characters += outcome.missing();
-        code = outcome.next(*following);
+        missing += outcome.missing();
+        code = outcome.next(following);
+        index += 1;
     }
     let outcome = last_outcome(metrics, code);
     outcome.append(slot, code, nodes)?;
-    Ok(Missing {
-        characters: characters + outcome.missing(),
+    Ok(ShapedFront {
+        missing: missing + outcome.missing(),
+        length: index,
     })
 }
 
 /// Appends the items of a word in the font of this slot, and returns how many of its characters the font does not have (TeX: The Program, part 46,
 /// §1029 to §1045; TFtoPL, 13). If memory is refused, `nodes` is as it was before the call. A word without items takes no memory.
-#[tactic(auto, using(crate::proofs::ShapingLemmas::shapings))]
+#[tactic(auto, using(crate::proofs::FrontLemmas::wholes))]
 pub fn shape<M: Metrics>(
     metrics: &M,
     slot: u8,
@@ -190,13 +232,17 @@ pub fn shape<M: Metrics>(
     ensures err { OnErr result (nodes.new.items ≡ nodes.old.items) }
     ensures growth { OnErr result (shaped_items slot (M.sizes metrics.now) (M.steps metrics.now) word.now ≢ []) }
 {
-    let Some((first, rest)) = word.split_first() else {
+    if word.is_empty() {
         return Ok(Missing { characters: 0 });
-    };
-    let held = nodes.len();
-    let shaped = shape_from(metrics, slot, *first, rest, nodes);
-    if shaped.is_err() {
-        nodes.truncate(held);
     }
-    shaped
+    let held = nodes.len();
+    match shape_front(metrics, slot, word, false, nodes) {
+        Ok(shaped) => Ok(Missing {
+            characters: shaped.missing,
+        }),
+        Err(error) => {
+            nodes.truncate(held);
+            Err(error)
+        }
+    }
 }

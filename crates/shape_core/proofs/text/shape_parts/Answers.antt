@@ -1,16 +1,34 @@
-use Rattle.std.proofs.Common.{◌≡◌, ◌<◌, length, rules, arith}
+use Rattle.std.proofs.Common.{◌≡◌, ◌<◌, ◌≤◌, ◌+◌, length, take, ap, sym, refl, rules, arith}
 use Rattle.scaled_core.proofs.Appending.{front_kept}
+use Rattle.shape_core.specs.Texts.{part_length}
 use Rattle.shape_core.proofs.ShapingLemmas.{on_refused}
-use Rattle.shape_core.proofs.TextLemmas.{text_items-end, text_items-part, text_items-some, text_missing-none, text_missing-part}
+use Rattle.shape_core.proofs.TextLemmas.{part_length-some, part_length-within, text_items-end, text_items-part, text_items-some, text_missing-none, text_missing-part}
 use Rattle.shape_core.proofs.text.shape_parts.Goals as goal
+
+pub split_at-requires : goal.split_at-requires
+split_at-requires g c = omega (arith, c.in_ok-part.ensures.length, part_length-within c.loop-text.text.now)
+
+pub overflow_add-characters : goal.overflow_add-characters
+overflow_add-characters g c =
+    let small : c.loop-text.characters + c.in_ok-part.part.missing ≤ length c.args.text.now =
+    omega (arith, c.in_ok-part.ensures.missing_bounded, c.in_ok-part.ensures.length, part_length-within c.loop-text.text.now, c.loop-text.invariant.3) in
+    search rules
+
+pub loop-text-smaller : goal.loop-text-smaller
+loop-text-smaller g c =
+    let some : 0 < length c.loop-text.text.now = search rules in
+    omega (arith, c.split_at.ensures.back_len, c.in_ok-part.ensures.length, part_length-some c.loop-text.text.now some)
 
 pub loop-text-preserved : goal.loop-text-preserved
 loop-text-preserved g c =
-    let some : 0 < length c.loop-text.text.now = search rules in (
-      text_items-part _ _ _ _ _ _ _ _ _ _ _ some c.part_length.ensures.value c.split_at.ensures.front c.split_at.ensures.back c.in_ok-characters.ensures.ok c.loop-text.invariant.0,
-      text_missing-part _ _ _ _ _ _ _ _ _ some c.part_length.ensures.value c.split_at.ensures.front c.split_at.ensures.back c.in_ok-characters.ensures.number c.loop-text.invariant.1,
-      front_kept _ _ _ _ c.loop-text.invariant.2 c.in_ok-characters.ensures.ok,
-      omega (arith, c.in_ok-characters.ensures.missing_bounded, c.split_at.ensures.front_len, c.split_at.ensures.back_len, c.loop-text.invariant.3),
+    let text = c.loop-text.text.now in
+    let some : 0 < length text = search rules in
+    let long = c.in_ok-part.ensures.length in
+    let part : take (part_length text) text ≡ take c.in_ok-part.part.length text = ap (λ n. take n text) (sym long) in (
+      text_items-part _ _ _ _ text (take (part_length text) text) _ _ _ _ _ some long part c.split_at.ensures.back c.in_ok-part.ensures.ok c.loop-text.invariant.0,
+      text_missing-part _ _ text (take (part_length text) text) _ _ _ _ _ some long part c.split_at.ensures.back c.in_ok-part.ensures.number c.loop-text.invariant.1,
+      front_kept _ _ _ _ c.loop-text.invariant.2 c.in_ok-part.ensures.ok,
+      omega (arith, c.in_ok-part.ensures.missing_bounded, c.split_at.ensures.back_len, c.loop-text.invariant.3),
     )
 
 pub returns-clause-ok : goal.returns-clause-ok
@@ -24,8 +42,9 @@ returns-clause-number g c =
     omega (arith, c.loop-text.invariant.1, text_missing-none (g.M.Metrics.sizes c.args.metrics.now) (g.M.Metrics.steps c.args.metrics.now) c.loop-text.text.now none)
 
 -- Memory is refused only where a part has items.
-pub returns-in_err-characters-clause-growth : goal.returns-in_err-characters-clause-growth
-returns-in_err-characters-clause-growth g c =
-    let some : 0 < length c.loop-text.text.now = search rules in
+pub returns-in_err-part-clause-growth : goal.returns-in_err-part-clause-growth
+returns-in_err-part-clause-growth g c =
+    let text = c.loop-text.text.now in
+    let some : 0 < length text = search rules in
     on_refused c.from_residual.result
-    (text_items-some c.args.slot (g.M.Metrics.sizes c.args.metrics.now) (g.M.Metrics.steps c.args.metrics.now) (g.M.Metrics.blank c.args.metrics.now) c.loop-text.text.now _ _ _ _ _ some c.part_length.ensures.value c.split_at.ensures.front c.loop-text.invariant.2 c.loop-text.invariant.0 c.in_err-characters.ensures.growth)
+    (text_items-some c.args.slot (g.M.Metrics.sizes c.args.metrics.now) (g.M.Metrics.steps c.args.metrics.now) (g.M.Metrics.blank c.args.metrics.now) text (take (part_length text) text) (part_length text) _ _ _ some refl refl c.loop-text.invariant.2 c.loop-text.invariant.0 c.in_err-part.ensures.growth)

@@ -1,4 +1,4 @@
-use Rattle.std.proofs.Common.{◌≡◌, ◌∙◌, ◌+◌, ◌-◌, true, false, [], ◌∷◌, ◌++◌, length, reverse, drop, to_z, of_z, w32, SFits, ap, sym, subst, arith, rules}
+use Rattle.std.proofs.Common.{◌≡◌, ◌∙◌, ◌+◌, ◌-◌, true, false, [], ◌∷◌, ◌++◌, length, length-append, reverse, drop, to_z, of_z, w32, SFits, ap, sym, subst, arith, rules}
 use Rattle.std.proofs.lemmas.Int.{to_z-of_z}
 use Rattle.node_core.specs.Nodes.{max_nodes}
 use Rattle.break_lines.specs.declared.mark.MeasuredBreak.{MeasuredBreak}
@@ -43,8 +43,8 @@ returns-then-not-is_legal-clause-goes_on c goes =
       sums = c.add_item-2.ensures.value ∙ ap (λ s. plus s (amounts_of x)) old.sums ∙ sym (sums_back list i x within is);
       small_sums = subst (λ n. IsPrefix n c.add_item-2.new.sums) one (c.add_item-2.ensures.sums_bounded (length list - (i + 1)) old.small_sums);
       begin = old.begin ∙ sym (next_dropped list i x within is dropped);
-      from_begin = λ _. start_known list (i + 1) w.begin w.sums w.from_begin c.line_start-self.result c.line_start-self.ensures.here c.line_start-self.ensures.later old.sums old.from_begin;
-      small_begin = start_small (i + 1) w.begin w.sums w.from_begin c.line_start-self.result c.line_start-self.ensures.here c.line_start-self.ensures.later now old.small_begin;
+      from_begin = λ _. start_known list (i + 1) w.begin w.sums w.from_begin c.line_start.result.now c.line_start.ensures.here c.line_start.ensures.later old.sums old.from_begin;
+      small_begin = start_small (i + 1) w.begin w.sums w.from_begin c.line_start.result.now c.line_start.ensures.here c.line_start.ensures.later now old.small_begin;
       finite = finite_more list i x within is (sym c.shrinks_infinitely.ensures ∙ c.if-shrinks_infinitely.false) old.finite;
     }
 
@@ -69,18 +69,18 @@ returns-clause-goes_on c goes =
     let now : IsPrefix max_nodes w.sums = wide (length list - (i + 1)) w.sums (omega (arith, c.requires.list_bounded)) old.small_sums in
     let sums = c.add_item-2.ensures.value ∙ ap (λ s. plus s (amounts_of x)) old.sums ∙ sym (sums_back list i x within is) in
     let small_sums = subst (λ n. IsPrefix n c.add_item-2.new.sums) one (c.add_item-2.ensures.sums_bounded (length list - (i + 1)) old.small_sums) in
-    let start = start_known list (i + 1) w.begin w.sums w.from_begin c.line_start-self.result c.line_start-self.ensures.here c.line_start-self.ensures.later old.sums old.from_begin in
-    let small_start = start_small (i + 1) w.begin w.sums w.from_begin c.line_start-self.result c.line_start-self.ensures.here c.line_start-self.ensures.later now old.small_begin in
+    let start = start_known list (i + 1) w.begin w.sums w.from_begin c.line_start.result.now c.line_start.ensures.here c.line_start.ensures.later old.sums old.from_begin in
+    let small_start = start_small (i + 1) w.begin w.sums w.from_begin c.line_start.result.now c.line_start.ensures.here c.line_start.ensures.later now old.small_begin in
     let first = start ∙ ap (λ k. sums_of (drop k list)) old.begin in
     let fits : SFits w32 c.penalty_at.result = search rules in
     let penalty = to_z-of_z w32 c.penalty_at.result fits ∙ c.penalty_at.ensures in
-    let mark : MeasuredBreak = record { position = i; begin = w.begin; penalty = to_z w32 (of_z w32 c.penalty_at.result); from_position = c.add_item-2.new.sums; from_begin = c.line_start-self.result } in
+    let mark : MeasuredBreak = record { position = i; begin = w.begin; penalty = to_z w32 (of_z w32 c.penalty_at.result); from_position = c.add_item-2.new.sums; from_begin = c.line_start.result.now } in
     let here : mark ≡ measured_break list i = cc (old.begin, penalty, sums, first) in
-    let items : c.push.new.self.items ≡ w.marks.items ++ mark ∷ [] = c.in_ok-push.ensures.items in
+    let items : c.push_reserved.new.self.items ≡ w.marks.items ++ mark ∷ [] = c.push_reserved.ensures.items ∙ ap (λ ms. ms ++ mark ∷ []) c.in_ok-make_room.ensures.items in
     let long : c.len.result ≡ length w.marks.items = search rules in
     record {
-      marks = marks_more list i w.marks.items c.push.new.self.items mark _ legal here items old.marks;
-      few = omega (arith, ap length items, long, c.if-len-ge-MAX_PLACES.false);
+      marks = marks_more list i w.marks.items c.push_reserved.new.self.items mark _ legal here items old.marks;
+      few = omega (arith, ap length items, length-append w.marks.items (mark ∷ []), long, c.if-len-ge-MAX_PLACES.false);
       small_marks = subst (λ ms. AreSmallMarks (reverse ms)) (sym items) (small_more w.marks.items mark
           (record { from_position = wide (length list - i) c.add_item-2.new.sums (omega (arith, c.requires.list_bounded)) small_sums; from_begin = small_start }) old.small_marks);
       sums = sums;

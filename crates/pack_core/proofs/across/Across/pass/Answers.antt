@@ -42,8 +42,8 @@ returns-in-Glue-clause-bound c = λ n small. record {
   height = small.height;
   deep = small.deep;
   depth = small.depth;
-  stretch = within-more _ _ _ (omega arith) (c.plus-self.ensures.bound _ small.stretch);
-  shrink = within-more _ _ _ (omega arith) (c.plus-self-in-Glue.ensures.bound _ small.shrink);
+  stretch = within-more _ _ _ (omega arith) (c.add.ensures.bound _ small.stretch);
+  shrink = within-more _ _ _ (omega arith) (c.add-in-Glue.ensures.bound _ small.shrink);
 }
 
 -- A kern.
