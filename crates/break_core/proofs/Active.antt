@@ -65,7 +65,7 @@ row_end p stop table b high at low i live row past within here is =
     row_quiet p table b at (length table) row last.gap within last.quiet is
 
 -- Quiet entries before the next group stay quiet for the next place, and so do those of a group that is removed.
-later_quiet : (p : Problem) (table : List Entry) (b c from to : ℕ) → b ≤ c → IsQuiet p table b from to → IsQuiet p table c from to
+pub later_quiet : (p : Problem) (table : List Entry) (b c from to : ℕ) → b ≤ c → IsQuiet p table b from to → IsQuiet p table c from to
 later_quiet p table b c from to later quiet k e low high at l after within = quiet k e low high at l (omega arith) within
 
 joined_quiet :
@@ -95,7 +95,7 @@ earlier_active p stop table b high from at low more (g ∷ groups) front less qu
     )
 
 -- A group goes on to the next place if trying does not stop.
-kept_active :
+pub kept_active :
     (p : Problem) (stop : ℕ → ℕ → Bool) (table : List Entry) (b high at low : ℕ) (g : ActiveGroup) (rest : List ActiveGroup)
     → p.forced b ≡ false → stop g.place b ≡ false → IsNext p stop table b at low g
     → IsActive p stop table (b + 1) high g.end (g.place + 1) rest → IsActive p stop table (b + 1) high at low (g ∷ rest)

@@ -5,7 +5,7 @@ use Rattle.std.proofs.lemmas.Option.{same_Some}
 use Rattle.break_table.specs.declared.group.ActiveGroup.{ActiveGroup}
 use Rattle.std.proofs.Math.Logic.{◌⊎◌, inl, inr}
 use Rattle.std.proofs.lemmas.Bool.{cases_lt, cases_eq}
-use Rattle.break_core.specs.Active.{IsTrying, IsSwept, IsCounted, TrialsOnlyGrow, WereTried}
+use Rattle.break_core.specs.Active.{IsTrying, IsSwept, IsCounted, TrialsOnlyGrow, WasTried}
 
 -- A line was tried from one more place, which is after the others.
 pub swept_more :
@@ -80,23 +80,17 @@ kept_on before middle now first second a = omega (arith, first a, second a)
 pub kept_none : (before : ℕ → ℕ) → TrialsOnlyGrow before before
 kept_none before a = omega arith
 
--- A line was tried from one more group.
-pub tried_more :
+-- A line was tried from the first group.
+pub tried_first :
     (live : List ActiveGroup) (i : ℕ) (group : ActiveGroup) (before now new : ℕ → ℕ)
-    → ((k : ℕ) (g : ActiveGroup) → k < i → slice_get live k ≡ Some g → before g.place < now g.place) → TrialsOnlyGrow before now
+    → (0 < i → WasTried live before now) → TrialsOnlyGrow before now
     → slice_get live i ≡ Some group → new group.place ≡ now group.place + 1 → ((other : ℕ) → other ≢ group.place → new other ≡ now other)
-    → (k : ℕ) (g : ActiveGroup) → k < i + 1 → slice_get live k ≡ Some g → before g.place < new g.place
-tried_more live i group before now new tried kept at counted others k g within is = cases (cases_eq k i)
-  where
-    on : TrialsOnlyGrow now new
-    on = kept_more group.place now now new (kept_none now) counted others
-
-    cases : (k ≡ i) ⊎ (k ≡ i → ⊥) → before g.place < new g.place
-    cases (inl same) =
-        let found : slice_get live i ≡ Some g = ap (slice_get live) (sym same) ∙ is in
-        let one : group ≡ g = same_Some group g (sym at ∙ found) in
-        subst (λ (x : ActiveGroup). before x.place < new x.place) one (omega (arith, counted, kept group.place))
-    cases (inr other) = omega (arith, tried k g (omega arith) is, on g.place)
+    → WasTried live before new
+tried_first live zero group before now new tried kept at counted others g is =
+    let one : group ≡ g = same_Some group g (sym at ∙ is) in
+    subst (λ (x : ActiveGroup). before x.place < new x.place) one (omega (arith, counted, kept group.place))
+tried_first live (suc i) group before now new tried kept at counted others g is =
+    omega (arith, tried (omega arith) g is, kept_more group.place now now new (kept_none now) counted others g.place)
 
 -- The group of the start.
 abbrev pub start_group : ActiveGroup
@@ -105,10 +99,10 @@ start_group = record { place = 0; start = 0; end = 1 }
 -- A line from the start to the first place was tried.
 pub started_more :
     (b : ℕ) (live : List ActiveGroup) (before middle now : ℕ → ℕ)
-    → (b ≡ 0 → live ≡ start_group ∷ []) → (0 < b → before 0 < middle 0) → TrialsOnlyGrow before middle → TrialsOnlyGrow middle now → WereTried live middle now
+    → (b ≡ 0 → live ≡ start_group ∷ []) → (0 < b → before 0 < middle 0) → TrialsOnlyGrow before middle → TrialsOnlyGrow middle now → WasTried live middle now
     → before 0 < now 0
 started_more zero live before middle now begins started first second tried =
-    omega (arith, first 0, tried 0 start_group (ap (λ groups. slice_get groups 0) (begins refl)))
+    omega (arith, first 0, tried start_group (ap (λ groups. slice_get groups 0) (begins refl)))
 started_more (suc b) live before middle now begins started first second tried = omega (arith, started (omega arith), second 0)
 
 -- If no group is left, lines were tried.

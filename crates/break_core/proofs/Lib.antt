@@ -2,6 +2,7 @@
 pub mod Filled
 pub mod Admitting
 pub mod Overfull
+pub mod Waiting
 pub mod Active
 pub mod Counts
 pub mod Added

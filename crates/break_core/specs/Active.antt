@@ -1,10 +1,11 @@
 -- The groups of entries from which lines are still tried, and the number of trials (own; no public clause speaks of it).
-use Rattle.std.specs.Prelude.{◌≡◌, ◌<◌, ◌≤◌, ◌+◌, ◌-◌, ◌⊎◌, ℕ, Bool, true, false, ◌||◌, List, [], ◌∷◌, ◌++◌, ◌==◌, if◌then◌else◌, length, map, slice_get, Some, None}
+use Rattle.std.specs.Prelude.{◌≡◌, ◌<◌, ◌≤◌, ◌+◌, ◌-◌, ◌⊎◌, ℕ, ℤ, Bool, true, false, ◌||◌, List, [], ◌∷◌, ◌++◌, ◌==◌, if◌then◌else◌, length, map, drop, slice_get, Option, Some, None}
 use Rattle.node_core.specs.declared.params.Params.{Params}
 use Rattle.break_table.specs.declared.group.ActiveGroup.{ActiveGroup}
 use Rattle.break_table.specs.Problems.{Problem}
 use Rattle.break_table.specs.Orders.{NotAfter}
-use Rattle.break_table.specs.Tables.{Entry, compared_numbers, IsTable, offer}
+use Rattle.break_table.specs.declared.state.BreakState.{BreakState}
+use Rattle.break_table.specs.Tables.{Entry, compared_numbers, IsTable, IsRow, offer}
 use Rattle.break_table.specs.Live.{IsGroup}
 use Rattle.break_table.specs.Parts.{part}
 use Rattle.break_table.specs.Chosen.{AdmitsNone}
@@ -12,6 +13,7 @@ use Rattle.break_lines.specs.declared.cost.Bound.{Bound}
 use Rattle.break_lines.specs.declared.cost.Bound.TheVariants.{Any, AtMost}
 use Rattle.break_core.specs.declared.broken.Pass.{Pass}
 use Rattle.break_lines.specs.Legal.{is_forced}
+use Rattle.break_lines.specs.Costs.{line_fit, line_of, is_loosest, loosest_line}
 use Rattle.break_lines.specs.Facts.{Facts}
 use Rattle.break_lines.specs.Steady.{IsSteady}
 use Rattle.break_core.specs.declared.pass_rules.StopRule.{StopRule}
@@ -20,6 +22,7 @@ use Rattle.break_core.specs.declared.active_list.Live.{Live}
 use Rattle.break_core.specs.Passes.{problem_of, bound_of, IsBefore}
 use Rattle.break_core.specs.Trials.{is_overfull, IsStop, places_up_to, passes_run}
 use Rattle.break_core.specs.Leaving.{is_long, over_before, MayLeave}
+use Rattle.break_core.specs.Filling.{IsOf}
 
 -- Whether the place where a line begins leaves the active list after the line, which is overfull or not, and long or not.
 abbrev pub deactivates : StopRule → (overfull long : Bool) → Bool
@@ -125,9 +128,59 @@ IsSwept stop b before now = (a : ℕ) → (now a ≤ before a) ⊎ ((now a ≤ b
 abbrev pub TrialsOnlyGrow : (before now : ℕ → ℕ) → Type 0
 TrialsOnlyGrow before now = (a : ℕ) → before a ≤ now a
 
--- A line was tried from the place of each of these groups.
-abbrev pub WereTried : List ActiveGroup → (before now : ℕ → ℕ) → Type 0
-WereTried live before now = (k : ℕ) (g : ActiveGroup) → slice_get live k ≡ Some g → before g.place < now g.place
+-- A line was tried from the place of the first of these groups.
+abbrev pub WasTried : List ActiveGroup → (before now : ℕ → ℕ) → Type 0
+WasTried live before now = (g : ActiveGroup) → slice_get live 0 ≡ Some g → before g.place < now g.place
+
+-- No lines are counted, and the lines to place b from all places from `low` on are stretched by so much that they cost what the loosest line costs.
+pub record AreLoosest (facts : Facts) (params : Params) (bound : Bound) (low b : ℕ) : Type 0 where
+  pub uncounted : params.first_lines ≡ 0
+  pub loosest : (a : ℕ) → low ≤ a → a < b → is_loosest bound (line_fit (facts.sums a b) params.hsize) ≡ true
+
+-- No group is left, or all that are left wait: the lines from them are such lines.
+abbrev pub AllWait : Facts → Params → Bound → (low b : ℕ) → List ActiveGroup → Type 0
+AllWait facts params bound low b groups = (groups ≡ []) ⊎ AreLoosest facts params bound low b
+
+-- The lines to place b from the places of these groups cost what the loosest line costs.
+abbrev pub CostLoosest : Problem → Params → Bound → (penalty : ℤ) → (b : ℕ) → List ActiveGroup → Type 0
+CostLoosest p params bound penalty b groups =
+    (k : ℕ) (g : ActiveGroup) → slice_get groups k ≡ Some g
+    → (s : BreakState) → s.place ≡ g.place → p.line s b ≡ line_of params bound penalty s.class loosest_line
+
+-- The entries of a group that waits can be offered for a place.
+pub record CanWait (first_lines : ℕ) (table : List Entry) (place : ℕ) (group : ActiveGroup) : Type 0 where
+  pub within : group.end ≤ length table
+  pub earlier : group.place < place
+  pub entries : IsOf first_lines table group
+
+-- The entries of each group of a list can be offered.
+abbrev pub CanAllWait : (first_lines : ℕ) → (table : List Entry) → (place : ℕ) → List Live → Type 0
+CanAllWait first_lines table place lives = (k : ℕ) (live : Live) → slice_get lives k ≡ Some live → CanWait first_lines table place live.group
+
+-- The rest of these groups from number `index` on, and the row after the offers of those before.
+pub record IsPassed
+    (p : Problem) (stop : ℕ → ℕ → Bool) (table : List Entry) (b : ℕ) (groups : List ActiveGroup) (index : ℕ) (row : List (Option Entry)) : Type 0 where
+  pub at : ℕ
+  pub low : ℕ
+  pub rest : IsActive p stop table b b at low (drop index groups)
+  pub held : IsRow p table b at row
+
+-- The step from one row to another: the entries of the first groups of a list were offered by lines that cost what the loosest line costs.
+abbrev pub IsOfferingFirst :
+    (table : List Entry) → Params → Bound → List Live → (place : ℕ) → (penalty : ℤ) → (index : ℕ) → (old new : List (Option Entry)) → Type 0
+IsOfferingFirst table params bound lives place penalty index old new =
+    (p : Problem) (stop : ℕ → ℕ → Bool) (at low : ℕ)
+    → p.cut ≡ params.first_lines → place ≤ p.places → CostLoosest p params bound penalty place (groups_of lives)
+    → IsActive p stop table place place at low (groups_of lives) → IsRow p table place at old
+    → IsPassed p stop table place (groups_of lives) index new
+
+-- The same for all groups of a list, after which there are no more offers.
+abbrev pub IsOfferingWaiting :
+    (table : List Entry) → Params → Bound → List Live → (place : ℕ) → (penalty : ℤ) → (old new : List (Option Entry)) → Type 0
+IsOfferingWaiting table params bound lives place penalty old new =
+    (p : Problem) (stop : ℕ → ℕ → Bool) (at low : ℕ)
+    → p.cut ≡ params.first_lines → place ≤ p.places → CostLoosest p params bound penalty place (groups_of lives)
+    → IsActive p stop table place place at low (groups_of lives) → IsRow p table place at old → IsRow p table place (length table) new
 
 -- From each place at most as many lines were tried as there are places after it, both up to b and up to each place where trying stops.
 pub record IsCounted (stop : ℕ → ℕ → Bool) (b : ℕ) (before now : ℕ → ℕ) : Type 0 where

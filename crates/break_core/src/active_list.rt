@@ -1,6 +1,6 @@
 //! The active list: the groups of entries from which lines are still tried.
 
-ghost use Rattle.std.specs.Prelude.{◌≡◌, ◌<◌, ◌≤◌, ◌+◌, ◌++◌, ℕ, [], ◌∷◌, length, take, set, slice_get, Some, None, if◌then◌else◌, OnOk};
+ghost use Rattle.std.specs.Prelude.{◌≡◌, ◌<◌, ◌≤◌, ◌+◌, ◌++◌, ◌&&◌, ℕ, [], ◌∷◌, length, take, drop, set, slice_get, Some, None, if◌then◌else◌, OnOk};
 ghost use Rattle.break_core.specs.Leaving.{is_more, kept_over};
 ghost use Rattle.break_core.specs.Active.{with_live, IsBestOf};
 
@@ -110,6 +110,41 @@ pub(crate) fn keep_group(lives: &mut Vec<Live>, ended: bool, kept: usize, index:
         lives[kept] = lives[index];
     }
     kept + 1
+}
+
+/// The number of the group before which trying lines to a place ends, after the line from group number `next - 1`. After a line that is as loose as
+/// counts no line is tried from the groups that come next, if groups wait.
+#[inline(always)]
+pub(crate) fn end_of_trials(loosest: bool, waits: bool, next: usize, end: usize) -> usize
+    ensures { result ≡ (if loosest && waits then next else end) }
+{
+    if loosest && waits {
+        return next;
+    }
+    end
+}
+
+/// The groups of a list from a number on.
+#[inline(always)]
+pub(crate) fn rest_of(lives: &[Live], from: usize) -> &[Live]
+    ensures { result.now ≡ drop from lives.now }
+{
+    if from >= lives.len() {
+        return &[];
+    }
+    &lives[from..]
+}
+
+/// Leaves out the groups from number `kept` on and before number `next`.
+#[inline(always)]
+pub(crate) fn leave_out(lives: &mut Vec<Live>, kept: usize, next: usize)
+    requires kept_bounded { kept ≤ next }
+    requires next_bounded { next ≤ length lives.old.items }
+    ensures { lives.new.items ≡ take kept lives.old.items ++ drop next lives.old.items }
+{
+    if kept < next {
+        lives.drain(kept..next);
+    }
 }
 
 /// Appends the group of a place to those of earlier places, unless it has no entries. If a break at the place is forced, the earlier groups are

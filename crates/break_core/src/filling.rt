@@ -1,13 +1,16 @@
 //! The table of a paragraph in a pass, which is filled place by place.
 
-ghost use Rattle.std.specs.Prelude.{◌≡◌, ◌+◌, ◌<◌, ◌≤◌, false, length, replicate, None, OnOk, IfOk};
+ghost use Rattle.std.specs.Prelude.{◌≡◌, ◌+◌, ◌<◌, ◌≤◌, true, false, length, replicate, None, OnOk, IfOk};
 ghost use Rattle.break_table.specs.Tables.{max_places, slots, IsTable, IsRow};
+ghost use Rattle.break_lines.specs.Even.{IsEven};
 ghost use Rattle.break_lines.specs.Legal.{is_forced};
 ghost use Rattle.break_core.specs.Filling.{CountsMayGrow};
-ghost use Rattle.break_core.specs.Active.{stops, pruned, groups_of, MayEnd, AreOver, HaveBest, IsActive, IsFilled, IsSwept, IsCounted, TrialsOnlyGrow, WereTried};
+ghost use Rattle.break_core.specs.Active.{stops, pruned, groups_of, MayEnd, AreOver, HaveBest, IsActive, IsFilled, IsSwept, IsCounted, TrialsOnlyGrow, WasTried};
 
-use crate::active_list::{Live, add_group, keep_group, keep_over};
-use crate::offering::{Tried, offer_line};
+use crate::active_list::{
+    Live, add_group, end_of_trials, keep_group, keep_over, leave_out, rest_of,
+};
+use crate::offering::{Tried, offer_line, offer_waiting};
 use crate::pass_rules::Rules;
 use break_lines::Meter;
 use break_table::{ActiveGroup, ActiveNode, empty_row, flush_row};
@@ -21,7 +24,8 @@ struct Reached {
 }
 
 /// Tries the line to a place once from each live group, keeps those from which lines to later places are tried, and carries `over` on to the next
-/// place. The groups stay in place, since most of them are kept. The function is not inlined, so that its loop has all registers.
+/// place. If groups wait, it stops after a line that is stretched so much that the lines from all later groups cost the same as the loosest line: these
+/// groups stay untried. The groups stay in place, since most of them are kept. The function is not inlined, so that its loop has all registers.
 #[inline(never)]
 fn try_lines<M: Meter>(
     meter: &mut M,
@@ -39,6 +43,7 @@ fn try_lines<M: Meter>(
     requires best { HaveBest table.now lives.old.items }
     requires empty { row.old.items ≡ replicate (slots rules.now.params.now.first_lines) None }
     requires may { MayEnd rules.now.ending (M.facts meter.old) rules.now.params.now rules.now.bound }
+    requires waits { rules.now.waits ≡ true → IsEven (M.facts meter.old) }
     requires trials_bounded { CountsMayGrow 1 (M.trials meter.old) }
     ensures row { IsRow (pruned (M.facts meter.old) rules.now.params.now rules.now.bound rules.now.ending) table.now place (length table.now) row.new.items }
     ensures live { is_forced ((M.facts meter.old).penalty place) ≡ false →
@@ -48,11 +53,13 @@ fn try_lines<M: Meter>(
     ensures facts { M.facts meter.new ≡ M.facts meter.old }
     ensures trials { IsSwept (stops (M.facts meter.old) rules.now.params.now rules.now.ending) place (M.trials meter.old) (M.trials meter.new) }
     ensures kept { TrialsOnlyGrow (M.trials meter.old) (M.trials meter.new) }
-    ensures tried { WereTried (groups_of lives.old.items) (M.trials meter.old) (M.trials meter.new) }
+    ensures tried { WasTried (groups_of lives.old.items) (M.trials meter.old) (M.trials meter.new) }
 {
     let at = meter.place(place);
     let mut kept = 0;
-    for index in 0..lives.len() {
+    let mut index = 0;
+    let mut end = lives.len();
+    while index < end {
         let live = &lives[index];
         let sums = meter.try_line(live.group.place, place);
         let width = sums.least_width();
@@ -62,12 +69,15 @@ fn try_lines<M: Meter>(
             penalty: at.penalty,
             sums,
         };
-        let overfull = offer_line(left, row, table, live, rules, tried);
-        let ended = rules.ending.deactivates(overfull, left);
-        keep_over(lives, index, overfull, width);
+        let judged = offer_line(left, row, table, live, rules, tried);
+        let ended = rules.ending.deactivates(judged.overfull, left);
+        keep_over(lives, index, judged.overfull, width);
         kept = keep_group(lives, ended, kept, index);
+        index += 1;
+        end = end_of_trials(judged.loosest, rules.waits, index, end);
     }
-    lives.truncate(kept);
+    offer_waiting(row, table, rest_of(lives, end), rules, place, at.penalty);
+    leave_out(lives, kept, end);
 }
 
 /// Goes on to a place: tries the lines to it, and appends the entries of its row to the table.
@@ -86,6 +96,7 @@ fn add_place<M: Meter>(
     requires best { HaveBest reached.old.table.items reached.old.live.items }
     requires empty { row.old.items ≡ replicate (slots rules.now.params.now.first_lines) None }
     requires may { MayEnd rules.now.ending (M.facts meter.old) rules.now.params.now rules.now.bound }
+    requires waits { rules.now.waits ≡ true → IsEven (M.facts meter.old) }
     requires trials_bounded { CountsMayGrow 1 (M.trials meter.old) }
     ensures filled { OnOk result (
         IsFilled (pruned (M.facts meter.old) rules.now.params.now rules.now.bound rules.now.ending) (stops (M.facts meter.old) rules.now.params.now rules.now.ending) (place + 1) reached.new.table.items (groups_of reached.new.live.items)) }
@@ -95,7 +106,7 @@ fn add_place<M: Meter>(
     ensures facts { M.facts meter.new ≡ M.facts meter.old }
     ensures trials { IsSwept (stops (M.facts meter.old) rules.now.params.now rules.now.ending) place (M.trials meter.old) (M.trials meter.new) }
     ensures kept { TrialsOnlyGrow (M.trials meter.old) (M.trials meter.new) }
-    ensures tried { OnOk result (WereTried (groups_of reached.old.live.items) (M.trials meter.old) (M.trials meter.new)) }
+    ensures tried { OnOk result (WasTried (groups_of reached.old.live.items) (M.trials meter.old) (M.trials meter.new)) }
 {
     try_lines(meter, rules, &reached.table, &mut reached.live, row, place);
     let start = reached.table.len();
@@ -118,6 +129,7 @@ pub(crate) fn fill<M: Meter>(
     rules: &Rules,
 ) -> Result<Vec<ActiveNode>, AllocError>
     requires may { MayEnd rules.now.ending (M.facts meter.old) rules.now.params.now rules.now.bound }
+    requires waits { rules.now.waits ≡ true → IsEven (M.facts meter.old) }
     requires trials_bounded { CountsMayGrow 8192 (M.trials meter.old) }
     ensures table { IfOk result (λ table.
         IsTable (pruned (M.facts meter.old) rules.now.params.now rules.now.bound rules.now.ending) ((M.facts meter.old).places + 1) table.items) }

@@ -4,7 +4,8 @@
 //! chosen list is the best one in the first pass that admits a list. Lines are tried from the places of an active list. For `breaks`, a place leaves
 //! the active list only at a forced break, so all pairs of places between forced breaks are tried. For `active_breaks`, in a steady paragraph a place
 //! also leaves it after an overfull line, if the pass does not admit overfull lines, and in the last pass after a long line. A long line passes over
-//! a place to which it is overfull and has more overhang than there; it is in no chosen list. So the number of trials is bounded for each place.
+//! a place to which it is overfull and has more overhang than there; it is in no chosen list. So the number of trials is bounded for each place. In an
+//! even paragraph no line is tried that is known to cost what the loosest line costs, since the line from an earlier place is as loose already.
 //! `break_lines` measures lists; `vert_core` uses this crate and builds the boxes of the lines.
 #![tactic(auto)]
 

@@ -1,17 +1,19 @@
 //! The offers of the entries of a group for a place, by a line that was tried from there.
 
-ghost use Rattle.std.specs.Prelude.{◌≡◌, ◌<◌, ◌≤◌, ◌≤ℤ◌, ◌&&◌, true, length, slice_get, Some};
+ghost use Rattle.std.specs.Prelude.{◌≡◌, ◌<◌, ◌≤◌, ◌<ℤ◌, ◌≤ℤ◌, pos, ◌&&◌, true, false, length, slice_get, Some};
 ghost use Rattle.break_table.specs.declared.state.Fitness.{Fitness};
 ghost use Rattle.break_table.specs.Tables.{Entry, max_places, slots, IsSmallLine};
-ghost use Rattle.break_lines.specs.Costs.{line_after};
+ghost use Rattle.break_lines.specs.Costs.{line_fit, is_loosest, line_after};
 ghost use Rattle.break_lines.specs.Sizes.{line_fits, IsSmallLineFits};
 ghost use Rattle.break_lines.specs.SmallCosts.{IsSmallAlone};
 ghost use Rattle.break_core.specs.Filling.{IsOf, CanOffer, IsOffering, IsOfferingUnless, offer_from, IsBestOffer, IsBeaten, IsOfferingBest};
-ghost use Rattle.break_core.specs.Active.{IsBestOf};
+ghost use Rattle.break_core.specs.Active.{IsBestOf, HaveBest, CanAllWait, IsOfferingWaiting};
 
 use crate::active_list::Live;
 use crate::pass_rules::Rules;
-use break_lines::{LineFits, Sums, fit_both, fit_line, line_after, line_alone};
+use break_lines::{
+    LineFit, LineFits, Sums, fit_both, fit_line, is_loosest, line_after, line_alone,
+};
 use break_table::{ActiveGroup, ActiveNode, LineCost, offer, put};
 use node_core::Params;
 
@@ -21,6 +23,14 @@ pub(crate) struct Tried {
     pub(crate) place: usize,
     pub(crate) penalty: i32,
     pub(crate) sums: Sums,
+}
+
+/// What is found of a line that was tried, besides its offers: whether it is overfull after any number of lines, and whether it is found so loose
+/// that a line that is stretched by more costs the same in the pass. The second is found only if no lines are counted.
+#[derive(Clone, Copy, Debug, PartialEq, Eq)]
+pub(crate) struct Judged {
+    pub(crate) overfull: bool,
+    pub(crate) loosest: bool,
 }
 
 /// Offers the entries of a group for a place, by a line from there that was tried and judged. The line is judged for firstsize and for hsize at once,
@@ -51,8 +61,7 @@ fn offer_each(
     }
 }
 
-/// Offers the entries of a group for a place, by a line that was tried from there, unless it is left out. Returns whether the line is overfull after
-/// any number of lines.
+/// Offers the entries of a group for a place, by a line that was tried from there, unless it is left out. Returns what is found of the line.
 #[cold]
 #[inline(never)]
 fn offer_counted(
@@ -62,18 +71,23 @@ fn offer_counted(
     group: ActiveGroup,
     rules: &Rules,
     tried: &Tried,
-) -> bool
+) -> Judged
     requires can { CanOffer rules.now.params.now.first_lines row.old.items table.now group tried.now }
     ensures row { IsOfferingUnless left table.now rules.now.params.now rules.now.bound group tried.now.place tried.now.penalty (line_fits rules.now.params.now tried.now.sums) row.old.items row.new.items }
     ensures wide { length row.new.items ≡ slots rules.now.params.now.first_lines }
-    ensures overfull { result ≡ ((line_fits rules.now.params.now tried.now.sums).first.overfull && (line_fits rules.now.params.now tried.now.sums).rest.overfull) }
+    ensures overfull { result.overfull ≡ ((line_fits rules.now.params.now tried.now.sums).first.overfull && (line_fits rules.now.params.now tried.now.sums).rest.overfull) }
+    ensures loosest { result.loosest ≡ false }
 {
     let line = fit_both(&tried.sums, rules.params);
+    let judged = Judged {
+        overfull: line.is_overfull(),
+        loosest: false,
+    };
     if left {
-        return line.is_overfull();
+        return judged;
     }
     offer_each(row, table, group, rules, tried, &line);
-    line.is_overfull()
+    judged
 }
 
 /// The offer of an entry of a table for a place by a line, if no lines are counted.
@@ -97,6 +111,7 @@ fn offer_from(
 }
 
 /// The best offer of the entries of a group for a place by a line, if no lines are counted.
+#[inline(never)]
 fn best_offer(
     table: &[ActiveNode],
     group: ActiveGroup,
@@ -151,6 +166,7 @@ fn is_beaten(held: &Option<ActiveNode>, best: ActiveNode, params: &Params, alone
 
 /// Offers the entries of a group for a place by a line, if no lines are counted. All offers are for one state then, so only the best of them is put
 /// into the row, and the group is passed over if its offers are worse than the one that is held.
+#[inline(always)]
 fn offer_best(
     row: &mut Vec<Option<ActiveNode>>,
     table: &[ActiveNode],
@@ -175,8 +191,8 @@ fn offer_best(
     put(row, best_offer(table, live.group, params, place, alone), 0);
 }
 
-/// Offers the entries of a group for a place, by a line that was tried from there, unless it is left out. Returns whether the line is overfull after
-/// any number of lines. If no lines are counted, the line is judged only once.
+/// Offers the entries of a group for a place, by a line that was tried from there, unless it is left out. Returns what is found of the line. If no
+/// lines are counted, the line is judged only once.
 #[inline(always)]
 pub(crate) fn offer_line(
     left: bool,
@@ -185,12 +201,14 @@ pub(crate) fn offer_line(
     live: &Live,
     rules: &Rules,
     tried: Tried,
-) -> bool
+) -> Judged
     requires can { CanOffer rules.now.params.now.first_lines row.old.items table.now live.now.group tried }
     requires best { IsBestOf table.now live.now.group.start live.now.group.end live.now.best }
     ensures row { IsOfferingUnless left table.now rules.now.params.now rules.now.bound live.now.group tried.place tried.penalty (line_fits rules.now.params.now tried.sums) row.old.items row.new.items }
     ensures wide { length row.new.items ≡ slots rules.now.params.now.first_lines }
-    ensures overfull { result ≡ ((line_fits rules.now.params.now tried.sums).first.overfull && (line_fits rules.now.params.now tried.sums).rest.overfull) }
+    ensures overfull { result.overfull ≡ ((line_fits rules.now.params.now tried.sums).first.overfull && (line_fits rules.now.params.now tried.sums).rest.overfull) }
+    ensures loosest { result.loosest ≡ true → is_loosest rules.now.bound (line_fit tried.sums rules.now.params.now.hsize) ≡ true }
+    ensures uncounted { result.loosest ≡ true → rules.now.params.now.first_lines ≡ 0 }
 {
     if rules.params.first_lines.get() > 0 {
         // Only the address of this copy is taken, so `tried` stays in registers where no lines are counted.
@@ -198,12 +216,42 @@ pub(crate) fn offer_line(
         return offer_counted(left, row, table, live.group, rules, &counted);
     }
     let line = fit_line(&tried.sums, rules.params.hsize);
+    let judged = Judged {
+        overfull: line.overfull,
+        loosest: is_loosest(&rules.bound, &line),
+    };
     if left {
-        return line.overfull;
+        return judged;
     }
     let Some(alone) = line_alone(rules.params, &rules.bound, tried.penalty, &line) else {
-        return line.overfull;
+        return judged;
     };
     offer_best(row, table, live, rules.params, tried.place, &alone);
-    line.overfull
+    judged
+}
+
+/// Offers the entries of groups that wait for a place, if no lines are counted. The lines from all of them cost what the loosest line costs.
+pub(crate) fn offer_waiting(
+    row: &mut Vec<Option<ActiveNode>>,
+    table: &[ActiveNode],
+    lives: &[Live],
+    rules: &Rules,
+    place: usize,
+    penalty: i32,
+)
+    requires wide { length row.old.items ≡ slots rules.now.params.now.first_lines }
+    requires uncounted { 0 < length lives.now → rules.now.params.now.first_lines ≡ 0 }
+    requires can { CanAllWait 0 table.now place lives.now }
+    requires best { HaveBest table.now lives.now }
+    requires places { place ≤ max_places }
+    requires penalty { penalty <ℤ pos 10000 }
+    ensures row { IsOfferingWaiting table.now rules.now.params.now rules.now.bound lives.now place penalty row.old.items row.new.items }
+{
+    let Some(alone) = line_alone(rules.params, &rules.bound, penalty, &LineFit::LOOSEST) else {
+        return;
+    };
+    for index in 0..lives.len() {
+        let live = &lives[index];
+        offer_best(row, table, live, rules.params, place, &alone);
+    }
 }

@@ -17,12 +17,14 @@ pub(crate) enum StopRule {
     Long,
 }
 
-/// The rules of a pass: the parameters, the lines that it admits, and when to stop trying lines from a place.
+/// The rules of a pass: the parameters, the lines that it admits, when to stop trying lines from a place, and whether places wait: no line is tried
+/// from a place if it is known to cost what the loosest line costs, since the line from an earlier place is as loose already.
 #[derive(Drop)]
 pub(crate) struct Rules<'a> {
     pub(crate) params: &'a Params,
     pub(crate) bound: Bound,
     pub(crate) ending: StopRule,
+    pub(crate) waits: bool,
 }
 
 impl StopRule {

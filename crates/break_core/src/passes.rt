@@ -6,6 +6,7 @@ ghost use Rattle.break_table.specs.Chosen.{AdmitsNone, IsAnswer};
 ghost use Rattle.break_lines.specs.Facts.{Facts};
 ghost use Rattle.break_core.specs.Passes.{problem_of, bound_of, line_end_at, IsBroken};
 ghost use Rattle.break_lines.specs.Steady.{IsSteady};
+ghost use Rattle.break_lines.specs.Even.{IsEven};
 ghost use Rattle.break_core.specs.Leaving.{IsWidening, MayLeave};
 ghost use Rattle.break_core.specs.Trials.{is_bounded, first_run, passes_run, AreBounded, AreBoundedByPasses, HasNoTrials};
 ghost use Rattle.break_core.specs.Filling.{IsGrown, CountsMayGrow, AreEndsInParagraph, IsDecided};
@@ -78,6 +79,16 @@ fn ending_in<M: Meter>(meter: &M, params: &Params, drops: bool, pass: Pass) -> S
     }
 }
 
+/// Whether places wait in the passes over a paragraph; if `drops` is false, none does.
+fn waits_in<M: Meter>(meter: &M, drops: bool) -> bool
+    ensures { result ≡ true → IsEven (M.facts meter.now) }
+{
+    if !drops {
+        return false;
+    }
+    meter.even()
+}
+
 /// The chosen list of a pass, or `None` if it admits no list. If `drops` is true, trying lines stops as early as possible.
 fn chosen_in<M: Meter>(
     alloc: Global,
@@ -101,6 +112,7 @@ fn chosen_in<M: Meter>(
         params,
         bound: bound_of(params, pass),
         ending: ending_in(meter, params, drops, pass),
+        waits: waits_in(meter, drops),
     };
     let table = fill(alloc, meter, &rules)?;
     chosen_list(alloc, &table, places)

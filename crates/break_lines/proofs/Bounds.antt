@@ -16,7 +16,7 @@ use Rattle.break_lines.specs.Costs.{stretches_forever, stretched_class, shrunk_c
 cube_small : (r : ℕ) → r ≤ 1290 → r * r * r ≤ 1290 * 1290 * 1290
 cube_small r low = mul-le-mul (mul-le-mul low low) low
 
-ratio_most : (r b : ℕ) → IsRatioBadness r b → b ≤ 10000
+pub ratio_most : (r b : ℕ) → IsRatioBadness r b → b ≤ 10000
 ratio_most r b is = cases (cases_lt 1290 r)
   where
     cases : (1290 < r) ⊎ (r ≤ 1290) → b ≤ 10000
@@ -26,7 +26,7 @@ ratio_most r b is = cases (cases_lt 1290 r)
         omega (arith, cube_small r small, near)
 
 -- Badness is at most 10000.
-badness_most : (t s : ℤ) → pos 0 ≤ℤ t → badness_of t s ≤ 10000
+pub badness_most : (t s : ℤ) → pos 0 ≤ℤ t → badness_of t s ≤ 10000
 badness_most t s at_least = cases t s (badness_of-is t s at_least) at_least
   where
     cases : (t s : ℤ) → IsBadness t s (badness_of t s) → pos 0 ≤ℤ t → badness_of t s ≤ 10000

@@ -13,5 +13,7 @@ pub mod Marked
 pub mod Rising
 pub mod Steadiness
 pub mod Divided
+pub mod Looseness
+pub mod Evenness
 pub mod Ends
 pub mod Refusals

@@ -88,6 +88,27 @@ unfoldable pub admits : Bound → LineFit → Bool
 admits Any line = true
 admits (AtMost most) line = not line.overfull && int_le (pos line.badness) most
 
+-- Whether lines of a class are stretched by more than a badness of 12 (own).
+unfoldable pub is_loose : Fitness → Bool
+is_loose VeryLoose = true
+is_loose Loose = true
+is_loose Decent = false
+is_loose Tight = false
+
+-- The badness above which all stretched lines cost the same for a bound: the bound, since none of them is admitted, and at most 9999, since all of
+-- them have badness 10000 then (own).
+unfoldable pub looseness_limit : Bound → ℤ
+looseness_limit Any = pos 9999
+looseness_limit (AtMost most) = if int_lt (pos 9999) most then pos 9999 else most
+
+-- Whether a line is stretched, and its badness is above this limit (own: and above 12).
+unfoldable pub is_loosest : Bound → LineFit → Bool
+is_loosest bound line = is_loose line.class && int_lt (looseness_limit bound) (pos line.badness)
+
+-- A line that is stretched as badly as can be (own).
+abbrev pub loosest_line : LineFit
+loosest_line = record { overfull = false; badness = 10000; class = VeryLoose; overhang = pos 0 }
+
 -- The line, if the bound admits it.
 unfoldable pub line_of : Params → Bound → (penalty : ℤ) → (before : Fitness) → LineFit → Option LineCost
 line_of params bound penalty before line =

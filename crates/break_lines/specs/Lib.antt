@@ -9,5 +9,6 @@ pub mod LineItems
 pub mod Facts
 pub mod SmallMarks
 pub mod Steady
+pub mod Even
 pub mod Divided
 pub mod Marks

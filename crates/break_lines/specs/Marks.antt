@@ -1,5 +1,5 @@
 -- The places of a list as its meter stores them, and the walk that finds them (own; no public clause speaks of it).
-use Rattle.std.specs.Prelude.{◌≡◌, ◌≢◌, ◌+◌, ◌-◌, ◌≤◌, ◌+ℤ◌, ◌++◌, ℕ, ℤ, pos, false, nat_lt, List, ◌∷◌, length, map, filter, reverse, drop, slice_get, Option, Some, None, if◌then◌else◌}
+use Rattle.std.specs.Prelude.{◌≡◌, ◌≢◌, ◌+◌, ◌-◌, ◌<◌, ◌≤◌, ◌+ℤ◌, ◌++◌, ℕ, ℤ, pos, false, nat_lt, List, ◌∷◌, length, map, filter, reverse, drop, slice_get, Option, Some, None, if◌then◌else◌}
 use Rattle.std.specs.List.{list_any}
 use Rattle.node_core.specs.declared.tree.Node.{Node}
 use Rattle.node_core.specs.declared.tree.Node.TheVariants as nodes
@@ -17,6 +17,7 @@ use Rattle.break_lines.specs.LineItems.{sums_of, next_kept, minus}
 use Rattle.break_lines.specs.Facts.{refusal}
 use Rattle.break_lines.specs.SmallMarks.{IsPrefix, AreSmallMarks}
 use Rattle.break_lines.specs.Steady.{IsNoNarrower}
+use Rattle.break_lines.specs.Even.{Covers}
 
 -- The sums over no items.
 abbrev pub no_sums : Sums
@@ -101,6 +102,13 @@ line_between from to = if nat_lt from.begin to.position then minus from.from_beg
 pub record RisesOn (from to next : MeasuredBreak) : Type 0 where
   pub wider : IsNoNarrower to.from_position next.from_position
   pub begins : to.position ≤ from.begin → IsNoNarrower (line_between from next) no_sums
+
+-- The items that are dropped after a place, and those of the line from there to the next place, are not negative together, in their width and in their
+-- stretch of each order; nor are the items from the place to the next one, if that is among those that are dropped.
+pub record GoesOnEvenly (here next : MeasuredBreak) : Type 0 where
+  pub dropped : Covers here.from_position here.from_begin
+  pub line : here.begin ≤ next.position → Covers here.from_begin next.from_position
+  pub passed : next.position < here.begin → Covers here.from_position next.from_position
 
 -- The measures of a list that is not refused.
 pub record IsMarked (list : List Node) (found : List MeasuredBreak) : Type 0 where

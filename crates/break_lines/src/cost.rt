@@ -3,7 +3,7 @@
 ghost use Rattle.std.specs.Prelude.{◌≡◌, ◌≤◌, ◌<ℤ◌, ◌≤ℤ◌, ◌*ℤ◌, ◌+ℤ◌, ◌+◌, ◌^◌, pos, IfSome};
 ghost use Rattle.scaled_core.specs.Dimensions.{Within};
 ghost use Rattle.break_table.specs.Tables.{IsSmallLine};
-ghost use Rattle.break_lines.specs.Costs.{stretched_class, shrunk_class, stretches_forever, fit_short, fit_long, line_fit, base_demerits, penalty_demerits, is_apart, adjacent_demerits, admits, line_alone, line_after, after_class};
+ghost use Rattle.break_lines.specs.Costs.{stretched_class, shrunk_class, stretches_forever, fit_short, fit_long, line_fit, is_loose, looseness_limit, is_loosest, base_demerits, penalty_demerits, is_apart, adjacent_demerits, admits, line_alone, line_after, after_class};
 ghost use Rattle.break_lines.specs.SmallCosts.{IsSmallSums, IsSmallLineFit, IsSmallAlone};
 
 use crate::sums::Sums;
@@ -27,6 +27,16 @@ pub enum Bound {
     Any,
     /// Lines that are not overfull and whose badness is at most this number.
     AtMost(IntParameter),
+}
+
+impl LineFit {
+    /// A line that is stretched as badly as can be.
+    pub const LOOSEST: LineFit = LineFit {
+        overfull: false,
+        badness: 10_000,
+        class: Fitness::VeryLoose,
+        overhang: 0,
+    };
 }
 
 /// The class of a stretched line, by its badness.
@@ -207,6 +217,49 @@ fn admits(bound: &Bound, line: &LineFit) -> bool
             i64::from(line.badness) <= i64::from(most.get())
         }
     }
+}
+
+/// Whether lines of a class are stretched by more than a badness of 12.
+#[tactic(auto, unfolding(crate::specs::Costs::is_loose))]
+fn is_loose(class: Fitness) -> bool
+    ensures { result ≡ is_loose class }
+{
+    match class {
+        Fitness::VeryLoose => true,
+        Fitness::Loose => true,
+        Fitness::Decent => false,
+        Fitness::Tight => false,
+    }
+}
+
+/// A badness above which all stretched lines cost the same in a pass with a bound: the bound, since none of them is admitted, and at most 9999, since
+/// all of them have badness 10000.
+#[tactic(auto, unfolding(crate::specs::Costs::looseness_limit))]
+fn looseness_limit(bound: &Bound) -> i64
+    ensures { result ≡ looseness_limit bound.now }
+{
+    match bound {
+        Bound::Any => 9_999,
+        Bound::AtMost(most) => {
+            if i64::from(most.get()) > 9_999 {
+                return 9_999;
+            }
+            i64::from(most.get())
+        }
+    }
+}
+
+/// Whether a line is stretched by so much that a line that is stretched by more costs the same in a pass with this bound. A line with badness up to
+/// 12 never counts as one, since its class does not tell whether it is stretched.
+#[tactic(auto, unfolding(crate::specs::Costs::is_loosest))]
+#[inline(always)]
+pub fn is_loosest(bound: &Bound, line: &LineFit) -> bool
+    ensures { result ≡ is_loosest bound.now line.now }
+{
+    if !is_loose(line.class) {
+        return false;
+    }
+    looseness_limit(bound) < i64::from(line.badness)
 }
 
 /// The demerits of a line that ends at a penalty, without those for the class of the line before it.

@@ -7,6 +7,7 @@
 
 mod cost;
 mod dividing;
+mod even;
 mod fault;
 mod item_sums;
 pub mod laws;
@@ -19,7 +20,7 @@ mod steady;
 mod sums;
 mod walk;
 
-pub use cost::{Bound, LineFit, fit_line, line_after, line_alone};
+pub use cost::{Bound, LineFit, fit_line, is_loosest, line_after, line_alone};
 pub use fault::BreakFault;
 pub use list::refusal;
 pub use list_meter::ListMeter;

@@ -5,6 +5,7 @@ ghost use Rattle.std.specs.Option.{unwrap_or};
 ghost use Rattle.std.specs.Int.{sum_through};
 ghost use Rattle.break_lines.specs.Facts.{facts_of, refusal};
 ghost use Rattle.break_lines.specs.Steady.{IsSteady};
+ghost use Rattle.break_lines.specs.Even.{IsEven};
 ghost use Rattle.node_core.specs.Nodes.{max_nodes};
 ghost use Rattle.break_table.specs.Problems.{max_places};
 ghost use Rattle.break_lines.specs.Legal.{legal_places};
@@ -12,6 +13,7 @@ ghost use Rattle.break_lines.specs.Marks.{marks_of};
 ghost use Rattle.break_lines.specs.SmallMarks.{AreSmallMarks};
 
 use crate::dividing::is_divided;
+use crate::even::is_even;
 use crate::fault::BreakFault;
 use crate::item_sums::Sums;
 use crate::list::{no_trials, refusal};
@@ -24,12 +26,13 @@ use scaled_core::Dimen;
 use std::alloc::{AllocError, Global};
 
 /// The measures of a list of at most 131,072 nodes with at most 8,192 legal places: a mark for the start and for each place, whether the list is
-/// steady, and the number of lines that were tried from each place.
+/// steady, whether it is known to be even, and the number of lines that were tried from each place.
 #[derive(Drop)]
 pub struct ListMeter<'a> {
     pub(crate) nodes: &'a [Node],
     pub(crate) marks: Vec<MeasuredBreak>,
     pub(crate) steady: bool,
+    pub(crate) even: bool,
     pub(crate) trials: Vec<u64>,
     ghost nodes_bounded: { length nodes.now ≤ max_nodes },
     ghost marked: { marks.items ≡ marks_of nodes.now },
@@ -38,6 +41,7 @@ pub struct ListMeter<'a> {
     ghost mark_sums_bounded: { AreSmallMarks marks.items },
     ghost rises: { steady ≡ true → IsSteady (facts_of nodes.now) },
     ghost falls: { IsSteady (facts_of nodes.now) → steady ≡ true },
+    ghost evens: { even ≡ true → IsEven (facts_of nodes.now) },
     ghost counted: { length trials.items ≡ length marks.items },
 }
 
@@ -54,10 +58,12 @@ impl<'a> ListMeter<'a> {
         };
         let trials = no_trials(alloc, marks.len())?;
         let steady = is_steady(&marks);
+        let even = is_even(&marks);
         Ok(Some(ListMeter {
             nodes,
             marks,
             steady,
+            even,
             trials,
         }))
     }
@@ -126,6 +132,10 @@ impl<'a> Meter for ListMeter<'a> {
     fn try_line(&mut self, from: usize, to: usize) -> Sums {
         self.trials[from] += 1;
         self.marks[from].line_to(&self.marks[to])
+    }
+
+    fn even(&self) -> bool {
+        self.even
     }
 
     fn divided(&self, amount: Dimen) -> bool {

@@ -6,6 +6,7 @@ ghost use Rattle.break_lines.specs.Legal.{is_forced};
 ghost use Rattle.break_lines.specs.Facts.{Facts};
 ghost use Rattle.break_lines.specs.LineItems.{IsSmallSums};
 ghost use Rattle.break_lines.specs.Steady.{IsSteady};
+ghost use Rattle.break_lines.specs.Even.{IsEven};
 ghost use Rattle.break_lines.specs.Divided.{IsDivided};
 
 use crate::item_sums::Sums;
@@ -73,6 +74,15 @@ pub trait Meter {
         requires steady { IsSteady (facts self.now) }
         requires amount_positive { pos 0 <ℤ _amount }
         ensures divided { result ≡ true → IsDivided (facts self.now) _amount }
+    {
+        false
+    }
+
+    /// Whether it is known that the paragraph is even: of two lines to a place, the one that begins earlier is at least as wide as the other one,
+    /// and stretches at least as much in each order; and in no line is the stretch of an infinite order negative. A meter that does not know returns
+    /// false, as this default does; then `active_breaks` only tries more lines.
+    fn even(&self) -> bool
+        ensures even { result ≡ true → IsEven (facts self.now) }
     {
         false
     }

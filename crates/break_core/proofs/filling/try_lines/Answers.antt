@@ -1,20 +1,25 @@
-use Rattle.std.proofs.Common.{◌≡◌, ◌∙◌, ◌+◌, ◌≤◌, ◌<◌, ◌++◌, [], ◌∷◌, Some, cond, length, length-set, take, set, to_z, of_z, w32, w64, refl, ap, sym, subst, arith}
-use Rattle.std.specs.Prelude.{slice_get}
+use Rattle.std.proofs.Common.{◌≡◌, ◌∙◌, ◌+◌, ◌≤◌, ◌<◌, ◌++◌, [], ◌∷◌, Some, None, Bool, true, false, ℕ, cond, length, length-set, take, drop, set, to_z, of_z, w32, w64, refl, ap, sym, subst, arith}
+use Rattle.std.specs.Prelude.{slice_get, ◌&&◌}
+use Rattle.std.proofs.Math.Logic.{◌⊎◌, inl, inr}
+use Rattle.std.proofs.lemmas.Bool.{cases_Bool, cond-true, cond-false}
 use Rattle.std.proofs.lemmas.Int.{ints}
-use Rattle.std.proofs.lemmas.List.{length-map, take-set-le}
-use Rattle.std.proofs.lemmas.Option.{slice_get_within, slice_get_read}
+use Rattle.std.proofs.lemmas.List.{length-replicate, take-set-le}
+use Rattle.std.proofs.lemmas.Option.{slice_get_read}
 use Rattle.break_lines.specs.Sizes.{least_width, line_fits}
 use Rattle.break_core.specs.declared.active_list.Live.{Live}
 use Rattle.break_core.specs.Trials.{is_overfull}
 use Rattle.break_core.specs.Leaving.{is_long, is_more, kept_over}
-use Rattle.break_core.specs.Active.{deactivates, stops, pruned, groups_of, AreOver, HaveBest, IsActive}
+use Rattle.break_core.specs.Active.{deactivates, stops, pruned, groups_of, AreOver, HaveBest, IsNext, IsActive, AreLoosest, CostLoosest, CanAllWait, IsOfferingWaiting}
+use Rattle.break_table.specs.Tables.{slots, IsRow}
+use Rattle.break_table.proofs.Rows.{row_empty}
 use Rattle.break_table.proofs.Entries.{get-set_same, get-set_other}
 use Rattle.break_core.proofs.Filled.{group_of}
-use Rattle.break_core.proofs.Overfull.{overfull_of}
+use Rattle.break_core.proofs.Overfull.{overfull_of, both_true}
 use Rattle.break_core.proofs.Endings.{long_found, over_found, pruned_is, ended_is, goes_on, ended_quiet}
 use Rattle.break_core.proofs.Lives.{group_at, groups_kept, over_kept, best_kept, next_live}
-use Rattle.break_core.proofs.Active.{row_quiet, row_end, front_more, front_end}
-use Rattle.break_core.proofs.Counts.{swept_more, fresh_more, kept_more, tried_more}
+use Rattle.break_core.proofs.Active.{row_quiet, front_more}
+use Rattle.break_core.proofs.Counts.{swept_more, fresh_more, kept_more, kept_none, tried_first}
+use Rattle.break_core.proofs.Waiting.{later_loosest, wait_from, are_left, can_wait, can_uncounted, costs_waiting, front_left, over_left, best_joined, first_tried}
 use Rattle.break_core.proofs.filling.try_lines.Goals as goal
 
 pub try_line-sums-requires-clause-later : goal.try_line-sums-requires-clause-later
@@ -26,7 +31,7 @@ try_line-sums-requires-clause-later g c =
     let lives = c.args.lives.now.items in
     let index = c.loop-index.index in
     let live = c.index-live.result.now in
-    let within : index < length c.loop-index.lives.items = omega (arith, c.loop-index-test.true, c.len-index-end.ensures, inv.count) in
+    let within : index < length c.loop-index.lives.items = omega (arith, c.loop-index-test.true, inv.end_bounded, inv.count) in
     let here : slice_get lives index ≡ Some live =
     sym (inv.rest index (omega arith)) ∙ slice_get_read c.loop-index.lives.items (length c.loop-index.lives.items) index live refl within c.index-live.ensures in
     let both = next_live f rules_now.params.now rules_now.bound rules_now.ending table c.args.place inv.at inv.low lives index live here inv.live in
@@ -42,15 +47,15 @@ try_line-sums-requires-clause-trials_bounded g c =
     let lives = c.args.lives.now.items in
     let index = c.loop-index.index in
     let live = c.index-live.result.now in
-    let within : index < length c.loop-index.lives.items = omega (arith, c.loop-index-test.true, c.len-index-end.ensures, inv.count) in
+    let within : index < length c.loop-index.lives.items = omega (arith, c.loop-index-test.true, inv.end_bounded, inv.count) in
     let here : slice_get lives index ≡ Some live =
     sym (inv.rest index (omega arith)) ∙ slice_get_read c.loop-index.lives.items (length c.loop-index.lives.items) index live refl within c.index-live.ensures in
     let both = next_live f rules_now.params.now rules_now.bound rules_now.ending table c.args.place inv.at inv.low lives index live here inv.live in
     let next = both.0 in
     omega (arith, c.requires.trials_bounded live.group.place, inv.fresh live.group.place next.later)
 
-pub offer_line-overfull-requires : goal.offer_line-overfull-requires
-offer_line-overfull-requires g c =
+pub offer_line-judged-requires : goal.offer_line-judged-requires
+offer_line-judged-requires g c =
     let inv = c.loop-index.invariant in
     let rules_now = c.args.rules.now in
     let f = g.M.Meter.facts c.args.meter.now in
@@ -58,7 +63,7 @@ offer_line-overfull-requires g c =
     let lives = c.args.lives.now.items in
     let index = c.loop-index.index in
     let live = c.index-live.result.now in
-    let within : index < length c.loop-index.lives.items = omega (arith, c.loop-index-test.true, c.len-index-end.ensures, inv.count) in
+    let within : index < length c.loop-index.lives.items = omega (arith, c.loop-index-test.true, inv.end_bounded, inv.count) in
     let here : slice_get lives index ≡ Some live =
     sym (inv.rest index (omega arith)) ∙ slice_get_read c.loop-index.lives.items (length c.loop-index.lives.items) index live refl within c.index-live.ensures in
     let both = next_live f rules_now.params.now rules_now.bound rules_now.ending table c.args.place inv.at inv.low lives index live here inv.live in
@@ -78,14 +83,14 @@ offer_line-overfull-requires g c =
     }
 
 pub keep_over-requires : goal.keep_over-requires
-keep_over-requires g c = record { index_bounded = omega (arith, c.loop-index-test.true, c.len-index-end.ensures, c.loop-index.invariant.count) }
+keep_over-requires g c = record { index_bounded = omega (arith, c.loop-index-test.true, c.loop-index.invariant.end_bounded, c.loop-index.invariant.count) }
 
 pub keep_group-kept-requires : goal.keep_group-kept-requires
 keep_group-kept-requires g c =
     let items = c.loop-index.lives.items in
     let live = c.index-live.result.now in
-    let overfull = c.offer_line-overfull.result in
-    let within : c.loop-index.index < length items = omega (arith, c.loop-index-test.true, c.len-index-end.ensures, c.loop-index.invariant.count) in
+    let overfull = c.offer_line-judged.result.overfull in
+    let within : c.loop-index.index < length items = omega (arith, c.loop-index-test.true, c.loop-index.invariant.end_bounded, c.loop-index.invariant.count) in
     let at_index = slice_get_read items (length items) c.loop-index.index live refl within c.index-live.ensures in
     let kept : Live =
     record { group = live.group; over = kept_over live.over overfull (to_z w64 (of_z w64 c.least_width-width.result)); best = live.best } in
@@ -103,7 +108,7 @@ loop-index-preserved g c =
     let lives = c.args.lives.now.items in
     let index = c.loop-index.index in
     let live = c.index-live.result.now in
-    let within : index < length c.loop-index.lives.items = omega (arith, c.loop-index-test.true, c.len-index-end.ensures, inv.count) in
+    let within : index < length c.loop-index.lives.items = omega (arith, c.loop-index-test.true, inv.end_bounded, inv.count) in
     let here : slice_get lives index ≡ Some live =
     sym (inv.rest index (omega arith)) ∙ slice_get_read c.loop-index.lives.items (length c.loop-index.lives.items) index live refl within c.index-live.ensures in
     let both = next_live f rules_now.params.now rules_now.bound rules_now.ending table c.args.place inv.at inv.low lives index live here inv.live in
@@ -121,12 +126,12 @@ loop-index-preserved g c =
     let width = to_z w64 (of_z w64 c.least_width-width.result) in
     let exact : to_z w64 (of_z w64 c.least_width-width.result) ≡ c.least_width-width.result = omega (arith, ints) in
     let is_width : to_z w64 (of_z w64 c.least_width-width.result) ≡ least_width c.try_line-sums.result = exact ∙ c.least_width-width.ensures in
-    let overfull = c.offer_line-overfull.result in
+    let overfull = c.offer_line-judged.result.overfull in
     let long = is_more live.over width in
     let over = c.requires.over index live here in
     let penalty : to_z w32 (of_z w32 c.place-at.result.penalty) ≡ c.place-at.result.penalty = omega (arith, ints) in
     let is_over : overfull ≡ is_overfull f params group.place c.args.place =
-    c.offer_line-overfull.ensures.overfull ∙ overfull_of f h params group.place c.args.place sums line refl c.try_line-sums.ensures.sums inv.facts in
+    c.offer_line-judged.ensures.overfull ∙ overfull_of f h params group.place c.args.place sums line refl c.try_line-sums.ensures.sums inv.facts in
     let is_long_line : long ≡ is_long f params group.place c.args.place =
     long_found f h params group.place c.args.place sums live.over width long refl over is_width
     c.try_line-sums.ensures.sums inv.facts in
@@ -148,14 +153,14 @@ loop-index-preserved g c =
     let made : new ≡ cond c.deactivates-ended.result old (old ++ kept ∷ []) =
     c.keep_group-kept.ensures.front kept stands ∙ ap (λ xs. cond c.deactivates-ended.result xs (xs ++ kept ∷ [])) same_front in
     record {
-      wide = c.offer_line-overfull.ensures.wide;
+      wide = c.offer_line-judged.ensures.wide;
       facts = c.try_line-sums.ensures.facts ∙ inv.facts;
       swept = swept_more stop c.args.place inv.low group.place (g.M.Meter.trials c.args.meter.now) (g.M.Meter.trials c.loop-index.meter)
           (g.M.Meter.trials c.try_line-sums.new.self) inv.swept inv.fresh next.later next.group.earlier next.trying c.try_line-sums.ensures.counted
           c.try_line-sums.ensures.others;
       kept = kept_more group.place (g.M.Meter.trials c.args.meter.now) (g.M.Meter.trials c.loop-index.meter) (g.M.Meter.trials c.try_line-sums.new.self) inv.kept
           c.try_line-sums.ensures.counted c.try_line-sums.ensures.others;
-      tried = tried_more groups index group (g.M.Meter.trials c.args.meter.now) (g.M.Meter.trials c.loop-index.meter)
+      tried = λ some. tried_first groups index group (g.M.Meter.trials c.args.meter.now) (g.M.Meter.trials c.loop-index.meter)
           (g.M.Meter.trials c.try_line-sums.new.self) inv.tried inv.kept (group_at lives index live here)
           c.try_line-sums.ensures.counted c.try_line-sums.ensures.others;
       at = group.end;
@@ -163,7 +168,7 @@ loop-index-preserved g c =
       fresh = fresh_more inv.low group.place (g.M.Meter.trials c.args.meter.now) (g.M.Meter.trials c.loop-index.meter)
           (g.M.Meter.trials c.try_line-sums.new.self) inv.fresh next.later c.try_line-sums.ensures.others;
       live = both.1;
-      row = c.offer_line-overfull.ensures.row p refl next.group.since tried
+      row = c.offer_line-judged.ensures.row p refl next.group.since tried
           (row_quiet p table c.args.place inv.at group.start c.loop-index.row.items next.gap c.requires.last next.quiet inv.row);
       kept_bounded = omega (arith, inv.kept_bounded, c.keep_group-kept.ensures.result_bounded);
       count = c.keep_group-kept.ensures.count ∙ ap length marked ∙ length-set items index kept ∙ inv.count;
@@ -178,44 +183,215 @@ loop-index-preserved g c =
           refl over is_over is_width c.try_line-sums.ensures.sums inv.facts)
           made;
       best = best_kept table c.deactivates-ended.result old new kept inv.best (c.requires.best index live here) made;
+      index_bounded = next_bounded (cases_Bool both_wait);
+      end_bounded = end_within (cases_Bool both_wait);
+      begins = begins (cases_Bool both_wait);
+      waits = waits (cases_Bool both_wait);
+    }
+  where
+    loosest : Bool
+    loosest = c.offer_line-judged.result.loosest
+
+    both_wait : Bool
+    both_wait = loosest && c.args.rules.now.waits
+
+    end : ℕ
+    end = c.end_of_trials-end.result
+
+    low : c.loop-index.index < c.loop-index.end
+    low = c.loop-index-test.true
+
+    stopped : both_wait ≡ true → end ≡ c.loop-index.index + 1
+    stopped is = c.end_of_trials-end.ensures ∙ cond-true both_wait (c.loop-index.index + 1) c.loop-index.end is
+
+    goes : both_wait ≡ false → end ≡ c.loop-index.end
+    goes is = c.end_of_trials-end.ensures ∙ cond-false both_wait (c.loop-index.index + 1) c.loop-index.end is
+
+    next_bounded : (both_wait ≡ true) ⊎ (both_wait ≡ false) → c.loop-index.index + 1 ≤ end
+    next_bounded (inl is) = omega (arith, stopped is)
+    next_bounded (inr is) = omega (arith, goes is, low)
+
+    end_within : (both_wait ≡ true) ⊎ (both_wait ≡ false) → end ≤ length c.args.lives.now.items
+    end_within (inl is) = omega (arith, stopped is, low, c.loop-index.invariant.end_bounded)
+    end_within (inr is) = omega (arith, goes is, c.loop-index.invariant.end_bounded)
+
+    begins : (both_wait ≡ true) ⊎ (both_wait ≡ false) → (length c.args.lives.now.items ≤ end) ⊎ (0 < end)
+    begins (inl is) = inr (omega (arith, stopped is))
+    begins (inr is) = inr (omega (arith, goes is, low))
+
+    place : ℕ
+    place = c.index-live.result.now.group.place
+
+    next :
+        IsNext (pruned (g.M.Meter.facts c.args.meter.now) c.args.rules.now.params.now c.args.rules.now.bound c.args.rules.now.ending)
+        (stops (g.M.Meter.facts c.args.meter.now) c.args.rules.now.params.now c.args.rules.now.ending) c.args.table.now c.args.place
+        c.loop-index.invariant.at c.loop-index.invariant.low c.index-live.result.now.group
+    next =
+        let inv = c.loop-index.invariant in
+        let rules_now = c.args.rules.now in
+        let index = c.loop-index.index in
+        let live = c.index-live.result.now in
+        let within : index < length c.loop-index.lives.items = omega (arith, c.loop-index-test.true, inv.end_bounded, inv.count) in
+        let here : slice_get c.args.lives.now.items index ≡ Some live =
+        sym (inv.rest index (omega arith))
+        ∙ slice_get_read c.loop-index.lives.items (length c.loop-index.lives.items) index live refl within c.index-live.ensures in
+        (next_live (g.M.Meter.facts c.args.meter.now) rules_now.params.now rules_now.bound rules_now.ending c.args.table.now c.args.place inv.at inv.low
+        c.args.lives.now.items index live here inv.live).0
+
+    waits :
+        (both_wait ≡ true) ⊎ (both_wait ≡ false)
+        → (length c.args.lives.now.items ≤ end)
+        ⊎ AreLoosest (g.M.Meter.facts c.args.meter.now) c.args.rules.now.params.now c.args.rules.now.bound (place + 1) c.args.place
+    waits (inl is) =
+        let both = both_true loosest c.args.rules.now.waits is in
+        inr (later_loosest (g.M.Meter.facts c.args.meter.now) (g.M.Meter.facts c.loop-index.meter) c.args.rules.now.params.now c.args.rules.now.bound
+        place c.args.place c.try_line-sums.result (c.requires.waits both.1) next.group.earlier c.requires.last c.try_line-sums.ensures.sums
+        c.loop-index.invariant.facts (c.offer_line-judged.ensures.uncounted both.0) (c.offer_line-judged.ensures.loosest both.0))
+    waits (inr is) =
+        subst (λ n. (length c.args.lives.now.items ≤ n)
+        ⊎ AreLoosest (g.M.Meter.facts c.args.meter.now) c.args.rules.now.params.now c.args.rules.now.bound (place + 1) c.args.place) (sym (goes is))
+        (wait_from (g.M.Meter.facts c.args.meter.now) c.args.rules.now.params.now c.args.rules.now.bound c.loop-index.invariant.low (place + 1)
+        c.args.place c.args.lives.now.items c.loop-index.end (omega (arith, next.later)) c.loop-index.invariant.waits)
+
+pub loop-index-init : goal.loop-index-init
+loop-index-init g c =
+    let f = g.M.Meter.facts c.args.meter.now in
+    let rules_now = c.args.rules.now in
+    let p = pruned f rules_now.params.now rules_now.bound rules_now.ending in
+    record {
+      wide = ap length c.requires.empty ∙ length-replicate (slots rules_now.params.now.first_lines) None;
+      facts = refl;
+      swept = λ a. inl (omega arith);
+      kept = kept_none (g.M.Meter.trials c.args.meter.now);
+      tried = λ some. absurd (omega (arith, some));
+      at = 0;
+      low = 0;
+      fresh = λ a less. omega arith;
+      live = c.requires.filled.is_active;
+      row = subst (IsRow p c.args.table.now c.args.place 0) (sym c.requires.empty) (row_empty p c.args.table.now c.args.place);
+      kept_bounded = omega arith;
+      count = refl;
+      rest = λ k less. refl;
+      front = λ rest free active. active;
+      over = λ k x there. absurd (cc);
+      best = λ k x there. absurd (cc);
+      index_bounded = omega arith;
+      end_bounded = omega (arith, c.len-end.ensures);
+      begins = inl (omega (arith, c.len-end.ensures));
+      waits = inl (omega (arith, c.len-end.ensures));
+    }
+
+pub offer_waiting-requires : goal.offer_waiting-requires
+offer_waiting-requires g c =
+    let inv = c.loop-index.invariant in
+    let f = g.M.Meter.facts c.args.meter.now in
+    let rules_now = c.args.rules.now in
+    let params = rules_now.params.now in
+    let p = pruned f params rules_now.bound rules_now.ending in
+    let stop = stops f params rules_now.ending in
+    let table = c.args.table.now in
+    let now = c.loop-index.lives.items in
+    let last : c.loop-index.index ≡ c.loop-index.end = omega (arith, c.loop-index-test.false, inv.index_bounded) in
+    let left = are_left f params rules_now.bound rules_now.ending table c.args.place inv.at inv.low c.loop-index.index c.loop-index.end
+    c.args.lives.now.items now last inv.count inv.rest inv.waits c.requires.over c.requires.best inv.live in
+    let slice : c.rest_of.result.now ≡ drop c.loop-index.end now = c.rest_of.ensures ∙ ap (drop c.loop-index.end) c.deref.ensures.value in
+    record {
+      wide = inv.wide;
+      uncounted = λ some. left.uncounted (subst (λ xs. 0 < length xs) slice some);
+      can = subst (CanAllWait 0 table c.args.place) (sym slice)
+          (can_uncounted params.first_lines table c.args.place (drop c.loop-index.end now) left.uncounted
+          (can_wait p stop table c.args.place c.args.place inv.at inv.low (drop c.loop-index.end now) c.requires.filled.is_table left.active));
+      best = subst (HaveBest table) (sym slice) left.best;
+      places = c.requires.places;
+      penalty = omega (arith, ints, c.place-at.ensures.penalty_bounded);
+    }
+
+pub leave_out-requires : goal.leave_out-requires
+leave_out-requires g c =
+    let inv = c.loop-index.invariant in
+    record {
+      kept_bounded = omega (arith, inv.kept_bounded, inv.index_bounded);
+      next_bounded = omega (arith, inv.end_bounded, inv.count);
     }
 
 pub returns-clause-row : goal.returns-clause-row
 returns-clause-row g c =
-    let f = g.M.Meter.facts c.args.meter.now in
-    let params = c.args.rules.now.params.now in
-    let ending = c.args.rules.now.ending in
-    let table = c.args.table.now in
-    let p = pruned f params c.args.rules.now.bound ending in
-    let stop = stops f params ending in
-    let lives = c.args.lives.now.items in
     let inv = c.loop-index.invariant in
-    let past : length (groups_of lives) ≤ c.loop-index.index = omega (arith, c.loop-index-test.false, c.len-index-end.ensures, length-map lives (λ (x : Live). x.group)) in
-    row_end p stop table c.args.place c.args.place inv.at inv.low c.loop-index.index (groups_of lives) c.loop-index.row.items past c.requires.last inv.live inv.row
+    let f = g.M.Meter.facts c.args.meter.now in
+    let rules_now = c.args.rules.now in
+    let params = rules_now.params.now in
+    let bound = rules_now.bound in
+    let ending = rules_now.ending in
+    let p = pruned f params bound ending in
+    let stop = stops f params ending in
+    let table = c.args.table.now in
+    let place = c.args.place in
+    let now = c.loop-index.lives.items in
+    let last : c.loop-index.index ≡ c.loop-index.end = omega (arith, c.loop-index-test.false, inv.index_bounded) in
+    let left = are_left f params bound ending table place inv.at inv.low c.loop-index.index c.loop-index.end
+    c.args.lives.now.items now last inv.count inv.rest inv.waits c.requires.over c.requires.best inv.live in
+    let slice : c.rest_of.result.now ≡ drop c.loop-index.end now = c.rest_of.ensures ∙ ap (drop c.loop-index.end) c.deref.ensures.value in
+    let penalty : to_z w32 (of_z w32 c.place-at.result.penalty) ≡ f.penalty place =
+    omega (arith, ints, c.place-at.ensures.penalty) in
+    let costs : CostLoosest p params bound (f.penalty place) place (groups_of (drop c.loop-index.end now)) =
+    costs_waiting f params bound ending table place place inv.at inv.low (groups_of (drop c.loop-index.end now)) c.requires.may c.requires.last left.wait left.active in
+    let offered : IsOfferingWaiting table params bound (drop c.loop-index.end now) place (f.penalty place) c.loop-index.row.items c.offer_waiting.new.row.items =
+    subst (λ n. IsOfferingWaiting table params bound (drop c.loop-index.end now) place n c.loop-index.row.items c.offer_waiting.new.row.items) penalty
+    (subst (λ xs. IsOfferingWaiting table params bound xs place (to_z w32 (of_z w32 c.place-at.result.penalty)) c.loop-index.row.items c.offer_waiting.new.row.items) slice
+    c.offer_waiting.ensures.row) in
+    offered p stop inv.at inv.low refl c.requires.last costs left.active inv.row
 
 pub returns-clause-live : goal.returns-clause-live
-returns-clause-live g c =
-    let f = g.M.Meter.facts c.args.meter.now in
-    let params = c.args.rules.now.params.now in
-    let ending = c.args.rules.now.ending in
-    let table = c.args.table.now in
-    let p = pruned f params c.args.rules.now.bound ending in
-    let stop = stops f params ending in
-    let lives = c.args.lives.now.items in
+returns-clause-live g c = λ free.
     let inv = c.loop-index.invariant in
-    let past : length (groups_of lives) ≤ c.loop-index.index = omega (arith, c.loop-index-test.false, c.len-index-end.ensures, length-map lives (λ (x : Live). x.group)) in
-    λ free. subst (λ xs. IsActive p stop table (c.args.place + 1) c.args.place 0 0 (groups_of xs)) (sym c.truncate.ensures.items)
-    (front_end p stop table c.args.place inv.at inv.low c.loop-index.index (groups_of lives) (groups_of (take c.loop-index.kept c.loop-index.lives.items)) past inv.live inv.front free)
+    let f = g.M.Meter.facts c.args.meter.now in
+    let rules_now = c.args.rules.now in
+    let params = rules_now.params.now in
+    let bound = rules_now.bound in
+    let ending = rules_now.ending in
+    let table = c.args.table.now in
+    let place = c.args.place in
+    let now = c.loop-index.lives.items in
+    let last : c.loop-index.index ≡ c.loop-index.end = omega (arith, c.loop-index-test.false, inv.index_bounded) in
+    let left = are_left f params bound ending table place inv.at inv.low c.loop-index.index c.loop-index.end
+    c.args.lives.now.items now last inv.count inv.rest inv.waits c.requires.over c.requires.best inv.live in
+    subst (λ xs. IsActive (pruned f params bound ending) (stops f params ending) table (place + 1) place 0 0 (groups_of xs)) (sym c.leave_out.ensures)
+    (front_left f params bound ending table place inv.at inv.low (take c.loop-index.kept now) (drop c.loop-index.end now) c.requires.may c.requires.last
+    free left inv.front)
 
 pub returns-clause-over : goal.returns-clause-over
 returns-clause-over g c =
-    subst (AreOver (g.M.Meter.facts c.args.meter.now) c.args.rules.now.params.now (c.args.place + 1)) (sym c.truncate.ensures.items) c.loop-index.invariant.over
+    let inv = c.loop-index.invariant in
+    let f = g.M.Meter.facts c.args.meter.now in
+    let rules_now = c.args.rules.now in
+    let params = rules_now.params.now in
+    let bound = rules_now.bound in
+    let ending = rules_now.ending in
+    let table = c.args.table.now in
+    let place = c.args.place in
+    let now = c.loop-index.lives.items in
+    let last : c.loop-index.index ≡ c.loop-index.end = omega (arith, c.loop-index-test.false, inv.index_bounded) in
+    let left = are_left f params bound ending table place inv.at inv.low c.loop-index.index c.loop-index.end
+    c.args.lives.now.items now last inv.count inv.rest inv.waits c.requires.over c.requires.best inv.live in
+    subst (AreOver f params (place + 1)) (sym c.leave_out.ensures)
+    (over_left f params bound ending table place inv.at inv.low (take c.loop-index.kept now) (drop c.loop-index.end now) left inv.over)
 
 pub returns-clause-best : goal.returns-clause-best
-returns-clause-best g c = subst (HaveBest c.args.table.now) (sym c.truncate.ensures.items) c.loop-index.invariant.best
+returns-clause-best g c =
+    let inv = c.loop-index.invariant in
+    let f = g.M.Meter.facts c.args.meter.now in
+    let rules_now = c.args.rules.now in
+    let now = c.loop-index.lives.items in
+    let table = c.args.table.now in
+    let last : c.loop-index.index ≡ c.loop-index.end = omega (arith, c.loop-index-test.false, inv.index_bounded) in
+    let left = are_left f rules_now.params.now rules_now.bound rules_now.ending table c.args.place inv.at inv.low c.loop-index.index c.loop-index.end
+    c.args.lives.now.items now last inv.count inv.rest inv.waits c.requires.over c.requires.best inv.live in
+    subst (HaveBest table) (sym c.leave_out.ensures)
+    (best_joined table (take c.loop-index.kept now) (drop c.loop-index.end now) inv.best left.best)
 
 pub returns-clause-tried : goal.returns-clause-tried
 returns-clause-tried g c =
-    let lives = c.args.lives.now.items in
-    λ k h is. c.loop-index.invariant.tried k h
-    (omega (arith, c.loop-index-test.false, c.len-index-end.ensures, length-map lives (λ (x : Live). x.group), slice_get_within (groups_of lives) k h is)) is
+    let inv = c.loop-index.invariant in
+    let last : c.loop-index.index ≡ c.loop-index.end = omega (arith, c.loop-index-test.false, inv.index_bounded) in
+    first_tried c.loop-index.index c.loop-index.end c.args.lives.now.items (g.M.Meter.trials c.args.meter.now) (g.M.Meter.trials c.loop-index.meter)
+    last inv.begins inv.tried

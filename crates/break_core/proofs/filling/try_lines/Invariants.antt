@@ -1,8 +1,7 @@
-use Rattle.std.proofs.Common.{◌≡◌, ◌+◌, ◌≤◌, ◌<◌, ℕ, length, drop, take, Some}
-use Rattle.std.specs.Prelude.{slice_get}
-use Rattle.break_table.specs.declared.group.ActiveGroup.{ActiveGroup}
+use Rattle.std.proofs.Common.{◌≡◌, ◌+◌, ◌-◌, ◌≤◌, ◌<◌, ℕ, length, drop, take}
+use Rattle.std.specs.Prelude.{slice_get, ◌⊎◌}
 use Rattle.break_table.specs.Tables.{slots, IsRow}
-use Rattle.break_core.specs.Active.{stops, pruned, groups_of, AreOver, HaveBest, IsActive, IsSwept, TrialsOnlyGrow}
+use Rattle.break_core.specs.Active.{stops, pruned, groups_of, AreOver, HaveBest, IsActive, IsSwept, TrialsOnlyGrow, WasTried, AreLoosest}
 use Rattle.break_core.proofs.Active.{IsFront}
 use Rattle.break_core.proofs.filling.try_lines.Given as goal
 
@@ -12,7 +11,7 @@ invariant-loop-index g l = record {
   facts : g.M.Meter.facts l.meter ≡ g.M.Meter.facts l.initial.meter;
   swept : IsSwept (stops (g.M.Meter.facts l.initial.meter) l.rules.params.now l.rules.ending) l.place (g.M.Meter.trials l.initial.meter) (g.M.Meter.trials l.meter);
   kept : TrialsOnlyGrow (g.M.Meter.trials l.initial.meter) (g.M.Meter.trials l.meter);
-  tried : (k : ℕ) (h : ActiveGroup) → k < l.index → slice_get (groups_of l.initial.lives.items) k ≡ Some h → g.M.Meter.trials l.initial.meter h.place < g.M.Meter.trials l.meter h.place;
+  tried : 0 < l.index → WasTried (groups_of l.initial.lives.items) (g.M.Meter.trials l.initial.meter) (g.M.Meter.trials l.meter);
   at : ℕ;
   low : ℕ;
   fresh : (a : ℕ) → low ≤ a → g.M.Meter.trials l.meter a ≤ g.M.Meter.trials l.initial.meter a;
@@ -24,4 +23,11 @@ invariant-loop-index g l = record {
   front : IsFront (pruned (g.M.Meter.facts l.initial.meter) l.rules.params.now l.rules.bound l.rules.ending) (stops (g.M.Meter.facts l.initial.meter) l.rules.params.now l.rules.ending) l.table l.place l.place at low (groups_of (take l.kept l.lives.items));
   over : AreOver (g.M.Meter.facts l.initial.meter) l.rules.params.now (l.place + 1) (take l.kept l.lives.items);
   best : HaveBest l.table (take l.kept l.lives.items);
+  index_bounded : l.index ≤ l.end;
+  end_bounded : l.end ≤ length l.initial.lives.items;
+  begins : (length l.initial.lives.items ≤ l.end) ⊎ (0 < l.end);
+  waits : (length l.initial.lives.items ≤ l.end) ⊎ AreLoosest (g.M.Meter.facts l.initial.meter) l.rules.params.now l.rules.bound low l.place;
 }
+
+abbrev pub decreases-loop-index : goal.decreases-loop-index
+decreases-loop-index g l = l.end - l.index

@@ -30,4 +30,4 @@ returns-clause-row c =
     c.fit_both-line.ensures.value c.offer_each.ensures.row)
 
 pub returns-clause-overfull : goal.returns-clause-overfull
-returns-clause-overfull c = c.is_overfull-2.ensures ∙ ap (λ j. j.first.overfull && j.rest.overfull) c.fit_both-line.ensures.value
+returns-clause-overfull c = c.is_overfull.ensures ∙ ap (λ j. j.first.overfull && j.rest.overfull) c.fit_both-line.ensures.value

@@ -1,7 +1,7 @@
 use Rattle.std.proofs.Common.{◌≡◌, ◌∙◌, to_z, of_z, w32, ap, sym, subst, arith}
 use Rattle.std.proofs.lemmas.Int.{ints}
 use Rattle.break_table.specs.Tables.{slots}
-use Rattle.break_lines.specs.Costs.{line_alone}
+use Rattle.break_lines.specs.Costs.{line_alone, is_loosest}
 use Rattle.break_lines.specs.Sizes.{line_fits}
 use Rattle.break_core.specs.Filling.{IsOf}
 use Rattle.break_core.proofs.ActiveNodes.{best_line, none_line, overfull_once}
@@ -89,3 +89,24 @@ pub returns-clause-overfull : goal.returns-clause-overfull
 returns-clause-overfull c =
     let none : c.args.rules.now.params.now.first_lines ≡ 0 = omega (arith, c.get.ensures.value) in
     overfull_once c.args.rules.now.params.now c.args.tried.sums c.fit_line-line.result none c.fit_line-line.ensures.value
+
+pub returns-then-left-clause-loosest : goal.returns-then-left-clause-loosest
+returns-then-left-clause-loosest c = λ loosest.
+    sym (c.is_loosest.ensures ∙ ap (is_loosest c.args.rules.now.bound) c.fit_line-line.ensures.value) ∙ loosest
+
+pub returns-then-left-clause-uncounted : goal.returns-then-left-clause-uncounted
+returns-then-left-clause-uncounted c = λ loosest. omega (arith, c.get.ensures.value)
+
+pub returns-in_default-clause-loosest : goal.returns-in_default-clause-loosest
+returns-in_default-clause-loosest c = λ loosest.
+    sym (c.is_loosest.ensures ∙ ap (is_loosest c.args.rules.now.bound) c.fit_line-line.ensures.value) ∙ loosest
+
+pub returns-in_default-clause-uncounted : goal.returns-in_default-clause-uncounted
+returns-in_default-clause-uncounted c = λ loosest. omega (arith, c.get.ensures.value)
+
+pub returns-clause-loosest : goal.returns-clause-loosest
+returns-clause-loosest c = λ loosest.
+    sym (c.is_loosest.ensures ∙ ap (is_loosest c.args.rules.now.bound) c.fit_line-line.ensures.value) ∙ loosest
+
+pub returns-clause-uncounted : goal.returns-clause-uncounted
+returns-clause-uncounted c = λ loosest. omega (arith, c.get.ensures.value)

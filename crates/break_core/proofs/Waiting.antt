@@ -1,0 +1,396 @@
+-- Groups that wait: the lines from them cost what the loosest line costs, and no line from them is tried.
+use Rattle.std.proofs.Common.{◌≡◌, ◌∙◌, ℕ, zero, suc, ◌+◌, ◌<◌, ◌≤◌, Bool, true, false, ◌||◌, List, [], ◌∷◌, ◌++◌, length, drop, refl, ap, sym, subst, arith, Option, Some, None}
+use Rattle.std.specs.Prelude.{ℤ, slice_get}
+use Rattle.std.proofs.Math.Logic.{◌⊎◌, inl, inr}
+use Rattle.std.proofs.lemmas.Bool.{cases_Bool, cond-false}
+use Rattle.std.proofs.lemmas.List.{drop-map, map-append}
+use Rattle.std.proofs.lemmas.Option.{same_Some, slice_get_within}
+use Rattle.node_core.specs.declared.params.Params.{Params}
+use Rattle.break_table.specs.declared.group.ActiveGroup.{ActiveGroup}
+use Rattle.break_table.specs.declared.state.BreakState.{BreakState}
+use Rattle.break_table.specs.declared.state.LineCost.{LineCost}
+use Rattle.break_table.specs.Problems.{Problem}
+use Rattle.break_table.specs.Tables.{Entry, IsTable, IsRow}
+use Rattle.break_table.proofs.Entries.{get_cases}
+use Rattle.break_lines.specs.declared.sums.Sums.{Sums}
+use Rattle.break_lines.specs.declared.cost.Bound.{Bound}
+use Rattle.break_lines.specs.Costs.{line_fit, line_of, line_alone, is_loosest, loosest_line, after_class}
+use Rattle.break_lines.specs.Sizes.{least_width}
+use Rattle.break_lines.specs.Legal.{is_forced}
+use Rattle.break_lines.specs.Facts.{Facts}
+use Rattle.break_lines.specs.Even.{IsEven}
+use Rattle.break_lines.proofs.Parts.{parts}
+use Rattle.break_lines.proofs.Widths.{size_none, greatest_none}
+use Rattle.break_lines.proofs.Looseness.{loosest_part, loosest_fits, loosest_costs}
+use Rattle.break_core.specs.declared.pass_rules.StopRule.{StopRule}
+use Rattle.break_core.specs.declared.pass_rules.StopRule.TheVariants.{Never, Overfull, Long}
+use Rattle.break_core.specs.declared.active_list.Live.{Live}
+use Rattle.break_core.specs.Passes.{problem_of}
+use Rattle.break_core.specs.Trials.{is_overfull}
+use Rattle.break_core.specs.Leaving.{first_over, is_long, over_before}
+use Rattle.break_core.specs.Filling.{IsOfferingBest}
+use Rattle.break_core.specs.Active.{deactivates, leaves, stops, pruned, groups_of, AreOver, HaveBest, MayEnd, IsBestOf, IsActive, AreLoosest, AllWait, CostLoosest, CanWait, CanAllWait, IsOfferingFirst, IsOfferingWaiting, WasTried}
+use Rattle.break_core.proofs.Active.{later_quiet, kept_active, row_quiet, row_passed, row_end, next_active, IsFront}
+use Rattle.break_core.proofs.Detours.{first_is, long_means}
+use Rattle.break_core.proofs.Filled.{group_of}
+use Rattle.break_core.proofs.Overfull.{no_offer, overfull_stays}
+use Rattle.break_core.proofs.Long.{over_next}
+use Rattle.break_core.proofs.Lives.{group_at, same_over}
+
+-- In an even paragraph the lines from all later places are such lines too.
+pub later_loosest :
+    (f h : Facts) (params : Params) (bound : Bound) (a b : ℕ) (sums : Sums)
+    → IsEven f → a < b → b ≤ f.places → sums ≡ h.sums a b → h ≡ f → params.first_lines ≡ 0 → is_loosest bound (line_fit sums params.hsize) ≡ true
+    → AreLoosest f params bound (a + 1) b
+later_loosest f h params bound a b sums even earlier within is_sums same none is =
+    record {
+      uncounted = none;
+      loosest = λ m low high.
+          loosest_part bound (f.sums a b) (f.sums m b) params.hsize (even.covers a m b (omega (arith, low)) high within) (even.fils m b high within) here;
+    }
+  where
+    here : is_loosest bound (line_fit (f.sums a b) params.hsize) ≡ true
+    here = ap (λ s. is_loosest bound (line_fit s params.hsize)) (sym (is_sums ∙ ap (λ x. x.sums a b) same)) ∙ is
+
+-- Such a line is not overfull, and not long; trying lines from its place does not stop.
+not_overfull :
+    (facts : Facts) (params : Params) (bound : Bound) (a b : ℕ)
+    → params.first_lines ≡ 0 → is_loosest bound (line_fit (facts.sums a b) params.hsize) ≡ true → is_overfull facts params a b ≡ false
+not_overfull facts params bound a b none is =
+    ap (λ x. (line_fit (facts.sums a b) x).overfull) (greatest_none params none) ∙ loosest_fits bound (facts.sums a b) params.hsize is
+
+not_long :
+    (facts : Facts) (params : Params) (bound : Bound) (ending : StopRule) (a b : ℕ)
+    → MayEnd ending facts params bound → a < b → b ≤ facts.places → is_overfull facts params a b ≡ false
+    → (deactivates ending false (is_long facts params a b) ≡ false) × (leaves ending (is_long facts params a b) ≡ false)
+not_long facts params bound Never a b may earlier within fits = (refl, refl)
+not_long facts params bound Overfull a b may earlier within fits = (refl, refl)
+not_long facts params bound Long a b may earlier within fits = cases (cases_Bool (is_long facts params a b))
+  where
+    no : is_long facts params a b ≡ true → ⊥
+    no long =
+        let means = long_means facts params a b long in
+        let first = first_is facts params a b means.0 in
+        let stays = overfull_stays facts params a (first_over facts params a b) b may.0.steady first.later (omega (arith, first.before)) within first.over in
+        let wrong : true ≡ false = sym stays ∙ fits in
+        absurd (cc)
+
+    cases :
+        (is_long facts params a b ≡ true) ⊎ (is_long facts params a b ≡ false)
+        → (is_long facts params a b ≡ false) × (is_long facts params a b ≡ false)
+    cases (inl long) = absurd (no long)
+    cases (inr short) = (short, short)
+
+no_stop :
+    (facts : Facts) (params : Params) (bound : Bound) (ending : StopRule) (a b : ℕ)
+    → MayEnd ending facts params bound → a < b → b ≤ facts.places → is_forced (facts.penalty b) ≡ false → is_overfull facts params a b ≡ false
+    → stops facts params ending a b ≡ false
+no_stop facts params bound ending a b may earlier within free fits =
+    ap (λ t. t || deactivates ending (is_overfull facts params a b) (is_long facts params a b)) free
+    ∙ ap (λ t. deactivates ending t (is_long facts params a b)) fits
+    ∙ (not_long facts params bound ending a b may earlier within fits).0
+
+-- The line of the pass costs what the loosest line costs.
+waiting_line :
+    (facts : Facts) (params : Params) (bound : Bound) (ending : StopRule) (a b : ℕ)
+    → MayEnd ending facts params bound → a < b → b ≤ facts.places → params.first_lines ≡ 0
+    → is_loosest bound (line_fit (facts.sums a b) params.hsize) ≡ true
+    → (s : BreakState) → s.place ≡ a
+    → (pruned facts params bound ending).line s b ≡ line_of params bound (facts.penalty b) s.class loosest_line
+waiting_line facts params bound ending a b may earlier within none is s at =
+    let fits = not_overfull facts params bound a b none is in
+    let left : leaves ending (is_long facts params s.place b) ≡ false =
+    ap (λ n. leaves ending (is_long facts params n b)) at ∙ (not_long facts params bound ending a b may earlier within fits).1 in
+    cond-false (leaves ending (is_long facts params s.place b)) None ((problem_of facts params bound).line s b) left
+    ∙ ap (λ x. line_of params bound (facts.penalty b) s.class (line_fit (facts.sums s.place b) x)) (size_none params s.lines none)
+    ∙ ap (λ n. line_of params bound (facts.penalty b) s.class (line_fit (facts.sums n b) params.hsize)) at
+    ∙ loosest_costs params bound (facts.penalty b) s.class (facts.sums a b) params.hsize is
+
+-- If a group is left, it waits.
+one_waits :
+    (facts : Facts) (params : Params) (bound : Bound) (low b : ℕ) (g : ActiveGroup) (groups : List ActiveGroup)
+    → AllWait facts params bound low b (g ∷ groups) → AreLoosest facts params bound low b
+one_waits facts params bound low b g groups (inl none) = absurd (cc)
+one_waits facts params bound low b g groups (inr wait) = wait
+
+-- From a later place on they wait too.
+fewer_wait :
+    (facts : Facts) (params : Params) (bound : Bound) (low more b : ℕ) → low ≤ more → AreLoosest facts params bound low b
+    → AreLoosest facts params bound more b
+fewer_wait facts params bound low more b later wait =
+    record { uncounted = wait.uncounted; loosest = λ a less earlier. wait.loosest a (omega (arith, less, later)) earlier }
+
+-- The lines from groups that wait cost what the loosest line costs.
+pub costs_waiting :
+    (facts : Facts) (params : Params) (bound : Bound) (ending : StopRule) (table : List Entry) (b high at low : ℕ) (groups : List ActiveGroup)
+    → MayEnd ending facts params bound → b ≤ facts.places → AllWait facts params bound low b groups
+    → IsActive (pruned facts params bound ending) (stops facts params ending) table b high at low groups
+    → CostLoosest (pruned facts params bound ending) params bound (facts.penalty b) b groups
+costs_waiting facts params bound ending table b high at low [] may within wait is k h there = absurd (cc)
+costs_waiting facts params bound ending table b high at low (g ∷ groups) may within wait is zero h there =
+    let next = is.0 in
+    let all = one_waits facts params bound low b g groups wait in
+    subst (λ (x : ActiveGroup). (s : BreakState) → s.place ≡ x.place
+    → (pruned facts params bound ending).line s b ≡ line_of params bound (facts.penalty b) s.class loosest_line) (same_Some g h there)
+    (waiting_line facts params bound ending g.place b may next.group.earlier within all.uncounted (all.loosest g.place next.later next.group.earlier))
+costs_waiting facts params bound ending table b high at low (g ∷ groups) may within wait is (suc k) h there =
+    let next = is.0 in
+    let all = one_waits facts params bound low b g groups wait in
+    costs_waiting facts params bound ending table b high g.end (g.place + 1) groups may within
+    (inr (fewer_wait facts params bound low (g.place + 1) b (omega (arith, next.later)) all)) is.1 k h there
+
+-- Groups that wait go on to the next place.
+pub active_waiting :
+    (facts : Facts) (params : Params) (bound : Bound) (ending : StopRule) (table : List Entry) (b high at low : ℕ) (groups : List ActiveGroup)
+    → MayEnd ending facts params bound → b ≤ facts.places → is_forced (facts.penalty b) ≡ false → AllWait facts params bound low b groups
+    → IsActive (pruned facts params bound ending) (stops facts params ending) table b high at low groups
+    → IsActive (pruned facts params bound ending) (stops facts params ending) table (b + 1) high at low groups
+active_waiting facts params bound ending table b high at low [] may within free wait is =
+    record {
+      gap = is.gap;
+      quiet = later_quiet (pruned facts params bound ending) table b (b + 1) at (length table) (omega arith) is.quiet;
+      lower = is.lower;
+    }
+active_waiting facts params bound ending table b high at low (g ∷ groups) may within free wait is =
+    let next = is.0 in
+    let all = one_waits facts params bound low b g groups wait in
+    let fits = not_overfull facts params bound g.place b all.uncounted (all.loosest g.place next.later next.group.earlier) in
+    kept_active (pruned facts params bound ending) (stops facts params ending) table b high at low g groups free
+    (no_stop facts params bound ending g.place b may next.group.earlier within free fits) next
+    (active_waiting facts params bound ending table b high g.end (g.place + 1) groups may within free
+    (inr (fewer_wait facts params bound low (g.place + 1) b (omega (arith, next.later)) all)) is.1)
+
+-- The stored values of groups that wait hold for the next place too.
+pub over_waiting :
+    (facts : Facts) (params : Params) (bound : Bound) (ending : StopRule) (table : List Entry) (b high at low : ℕ) (lives : List Live)
+    → AllWait facts params bound low b (groups_of lives)
+    → IsActive (pruned facts params bound ending) (stops facts params ending) table b high at low (groups_of lives)
+    → AreOver facts params b lives → AreOver facts params (b + 1) lives
+over_waiting facts params bound ending table b high at low [] wait is over k x there = absurd (cc)
+over_waiting facts params bound ending table b high at low (live ∷ lives) wait is over zero x there =
+    let next = is.0 in
+    let all = one_waits facts params bound low b live.group (groups_of lives) wait in
+    let a = live.group.place in
+    let fits = not_overfull facts params bound a b all.uncounted (all.loosest a next.later next.group.earlier) in
+    let stays : live.over ≡ over_before facts params a (b + 1) =
+    over zero live refl
+    ∙ sym (over_next facts params a b next.group.earlier
+    ∙ same_over (over_before facts params a b) (is_overfull facts params a b) (least_width (facts.sums a b)) fits) in
+    subst (λ y. y.over ≡ over_before facts params y.group.place (b + 1)) (same_Some live x there) stays
+over_waiting facts params bound ending table b high at low (live ∷ lives) wait is over (suc k) x there =
+    let next = is.0 in
+    let all = one_waits facts params bound low b live.group (groups_of lives) wait in
+    over_waiting facts params bound ending table b high live.group.end (live.group.place + 1) lives
+    (inr (fewer_wait facts params bound low (live.group.place + 1) b (omega (arith, next.later)) all)) is.1 (λ j y here. over (suc j) y here) k x there
+
+-- The entries of all groups can be offered.
+pub can_wait :
+    (p : Problem) (stop : ℕ → ℕ → Bool) (table : List Entry) (b high at low : ℕ) (lives : List Live)
+    → IsTable p b table → IsActive p stop table b high at low (groups_of lives) → CanAllWait p.cut table b lives
+can_wait p stop table b high at low [] is_table is k x there = absurd (cc)
+can_wait p stop table b high at low (live ∷ lives) is_table is zero x there =
+    let next = is.0 in
+    subst (λ (y : Live). CanWait p.cut table b y.group) (same_Some live x there)
+    (record { within = next.group.within; earlier = next.group.earlier; entries = group_of p table b live.group is_table next.group })
+can_wait p stop table b high at low (live ∷ lives) is_table is (suc k) x there =
+    can_wait p stop table b high live.group.end (live.group.place + 1) lives is_table is.1 k x there
+
+pub can_uncounted :
+    (n : ℕ) (table : List Entry) (b : ℕ) (lives : List Live) → (0 < length lives → n ≡ 0) → CanAllWait n table b lives → CanAllWait 0 table b lives
+can_uncounted n table b lives none can k live there =
+    let some : 0 < length lives = omega (arith, slice_get_within lives k live there) in
+    subst (λ m. CanWait m table b live.group) (none some) (can k live there)
+
+-- If the loosest line is not admitted, groups that wait leave a row as it is.
+none_waiting :
+    (p : Problem) (stop : ℕ → ℕ → Bool) (table : List Entry) (params : Params) (bound : Bound) (penalty : ℤ) (b high at low : ℕ) (groups : List ActiveGroup)
+    (row : List (Option Entry))
+    → b ≤ p.places → line_alone params bound penalty loosest_line ≡ None → CostLoosest p params bound penalty b groups
+    → IsActive p stop table b high at low groups → IsRow p table b at row → IsRow p table b (length table) row
+unfolding after_class
+none_waiting p stop table params bound penalty b high at low [] row within none costs is here =
+    row_quiet p table b at (length table) row is.gap within is.quiet here
+none_waiting p stop table params bound penalty b high at low (g ∷ groups) row within none costs is here =
+    let next = is.0 in
+    none_waiting p stop table params bound penalty b high g.end (g.place + 1) groups row within none (λ k h there. costs (suc k) h there) is.1
+    (row_passed p table b g.start g.end row next.group.rises
+    (λ k e from to there. no_offer p e k b (costs 0 g refl e.end (next.group.entries k e from to there) ∙ refused e.end))
+    (row_quiet p table b at g.start row next.gap within next.quiet here))
+  where
+    refused : (s : BreakState) → line_of params bound penalty s.class loosest_line ≡ None
+    refused s = sym (parts params bound penalty s.class loosest_line) ∙ ap (after_class params s.class) none
+
+pub none_offered_waiting :
+    (table : List Entry) (params : Params) (bound : Bound) (lives : List Live) (place : ℕ) (penalty : ℤ) (row : List (Option Entry))
+    → line_alone params bound penalty loosest_line ≡ None → IsOfferingWaiting table params bound lives place penalty row row
+none_offered_waiting table params bound lives place penalty row none p stop at low cut within costs is here =
+    none_waiting p stop table params bound penalty place place at low (groups_of lives) row within none costs is here
+
+-- No group has been passed yet, and after all of them there are no more offers.
+pub first_passed :
+    (table : List Entry) (params : Params) (bound : Bound) (lives : List Live) (place : ℕ) (penalty : ℤ) (row : List (Option Entry))
+    → IsOfferingFirst table params bound lives place penalty 0 row row
+first_passed table params bound lives place penalty row p stop at low cut within costs is here =
+    record { at = at; low = low; rest = is; held = here }
+
+pub passed_more :
+    (table : List Entry) (params : Params) (bound : Bound) (lives : List Live) (place : ℕ) (penalty : ℤ) (index : ℕ) (live : Live) (alone : LineCost)
+    (old middle new : List (Option Entry))
+    → params.first_lines ≡ 0 → Some alone ≡ line_alone params bound penalty loosest_line → slice_get lives index ≡ Some live
+    → IsOfferingBest table params live.group place alone middle new → IsOfferingFirst table params bound lives place penalty index old middle
+    → IsOfferingFirst table params bound lives place penalty (index + 1) old new
+unfolding after_class
+passed_more table params bound lives place penalty index live alone old middle new none is there offering first p stop at low cut within costs active here =
+    let before = first p stop at low cut within costs active here in
+    let group = group_at lives index live there in
+    let both = next_active p stop table place place before.at before.low index (groups_of lives) live.group group before.rest in
+    let next = both.0 in
+    record {
+      at = live.group.end;
+      low = live.group.place + 1;
+      rest = both.1;
+      held = offering p (cut ∙ none) next.group.since
+          (λ s is_place. costs index live.group group s is_place ∙ sym (parts params bound penalty s.class loosest_line)
+          ∙ ap (after_class params s.class) (sym is))
+          (row_quiet p table place before.at live.group.start middle next.gap within next.quiet before.held);
+    }
+
+pub all_passed :
+    (table : List Entry) (params : Params) (bound : Bound) (lives : List Live) (place : ℕ) (penalty : ℤ) (n : ℕ) (old new : List (Option Entry))
+    → length (groups_of lives) ≤ n → IsOfferingFirst table params bound lives place penalty n old new
+    → IsOfferingWaiting table params bound lives place penalty old new
+all_passed table params bound lives place penalty n old new past first p stop at low cut within costs is here =
+    let end = first p stop at low cut within costs is here in
+    row_end p stop table place place end.at end.low n (groups_of lives) new past within end.rest end.held
+
+-- What holds of all groups of two lists holds of those of both together.
+all_joined :
+    (P : Live → Type 0) (front back : List Live)
+    → ((k : ℕ) (x : Live) → slice_get front k ≡ Some x → P x) → ((k : ℕ) (x : Live) → slice_get back k ≡ Some x → P x)
+    → (k : ℕ) (x : Live) → slice_get (front ++ back) k ≡ Some x → P x
+all_joined P front back is_front is_back k x at = cases (get_cases front back k x at)
+  where
+    cases : (slice_get front k ≡ Some x) ⊎ ((j : ℕ) × (k ≡ length front + j) × (slice_get back j ≡ Some x)) → P x
+    cases (inl here) = is_front k x here
+    cases (inr there) = is_back there.0 x there.2
+
+pub over_joined :
+    (facts : Facts) (params : Params) (b : ℕ) (front back : List Live)
+    → AreOver facts params b front → AreOver facts params b back → AreOver facts params b (front ++ back)
+over_joined facts params b front back = all_joined (λ x. x.over ≡ over_before facts params x.group.place b) front back
+
+pub best_joined :
+    (table : List Entry) (front back : List Live) → HaveBest table front → HaveBest table back → HaveBest table (front ++ back)
+best_joined table front back = all_joined (λ x. IsBestOf table x.group.start x.group.end x.best) front back
+
+-- What holds of all groups of a list holds of those from a number on.
+all_from :
+    (P : Live → Type 0) (n : ℕ) (lives : List Live)
+    → ((k : ℕ) (x : Live) → slice_get lives k ≡ Some x → P x) → (k : ℕ) (x : Live) → slice_get (drop n lives) k ≡ Some x → P x
+all_from P zero lives are k x at = are k x at
+all_from P (suc n) [] are k x at = absurd (cc)
+all_from P (suc n) (live ∷ lives) are k x at = all_from P n lives (λ j y there. are (suc j) y there) k x at
+
+pub over_from :
+    (facts : Facts) (params : Params) (b n : ℕ) (lives : List Live) → AreOver facts params b lives → AreOver facts params b (drop n lives)
+over_from facts params b n lives = all_from (λ x. x.over ≡ over_before facts params x.group.place b) n lives
+
+pub best_from : (table : List Entry) (n : ℕ) (lives : List Live) → HaveBest table lives → HaveBest table (drop n lives)
+best_from table n lives = all_from (λ x. IsBestOf table x.group.start x.group.end x.best) n lives
+
+-- Two lists that agree from a number on are the same from there on.
+pub same_rest :
+    (xs ys : List Live) (n : ℕ) → length xs ≡ length ys → ((k : ℕ) → n ≤ k → slice_get xs k ≡ slice_get ys k) → drop n xs ≡ drop n ys
+same_rest [] [] n long same = refl
+same_rest [] (y ∷ ys) n long same = absurd (omega (arith, long))
+same_rest (x ∷ xs) [] n long same = absurd (omega (arith, long))
+same_rest (x ∷ xs) (y ∷ ys) zero long same =
+    let first : x ≡ y = same_Some x y (same 0 (omega arith)) in
+    let rest : drop 0 xs ≡ drop 0 ys = same_rest xs ys 0 (omega (arith, long)) (λ k low. same (suc k) (omega arith)) in
+    ap (λ z. z ∷ xs) first ∙ ap (λ zs. y ∷ zs) rest
+same_rest (x ∷ xs) (y ∷ ys) (suc n) long same = same_rest xs ys n (omega (arith, long)) (λ k low. same (suc k) (omega (arith, low)))
+
+-- All groups that are left wait, from a place on that is no earlier.
+pub wait_from :
+    (facts : Facts) (params : Params) (bound : Bound) (low more b : ℕ) (lives : List Live) (end : ℕ)
+    → low ≤ more → (length lives ≤ end) ⊎ AreLoosest facts params bound low b → (length lives ≤ end) ⊎ AreLoosest facts params bound more b
+wait_from facts params bound low more b lives end later (inl all) = inl all
+wait_from facts params bound low more b lives end later (inr wait) = inr (fewer_wait facts params bound low more b later wait)
+
+left_wait :
+    (facts : Facts) (params : Params) (bound : Bound) (low b : ℕ) (lives : List Live) (end : ℕ)
+    → (length lives ≤ end) ⊎ AreLoosest facts params bound low b → AllWait facts params bound low b (groups_of (drop end lives))
+left_wait facts params bound low b lives end (inr wait) = inr wait
+left_wait facts params bound low b lives end (inl all) = inl (ap groups_of (past lives end all))
+  where
+    past : (xs : List Live) (n : ℕ) → length xs ≤ n → drop n xs ≡ []
+    past [] zero low = refl
+    past [] (suc n) low = refl
+    past (x ∷ xs) zero low = absurd (omega (arith, low))
+    past (x ∷ xs) (suc n) low = past xs n (omega (arith, low))
+
+-- The groups from which no line is tried, after the others.
+pub record AreLeft
+    (facts : Facts) (params : Params) (bound : Bound) (ending : StopRule) (table : List Entry) (b at low : ℕ) (rest : List Live) : Type 0 where
+  pub active : IsActive (pruned facts params bound ending) (stops facts params ending) table b b at low (groups_of rest)
+  pub wait : AllWait facts params bound low b (groups_of rest)
+  pub over : AreOver facts params b rest
+  pub best : HaveBest table rest
+  pub uncounted : 0 < length rest → params.first_lines ≡ 0
+
+pub are_left :
+    (facts : Facts) (params : Params) (bound : Bound) (ending : StopRule) (table : List Entry) (b at low index end : ℕ) (lives now : List Live)
+    → index ≡ end → length now ≡ length lives → ((k : ℕ) → index ≤ k → slice_get now k ≡ slice_get lives k)
+    → (length lives ≤ end) ⊎ AreLoosest facts params bound low b → AreOver facts params b lives → HaveBest table lives
+    → IsActive (pruned facts params bound ending) (stops facts params ending) table b b at low (drop index (groups_of lives))
+    → AreLeft facts params bound ending table b at low (drop end now)
+are_left facts params bound ending table b at low index end lives now last long rest wait over best is =
+    subst (AreLeft facts params bound ending table b at low) (sym same)
+    (record {
+      active = subst (IsActive (pruned facts params bound ending) (stops facts params ending) table b b at low)
+          (ap (λ n. drop n (groups_of lives)) last ∙ drop-map (λ (x : Live). x.group) end lives) is;
+      wait = left_wait facts params bound low b lives end wait;
+      over = over_from facts params b end lives over;
+      best = best_from table end lives best;
+      uncounted = λ some. none some wait;
+    })
+  where
+    same : drop end now ≡ drop end lives
+    same = same_rest now lives end long (λ k low. rest k (omega (arith, low, last)))
+
+    some_left : (xs : List Live) (n : ℕ) → 0 < length (drop n xs) → n < length xs
+    some_left [] zero some = absurd (omega (arith, some))
+    some_left [] (suc n) some = absurd (omega (arith, some))
+    some_left (x ∷ xs) zero some = omega arith
+    some_left (x ∷ xs) (suc n) some = omega (arith, some_left xs n some)
+
+    none : 0 < length (drop end lives) → (length lives ≤ end) ⊎ AreLoosest facts params bound low b → params.first_lines ≡ 0
+    none some (inl all) = absurd (omega (arith, all, some_left lives end some))
+    none some (inr wait) = wait.uncounted
+
+-- The groups that are kept, and those that are left.
+pub front_left :
+    (facts : Facts) (params : Params) (bound : Bound) (ending : StopRule) (table : List Entry) (b at low : ℕ) (kept rest : List Live)
+    → MayEnd ending facts params bound → b ≤ facts.places → is_forced (facts.penalty b) ≡ false
+    → AreLeft facts params bound ending table b at low rest
+    → IsFront (pruned facts params bound ending) (stops facts params ending) table b b at low (groups_of kept)
+    → IsActive (pruned facts params bound ending) (stops facts params ending) table (b + 1) b 0 0 (groups_of (kept ++ rest))
+front_left facts params bound ending table b at low kept rest may within free left front =
+    subst (λ xs. IsActive (pruned facts params bound ending) (stops facts params ending) table (b + 1) b 0 0 xs)
+    (sym (map-append (λ (x : Live). x.group) kept rest))
+    (front (groups_of rest) free (active_waiting facts params bound ending table b b at low (groups_of rest) may within free left.wait left.active))
+
+pub over_left :
+    (facts : Facts) (params : Params) (bound : Bound) (ending : StopRule) (table : List Entry) (b at low : ℕ) (kept rest : List Live)
+    → AreLeft facts params bound ending table b at low rest → AreOver facts params (b + 1) kept → AreOver facts params (b + 1) (kept ++ rest)
+over_left facts params bound ending table b at low kept rest left over =
+    over_joined facts params (b + 1) kept rest over
+    (over_waiting facts params bound ending table b b at low rest left.wait left.active left.over)
+
+-- A line was tried from the first group, if there is one.
+pub first_tried :
+    (index end : ℕ) (lives : List Live) (before now : ℕ → ℕ)
+    → index ≡ end → (length lives ≤ end) ⊎ (0 < end) → (0 < index → WasTried (groups_of lives) before now) → WasTried (groups_of lives) before now
+first_tried index end [] before now last some tried = λ g there. absurd (cc)
+first_tried index end (live ∷ lives) before now last (inl all) tried = tried (omega (arith, last, all))
+first_tried index end (live ∷ lives) before now last (inr some) tried = tried (omega (arith, last, some))

@@ -1,0 +1,8 @@
+use Rattle.std.proofs.Common.{◌≡◌, ◌+◌, ◌<◌, ℕ, List}
+use Rattle.node_core.specs.declared.tree.Node.{Node}
+use Rattle.break_lines.specs.Marks.{marks_of}
+use Rattle.break_lines.proofs.Evenness.{GoesOn}
+use Rattle.break_lines.proofs.even.is_even.Given as goal
+
+abbrev pub invariant-loop-next : goal.invariant-loop-next
+invariant-loop-next l = (list : List Node) → l.marks ≡ marks_of list → (k : ℕ) → k + 1 < l.next → GoesOn list k
