@@ -14,7 +14,7 @@ ghost use Rattle.std.specs.Ordering.{int_eq};
 ghost use Rattle.std.specs.Option.{option_map};
 ghost use Rattle.dvi_layout.specs.Sheets.{definition_of, definitions_of, font_of, fresh_slots, is_among, is_marked_fresh, in_rising_order, numbers_below, selects};
 ghost use Rattle.dvi_ops.specs.Forest.{Forest, flat, nests};
-ghost use Rattle.std.specs.Prelude.{filter};
+ghost use Rattle.std.specs.Prelude.{◌≤◌, filter};
 
 use dvi_ops::{BodyOp, FontDefinition, Op, PageRuns, Units, opcodes, spell};
 use ship_core::pushed_after;
@@ -81,31 +81,42 @@ fn mark(marked: &mut [bool; FONT_SLOTS], slot: u8)
     marked[usize::from(slot)] = true;
 }
 
-/// The result of one pass over the instructions of a body: the slots of the fonts that they select, and the greatest number of pushes that are open
-/// at once.
+/// The result of one pass over the instructions of a body: the slots of the fonts that they select, all of which are below `limit`, and the greatest
+/// number of pushes that are open at once.
 #[derive(Drop)]
 struct Passed {
     selected: [bool; FONT_SLOTS],
+    limit: usize,
     deepest: usize,
 }
 
 /// Passes over instructions of a body once.
 fn pass_over(ops: &[BodyOp<'_>]) -> Passed
     ensures selected { (slot : ℕ) → slot < 256 → get_or result.selected slot false ≡ list_any (selects slot) (map body_view ops.now) }
+    ensures limit { (slot : ℕ) → slot < 256 → result.limit ≤ slot → get_or result.selected slot false ≡ false }
+    ensures limit_bounded { result.limit ≤ 256 }
     ensures deepest { result.deepest ≡ max_pushed 0 (map body_view ops.now) }
 {
     let mut selected = [false; FONT_SLOTS];
+    let mut limit: usize = 0;
     let mut pushed: usize = 0;
     let mut deepest: usize = 0;
     for op in ops {
         pushed = pushed_after(pushed, op);
         deepest = deepest.max(pushed);
         match font_of(op) {
-            Some(slot) => mark(&mut selected, slot),
+            Some(slot) => {
+                mark(&mut selected, slot);
+                limit = limit.max(usize::from(slot) + 1);
+            }
             None => {}
         }
     }
-    Passed { selected, deepest }
+    Passed {
+        selected,
+        limit,
+        deepest,
+    }
 }
 
 /// Whether a slot is among others.
@@ -129,17 +140,21 @@ fn is_fresh(fonts: &Fonts, defined: &[u8], marked: &[bool; FONT_SLOTS], slot: u8
     !is_among(slot, defined)
 }
 
-/// The slots that are marked as selected, loaded and not defined yet, in rising order.
+/// The slots that are marked as selected, loaded and not defined yet, in rising order. No slot from `limit` on is marked: a small page selects few
+/// fonts, and a test of all slots would be an eighth of its work.
 fn marked_fresh(
     alloc: Global,
     fonts: &Fonts,
     defined: &[u8],
     selected: &[bool; FONT_SLOTS],
+    limit: usize,
 ) -> Result<Vec<u8>, AllocError>
+    requires limit { (slot : ℕ) → slot < 256 → limit ≤ slot → get_or selected.now slot false ≡ false }
+    requires limit_bounded { limit ≤ 256 }
     ensures { IfOk result (λ slots. slots.items ≡ filter (is_marked_fresh fonts.now defined.now selected.now) (numbers_below 256)) }
 {
     let mut slots = Vec::new(alloc);
-    for slot in 0..256usize {
+    for slot in 0..limit {
         if is_fresh(fonts, defined, selected, slot as u8) {
             slots.push(slot as u8)?;
         }
@@ -159,7 +174,7 @@ pub fn fresh_slots(
     ensures deepest { IfOk result (λ found. (forest : Forest) → instructions_of body.now ≡ flat forest → found.1 ≡ nests forest) }
 {
     let passed = pass_over(&body.ops);
-    let slots = marked_fresh(alloc, fonts, defined, &passed.selected)?;
+    let slots = marked_fresh(alloc, fonts, defined, &passed.selected, passed.limit)?;
     Ok((slots, passed.deepest))
 }
 

@@ -36,11 +36,17 @@ pub struct AdmittedPage<'a> {
     pub load: PageLoad,
 }
 
+/// The greatest number of nodes of a page that takes its room as it grows. Mostly such a page has no character.
+const FEW_NODES: u64 = 3;
+
 /// The capacity for characters of a page with that many nodes. A quarter of it is for the other instructions, so a page of few nodes gets more.
 fn room_for(nodes: u64) -> usize
     // More room than the bound could be refused where the page itself finds memory.
     ensures { result ≤ 16384 }
 {
+    if nodes <= FEW_NODES {
+        return 0;
+    }
     nodes
         .saturating_add(nodes / 8)
         .saturating_add(16)

@@ -33,6 +33,9 @@ use std::alloc::{AllocError, Global};
 use std::marker::Model;
 use tfm_core::Fonts;
 
+/// The number of bytes of bop and of eop.
+const AROUND_A_BODY: usize = 46;
+
 /// The numbers that the writer keeps of the pages that it has sent.
 #[derive(Drop)]
 pub struct Progress {
@@ -159,7 +162,12 @@ impl Progress {
         let mut before = opening(alloc, self.pages)?;
         append_definitions(fonts, slots, &mut before)?;
         let movements = body.ops.len().saturating_mul(3);
-        let mut bytes = Vec::with_capacity(alloc, body.codes.len().saturating_add(movements))?;
+        let room = body
+            .codes
+            .len()
+            .saturating_add(movements)
+            .saturating_add(AROUND_A_BODY);
+        let mut bytes = Vec::with_capacity(alloc, room)?;
         append_all(&mut bytes, &before)?;
         let bop = bytes.len();
         append_page(&mut bytes, counts, body, self.last)?;

@@ -1,4 +1,4 @@
-use Rattle.std.proofs.Common.{◌≡◌, ◌∙◌, ◌+◌, ◌++◌, [], ◌∷◌, ℕ, List, Bool, pos, ap, sym, map, take, get_or, arith}
+use Rattle.std.proofs.Common.{◌≡◌, ◌∙◌, ◌+◌, ◌<◌, ◌≤◌, ◌++◌, [], ◌∷◌, ℕ, List, Bool, pos, ap, sym, map, take, get_or, arith}
 use Rattle.std.specs.Prelude.{false, replicate}
 use Rattle.std.specs.Option.{option_map}
 use Rattle.std.specs.List.{list_any}
@@ -9,12 +9,12 @@ use Rattle.dvi_ops.specs.declared.body_op.BodyOp.{BodyOp}
 use Rattle.dvi_ops.specs.declared.body_op.BodyOp.TheVariants as ops
 use Rattle.ship_core.proofs.PushDepth.{seen_more, seen_all}
 use Rattle.dvi_layout.specs.Sheets.{selects}
-use Rattle.dvi_layout.proofs.FreshFonts.{marked_more, marked_same}
+use Rattle.dvi_layout.proofs.FreshFonts.{marked_more, marked_same, unmarked}
 use Rattle.dvi_layout.proofs.layout.pass_over.Goals as goal
 use Rattle.dvi_layout.proofs.layout.pass_over.Goals.{in-Some, in-None}
 
 pub loop-op-init : goal.loop-op-init
-loop-op-init c = ((λ slot within. get_or-replicate _ slot false false within), record { value = omega arith; seen = omega arith; few = omega arith })
+loop-op-init c = ((λ slot within. get_or-replicate _ slot false false within), (λ slot within over. get_or-replicate _ slot false false within), omega arith, record { value = omega arith; seen = omega arith; few = omega arith })
 
 pub loop-op-preserved : goal.loop-op-preserved
 loop-op-preserved c =
@@ -34,8 +34,18 @@ loop-op-preserved c =
                 ∙ marked_same c.loop-op.selected (map body_view (take i all)) (body_view op) slot (sym c.font_of.ensures ∙ ap (option_map pos) w.in-None.is) (c.loop-op.invariant.0 slot within)
           ] in
           marked ∙ ap (λ (is : List Instruction). list_any (selects slot) is) (sym more)),
+      (λ slot within over. elim c.match-font_of.branch [
+        | in-Some w ↦
+            let lower : c.loop-op.limit ≤ slot = omega (arith, over, w.limit-is, w.max-limit.ensures) in
+            let below : w.in-Some.slot < slot = omega (arith, over, w.limit-is, w.max-limit.ensures) in
+            ap (λ (s : List Bool). get_or s slot false) w.selected-is
+            ∙ (w.mark.ensures slot within ∙ unmarked (get_or c.loop-op.selected slot false) w.in-Some.slot slot (c.loop-op.invariant.1 slot within lower) below)
+        | in-None w ↦
+            ap (λ (s : List Bool). get_or s slot false) w.selected-is ∙ c.loop-op.invariant.1 slot within (omega (arith, over, w.limit-is))
+      ]),
+      elim c.match-font_of.branch [ in-Some w ↦ omega (arith, w.limit-is, w.max-limit.ensures, c.loop-op.invariant.2) | in-None w ↦ omega (arith, w.limit-is, c.loop-op.invariant.2) ],
       seen_more all i c.loop-op.pushed c.loop-op.deepest c.pushed_after-pushed.result c.max-deepest.result _ c.loop-op-test.true
-          c.loop-op.invariant.1 c.pushed_after-pushed.ensures c.max-deepest.ensures,
+          c.loop-op.invariant.3 c.pushed_after-pushed.ensures c.max-deepest.ensures,
     )
 
 pub returns-clause-selected : goal.returns-clause-selected
@@ -44,4 +54,4 @@ returns-clause-selected c slot within =
     ∙ ap (λ (os : List BodyOp). list_any (selects slot) (map body_view os)) (take_all c.loop-op.op-index c.args.ops.now c.loop-op-test.false)
 
 pub returns-clause-deepest : goal.returns-clause-deepest
-returns-clause-deepest c = seen_all c.args.ops.now c.loop-op.op-index c.loop-op.pushed c.loop-op.deepest c.loop-op-test.false c.loop-op.invariant.1
+returns-clause-deepest c = seen_all c.args.ops.now c.loop-op.op-index c.loop-op.pushed c.loop-op.deepest c.loop-op-test.false c.loop-op.invariant.3
