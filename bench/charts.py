@@ -1,8 +1,9 @@
 #!/usr/bin/env python3
-"""Draws the charts of docs/SPEED.md from the figures of one run: bench/charts.py [DATA] [--out FOLDER], by default docs/speed.tsv and docs.
+"""Draws the charts of docs/SPEED.md from the figures of runs: bench/charts.py [DATA ..] [--out FOLDER], by default docs/speed.tsv, docs/speed_large.tsv and docs.
 
   speed_places.svg  microseconds and instructions per place against the length of the paragraph, at both widths, beside tex
   speed_items.svg   a bar for each case that has a peer: time, instructions and memory as a ratio to the peer
+  speed_memory.svg  the peak memory of small and large cases, beside the peer where there is one
 
 It needs nothing but Python: the charts are written as text."""
 
@@ -17,13 +18,18 @@ INK, FAINT, GRID = "#222222", "#666666", "#dddddd"
 
 
 class Figures:
-    """The rows of a run, by case and program."""
+    """The rows of runs, by case and program."""
 
-    def __init__(self, path):
+    def __init__(self, paths):
         self.notes, self.rows = [], {}
+        for path in paths:
+            self.add(path)
+
+    def add(self, path):
+        """Adds the rows of a run."""
         with open(path) as file:
             lines = file.read().splitlines()
-        self.notes = [line[2:] for line in lines if line.startswith("#")]
+        self.notes += [line[2:] for line in lines if line.startswith("#")]
         lines = [line.split("\t") for line in lines if not line.startswith("#")]
         for line in lines[1:]:
             row = dict(zip(lines[0], line))
@@ -34,10 +40,13 @@ class Figures:
         row = self.rows[case].get(program)
         return float(row[what]) / int(row["units"]) if row and row[what] else None
 
+    def peer(self, case):
+        """The row of the peer, or None."""
+        return next((it for name, it in self.rows[case].items() if name != "boxglue"), None)
+
     def ratio(self, case, what):
         """The figure of boxglue divided by its peer's, or None."""
-        row = self.rows[case]
-        peer = next((it for name, it in row.items() if name != "boxglue"), None)
+        row, peer = self.rows[case], self.peer(case)
         return float(row["boxglue"][what]) / float(peer[what]) if peer and row["boxglue"][what] and peer[what] else None
 
 
@@ -158,14 +167,50 @@ def draw_items(figures, out):
     svg.write(os.path.join(out, "speed_items.svg"))
 
 
+MEMORY = (("start", "an empty script"), ("paragraphs_200", "2,000 paragraphs"), ("places_345pt_100_8000", "a paragraph of 8,000 places"), ("paint", "paint"),
+    ("large_script_100000", "a script of 100,000 lines"), ("large_script_1000000", "1,000,000 lines"), ("large_script_10000000", "10,000,000 lines"),
+    ("large_pages_2_10000", "10,000 pages, 2 fonts"), ("large_pages_2_60000", "60,000 pages, 2 fonts"), ("large_pages_256_60000", "60,000 pages, 256 fonts"),
+    ("large_list_1", "list of 1.4 MB"), ("large_list_14", "list of 14 MB"), ("large_list_140", "list of 140 MB"))
+
+
+def draw_memory(figures, out):
+    """A bar for each case and its peer, on a logarithmic axis from 1 MB."""
+    rows = [it for it in MEMORY if it[0] in figures.rows]
+    left, top, each, wide = 210, 66, 38, 500
+    megabytes = lambda row: float(row["memory"]) / 1e6
+    tens = math.ceil(math.log10(max(megabytes(row) for case, _ in rows for row in figures.rows[case].values())))
+    svg = Svg(800, top + each * len(rows) + 50, "Peak memory of boxglue and its peers")
+    svg.text(20, 26, "Peak memory in MB, on a logarithmic axis (less is better)", size=15, weight="bold")
+    for place, (name, colour) in enumerate((("boxglue", "boxglue"), ("its peer, where there is one", "tex"))):
+        svg.bar(left + place * 120, 36, 12, 12, COLOURS[colour])
+        svg.text(left + 18 + place * 120, 46, name)
+    bottom = top + each * len(rows)
+    for ten in range(tens + 1):
+        x = left + ten / tens * wide
+        svg.line(x, top - 8, x, bottom)
+        svg.text(x, bottom + 16, "{:,}".format(10 ** ten), "middle", FAINT, 11)
+    for place, (case, label) in enumerate(rows):
+        y, peer = top + place * each, figures.peer(case)
+        svg.text(left - 10, y + 14, label, "end")
+        for turn, (row, colour) in enumerate([(figures.rows[case]["boxglue"], "boxglue")] + ([(peer, "tex")] if peer else [])):
+            long = max(0, math.log10(megabytes(row))) / tens * wide
+            svg.bar(left, y + turn * 14, long, 11, COLOURS[colour])
+            svg.text(left + long + 5, y + turn * 14 + 10, "%.1f" % megabytes(row) + (" (%s)" % row["program"] if turn else ""), colour=FAINT, size=10)
+    for place, note in enumerate([it for it in figures.notes if it.startswith("bench/run.py")][:2]):
+        svg.text(20, bottom + 34 + place * 12, note, colour=FAINT, size=10)
+    svg.write(os.path.join(out, "speed_memory.svg"))
+
+
 def main():
     parser = argparse.ArgumentParser(description=__doc__, formatter_class=argparse.RawDescriptionHelpFormatter)
-    parser.add_argument("data", nargs="?", default=os.path.join(DOCS, "speed.tsv"), metavar="DATA")
+    known = [os.path.join(DOCS, name) for name in ("speed.tsv", "speed_large.tsv")]
+    parser.add_argument("data", nargs="*", default=[it for it in known if os.path.exists(it)], metavar="DATA")
     parser.add_argument("--out", default=DOCS, metavar="FOLDER")
     words = parser.parse_args()
     figures = Figures(words.data)
     draw_places(figures, words.out)
     draw_items(figures, words.out)
+    draw_memory(figures, words.out)
 
 
 main()

@@ -179,3 +179,24 @@ def pages_of_fonts(pages, loaded):
         tex.append("}\\shipout\\box0\n")
     tex.append("\\end\n")
     return "".join(box), "".join(tex)
+
+
+def repeated_pages(dvi, times):
+    """A DVI file with all pages of another and, so many times more, those that come after its first one. A font has to be defined on the first page."""
+    number = lambda place: int.from_bytes(dvi[place:place + 4], "big", signed=True)
+    end = len(dvi.rstrip(b"\xdf"))
+    post = number(end - 5)
+    starts, start = [], number(post + 1)
+    while start >= 0:
+        starts.insert(0, start)
+        start = number(start + 41)
+    pages = [dvi[start:after] for start, after in zip(starts, starts[1:] + [post])]
+    parts, place, before = [dvi[:starts[0]]], starts[0], -1
+    for page in pages[:1] + pages[1:] * (1 + times):
+        parts.append(page[:41] + struct.pack(">i", before) + page[45:])
+        place, before = place + len(page), place
+    count = 1 + (len(pages) - 1) * (1 + times)
+    parts.append(dvi[post:post + 1] + struct.pack(">i", before) + dvi[post + 5:post + 27] + struct.pack(">H", count) + dvi[post + 29:end - 6])
+    last = struct.pack(">Bi", dvi[end - 6], place) + dvi[end - 1:end]
+    size = sum(map(len, parts)) + len(last)
+    return b"".join(parts) + last + b"\xdf" * (4 + -size % 4)

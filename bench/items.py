@@ -15,10 +15,11 @@ LENGTHS = (100, 250, 500, 1000, 2000, 4000, 8000)
 
 
 class Case:
-    """A run of boxglue with these words, this standard input and the file that it writes, if any; the words of its peer; and the unit that it is counted in."""
+    """A run of boxglue with these words, this standard input and the file that it writes, if any; the words of its peer; the unit that it is counted in; and whether it is
+    a large one, which is run once and whose output is not kept."""
 
-    def __init__(self, name, words, stdin="/dev/null", out=None, peer=None, unit=None, units=1):
-        self.name, self.words, self.stdin, self.out, self.peer, self.unit, self.units = name, words, stdin, out, peer, unit, units
+    def __init__(self, name, words, stdin="/dev/null", out=None, peer=None, unit=None, units=1, large=False):
+        self.name, self.words, self.stdin, self.out, self.peer, self.unit, self.units, self.large = name, words, stdin, out, peer, unit, units, large
 
 
 class Work:
@@ -94,14 +95,18 @@ class Work:
             script = "".join("font %d big\n" % slot for slot in range(count))
             yield self.typeset("fonts_%d" % count, script, "big=big.tfm", unit="reading", units=count)
 
+    def pages_of_fonts(self, name, pages, loaded, **more):
+        """Pages of one line, each in two of these loaded fonts."""
+        for number in range(loaded):
+            self.put(inputs.font_name(number) + ".tfm", inputs.small_metric_file(number))
+        box, tex = inputs.pages_of_fonts(pages, loaded)
+        fonts = ["%s=%s.tfm" % (font, font) for font in map(inputs.font_name, range(loaded))]
+        return self.typeset(name, box, *fonts, tex=tex, unit="page", units=pages, **more)
+
     def many_fonts(self):
         """4,000 pages of which each uses two of 256 loaded fonts, and the same with these fonts alone loaded."""
         for loaded in (2, 256):
-            for number in range(loaded):
-                self.put(inputs.font_name(number) + ".tfm", inputs.small_metric_file(number))
-            box, tex = inputs.pages_of_fonts(4000, loaded)
-            fonts = ["%s=%s.tfm" % (name, name) for name in map(inputs.font_name, range(loaded))]
-            yield self.typeset("many_fonts_%d" % loaded, box, *fonts, tex=tex, unit="page", units=4000)
+            yield self.pages_of_fonts("many_fonts_%d" % loaded, 4000, loaded)
 
     def small_pages(self):
         """Boxes of one rule, each shipped as a page or made void."""
@@ -109,5 +114,27 @@ class Work:
             for count in (6000, 60000):
                 yield self.typeset("small_pages_%s_%d" % (last, count), inputs.small_pages(count, last), unit="page", units=count)
 
+    def large_pages(self):
+        """10,000 and 60,000 pages of one line, with 2 and with 256 fonts loaded."""
+        for loaded in (2, 256):
+            for pages in (10000, 60000):
+                yield self.pages_of_fonts("large_pages_%d_%d" % (loaded, pages), pages, loaded, large=True)
+
+    def large_script(self):
+        """Scripts of short lines, as short_lines, of up to 10,000,000 lines."""
+        for count in (100000, 1000000, 10000000):
+            yield self.typeset("large_script_%d" % count, inputs.small_boxes(count), unit="line", units=count, large=True)
+
+    def large_list(self):
+        """`list` of the file that `paragraphs` writes, of 1.4 MB, and of files of 14 and 140 MB with its pages again and again."""
+        with open(os.path.join(self.folder, self.made("book.dvi", self.book(200))), "rb") as file:
+            dvi = file.read()
+        for megabytes, times in ((1, 0), (14, 9), (140, 101)):
+            content = inputs.repeated_pages(dvi, times)
+            out = os.path.basename(self.put("book_%d.dvi" % megabytes, content))
+            peer = ["dvitype", "-output-level=4", out]
+            yield Case("large_list_%d" % megabytes, ["list", out, "cmr10=" + CMR10], peer=peer, unit="byte", units=len(content), large=True)
+
 
 ITEMS = ("paragraphs", "places", "list", "paint", "short_lines", "start", "fonts", "many_fonts", "small_pages")
+LARGE = ("large_pages", "large_script", "large_list")

@@ -21,23 +21,23 @@ class Cost:
         self.seconds, self.memory = seconds, memory
 
 
-def run_once(words, stdin, folder):
-    """One run of a program on one core; its output goes to files of the folder."""
-    command = "exec taskset -c %d %s < %s > out.txt 2> err.txt & echo $!" % (CORE, shlex.join(words), shlex.quote(stdin))
+def run_once(words, stdin, folder, output="out.txt"):
+    """One run of a program on one core; its output goes to files of the folder, or elsewhere."""
+    command = "exec taskset -c %d %s < %s > %s 2> err.txt & echo $!" % (CORE, shlex.join(words), shlex.quote(stdin), output)
     shell = subprocess.run(["/bin/sh", "-c", command], cwd=folder, stdout=subprocess.PIPE, check=True)
     _, status, used = os.wait4(int(shell.stdout), 0)
     if os.waitstatus_to_exitcode(status) != 0:
-        tail = open(os.path.join(folder, "err.txt")).read()[-500:] + open(os.path.join(folder, "out.txt"), errors="replace").read()[-500:]
+        tail = "".join(open(os.path.join(folder, name), errors="replace").read()[-500:] for name in ("err.txt", output))
         sys.exit("%s: status %s\n%s" % (shlex.join(words), os.waitstatus_to_exitcode(status), tail))
     return Cost(used.ru_utime + used.ru_stime, used.ru_maxrss * 1024)
 
 
-def in_turn(runs, folder, turns=RUNS):
+def in_turn(runs, folder, turns=RUNS, output="out.txt"):
     """Runs programs in turn, several times each, and returns the least of each. A run is the words of a program and its standard input."""
     costs = [[] for _ in runs]
     for _ in range(turns):
         for (words, stdin), found in zip(runs, costs):
-            found.append(run_once(words, stdin, folder))
+            found.append(run_once(words, stdin, folder, output))
     return [Cost(min(it.seconds for it in found), min(it.memory for it in found)) for found in costs]
 
 

@@ -1,6 +1,7 @@
 #!/usr/bin/env python3
-"""Measures boxglue beside tex, dvitype and dvipng: bench/run.py [--boxglue PROGRAM] [--instructions] [--data FILE] [ITEM ..], all items if none is named.
+"""Measures boxglue beside tex, dvitype and dvipng: bench/run.py [--boxglue PROGRAM] [--instructions] [--large] [--data FILE] [ITEM ..], all items if none is named.
 
+The large items, whose cases are run once, are not among these: name them, or take all of them by --large.
 Each case says user + system time (the least of five runs on one core), peak memory, with --instructions also the instructions (by callgrind, on all cores before the times
 are taken), and the ratios to the peer. --data writes all figures of the run into a file, from which bench/charts.py draws. docs/SPEED.md has the results."""
 
@@ -14,13 +15,13 @@ import sys
 import tempfile
 from concurrent.futures import ThreadPoolExecutor
 
-from items import CMR10, ITEMS, PACKAGES, Work
+from items import CMR10, ITEMS, LARGE, PACKAGES, Work
 from measure import count, in_turn
 
 HERE = os.path.dirname(os.path.abspath(__file__))
 COLUMNS = "case program seconds memory instructions unit units".split()
-PEERS = {"paragraphs": "tex", "places": "tex", "many_fonts": "tex", "list": "dvitype", "paint": "dvipng"}
-NEED_CMR10 = ("paragraphs", "places", "list")
+PEERS = {"paragraphs": "tex", "places": "tex", "many_fonts": "tex", "list": "dvitype", "paint": "dvipng", "large_pages": "tex", "large_list": "dvitype"}
+NEED_CMR10 = ("paragraphs", "places", "list", "large_list")
 
 
 class Row:
@@ -61,7 +62,8 @@ def counted(work, cases):
 def measured(work, case, instructions):
     """The rows of a case: boxglue's and its peer's."""
     runs = runs_of(work, case)
-    costs = in_turn(runs, work.folder, 100 if case.name == "start" else 5)
+    turns = 1 if case.large else 100 if case.name == "start" else 5
+    costs = in_turn(runs, work.folder, turns, "/dev/null" if case.large else "out.txt")
     return [Row(case, name, *it) for name, *it in zip(["boxglue", *(case.peer or [])[:1]], costs, instructions or [None] * len(runs))]
 
 
@@ -79,7 +81,8 @@ def growth(first, last):
 
 
 GROWTHS = (("short_lines_100000", "short_lines_1000000"), ("small_pages_ship_6000", "small_pages_ship_60000"), ("small_pages_void_6000", "small_pages_void_60000"),
-    ("fonts_1", "fonts_201"))
+    ("fonts_1", "fonts_201"), ("large_pages_2_10000", "large_pages_2_60000"), ("large_pages_256_10000", "large_pages_256_60000"),
+    ("large_script_100000", "large_script_1000000"), ("large_script_1000000", "large_script_10000000"), ("large_list_1", "large_list_14"), ("large_list_14", "large_list_140"))
 
 
 def head(words):
@@ -110,13 +113,14 @@ def main():
     parser = argparse.ArgumentParser(description=__doc__, formatter_class=argparse.RawDescriptionHelpFormatter)
     parser.add_argument("--boxglue", default=os.environ.get("BOXGLUE", os.path.join(HERE, "../crates/boxglue/out/boxglue")))
     parser.add_argument("--instructions", action="store_true", help="count instructions too")
+    parser.add_argument("--large", action="store_true", help=", ".join(LARGE))
     parser.add_argument("--data", metavar="FILE", help="where the figures go")
     parser.add_argument("--note", help="a line for the head of the file of data: which build this is")
     parser.add_argument("items", nargs="*", metavar="ITEM", help=", ".join(ITEMS))
     words = parser.parse_args()
-    items = words.items or list(ITEMS)
-    if not set(items) <= set(ITEMS):
-        parser.error("the items are " + ", ".join(ITEMS))
+    items = words.items or list(LARGE if words.large else ITEMS)
+    if not set(items) <= set(ITEMS + LARGE):
+        parser.error("the items are " + ", ".join(ITEMS + LARGE))
     lacks = list(missing(words.boxglue, items)) + (["valgrind is not there"] if words.instructions and not shutil.which("valgrind") else [])
     if lacks:
         sys.exit("\n".join(lacks))

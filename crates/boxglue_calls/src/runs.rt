@@ -4,6 +4,7 @@ ghost use Rattle.std.specs.Prelude.{◌≡◌, ◌↔◌, ◌⊎◌, false, true
 ghost use Rattle.job_commands.specs.declared.replies.Refusal.{Refusal};
 ghost use Rattle.job_commands.specs.declared.replies.Summary.{Summary};
 ghost use Rattle.job_commands.specs.Reply.{Reply};
+ghost use Rattle.boxglue_script.specs.Blocks.{lines_of};
 ghost use Rattle.boxglue_program.specs.Runs.{WasRun, commands_of, line_numbers};
 ghost use Rattle.boxglue_program.specs.Texts.{answers_text, script_refusal_text};
 ghost use Rattle.boxglue_calls.specs.Fonts.{are_named, files_of};
@@ -15,7 +16,7 @@ use crate::given::{Font, are_named, font_files};
 use crate::run_status::outcome_status;
 use crate::status::{BAD_FONT_NAME, OUT_OF_MEMORY, REFUSED};
 use boxglue_program::{
-    Cause, FontFile, Line, Memory, ScriptFault, WholeRun, read_script, run_whole,
+    Cause, FontFile, LineBlocks, Memory, ScriptFault, WholeRun, read_blocks, run_whole,
     script_refusal_text,
 };
 use std::alloc::{AllocError, Global};
@@ -37,10 +38,10 @@ struct Ran {
 }
 
 /// Runs the lines of a script with these font files on a device in memory, and ends the job.
-fn run_job(alloc: Global, lines: &[Line], files: &[FontFile]) -> Result<Ran, AllocError>
+fn run_job(alloc: Global, lines: LineBlocks, files: &[FontFile]) -> Result<Ran, AllocError>
     ensures { IfOk result (λ ran. (replies : List Reply) × (end : Result Summary Refusal)
-        × WasRun files.now 0 (commands_of lines.now) replies end ran.device.failures (Some ran.device.bytes)
-        × (ran.answers.items ≡ answers_text (line_numbers lines.now) replies end) × (ran.status ≡ run_status replies end)) }
+        × WasRun files.now 0 (commands_of (lines_of lines)) replies end ran.device.failures (Some ran.device.bytes)
+        × (ran.answers.items ≡ answers_text (line_numbers (lines_of lines)) replies end) × (ran.status ≡ run_status replies end)) }
 {
     let whole = match run_whole(alloc, lines, files, Memory::new(alloc)) {
         Ok(whole) => whole,
@@ -80,8 +81,8 @@ fn run_on_memory(alloc: Global, script: &[u8], fonts: &[Font<'_>]) -> Result<Ran
     ensures { IfOk result (λ ran. IsRun script.now (files_of fonts.now) ran.answers.items ran.device.bytes ran.status) }
 {
     let files = font_files(alloc, fonts)?;
-    match read_script(alloc, script) {
-        Ok(lines) => run_job(alloc, &lines, &files),
+    match read_blocks(alloc, script) {
+        Ok(lines) => run_job(alloc, lines, &files),
         Err(ScriptFault::OutOfMemory) => Err(AllocError),
         Err(ScriptFault::BadScript { line, cause }) => refused_run(alloc, line, cause),
     }

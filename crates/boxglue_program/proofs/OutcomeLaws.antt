@@ -30,6 +30,12 @@ outcome_more [] reply = worse_at_last (outcome_of reply)
 outcome_more (first ∷ rest) reply =
     ap (λ (outcome : Outcome). worse (outcome_of first) outcome) (outcome_more rest reply) ∙ worse_turned (outcome_of first) (replies_outcome rest) (outcome_of reply)
 
+-- What was refused of some commands and of others after them.
+pub outcome_joined : (replies others : List Reply) → replies_outcome (replies ++ others) ≡ worse (replies_outcome replies) (replies_outcome others)
+outcome_joined [] others = refl
+outcome_joined (first ∷ rest) others =
+    ap (λ (outcome : Outcome). worse (outcome_of first) outcome) (outcome_joined rest others) ∙ worse_turned (outcome_of first) (replies_outcome rest) (replies_outcome others)
+
 pub outcome_one_more : (outcome next new : Outcome) (replies : List Reply) (reply : Reply) → outcome ≡ replies_outcome replies → next ≡ outcome_of reply → new ≡ worse outcome next
     → new ≡ replies_outcome (replies ++ reply ∷ [])
 outcome_one_more outcome next new replies reply h k is =

@@ -14,7 +14,7 @@ mod session;
 mod texts;
 mod writing;
 
-pub use boxglue_script::{Cause, Line, ScriptFault, read_script};
+pub use boxglue_script::{Cause, Line, LineBlocks, ScriptFault, read_blocks, read_script};
 pub use hexadecimal::hexadecimal_digit;
 pub use job_core::{Device, DeviceFault, FontFile, FontName, Fuse, Memory, Rest};
 pub use memory_run::run_memory;

@@ -10,13 +10,14 @@ ghost use Rattle.dvi_device.specs.Seen.{device_view};
 ghost use Rattle.dvi_write.specs.Writing.{GoesOn};
 ghost use Rattle.job_core.specs.Jobs.{RunsTo, due, writing_of};
 ghost use Rattle.boxglue_program.specs.Texts.{answer_line, answer_lines, answers_text, end_line};
-ghost use Rattle.boxglue_program.specs.Outcomes.{replies_outcome, run_outcome};
+ghost use Rattle.boxglue_script.specs.Blocks.{lines_of};
+ghost use Rattle.boxglue_program.specs.Outcomes.{replies_outcome, run_outcome, worse};
 ghost use Rattle.boxglue_program.specs.Runs.{commands_of, line_numbers, fault_view, WasRun, IsAnswered, IsUnanswered, IsLeft, IsAnswerOfRest, IsAnsweredOverRest, IsLeftOverRest};
 
 use crate::outcome::Outcome;
 use crate::texts::{push_answer_line, push_end_line, script_refusal_text};
 use crate::writing::{Unwritten, write_text};
-use boxglue_script::{Cause, Line, ScriptFault, read_script};
+use boxglue_script::{Line, LineBlocks, ScriptFault, read_blocks};
 use job_core::{Device, FontFile, Job, Refusal, Reply, Rest, Summary};
 use std::alloc::Global;
 use std::io::Write;
@@ -57,7 +58,7 @@ pub fn answer_script<D: Device>(
     ensures left { let seen = device_view D.bytes_written D.failed D.past in
         IfErr result (λ back. IsUnanswered text.now files.now (seen device) (seen back)) }
 {
-    let lines = match read_script(alloc, text) {
+    let lines = match read_blocks(alloc, text) {
         Ok(lines) => lines,
         Err(ScriptFault::OutOfMemory) => return Err(device),
         Err(ScriptFault::BadScript { line, cause }) => {
@@ -75,7 +76,7 @@ pub fn answer_script<D: Device>(
         answers,
         outcome,
         device,
-    } = run_whole(alloc, &lines, files, device)?;
+    } = run_whole(alloc, lines, files, device)?;
     match answers {
         Some(text) => Ok(Answered {
             text,
@@ -168,21 +169,21 @@ pub struct WholeRun<D> {
 /// refused for a text, the run continues without texts, so that the file is the whole one.
 pub fn run_whole<D: Device>(
     alloc: Global,
-    lines: &[Line],
+    lines: LineBlocks,
     files: &[FontFile],
     device: D,
 ) -> Result<WholeRun<D>, D>
     requires countable { D.failed device + 1 < 2 ^ 64 }
     requires fresh { IfSome (D.bytes_written device) (λ bytes. bytes ≡ []) }
     ensures ran { IfOk result (λ ran. (replies : List Reply) × (end : Result ASummary ARefusal)
-        × (run : WasRun files.now (D.failed device) (commands_of lines.now) replies end (D.failed ran.device) (D.bytes_written ran.device))
+        × (run : WasRun files.now (D.failed device) (commands_of (lines_of lines)) replies end (D.failed ran.device) (D.bytes_written ran.device))
         × KeepsPast (D.past device) (due run.last) (D.past ran.device)
-        × IfSome ran.answers (λ text. text.items ≡ answers_text (line_numbers lines.now) replies end) × (ran.outcome ≡ run_outcome replies end)) }
+        × IfSome ran.answers (λ text. text.items ≡ answers_text (line_numbers (lines_of lines)) replies end) × (ran.outcome ≡ run_outcome replies end)) }
     ensures none { IfErr result (λ back. back ≡ device) }
 {
     let mut job = Job::new(alloc, device, files)?;
     let mut answers = Vec::new(alloc);
-    let run = run_lines(&mut job, lines, &mut answers);
+    let run = run_blocks(&mut job, lines, &mut answers);
     let end = job.finish();
     Ok(WholeRun {
         answers: with_end(answers, run.kept, &end),
@@ -210,6 +211,38 @@ pub struct LinesRun {
     pub outcome: Outcome,
     /// Whether the answers of all of them are there. If not, none is.
     pub kept: bool,
+}
+
+impl LinesRun {
+    /// How lines were run of which some were run so and the others after them so.
+    fn then(self, next: LinesRun) -> LinesRun
+        ensures outcome { result.outcome ≡ worse self.outcome next.outcome }
+        ensures kept { result.kept ≡ true → (self.kept ≡ true) × (next.kept ≡ true) }
+    {
+        LinesRun {
+            outcome: self.outcome.worse(next.outcome),
+            kept: self.kept & next.kept,
+        }
+    }
+}
+
+/// Runs the lines of a script as `run_lines` does. The memory of each block is given back once its lines were run, so that their answers may take it.
+fn run_blocks<D: Device>(job: &mut Job<D>, lines: LineBlocks, answers: &mut Vec<u8>) -> LinesRun
+    ensures ran { (replies : List Reply) × RunsTo job.old (commands_of (lines_of lines)) replies job.new
+        × (result.kept ≡ true → answers.new.items ≡ answers.old.items ++ answer_lines (line_numbers (lines_of lines)) replies) × (result.outcome ≡ replies_outcome replies) }
+    ensures goes_on { GoesOn (writing_of job.old) (writing_of job.new) }
+{
+    let LineBlocks { full, last } = lines;
+    let mut run = LinesRun {
+        outcome: Outcome::Accepted,
+        kept: true,
+    };
+    for block in full {
+        let part = run_lines(job, &block, answers);
+        run = run.then(part);
+    }
+    let end = run_lines(job, &last, answers);
+    run.then(end)
 }
 
 /// Runs lines of a script in order on a job of the caller, and appends their answers, one line each, to those that are there.

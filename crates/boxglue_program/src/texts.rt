@@ -7,7 +7,7 @@ ghost use Rattle.boxglue_program.specs.Texts.{cause_name, kind_name, points_text
 
 use crate::refusals::{push_number, push_refusal, push_text};
 use boxglue_script::Cause;
-use itoa::Buffer;
+use itoa::{Buffer, write_digits};
 use job_core::{Answer, Refusal, Reply, Sizes, Summary};
 use node_core::Kind;
 use scaled_core::{Dimen, print_dimen};
@@ -15,6 +15,9 @@ use std::alloc::{AllocError, Global};
 
 /// Room for one line of answers. The longest is that of a split: two numbers, six dimensions, and the words between them.
 pub(crate) const ANSWER_SIZE: usize = 512;
+
+/// How many digits the number of a line has at most.
+const DIGITS: usize = 20;
 
 /// The name of the cause that makes a script bad.
 fn cause_name(cause: Cause) -> &'static str
@@ -53,27 +56,18 @@ pub fn push_signed(number: i64, out: &mut Vec<u8>) -> Result<(), AllocError>
     out.extend_from_slice(buffer.format(number).as_bytes())
 }
 
-/// Appends a dimension in points. If memory is refused, here and in the functions below, a beginning of the text may have been appended.
-#[tactic(auto, unfolding(crate::specs::Texts::points_text))]
-fn push_points(dimension: Dimen, out: &mut Vec<u8>) -> Result<(), AllocError>
-    ensures ok { OnOk result (out.new.items ≡ out.old.items ++ points_text dimension) }
-    ensures room { TakesRoom 49 out.old out.new result }
-{
-    print_dimen(dimension, out)?;
-    push_text("pt", out)
-}
-
-/// Appends width, height and depth.
-#[tactic(auto, unfolding(crate::specs::Texts::sizes_text))]
+/// Appends width, height and depth, each in points. If memory is refused, here and in the functions below, a beginning of the text may have been appended.
+#[tactic(auto, unfolding(crate::specs::Texts::sizes_text, crate::specs::Texts::points_text))]
 fn push_sizes(sizes: &Sizes, out: &mut Vec<u8>) -> Result<(), AllocError>
     ensures ok { OnOk result (out.new.items ≡ out.old.items ++ sizes_text sizes.now) }
     ensures room { TakesRoom 149 out.old out.new result }
 {
-    push_points(sizes.width, out)?;
-    push_text(" ", out)?;
-    push_points(sizes.height, out)?;
-    push_text(" ", out)?;
-    push_points(sizes.depth, out)
+    print_dimen(sizes.width, out)?;
+    push_text("pt ", out)?;
+    print_dimen(sizes.height, out)?;
+    push_text("pt ", out)?;
+    print_dimen(sizes.depth, out)?;
+    push_text("pt", out)
 }
 
 /// Appends the answer to a packed box: sizes and badness.
@@ -242,6 +236,28 @@ fn push_reply(reply: &Reply, out: &mut Vec<u8>) -> Result<(), AllocError>
     }
 }
 
+/// Appends the line `N: ok` as one piece, with the digits before a text that is there.
+fn push_done(number: u64, out: &mut Vec<u8>) -> Result<(), AllocError>
+    ensures ok { OnOk result (out.new.items ≡ out.old.items ++ (decimal number ++ (codes ": ok" ++ line_feed))) }
+    ensures err { OnErr result (out.new.items ≡ out.old.items) }
+    ensures room { TakesRoom 25 out.old out.new result }
+{
+    let mut line = *b"00000000000000000000: ok\n";
+    let start = write_digits(number, &mut line, DIGITS);
+    out.extend_from_slice(&line[start..])
+}
+
+/// Appends the number of a line with what follows it, also as one piece.
+fn push_line_number(number: u64, out: &mut Vec<u8>) -> Result<(), AllocError>
+    ensures ok { OnOk result (out.new.items ≡ out.old.items ++ (decimal number ++ codes ": ")) }
+    ensures err { OnErr result (out.new.items ≡ out.old.items) }
+    ensures room { TakesRoom 22 out.old out.new result }
+{
+    let mut text = *b"00000000000000000000: ";
+    let start = write_digits(number, &mut text, DIGITS);
+    out.extend_from_slice(&text[start..])
+}
+
 /// Appends the line that answers the line of a script with this number. If memory is refused, nothing was appended, as room is taken first. Most
 /// answers are `ok`, so this one is appended as one piece.
 #[tactic(auto, unfolding(crate::specs::Texts::answer_line, crate::specs::Texts::answer_text))]
@@ -255,11 +271,10 @@ pub(crate) fn push_answer_line(
     ensures room { TakesRoom 512 out.old out.new result }
 {
     out.reserve(ANSWER_SIZE)?;
-    push_number(number as u64, out)?;
     if let Ok(Answer::Done) = reply {
-        return push_text(": ok\n", out);
+        return push_done(number as u64, out);
     }
-    push_text(": ", out)?;
+    push_line_number(number as u64, out)?;
     push_reply(reply, out)?;
     push_text("\n", out)
 }

@@ -27,3 +27,4 @@ pub mod TextLines
 pub mod ScriptLaws
 pub mod SaidLaws
 pub mod RowLaws
+pub mod BlockLemmas

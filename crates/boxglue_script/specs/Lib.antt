@@ -5,5 +5,6 @@ pub mod Grammar
 pub mod Causes
 pub mod Script
 pub mod SaidLines
+pub mod Blocks
 pub mod Reading
 pub mod Rows

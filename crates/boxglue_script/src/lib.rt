@@ -5,6 +5,7 @@
 #![tactic(auto)]
 
 mod amounts;
+mod blocks;
 mod cause;
 mod commands;
 mod field_value;
@@ -17,7 +18,8 @@ mod said;
 mod script;
 mod values;
 
+pub use blocks::LineBlocks;
 pub use cause::Cause;
 pub use lines::first_line;
 pub use said::{Said, read_line};
-pub use script::{Line, ScriptFault, read_script};
+pub use script::{Line, ScriptFault, read_blocks, read_script};

@@ -1,11 +1,14 @@
 //! Reading a script.
 
-ghost use Rattle.std.specs.Prelude.{◌≡◌, ◌⊎◌, true, List, Err, IfOk, OnOk, IfErr};
+ghost use Rattle.std.specs.Prelude.{◌≡◌, ◌⊎◌, ◌<◌, ◌≤◌, ◌+◌, true, List, [], length, Ok, Err, IfOk, OnOk, IfErr, vec_len};
+ghost use Rattle.std.specs.Str.Lines.{lines};
+ghost use Rattle.boxglue_script.specs.Blocks.{lines_of};
 ghost use Rattle.boxglue_script.specs.Causes.{IsPrintable};
 ghost use Rattle.boxglue_script.specs.Script.{IsScript, Explains, IsOneFault, IsRightSoFar};
-ghost use Rattle.boxglue_script.specs.Reading.{GivesCommand, ReadsOn, StopsAtLine};
+ghost use Rattle.boxglue_script.specs.Reading.{GivesCommand, ReadsOn, StopsAtLine, reads};
 ghost use Rattle.boxglue_script.specs.declared.script.ScriptFault.TheVariants.{OutOfMemory};
 
+use crate::blocks::{BLOCK_SIZE, LineBlocks};
 use crate::cause::Cause;
 use crate::lines::{first_line, is_plain};
 use crate::said::{Said, read_line_of};
@@ -59,36 +62,61 @@ pub fn read_script(alloc: Global, text: &[u8]) -> Result<Vec<Line>, ScriptFault>
     ensures one { IfErr result (λ fault. IsOneFault text.now fault) }
     ensures memory { result ≡ Err ScriptFault.OutOfMemory → IsRightSoFar text.now }
 {
-    let mut found = Vec::new(alloc);
+    let LineBlocks { full: _, last } = read_lines(alloc, text, usize::MAX)?;
+    Ok(last)
+}
+
+/// Reads the text of a script as `read_script` does, into blocks of lines.
+#[tactic(auto, using(crate::proofs::ScriptLaws::reading))]
+pub fn read_blocks(alloc: Global, text: &[u8]) -> Result<LineBlocks, ScriptFault>
+    ensures lines { IfOk result (λ found. IsScript text.now (lines_of found)) }
+    ensures only { IfOk result (λ found. (others : List Line) → IsScript text.now others → others ≡ lines_of found) }
+    ensures refused { IfErr result (λ fault. Explains text.now fault) }
+    ensures one { IfErr result (λ fault. IsOneFault text.now fault) }
+    ensures memory { result ≡ Err ScriptFault.OutOfMemory → IsRightSoFar text.now }
+{
+    read_lines(alloc, text, BLOCK_SIZE)
+}
+
+/// Reads the text of a script into blocks of at most so many lines: one block, if the text has no more bytes.
+fn read_lines(alloc: Global, text: &[u8], most: usize) -> Result<LineBlocks, ScriptFault>
+    ensures found { IfOk result (λ found. reads 1 (lines text.now) ≡ Ok (lines_of found)) }
+    ensures refused { IfErr result (λ fault. (fault ≡ ScriptFault.OutOfMemory) ⊎ (reads 1 (lines text.now) ≡ Err fault)) }
+    ensures memory { result ≡ Err ScriptFault.OutOfMemory → IsRightSoFar text.now }
+    ensures one { length text.now ≤ most → IfOk result (λ found. found.full.items ≡ []) }
+{
+    let mut found = LineBlocks::new(alloc);
     let plain = is_plain(text);
     let mut rest = text;
     let mut number = 0;
     while !rest.is_empty() {
         let (line, after) = first_line(rest);
         number += 1;
-        take_line(alloc, number, line, plain, &mut found)?;
+        take_line(number, line, plain, most, &mut found)?;
         rest = after;
     }
     Ok(found)
 }
 
-/// Takes what a line says, which may be one of a plain text: appends its command, if it has one, to those of the lines before it. OutOfMemory only
-/// if it has one.
+/// Takes what a line says, which may be one of a plain text: appends its command, if it has one, to those of the lines before it, in blocks of at
+/// most so many lines. OutOfMemory only if it has one.
 fn take_line(
-    alloc: Global,
     number: usize,
     line: &[u8],
     plain: bool,
-    found: &mut Vec<Line>,
+    most: usize,
+    found: &mut LineBlocks,
 ) -> Result<(), ScriptFault>
     requires { plain ≡ true → IsPrintable line.now }
-    ensures ok { OnOk result (ReadsOn number line.now found.old.items found.new.items) }
-    ensures bad { IfErr result (λ fault. (fault ≡ ScriptFault.OutOfMemory) ⊎ StopsAtLine number line.now found.old.items fault) }
+    ensures ok { OnOk result (ReadsOn number line.now (lines_of found.old) (lines_of found.new)) }
+    ensures bad { IfErr result (λ fault. (fault ≡ ScriptFault.OutOfMemory) ⊎ StopsAtLine number line.now (lines_of found.old) fault) }
     ensures memory { result ≡ Err ScriptFault.OutOfMemory → GivesCommand line.now }
+    ensures full { vec_len found.old.last < most → found.new.full.items ≡ found.old.full.items }
+    ensures last { vec_len found.old.last < most → OnOk result (vec_len found.new.last ≤ vec_len found.old.last + 1) }
 {
-    match read_line_of(alloc, line, plain)? {
+    match read_line_of(*found.last.allocator(), line, plain)? {
         Said::Nothing => Ok(()),
-        Said::Command(command) => Ok(found.push(Line { number, command })?),
+        Said::Command(command) => Ok(found.push(most, Line { number, command })?),
         Said::Bad(cause) => Err(ScriptFault::BadScript {
             line: number,
             cause,

@@ -1,5 +1,6 @@
 -- The run of the script, and the past of its device.
 use Rattle.std.proofs.Common.{◌≡◌, inl, inr, Some, ap, refl, ◌∙◌}
+use Rattle.boxglue_script.specs.Blocks.{lines_of}
 use Rattle.boxglue_program.specs.Outcomes.{is_accepting}
 use Rattle.boxglue_program.specs.Runs.{is_accepted, line_numbers}
 use Rattle.boxglue_program.specs.Texts.{answers_text}
@@ -9,11 +10,11 @@ use Rattle.boxglue_program.proofs.run.answer_script.Goals as goal
 
 pub returns-in-Some-clause-answers : goal.returns-in-Some-clause-answers
 returns-in-Some-clause-answers g c =
-    let ran = rw c.deref.ensures.value at c.in_ok-answers.ensures.ran in
+    let ran = c.in_ok-answers.ensures.ran in
     let is : c.in_ok-answers.field-0.answers ≡ Some c.in-Some.text = cc in
     inl (record {
       ran = record {
-        lines = c.in-Ok.lines.items;
+        lines = lines_of c.in-Ok.lines;
         replies = ran.0;
         end = ran.1;
         script = c.in-Ok.ensures.lines;
@@ -24,10 +25,10 @@ returns-in-Some-clause-answers g c =
       past = ran.3;
     })
 
-pub returns-clause-left : goal.returns-clause-left
-returns-clause-left g c =
-    let lines = c.in-Ok.lines.items in
-    let ran = rw c.deref.ensures.value at c.in_ok-answers.ensures.ran in
+pub returns-in-None-clause-left : goal.returns-in-None-clause-left
+returns-in-None-clause-left g c =
+    let lines = lines_of c.in-Ok.lines in
+    let ran = c.in_ok-answers.ensures.ran in
     inr (
       answers_text (line_numbers lines) ran.0 ran.1,
       is_accepted ran.0 ran.1,

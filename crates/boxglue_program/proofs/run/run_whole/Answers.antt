@@ -3,6 +3,7 @@ use Rattle.std.proofs.Common.{◌++◌, ℕ, List, ap, subst, sym, ◌∙◌}
 use Rattle.dvi_device.specs.Pasts.{Past, KeepsPast}
 use Rattle.job_machine.specs.Machine.{Machine}
 use Rattle.job_core.specs.Jobs.{due}
+use Rattle.boxglue_script.specs.Blocks.{lines_of}
 use Rattle.boxglue_program.proofs.RunLaws.{was_run, was_run_past, same_run_with}
 use Rattle.boxglue_program.proofs.OutcomeLaws.{outcome_at_end}
 use Rattle.boxglue_program.proofs.SentParts.{said_part}
@@ -13,12 +14,12 @@ use Rattle.boxglue_program.proofs.run.run_whole.Goals as goal
 pub returns-clause-ran : goal.returns-clause-ran
 unfolding answers_text
 returns-clause-ran g c =
-    let ran = c.run_lines-run.ensures.ran in
-    let run = was_run c.args.files.now (commands_of c.args.lines.now) ran.0 c.finish-end.result c.in_ok-job.job c.run_lines-run.new.job c.finish-end.new.self
+    let ran = c.run_blocks-run.ensures.ran in
+    let run = was_run c.args.files.now (commands_of (lines_of c.args.lines)) ran.0 c.finish-end.result c.in_ok-job.job c.run_blocks-run.new.job c.finish-end.new.self
     c.in_ok-job.ensures.ok ran.1 c.finish-end.ensures.finished c.finish-end.ensures.dvi c.finish-end.ensures.file c.finish-end.ensures.size c.finish-end.ensures.count c.finish-end.ensures.end
     (λ is m holds. said_part _ _ _ (c.finish-end.ensures.part is m holds)) in
-    let began = c.finish-end.ensures.goes_on.began ∙ c.run_lines-run.ensures.goes_on.began in
-    let past = was_run_past c.args.files.now (commands_of c.args.lines.now) ran.0 c.finish-end.result c.in_ok-job.job c.run_lines-run.new.job c.finish-end.new.self
+    let began = c.finish-end.ensures.goes_on.began ∙ c.run_blocks-run.ensures.goes_on.began in
+    let past = was_run_past c.args.files.now (commands_of (lines_of c.args.lines)) ran.0 c.finish-end.result c.in_ok-job.job c.run_blocks-run.new.job c.finish-end.new.self
     c.in_ok-job.ensures.ok ran.1 c.finish-end.ensures.finished began in
     let first = g.D.Device.past c.args.device in
     let last = g.D.Device.past c.into_device.result in
@@ -30,7 +31,7 @@ returns-clause-ran g c =
       c.finish-end.result,
       all.0,
       all.1,
-      c.with_end.ensures (answer_lines (line_numbers c.args.lines.now) ran.0)
-          (λ kept. ran.3 kept ∙ ap (λ (text : List ℕ). text ++ answer_lines (line_numbers c.args.lines.now) ran.0) c.new-answers.ensures.items),
-      outcome_at_end c.run_lines-run.result.outcome c.of.result c.worse.result ran.0 c.finish-end.result ran.5 c.of.ensures c.worse.ensures,
+      c.with_end.ensures (answer_lines (line_numbers (lines_of c.args.lines)) ran.0)
+          (λ kept. ran.2 kept ∙ ap (λ (text : List ℕ). text ++ answer_lines (line_numbers (lines_of c.args.lines)) ran.0) c.new-answers.ensures.items),
+      outcome_at_end c.run_blocks-run.result.outcome c.of.result c.worse.result ran.0 c.finish-end.result ran.3 c.of.ensures c.worse.ensures,
     )
