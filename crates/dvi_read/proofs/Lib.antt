@@ -3,6 +3,7 @@ pub mod StepLemmas
 pub mod PointerLemmas
 pub mod WalkLemmas
 mod MarkLines
+mod HeadLemmas
 pub mod MarkLemmas
 mod NextLines
 mod PartLemmas

@@ -14,7 +14,7 @@ four_texts a b c d end =
 abbrev pub passed : ℤ → ℤ
 passed z = to_z w32 (of_z w32 z)
 
-one_more : (z : ℤ) (before after : List ℕ) → SFits w32 z → after ≡ (codes " " ++ signed_decimal (passed z)) ++ before → after ≡ (codes " " ++ signed_decimal z) ++ before
+pub one_more : (z : ℤ) (before after : List ℕ) → SFits w32 z → after ≡ (codes " " ++ signed_decimal (passed z)) ++ before → after ≡ (codes " " ++ signed_decimal z) ++ before
 one_more z before after fits is = is ∙ ap (λ (y : ℤ). (codes " " ++ signed_decimal y) ++ before) (to_z-of_z fits)
 
 -- The end of the line, then each number before it, then its word.

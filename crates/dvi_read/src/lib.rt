@@ -9,6 +9,7 @@ mod ahead;
 mod before_pages;
 mod fault;
 pub mod file_laws;
+mod glyph_head;
 mod lines;
 mod opening;
 mod part;

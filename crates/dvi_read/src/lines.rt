@@ -81,9 +81,7 @@ pub(crate) fn put_mark<'f>(mark: &Mark<'f>, part: &mut ListingPart) -> Option<&'
         Mark::Glyph { font, code, h, v } => {
             part.end_line(v);
             part.put_number(h);
-            part.put_number(code);
-            part.put_number(font);
-            part.put_word("glyph");
+            part.put_glyph(font, code);
             None
         }
         Mark::Rule {

@@ -1,10 +1,13 @@
 //! A part of a listing.
 
-ghost use Rattle.std.specs.Prelude.{◌≡◌, ◌++◌, ◌+◌, ◌<◌, ◌≤◌, [], ◌∷◌, codes, decimal, length};
+ghost use Rattle.std.specs.Prelude.{◌≡◌, ◌++◌, ◌+◌, ◌<◌, ◌≤◌, [], ◌∷◌, codes, decimal, length, take};
 ghost use Rattle.std.specs.Fmt.{signed_decimal};
+ghost use Rattle.dvi_read.specs.GlyphHeads.{head_text};
 ghost use Rattle.dvi_read.specs.ListingParts.{decimal_line_end};
+ghost use Rattle.dvi_read.specs.declared.glyph_head.TheConstants.{HEAD};
 ghost use Rattle.dvi_read.specs.declared.part.TheConstants.{PART};
 
+use crate::glyph_head::{GlyphHead, HEAD};
 use itoa::write_digits;
 use std::marker::Model;
 
@@ -20,12 +23,13 @@ struct NumberEnd {
 }
 
 /// A part of a listing. It is written from its end to its beginning, since the digits of a number come in this order. The end of the last line is
-/// kept, since the next line mostly ends with the same number.
+/// kept, since the next line mostly ends with the same number; and so are the beginnings of the lines of glyphs, one for each character modulo 256.
 #[derive(Drop)]
 pub struct ListingPart {
     bytes: [u8; PART],
     begin: usize,
     ended: Option<NumberEnd>,
+    heads: [Option<GlyphHead>; 256],
 }
 
 impl Model for ListingPart {
@@ -49,6 +53,7 @@ impl ListingPart {
             bytes: [0; PART],
             begin: PART,
             ended: None,
+            heads: [None; 256],
         }
     }
 
@@ -124,8 +129,61 @@ impl ListingPart {
         requires { length self.old + length word.now ≤ PART }
         ensures { self.new ≡ word.now ++ self.old }
     {
+        self.put_bytes(word.as_bytes());
+    }
+
+    /// Writes bytes before the others.
+    fn put_bytes(&mut self, bytes: &[u8])
+        requires { length self.old + length bytes.now ≤ PART }
+        ensures { self.new ≡ bytes.now ++ self.old }
+    {
         let end = self.begin;
-        self.begin -= word.len();
-        self.bytes[self.begin..end].copy_from_slice(word.as_bytes());
+        self.begin -= bytes.len();
+        self.bytes[self.begin..end].copy_from_slice(bytes);
+    }
+
+    /// The number of bytes.
+    fn len(&self) -> usize
+        ensures { result ≡ length self.now }
+    {
+        PART - self.begin
+    }
+
+    /// Keeps the first bytes, which are the beginning of the line of a glyph.
+    fn keep_head(&mut self, font: i32, code: i32, size: usize)
+        requires within { size ≤ length self.old }
+        requires short { size ≤ HEAD }
+        requires text { take size self.old ≡ head_text font code }
+        ensures { self.new ≡ self.old }
+    {
+        let mut bytes = [0; HEAD];
+        bytes[..size].copy_from_slice(&self.bytes[self.begin..self.begin + size]);
+        self.heads[(code.unsigned_abs() % 256) as usize] = Some(GlyphHead {
+            font,
+            code,
+            size,
+            bytes,
+        });
+    }
+
+    /// Writes the beginning of the line of a glyph before the others. It is made once for each character of a font, since most lines of a listing begin
+    /// so.
+    pub(crate) fn put_glyph(&mut self, font: i32, code: i32)
+        requires { length self.old + HEAD ≤ PART }
+        ensures text { self.new ≡ head_text font code ++ self.old }
+        ensures len { length self.old < length self.new }
+    {
+        if let Some(head) = self.heads[(code.unsigned_abs() % 256) as usize] {
+            if head.font == font && head.code == code {
+                self.put_bytes(&head.bytes[..head.size]);
+                return;
+            }
+        }
+        let before = self.len();
+        self.put_number(code);
+        self.put_number(font);
+        self.put_word("glyph");
+        let size = self.len() - before;
+        self.keep_head(font, code, size);
     }
 }
