@@ -24,8 +24,8 @@ NOTHING, WHOLE, COMMAND, DEVICE, END, END_DEVICE, TEXTS, STOPPED = "nwcdefts"
 # so the texts grow between the commands; a run on a device in memory shows no difference between such a growth and one before the run. Each answer takes room for
 # the longest one, so the texts at the end may find room.
 # A `ship` of a huge page takes up to three pieces before it is refused: for its characters, for the other instructions, and for their places.
-# Where the last line of 61 does not fit, the growth for the plan of all lines does not hide this.
-WHOLE_RUNS = {"a_line_too_large": "w", "refusals_leave_the_job": "w{0,3}"}
+# Where the last line of 61 does not fit, neither the growth for the plan of all lines nor those for the boxes of the 60 lines before hide this.
+WHOLE_RUNS = {"a_line_too_large": "w{61}", "refusals_leave_the_job": "w{0,3}"}
 # The room for the answers of a session is there from the start; each line takes some for its command.
 ORDER_OF_A_READING = re.compile("n+w?n+")
 

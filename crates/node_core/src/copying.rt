@@ -2,7 +2,7 @@
 
 ghost use Rattle.std.specs.Prelude.{◌≡◌, IfOk};
 
-use crate::tree::{BoxNode, Node, NodeList};
+use crate::tree::{BoxNode, HeapBox, Node, NodeList};
 use std::alloc::{AllocError, Global};
 
 impl NodeList {
@@ -37,8 +37,19 @@ impl Node {
             Node::Penalty(penalty) => Node::Penalty(*penalty),
             Node::Rule(rule) => Node::Rule(*rule),
             Node::Special(text) => Node::Special(text.copy(alloc)?),
-            Node::Box(shift, box_node) => Node::Box(*shift, box_node.copy(alloc)?),
+            Node::Box(shift, boxed) => Node::Box(*shift, boxed.copy(alloc)?),
         })
+    }
+}
+
+impl HeapBox {
+    /// A copy of the box, on the heap. The error is that memory was refused.
+    #[cycle(copying)]
+    pub fn copy(&self, alloc: Global) -> Result<HeapBox, AllocError>
+        ensures { IfOk result (λ copy. copy ≡ self.now) }
+    {
+        let copied = self.content.copy(alloc)?;
+        HeapBox::new(alloc, copied).map_err(|_| AllocError)
     }
 }
 

@@ -15,5 +15,5 @@ pub use class::ItemClass;
 pub use params::{FirstLines, IntParameter, Params, SplitParams};
 pub use special::SpecialText;
 pub use tree::{
-    BoxNode, Glue, Glyph, Kind, Node, NodeList, Order, Rule, RuleSize, Setting, push_box,
+    BoxNode, Glue, Glyph, HeapBox, Kind, Node, NodeList, Order, Rule, RuleSize, Setting, push_box,
 };

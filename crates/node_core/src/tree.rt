@@ -3,7 +3,7 @@
 //! In contracts the value of a list is the tree of its items, without pointers and capacities. So two lists, nodes or boxes are equal in a clause
 //! exactly when they are the same tree. `nodes_of` gives the nodes of a list in order.
 
-ghost use Rattle.std.specs.Prelude.{◌≡◌, ◌==◌, ◌<◌, ◌≤◌, ◌+◌, [], ◌∷◌, ◌++◌, length, take, OnOk, OnErr, IfErr};
+ghost use Rattle.std.specs.Prelude.{◌≡◌, ◌==◌, ◌<◌, ◌≤◌, ◌+◌, [], ◌∷◌, ◌++◌, length, take, OnOk, OnErr, IfOk, IfErr};
 ghost use Rattle.std.specs.List.{list_any};
 ghost use Rattle.node_core.specs.Classes.{has_content};
 ghost use Rattle.node_core.specs.Items.{Items, none};
@@ -13,6 +13,8 @@ use crate::special::SpecialText;
 use scaled_core::{Dimen, Ratio};
 use std::alloc::{AllocError, AllocFailed, Global};
 use std::marker::Model;
+use std::mem::replace;
+use std::ops::Deref;
 
 /// An item of a list (TeX: The Program, part 10).
 #[cycle(tree)]
@@ -33,7 +35,7 @@ pub enum Node {
     /// A special: a text for the program that reads the pages. It has no size.
     Special(SpecialText),
     /// A box and its shift, in scaled points: down in a horizontal list, to the right in a vertical list.
-    Box(Dimen, BoxNode),
+    Box(Dimen, HeapBox),
 }
 
 /// A character of a font: the slot of the font, the code, and the sizes in scaled points.
@@ -119,6 +121,74 @@ pub struct BoxNode {
     pub list: NodeList,
 }
 
+/// A box on the heap. In contracts its value is the box: so a node is small, and a clause sees no pointer.
+#[cycle(tree)]
+#[derive(Debug, Drop)]
+pub struct HeapBox {
+    pub(crate) content: Box<BoxNode>,
+}
+
+impl Model for HeapBox {
+    ghost use Rattle.node_core.specs.declared.tree.BoxNode.{BoxNode};
+    ghost use Rattle.node_core.specs.BoxCodes.{coded_box};
+
+    ghost Value = { BoxNode };
+
+    ghost coded = { coded_box };
+
+    ghost view = { λ b. b.content.value };
+
+    ghost use Rattle.node_core.specs.Nodes.{box_size};
+
+    ghost size = { box_size };
+
+    ghost use Rattle.std.proofs.Common.{arith};
+
+    ghost size_decreases = { λ b h. Prim.omega arith };
+}
+
+impl HeapBox {
+    /// The box, on the heap. If memory is refused, the error is the box.
+    pub fn new(alloc: Global, box_node: BoxNode) -> Result<HeapBox, BoxNode>
+        ensures ok { IfOk result (λ boxed. boxed ≡ box_node) }
+        ensures err { IfErr result (λ back. back ≡ box_node) }
+    {
+        match Box::new(alloc, box_node) {
+            Ok(content) => Ok(HeapBox { content }),
+            Err(failed) => Err(failed.value),
+        }
+    }
+
+    /// The box, no longer on the heap.
+    pub fn into_inner(self) -> BoxNode
+        ensures { result ≡ self }
+    {
+        let HeapBox { content } = self;
+        Box::into_inner(content)
+    }
+
+    /// Puts another list into the box, and returns the list that was there. Does not allocate.
+    pub fn replace_list(&mut self, list: NodeList) -> NodeList
+        ensures value { result ≡ self.old.list }
+        ensures after { self.new ≡ record self.old { list = list } }
+    {
+        replace(&mut self.content.list, list)
+    }
+}
+
+impl Deref for HeapBox {
+    type Target = BoxNode;
+
+    ghost deref_gives = { λ boxed inner. inner ≡ boxed };
+
+    #[inline]
+    fn deref(&self) -> &BoxNode
+        ensures { result.now ≡ self.now }
+    {
+        &self.content
+    }
+}
+
 /// A list of at most 131,072 nodes, in order.
 #[cycle(tree)]
 #[derive(Debug, Drop)]
@@ -129,7 +199,7 @@ pub struct NodeList {
 }
 
 impl Model for NodeList {
-    ghost use Rattle.node_core.specs.Items.{Items, items_depth};
+    ghost use Rattle.node_core.specs.Items.{Items};
     ghost use Rattle.node_core.specs.Codes.{coded_items};
 
     ghost Value = { Items };
@@ -141,15 +211,15 @@ impl Model for NodeList {
     ghost view = { λ list. items_of list.nodes.items };
 
     ghost use Rattle.std.specs.Prelude.{◌≡◌, ◌≤◌, true, length};
-    ghost use Rattle.node_core.specs.Nodes.{max_nodes, IsPlain};
+    ghost use Rattle.node_core.specs.Nodes.{max_nodes, IsPlain, list_size};
 
     ghost invariant = { λ list. (length list.nodes.items ≤ max_nodes) × (list.plain ≡ true → IsPlain list.nodes.items) };
 
-    ghost size = { items_depth };
+    ghost size = { list_size };
 
-    ghost use Rattle.node_core.specs.Falls.{most_le-items_depth};
+    ghost use Rattle.node_core.specs.Falls.{most_le-list_size};
 
-    ghost size_decreases = { λ list h. most_le-items_depth list.nodes.items };
+    ghost size_decreases = { λ list h. most_le-list_size list.nodes.items };
 }
 
 impl NodeList {
@@ -294,7 +364,7 @@ impl NodeList {
         self.plain = false;
         match self.nodes.last() {
             Some(Node::Box(..)) => match self.nodes.pop() {
-                Some(Node::Box(_, box_node)) => Some(box_node),
+                Some(Node::Box(_, boxed)) => Some(boxed.into_inner()),
                 _ => unreachable!(),
             },
             _ => None,
@@ -315,10 +385,11 @@ pub fn push_box(nodes: &mut Vec<Node>, shift: Dimen, box_node: BoxNode) -> Resul
     ensures err { OnErr result (nodes.new.items ≡ nodes.old.items) }
     ensures box_returned { IfErr result (λ back. back ≡ box_node) }
 {
-    match nodes.push(Node::Box(shift, box_node)) {
+    let boxed = HeapBox::new(*nodes.allocator(), box_node)?;
+    match nodes.push(Node::Box(shift, boxed)) {
         Ok(()) => Ok(()),
         Err(failed) => match failed.value {
-            Node::Box(_, box_node) => Err(box_node),
+            Node::Box(_, boxed) => Err(boxed.into_inner()),
             _ => unreachable!(),
         },
     }

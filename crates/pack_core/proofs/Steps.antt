@@ -373,3 +373,19 @@ vtop-found target limit nodes shell height result s h high r =
     let all-fit : list_all fits (vtop_numbers target limit nodes) ≡ fits ((vtop_shell (vbox_shell target limit nodes) (first_height nodes)).depth) =
     all ∙ ap fits (sym (vtop-depth-is target limit nodes)) in
     r ∙ rw (all-fit, s'.1, h) refl
+
+-- The same where the vbox may be missing: then there is no vtop.
+pub vtop-of :
+    (target : Target) (limit : ℤ) (nodes : List Node) (given : Option Shell) (height : ℤ) (result : Option Shell)
+    → given ≡ some_if (list_all fits (vbox_numbers target limit nodes)) (vbox_shell target limit nodes)
+    → height ≡ first_height nodes
+    → Within 1073741823 height
+    → (given ≡ None → result ≡ None)
+    → IfSome given (λ shell. result ≡ some_if (fits ((vtop_shell shell height).depth)) (vtop_shell shell height))
+    → result ≡ some_if (list_all fits (vtop_numbers target limit nodes)) (vtop_shell (vbox_shell target limit nodes) (first_height nodes))
+vtop-of target limit nodes None height result g h high none value =
+    let unfit : list_all fits (vbox_numbers target limit nodes) ≡ false = some_if-none _ (vbox_shell target limit nodes) (sym g) in
+    let all : list_all fits (vtop_numbers target limit nodes) ≡ false =
+    list_all-append fits (vbox_numbers target limit nodes) (first_height nodes ∷ vtop_depth target limit nodes ∷ []) ∙ rw unfit refl in
+    none refl ∙ some_if-none-of _ _ all
+vtop-of target limit nodes (Some shell) height result g h high none value = vtop-found target limit nodes shell height result (sym g) h high value

@@ -1,6 +1,6 @@
 //! Packed boxes (TeX: The Program, part 33, §649 to §678).
 
-ghost use Rattle.std.specs.Prelude.{◌≡◌, ◌≢◌, ◌+ℤ◌, ◌-ℤ◌, ◌≤◌, ◌==◌, IfOk, IfErr, List, is_some, length};
+ghost use Rattle.std.specs.Prelude.{◌≡◌, ◌≢◌, ◌+ℤ◌, ◌-ℤ◌, ◌≤◌, ◌==◌, IfOk, IfErr, List, None, is_some, length};
 ghost use Rattle.std.specs.Option.{IfSome};
 ghost use Rattle.std.specs.Result.{is_ok};
 ghost use Rattle.std.specs.List.{list_all};
@@ -198,31 +198,35 @@ pub fn vbox_shell(target: Target, depth_limit: Dimen, nodes: &[Node]) -> Option<
     vertical_shell(target, depth_limit, width, nodes.is_empty(), &totals)
 }
 
-/// A box without its list, with this height in place of its own, if the depth then fits. Height and depth together stay the same.
+/// A box without its list, if there is one, with this height in place of its own, if the depth then fits. Height and depth together stay the same.
 #[tactic(auto, using(crate::proofs::Steps::steps))]
-fn with_height(shell: &Shell, height: Dimen) -> Option<Shell>
-    ensures value { result ≡ some_if (fits ((vtop_shell shell.now height).depth)) (vtop_shell shell.now height) }
+fn with_height(shell: Option<Shell>, height: Dimen) -> Option<Shell>
+    ensures value { IfSome shell (λ own. result ≡ some_if (fits ((vtop_shell own height).depth)) (vtop_shell own height)) }
+    ensures none { shell ≡ None → result ≡ None }
     ensures height { Fits height }
 {
-    let whole = shell.depth.exact_add(shell.height);
-    let depth = Dimen::try_new(whole - i64::from(height.get()))?;
+    let above = i64::from(height.get());
+    let Some(own) = shell else {
+        return None;
+    };
+    let depth = Dimen::try_new(own.depth.exact_add(own.height) - above)?;
     Some(Shell {
-        kind: shell.kind,
-        width: shell.width,
+        kind: own.kind,
+        width: own.width,
         height,
         depth,
-        setting: shell.setting,
-        badness: shell.badness,
+        setting: own.setting,
+        badness: own.badness,
     })
 }
 
 /// The vtop of a list, without the list, if its numbers fit.
-#[tactic(auto, using(crate::proofs::Steps::steps))]
 fn vtop_shell_of(target: Target, limit: Dimen, nodes: &[Node]) -> Option<Shell>
     ensures { result ≡ some_if (list_all fits (vtop_numbers target limit nodes.now)) (vtop_shell (vbox_shell target limit nodes.now) (first_height nodes.now)) }
 {
-    let shell = vbox_shell(target, limit, nodes)?;
-    with_height(&shell, first_height(nodes))
+    let height = first_height(nodes);
+    let shell = vbox_shell(target, limit, nodes);
+    with_height(shell, height)
 }
 
 /// The list in its box, or the list itself if there is no box for it.

@@ -1,6 +1,6 @@
 //! Lists of nodes, and boxes.
 
-use node_core::{BoxNode, Kind, Node, NodeList, Rule, RuleSize, Setting};
+use node_core::{BoxNode, HeapBox, Kind, Node, NodeList, Rule, RuleSize, Setting};
 use scaled_core::Dimen;
 use std::alloc::Global;
 use std::process::Abort;
@@ -18,6 +18,12 @@ fn hbox_around(list: NodeList) -> BoxNode {
     }
 }
 
+/// The hbox of a list, as a node with this shift.
+fn box_around(alloc: Global, shift: i64, list: NodeList) -> Option<Node> {
+    let boxed = HeapBox::new(alloc, hbox_around(list)).ok()?;
+    Some(Node::Box(Dimen::try_new(shift)?, boxed))
+}
+
 /// A kern of a number of scaled points.
 fn kern(width: i64) -> Option<Node> {
     Some(Node::Kern(Dimen::try_new(width)?))
@@ -27,9 +33,9 @@ fn kern(width: i64) -> Option<Node> {
 /// a penalty of 50.
 fn boxes_in_boxes(alloc: Global) -> Option<NodeList> {
     let inner = Vec::from_array(alloc, [kern(2)?]).ok()?;
-    let inner = Node::Box(Dimen::try_new(3)?, hbox_around(NodeList::from_vec(inner)));
+    let inner = box_around(alloc, 3, NodeList::from_vec(inner))?;
     let outer = Vec::from_array(alloc, [kern(1)?, inner, Node::Penalty(50)]).ok()?;
-    let outer = Node::Box(Dimen::try_new(-5)?, hbox_around(NodeList::from_vec(outer)));
+    let outer = box_around(alloc, -5, NodeList::from_vec(outer))?;
     let rule = Node::Rule(Rule {
         width: RuleSize::Running,
         height: RuleSize::Running,
@@ -74,7 +80,10 @@ fn boxes_in_boxes_are_copied_and_counted(rt: HostRuntime) {
     let around = hbox_around(copy);
     assert_eq!(rt; around.depth(), 3);
     assert_eq!(rt; around.count(), 7);
-    let node = Node::Box(Dimen::ZERO, around);
+    let boxed = HeapBox::new(rt.alloc(), around)
+        .ok()
+        .expect(&rt, "there is memory");
+    let node = Node::Box(Dimen::ZERO, boxed);
     let copy = node.copy(rt.alloc()).ok().expect(&rt, "there is memory");
     let Node::Box(_, around) = copy else {
         panic!(rt; "not a box");

@@ -1,8 +1,8 @@
 //! Items and parameters in points, and the nodes and parameters that the breaker takes.
 
 use node_core::{
-    BoxNode, FirstLines, Glue, Glyph, IntParameter, Kind, Node, NodeList, Order, Params, Rule,
-    RuleSize, SpecialText,
+    BoxNode, FirstLines, Glue, Glyph, HeapBox, IntParameter, Kind, Node, NodeList, Order, Params,
+    Rule, RuleSize, SpecialText,
 };
 use scaled_core::Dimen;
 use std::alloc::Global;
@@ -98,7 +98,10 @@ pub(crate) fn node(rt: &impl Abort, alloc: Global, item: &Item) -> Node {
     match item {
         Item::Glyph(width) => Node::Glyph(glyph_of(rt, *width)),
         Item::FontKern(width) => Node::FontKern(points(rt, *width)),
-        Item::Box(width) => Node::Box(Dimen::ZERO, box_of(rt, alloc, *width)),
+        Item::Box(width) => {
+            let boxed = HeapBox::new(alloc, box_of(rt, alloc, *width));
+            Node::Box(Dimen::ZERO, boxed.ok().expect(rt, "there is memory"))
+        }
         Item::Special => Node::Special(SpecialText::from_vec(Vec::new(alloc))),
         Item::Rule(width) => Node::Rule(Rule {
             width: RuleSize::Fixed(points(rt, *width)),

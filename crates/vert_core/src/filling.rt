@@ -13,7 +13,7 @@ fn with_part(mut line: PlannedLine, part: Vec<Node>) -> PlannedLine
     requires { length part.items ≤ max_nodes }
     ensures { result ≡ with_part part.items line }
 {
-    line.box_node.list = NodeList::from_vec(part);
+    line.box_node.replace_list(NodeList::from_vec(part));
     line
 }
 
@@ -23,7 +23,7 @@ fn rejoin(nodes: &mut Vec<Node>, mut lines: Vec<PlannedLine>)
     ensures { nodes.new.items ≡ nodes.old.items ++ flat_map items_in (reverse lines.items) }
 {
     while let Some(line) = lines.pop() {
-        let mut part = line.box_node.list.into_vec();
+        let mut part = line.box_node.into_inner().list.into_vec();
         // There is room for them: they were there before.
         let _ = nodes.append(&mut part);
     }

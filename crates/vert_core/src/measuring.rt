@@ -70,7 +70,10 @@ pub(crate) fn measure_line(
     let end = line_end(broken.ends, line);
     let front = front_of(broken.nodes, begin, end);
     let size = line_size(broken.params, line);
-    let shell = hbox_shell(Target::To(size), front)?;
+    let shell = match hbox_shell(Target::To(size), front) {
+        None => return None,
+        Some(shell) => shell,
+    };
     let Ok(glue) = interline_glue(previous_depth, shell.height, broken.params) else {
         return None;
     };

@@ -12,10 +12,10 @@ ghost use Rattle.vert_core.specs.Planned.{penalty_between, planned, stacked};
 use crate::line_boxes::LinesFault;
 use crate::measuring::{BrokenList, MeasuredLine, line_end, lines_fit, measure_line};
 use crate::penalties::penalty_between;
-use node_core::{BoxNode, Glue, Node, NodeList};
+use node_core::{Glue, HeapBox, Node, NodeList};
 use pack_core::packed_of;
 use scaled_core::Dimen;
-use std::alloc::Global;
+use std::alloc::{AllocError, Global};
 
 /// A line as it is stacked.
 #[derive(Debug, Drop)]
@@ -23,7 +23,7 @@ pub(crate) struct PlannedLine {
     /// The glue before the box, if there is any.
     pub(crate) glue: Option<Glue>,
     /// The box, which gets its items last.
-    pub(crate) box_node: BoxNode,
+    pub(crate) box_node: HeapBox,
     /// The penalty after the box. There is none where it is 0.
     pub(crate) penalty: i32,
     /// The index of the first item of the line in the finished list.
@@ -42,23 +42,29 @@ pub(crate) struct PlannedLines {
     pub(crate) depth: Dimen,
 }
 
-/// A line with its sizes, without its items.
+/// A line with its sizes, without its items. The error is that memory was refused.
 fn planned_line(
     alloc: Global,
     broken: &BrokenList,
     line: usize,
     measured: &MeasuredLine,
-) -> PlannedLine
+) -> Result<PlannedLine, AllocError>
     requires { line < length broken.now.ends.now }
-    ensures { result ≡ record { glue = measured.now.glue; box_node = (packed_of none measured.now.shell).box_node; penalty = penalty_between broken.now.params.now (length broken.now.ends.now) line; begin = measured.now.begin; end = get_or (line_places broken.now.ends.now) line 0 } }
+    ensures { IfOk result (λ planned. planned ≡ record { glue = measured.now.glue; box_node = (packed_of none measured.now.shell).box_node; penalty = penalty_between broken.now.params.now (length broken.now.ends.now) line; begin = measured.now.begin; end = get_or (line_places broken.now.ends.now) line 0 }) }
 {
-    PlannedLine {
+    let Ok(box_node) = HeapBox::new(
+        alloc,
+        packed_of(NodeList::new(alloc), &measured.shell).box_node,
+    ) else {
+        return Err(AllocError);
+    };
+    Ok(PlannedLine {
         glue: measured.glue,
-        box_node: packed_of(NodeList::new(alloc), &measured.shell).box_node,
+        box_node,
         penalty: penalty_between(broken.params, broken.ends.len(), line),
         begin: measured.begin,
         end: line_end(broken.ends, line),
-    }
+    })
 }
 
 /// The number of items that a line adds to the vertical list.
@@ -92,7 +98,7 @@ pub(crate) fn plan_lines(
         let Some(measured) = measure_line(broken, depth, line) else {
             return Err(LinesFault::DimensionTooLarge);
         };
-        let planned = planned_line(alloc, broken, line, &measured);
+        let planned = planned_line(alloc, broken, line, &measured)?;
         count += items_of_line(&planned);
         depth = measured.shell.depth;
         lines.push_reserved(planned);

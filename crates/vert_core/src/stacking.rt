@@ -12,7 +12,7 @@ use crate::line_boxes::{LinesFault, keep_line};
 use crate::measuring::BrokenList;
 use crate::planning::{PlannedLine, fault_of, plan_lines};
 use break_core::Breaks;
-use node_core::{BoxNode, Node, NodeList, Params};
+use node_core::{HeapBox, Node, NodeList, Params};
 use scaled_core::Dimen;
 use std::alloc::Global;
 
@@ -45,17 +45,18 @@ fn penalty_node(penalty: i32) -> Option<Node>
 }
 
 /// The box of a line, with the items that the line keeps of those in it.
-fn closed_box(line: PlannedLine) -> BoxNode
+fn closed_box(alloc: Global, line: PlannedLine) -> HeapBox
     ensures { result ≡ closed_box line }
 {
     let count = line.end.saturating_sub(line.begin);
-    let mut box_node = line.box_node;
+    let mut boxed = line.box_node;
+    let list = boxed.replace_list(NodeList::new(alloc));
     // A list is never longer than the limit, and this one does not get longer.
-    let _whole = box_node.list.len();
-    let mut items = box_node.list.into_vec();
+    let _whole = list.len();
+    let mut items = list.into_vec();
     keep_line(&mut items, count);
-    box_node.list = NodeList::with_measures(items);
-    box_node
+    boxed.replace_list(NodeList::with_measures(items));
+    boxed
 }
 
 /// Appends a line to a list with room for it: its glue, its box, and its penalty.
@@ -67,7 +68,8 @@ fn stack_line(list: &mut Vec<Node>, line: PlannedLine)
 {
     let after = penalty_node(line.penalty);
     put_some(list, line.glue.map(Node::Glue));
-    list.push_reserved(Node::Box(Dimen::ZERO, closed_box(line)));
+    let boxed = closed_box(*list.allocator(), line);
+    list.push_reserved(Node::Box(Dimen::ZERO, boxed));
     put_some(list, after);
 }
 

@@ -1,5 +1,7 @@
 use Rattle.std.proofs.Common.{◌≡◌, ◌∙◌, ◌+◌, ◌++◌, ◌∷◌, ◌≤◌, [], List, length, length-append, reverse, flat_map, vec_len, vec_capacity, ap, arith}
+use Rattle.node_core.specs.declared.tree.BoxNode.{BoxNode}
 use Rattle.node_core.specs.declared.tree.Node.{Node}
+use Rattle.node_core.specs.Nodes.{nodes_of}
 use Rattle.vert_core.specs.Planned.{items_in}
 use Rattle.vert_core.proofs.Filled.{popped, popped_room, appended_ok}
 use Rattle.vert_core.proofs.filling.rejoin.Goals as goal
@@ -11,7 +13,7 @@ loop-line-preserved c =
     let before = c.loop-line.lines.items in
     let after = c.pop.new.self.items in
     let split : before ≡ after ++ line ∷ [] = c.in-Some.ensures.items in
-    let part : c.into_vec-part.result.items ≡ items_in line = c.into_vec-part.ensures in
+    let part : c.into_vec-part.result.items ≡ items_in line = c.into_vec-part.ensures ∙ ap (λ (b : BoxNode). nodes_of b.list) c.into_inner.ensures in
     let room : vec_len nodes + vec_len c.into_vec-part.result ≤ vec_capacity nodes =
     omega (
       arith,

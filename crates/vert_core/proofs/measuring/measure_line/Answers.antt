@@ -1,6 +1,5 @@
 use Rattle.std.proofs.Common.{rules, ◌≡◌, ◌∙◌, ◌++◌, length, length-append, get_or, sym, ap, arith}
 use Rattle.std.specs.Prelude.{slice_get}
-use Rattle.std.specs.Option.{is_some}
 use Rattle.std.specs.Result.{is_ok}
 use Rattle.pack_core.proofs.Steps.{some_if-some, some_if-none}
 use Rattle.break_lines.specs.LineItems.{at_break, kept}
@@ -10,17 +9,16 @@ use Rattle.vert_core.proofs.PlannedLines.{front_within}
 use Rattle.vert_core.proofs.Measured.{unfit_after, fit_after, measured_box}
 use Rattle.vert_core.proofs.measuring.measure_line.Goals as goal
 
-pub returns-in_err-shell-clause-fits : goal.returns-in_err-shell-clause-fits
-returns-in_err-shell-clause-fits c =
+pub returns-in-None-clause-fits : goal.returns-in-None-clause-fits
+returns-in-None-clause-fits c =
     let list = c.args.broken.now.nodes.now in
     let params = c.args.broken.now.params.now in
     let begin = line_begin (line_places c.args.broken.now.ends.now) c.args.line in
     let end = get_or (line_places c.args.broken.now.ends.now) c.args.line 0 in
     let front = c.front_of-front.result.now in
     let is : front ++ at_break (slice_get list end) ≡ kept list begin end = cc (c.front_of-front.ensures.items, c.line_begin-begin.ensures, c.line_end-end.ensures) in
-    let unfit = some_if-none _ _ (sym c.hbox_shell.ensures ∙ c.in_err-shell.was) in
-    ap is_some c.from_residual.ensures
-    ∙ sym (unfit_after params c.line_size-size.result c.args.previous_depth list begin end front is unfit)
+    let unfit = some_if-none _ _ (sym c.hbox_shell.ensures ∙ c.in-None.is) in
+    sym (unfit_after params c.line_size-size.result c.args.previous_depth list begin end front is unfit)
     ∙ ap (λ size. fits_after params size c.args.previous_depth (kept list begin end)) c.line_size-size.ensures
 
 pub returns-in_default-clause-fits : goal.returns-in_default-clause-fits
@@ -31,8 +29,8 @@ returns-in_default-clause-fits c =
     let end = get_or (line_places c.args.broken.now.ends.now) c.args.line 0 in
     let front = c.front_of-front.result.now in
     let is : front ++ at_break (slice_get list end) ≡ kept list begin end = cc (c.front_of-front.ensures.items, c.line_begin-begin.ensures, c.line_end-end.ensures) in
-    let fit = some_if-some _ _ c.in_ok-shell.shell (sym c.hbox_shell.ensures ∙ c.in_ok-shell.was) in
-    sym (fit_after params c.line_size-size.result c.args.previous_depth list begin end front c.in_ok-shell.shell is fit.0 (sym fit.1)
+    let fit = some_if-some _ _ c.in-Some.shell (sym c.hbox_shell.ensures ∙ c.in-Some.is) in
+    sym (fit_after params c.line_size-size.result c.args.previous_depth list begin end front c.in-Some.shell is fit.0 (sym fit.1)
     ∙ ap is_ok (sym c.interline_glue.ensures ∙ c.in_default.is))
     ∙ ap (λ size. fits_after params size c.args.previous_depth (kept list begin end)) c.line_size-size.ensures
 
@@ -44,8 +42,8 @@ returns-clause-fits c =
     let end = get_or (line_places c.args.broken.now.ends.now) c.args.line 0 in
     let front = c.front_of-front.result.now in
     let is : front ++ at_break (slice_get list end) ≡ kept list begin end = cc (c.front_of-front.ensures.items, c.line_begin-begin.ensures, c.line_end-end.ensures) in
-    let fit = some_if-some _ _ c.in_ok-shell.shell (sym c.hbox_shell.ensures ∙ c.in_ok-shell.was) in
-    sym (fit_after params c.line_size-size.result c.args.previous_depth list begin end front c.in_ok-shell.shell is fit.0 (sym fit.1)
+    let fit = some_if-some _ _ c.in-Some.shell (sym c.hbox_shell.ensures ∙ c.in-Some.is) in
+    sym (fit_after params c.line_size-size.result c.args.previous_depth list begin end front c.in-Some.shell is fit.0 (sym fit.1)
     ∙ ap is_ok (sym c.interline_glue.ensures ∙ c.in-Ok.is))
     ∙ ap (λ size. fits_after params size c.args.previous_depth (kept list begin end)) c.line_size-size.ensures
 
@@ -56,8 +54,8 @@ returns-clause-packed c =
     let end = get_or (line_places c.args.broken.now.ends.now) c.args.line 0 in
     let front = c.front_of-front.result.now in
     let is : front ++ at_break (slice_get list end) ≡ kept list begin end = cc (c.front_of-front.ensures.items, c.line_begin-begin.ensures, c.line_end-end.ensures) in
-    let fit = some_if-some _ _ c.in_ok-shell.shell (sym c.hbox_shell.ensures ∙ c.in_ok-shell.was) in
-    measured_box c.line_size-size.result list begin end front c.in_ok-shell.shell is (sym fit.1)
+    let fit = some_if-some _ _ c.in-Some.shell (sym c.hbox_shell.ensures ∙ c.in-Some.is) in
+    measured_box c.line_size-size.result list begin end front c.in-Some.shell is (sym fit.1)
     ∙ ap (λ size. boxed_line size (kept list begin end)) c.line_size-size.ensures
 
 pub hbox_shell-requires : goal.hbox_shell-requires

@@ -29,15 +29,15 @@ loop-line-preserved c =
     let line : ℕ = c.loop-line.line in
     let shell = c.in-Some.measured.shell in
     let count : length c.args.broken.now.ends.now ≡ length p.places = sym (count_places c.args.broken.now.ends.now) in
-    let made = c.planned_line-planned.ensures
+    let made = c.in_ok-planned.ensures
     ∙ ap (λ n. record { glue = c.in-Some.measured.glue; box_node = (packed_of none shell).box_node; penalty = penalty_between p.params n line; begin = c.in-Some.measured.begin; end = get_or (line_places c.args.broken.now.ends.now) line 0 }) count in
-    let one : c.planned_line-planned.result ≡ planned p line =
-    planned_one p line c.loop-line.depth c.in-Some.measured c.planned_line-planned.result c.loop-line.invariant.depth c.in-Some.ensures.packed c.in-Some.ensures.glue c.in-Some.ensures.begin made in
+    let one : c.in_ok-planned.planned ≡ planned p line =
+    planned_one p line c.loop-line.depth c.in-Some.measured c.in_ok-planned.planned c.loop-line.invariant.depth c.in-Some.ensures.packed c.in-Some.ensures.glue c.in-Some.ensures.begin made in
     record {
       lines = c.push_reserved.ensures.items
-          ∙ (ap (λ (xs : List PlannedLine). xs ++ c.planned_line-planned.result ∷ []) c.loop-line.invariant.lines
+          ∙ (ap (λ (xs : List PlannedLine). xs ++ c.in_ok-planned.planned ∷ []) c.loop-line.invariant.lines
           ∙ (ap (λ (x : PlannedLine). map (planned p) (up_to line) ++ x ∷ []) one ∙ sym (map_more (planned p) line)));
-      count = omega (arith, c.loop-line.invariant.count, c.items_of_line-count.ensures.count, count_more c.loop-line.lines.items c.push_reserved.new.self.items c.planned_line-planned.result c.push_reserved.ensures.items);
+      count = omega (arith, c.loop-line.invariant.count, c.items_of_line-count.ensures.count, count_more c.loop-line.lines.items c.push_reserved.new.self.items c.in_ok-planned.planned c.push_reserved.ensures.items);
       few = omega (arith, c.loop-line.invariant.few, c.items_of_line-count.ensures.few);
       room = omega (arith, c.loop-line.invariant.room, c.push_reserved.ensures.len);
       capacity = omega (arith, c.loop-line.invariant.capacity, c.push_reserved.ensures.capacity);

@@ -8,7 +8,7 @@ pub loop-node-preserved : goal.loop-node-preserved
 loop-node-preserved t c =
     let more = items_count_more c.deref-node-items.result.now c.loop-node.node-index c.node-item.result c.loop-node-test.true c.node-item.is in
     elim c.match-node.branch [
-      | in-Box w ↦ omega (arith, more, ap node_count w.in-Box.is, w.count-is, w.count.ensures, w.saturating_add-count.ensures, c.loop-node-test.true, c.loop-node.invariant)
+      | in-Box w ↦ omega (arith, more, ap node_count w.in-Box.is, ap (λ b. items_count b.list) w.deref.ensures, w.count-is, w.count.ensures, w.saturating_add-count.ensures, c.loop-node-test.true, c.loop-node.invariant)
       | in_default w ↦ omega (arith, more, leaf_count c.node-item.result w.in_default.not-Box, w.count-is, c.loop-node-test.true, c.loop-node.invariant)
     ]
 

@@ -8,7 +8,7 @@ pub loop-node-preserved : goal.loop-node-preserved
 loop-node-preserved t c =
     let more = items_depth_more c.deref-node-items.result.now c.loop-node.node-index c.node-item.result c.loop-node-test.true c.node-item.is in
     elim c.match-node.branch [
-      | in-Box w ↦ omega (arith, more, ap node_depth w.in-Box.is, w.deepest-is, w.depth.ensures, w.saturating_add.ensures, w.max-deepest.ensures, c.loop-node.invariant)
+      | in-Box w ↦ omega (arith, more, ap node_depth w.in-Box.is, ap (λ b. items_depth b.list) w.deref.ensures, w.deepest-is, w.depth.ensures, w.saturating_add.ensures, w.max-deepest.ensures, c.loop-node.invariant)
       | in_default w ↦ omega (arith, more, leaf_depth c.node-item.result w.in_default.not-Box, w.deepest-is, c.loop-node.invariant)
     ]
 
