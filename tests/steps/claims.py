@@ -1,9 +1,10 @@
-"""tests/claims.tsv: each sentence that boxglue promises, and the contracts, definitions, tests and edits that carry it.
-A case for each subject: its lines have their columns, and what they refer to is in the tree. Only texts are compared, and no program is run."""
+"""tests/claims.tsv: each sentence that boxglue promises, and the contracts, definitions, tests and edits that carry it, in the order of the crates: `tests/claims` sorts it.
+A case for each crate: its lines have their columns, and what they refer to is in the tree. Only texts are compared, and no program is run."""
 import functools
 import glob
 import os
 import re
+from collections import Counter
 from functools import partial
 
 TITLE = "tests/claims.tsv: what carries each claim is in the tree"
@@ -11,6 +12,9 @@ TRIES = False
 FILE = "tests/claims.tsv"
 HEAD = "subject\tclause\tcarried by\tnote"
 MOST = 4
+# Crates of tests, and the name for lines without a crate.
+BESIDE = re.compile(r"(?:rows|tests|examples)_")
+OTHERS = "beside the crates"
 # The marks by which an outside text numbers its sentences. The table has to be readable without that text.
 FOREIGN = re.compile(r"\b(?:[DTWR]\d{1,2}|[Pp]apers?|[Tt]heorems?)\b")
 # Where the clauses of a function end: at its body, at the end of its declaration, or before the next function.
@@ -127,20 +131,53 @@ def wrong_in(root, number, line):
         yield f"line {number}: a mark of another text"
 
 
+@functools.lru_cache(None)
+def crates(root):
+    """The crates in the order of crates.txt, and the tests, cases and examples after them."""
+    names = [it.split(":")[0].split()[0] for it in texts(f"{root}/crates.txt")[0].splitlines() if ":" in it and not it.startswith("#")]
+    return [it for it in names if not BESIDE.match(it)] + [it for it in names if BESIDE.match(it)]
+
+
+def crate_of(root, line):
+    """The crate of a line: that of its first reference into a crate of the program, else into one of tests; else none."""
+    found = [re.match(r"(?:\w+ )?(\w+)(?:::|/)", it) for it in (line.split("\t") + ["", ""])[2].split("; ")]
+    named = [it[1] for it in found if it and it[1] in crates(root)]
+    return min(named, key=lambda it: bool(BESIDE.match(it)), default=OTHERS)
+
+
+def in_order(root, lines):
+    """The lines by their crates, and there by subject and sentence."""
+    place = {name: at for at, name in enumerate(crates(root))}
+    return sorted(lines, key=lambda it: (place.get(crate_of(root, it), len(place)), *it.split("\t")[:2]))
+
+
 def outcome(root, lines):
-    """What is wrong with the lines of one subject."""
-    twice = {line.split("\t")[1] for _, line in lines if sum(it.split("\t")[1:2] == line.split("\t")[1:2] for _, it in lines) > 1 and "\t" in line}
+    """What is wrong with the lines of one crate."""
+    twice = {" ".join(key) for key, count in Counter(tuple(line.split("\t")[:2]) for _, line in lines).items() if count > 1}
     wrong = [it for number, line in lines for it in wrong_in(root, number, line)] + [f"two lines say: {it}" for it in sorted(twice)]
     return "; ".join(wrong) or None
 
 
-def cases(_programs, root):
-    """A case for the head of the table, and one for each subject."""
+def table(root):
+    """The lines of the table."""
     with open(f"{root}/{FILE}", encoding="utf-8") as it:
-        head, *lines = it.read().splitlines()
+        return it.read().splitlines()
+
+
+def sort(root):
+    """Writes the table in its order."""
+    head, *lines = table(root)
+    with open(f"{root}/{FILE}", "w", encoding="utf-8") as it:
+        it.write("\n".join([head, *in_order(root, lines)]) + "\n")
+
+
+def cases(_programs, root):
+    """A case for the head of the table, one for its order, and one for each crate."""
+    head, *lines = table(root)
     yield "the head", lambda: None if head == HEAD else f"{FILE} does not begin with its head"
-    subjects = {}
+    yield "the order", lambda: None if lines == in_order(root, lines) else f"{FILE} is not sorted: run tests/claims"
+    by_crate = {}
     for number, line in enumerate(lines, 2):
-        subjects.setdefault(line.split("\t")[0], []).append((number, line))
-    for subject, its in subjects.items():
-        yield subject, partial(outcome, root, its)
+        by_crate.setdefault(crate_of(root, line), []).append((number, line))
+    for crate, its in by_crate.items():
+        yield crate, partial(outcome, root, its)

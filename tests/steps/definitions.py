@@ -1,111 +1,68 @@
-"""docs/DEFINITIONS.md: the names in contracts, with the comments of crates/*/specs. `tests/definitions` writes it; this part checks that it is up to date.
+"""tests/definitions: what ten definitions reach is what is written by hand here, and what has to be believed has the definitions that a reader looks for first.
 Only texts are compared, and no program is run."""
-import glob
-import os
-import re
 from functools import partial
 
-TITLE = "docs/DEFINITIONS.md is what tests/definitions makes of crates/*/specs"
+from steps.reached import Tree
+
+TITLE = "tests/definitions: what ten definitions reach, and what the main statements do"
 TRIES = False
-FILE = "docs/DEFINITIONS.md"
-HEAD = """# Definitions
-
-The names of `specs/` that contracts and laws import, or that PROVED.md names, crate by crate, each with the first sentence of its comment.
-`tests/definitions` makes this file: change the comments in `crates/*/specs/*.antt`, and run it.
-The source of a file holds for its names that have none of their own; `own` means that boxglue chose it.
-Names that only other definitions use are explained in their files; files that no public contract speaks of are left out, and their first lines say so.
-"""
-DECLARED = re.compile(r"(?:unfoldable |abbrev )?pub (?:total |record |data )?([^\s:(]+)")
-PUBLIC = r"TeX: The Program|DVItype|TFtoPL|Netpbm"
-SOURCE = re.compile(rf"\s*\(((?:[^()]|\([^()]*\))*(?:\bown\b|{PUBLIC})(?:[^()]|\([^()]*\))*)\)")
-IMPORTED = re.compile(r"ghost use Rattle\.(\w+)\.specs\.(\w+)\.\{([^}]*)\}")
-PRIVATE = re.compile("no public clause|private calls alone|within the crate alone|need not believe", re.I)
-
-
-def read(path):
-    """The text of a file."""
-    with open(path, encoding="utf-8") as it:
-        return it.read()
-
-
-def parts_of(comment):
-    """The first sentence of a comment, without its source; and the source, or an empty text."""
-    found = SOURCE.findall(comment)
-    plain = SOURCE.sub("", comment).strip()
-    first = re.split(r"(?<=[^.][.;])\s+(?=[A-Z`])", plain, maxsplit=1)[0]
-    return first.rstrip(" .;") + ".", found[-1] if found else ""
+# The functions whose clauses say what the program promises.
+ROOTS = ("job_core::headline", "boxglue_program::run_script", "dvi_read::open", "boxglue_lib::program", "boxglue_c::boxglue_run")
+# By hand, from the texts of the definitions. Those that share a comment are one.
+REACHED = {
+    "IsBadness": "IsBadness IsRatioBadness badness_ratio IsNearest",
+    "Fits": "Fits Within",
+    "round_times": "round_times Fraction rounded nearest",
+    "IsDimensionText": "IsDimensionText DimensionParts Sign LengthUnit fraction_digits parts_text sign_text fraction_text unit_text parts_value with_sign scaled_points "
+                       "of_points decimal_fraction nearest",
+    "node_core::Rule": "Rule RuleSize Dimen",
+    "Load": "Load",
+    "is_discardable": "is_discardable ItemClass",
+    "IsBreakList": "IsBreakList IsFalling top Problem BreakState Fitness LineCost",
+    "is_paintable": "is_paintable is_size Sheet",
+    "baseline_glue": "baseline_glue fits DimensionTooLarge Glue Order Dimen Params SplitParams IntParameter FirstLines",
+}
+# Among what has to be believed: the machine, the order of ties between lists of breaks, what a job counts, the files, and a host.
+BELIEVED = "Machine IsDone key least_path is_not_after Load IsFile marks_of_page file_widths badness_of WasRun HasRun HandsOverRun HostView IsDviFault".split()
+# What only other contracts reach, by a function whose contract does.
+ELSEWHERE = {"IsStop": "break_core::active_breaks", "IsBreakList": "break_core::breaks", "StandsIn": "tfm_core::read"}
 
 
-def pieces(text):
-    """The comment of a file, and its declarations: pairs of the names that share a comment, and the comment."""
-    lines = text.split("\n")
-    comment, names, head, found = [], [], None, []
-    for line in [*lines, "-- end"]:
-        if line.startswith("--"):
-            if names or (head is None and not line.startswith("-- end")) and not comment:
-                if names:
-                    found.append((names, " ".join(comment)))
-                comment, names = [], []
-            comment.append(line[2:].strip())
-        elif line.startswith(("use ", "mod ")) and head is None and comment:
-            head, comment = " ".join(comment), []
-        elif match := DECLARED.match(line):
-            if not match[0].startswith("pub use"):
-                names.append(match[1])
-        elif not line.strip() and not names and comment and head is None:
-            head, comment = " ".join(comment), []
-    return head or "", found
+def roots(tree):
+    """What the clauses of these functions speak of."""
+    return [it for given in ROOTS for it in tree.by_function(*given.split("::"))]
 
 
-def row(names, comment):
-    """The line of the names that share a comment."""
-    what, source = parts_of(comment)
-    return f"- {', '.join(f'`{it}`' for it in names)}: {what}" + (f" ({source})" if source else "")
+def names_of(found):
+    """All names of what was found."""
+    return [name for definition in found.values() for name in definition.names]
 
 
-def cited(root):
-    """The names that sources import, by crate and module, and those that PROVED.md names."""
-    found = {}
-    for path in glob.glob(f"{root}/crates/*/src/**/*.rt", recursive=True):
-        for crate, module, names in IMPORTED.findall(read(path)):
-            found.setdefault((crate, module), set()).update(it.strip() for it in names.split(","))
-    return found, {word for code in re.findall(r"`([^`\n]+)`", read(f"{root}/docs/PROVED.md")) for word in re.findall(r"\w+", code)}
+def reached(tree, given):
+    """What is wrong with what a definition reaches."""
+    found, wanted = {*names_of(tree.order(tree.by_name(given)))}, {*REACHED[given].split()}
+    return None if found == wanted else f"{given}: not by hand {sorted(found - wanted)}, by hand alone {sorted(wanted - found)}"
 
 
-def file_lines(module, text, listed):
-    """The lines of one file; none if no public contract names it."""
-    head, found = pieces(text)
-    rows = [row(names, comment) for names, comment in found if listed.intersection(names)]
-    if rows and not PRIVATE.search(f"{text.partition(chr(10))[0]} {head}"):
-        yield f"\n### {module}\n\n{head}\n"
-        yield from rows
+def believed(tree):
+    """What is wrong with what has to be believed."""
+    found = tree.order(roots(tree))
+    lost = [it for it in BELIEVED if it not in names_of(found)]
+    data = [str(it) for it in found if it.module in ("Examples", "Known")]
+    bare = [str(it) for it, definition in found.items() if not it.is_type and not definition.comment]
+    return f"it lacks {lost}" if lost else f"it has test data: {data}" if data else f"no comment: {bare}" if bare else None
 
 
-def crates_of(root):
-    """The names of the crates, in the order of crates.txt."""
-    return [it.split(":")[0] for it in read(f"{root}/crates.txt").splitlines() if ":" in it and not it.startswith("#")]
-
-
-def document(root):
-    """The text of the document."""
-    lines = [HEAD]
-    imported, proved = cited(root)
-    for crate in crates_of(root):
-        folder = f"{root}/crates/{crate}/specs"
-        modules = re.findall(r"^pub mod (\w+)", read(f"{folder}/Lib.antt"), re.M) if os.path.isdir(folder) else []
-        found = []
-        for name in (it for it in modules if os.path.exists(f"{folder}/{it}.antt")):
-            found += file_lines(name, read(f"{folder}/{name}.antt"), imported.get((crate, name), set()) | proved)
-        if found:
-            lines += [f"\n## `{crate}`", *found]
-    return "\n".join(lines).replace("\n\n\n", "\n\n") + "\n"
-
-
-def outcome(root):
-    """What is wrong with the document."""
-    return None if os.path.exists(f"{root}/{FILE}") and read(f"{root}/{FILE}") == document(root) else f"{FILE} is not fresh: run tests/definitions"
+def elsewhere(tree):
+    """Names that the contracts of these functions do not reach."""
+    lost = [name for name, given in ELSEWHERE.items() if name not in names_of(tree.order(tree.by_name(given)))]
+    return f"not reached: {lost}" if lost else None
 
 
 def cases(_programs, root):
-    """The one case."""
-    yield "fresh", partial(outcome, root)
+    """A case for each definition, and those for statements."""
+    tree = Tree(root)
+    for given in REACHED:
+        yield given, partial(reached, tree, given)
+    yield "what has to be believed", partial(believed, tree)
+    yield "what other contracts reach", partial(elsewhere, tree)
