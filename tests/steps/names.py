@@ -1,14 +1,15 @@
-"""The names that docs/PROVED.md, ARCHITECTURE.md, EVIDENCE.md and DECISIONS.md write as code: functions, clauses, laws, definitions, crates, edits.
-Each has to be in the sources. Only texts are compared, and no program is run."""
+"""The names that documents, as docs/PROVED.md and the README.md of each crate, write as code: functions, clauses, laws, definitions, crates, edits. Each has to be in
+the sources. Only texts are compared, and no program is run."""
+import functools
 import glob
 import os
 import re
 from functools import partial
 
-TITLE = "the names of code in four documents are in the sources, as the clauses of PROVED.md; no comment writes the test attribute, no code has floating-point numbers; the job knows no crate of DVI; no export has a premise"
+TITLE = "the names of code in documents and in each crate's README.md are in the sources, as the clauses that PROVED.md and these name; no comment writes the test attribute, no code has floating-point numbers; the job knows no crate of DVI; no export has a premise"
 TRIES = False
-DOCUMENTS = ("PROVED", "ARCHITECTURE", "EVIDENCE", "DECISIONS")
-SOURCES = ("crates/*/src/**/*.rt", "crates/*/specs/*.antt", "crates/*/proofs/**/*.antt", "crates/rows_scripts/stdin", "tests/steps/*.py", "bindings/python/boxglue/*.py", "crates.txt")
+DOCUMENTS = ("docs/PROVED.md", "docs/ARCHITECTURE.md", "docs/EVIDENCE.md", "docs/DECISIONS.md", "docs/LIBRARY.md", "CHANGELOG.md", "bench/trials/README.md", "crates/*/README.md")
+SOURCES = ("crates/*/src/**/*.rt", "crates/*/specs/*.antt", "crates/*/proofs/**/*.antt", "crates/rows_scripts/stdin", "tests/steps/*.py", "bindings/python/boxglue/*.py", "bindings/rust/*/src/*.rs", "include/*.h", "crates.txt")
 # These crates know pages, and no crate of DVI.
 BEFORE_DVI = ("page_core", "job_commands", "job_machine", "job_lists", "job_state")
 WORD = re.compile(r"[A-Za-z_][A-Za-z_0-9]*")
@@ -41,11 +42,16 @@ def named(text):
             yield from (it for it in WORD.findall(code) if re.search(r"_\w|[a-z][A-Z]", it))
 
 
-def outcome(root, document):
-    """What is wrong with one document."""
+def documents(root, pattern):
+    """The paths of the documents of a pattern."""
+    return sorted(os.path.relpath(it, root) for it in glob.glob(f"{root}/{pattern}"))
+
+
+def outcome(root, pattern):
+    """What is wrong with the documents of a pattern."""
     words = known_words(root)
-    absent = sorted({it for it in named(read(f"{root}/docs/{document}.md")) if it not in words})
-    return f"docs/{document}.md names what is not in the sources: {', '.join(absent)}" if absent else None
+    wrong = {path: sorted({it for it in named(read(f"{root}/{path}")) if it not in words}) for path in documents(root, pattern)}
+    return "; ".join(f"{path} names what is not in the sources: {', '.join(absent)}" for path, absent in wrong.items() if absent) or (None if wrong else f"no {pattern}")
 
 
 def test_attributes(root):
@@ -74,37 +80,48 @@ def premises_of_exports(root):
     return f"an export has a premise in {', '.join(sorted(wrong))}" if wrong else None
 
 
-def contracts(root):
-    """The names of clauses of each function, of all crates together."""
+@functools.lru_cache(None)
+def contracts(root, crate):
+    """The names of clauses of each function of a crate, or of all crates together."""
     found = {}
-    for path in glob.glob(f"{root}/crates/*/src/**/*.rt", recursive=True):
+    for path in glob.glob(f"{root}/crates/{crate}/src/**/*.rt", recursive=True):
         for name, contract in re.findall(r"\bfn (\w+)\b(.*?)(?=\bfn \w|\Z)", read(path), re.S):
             found.setdefault(name, set()).update(re.findall(r"\b(?:requires|ensures) (\w+) \{", contract))
     return found
 
 
+def lacking_clauses(known, line):
+    """Clauses that a line gives to functions of which none has them, and names with no function. A line has groups with `;` between them, each of functions, then a space and
+    clauses with `/` between them."""
+    functions, after = [], ""
+    for token, after_token in re.findall(r"`([^`]+)`([^`]*)", line):
+        name = token.split("::")[-1]
+        if after in (" ", "/") and re.fullmatch(r"\w+", token):
+            if functions and not any(token in known[it] for it in functions):
+                yield f"{functions[-1]} {token}"
+        else:
+            functions = (functions if after.strip() in (",", "") and after != "" else []) + ([name] if name in known else [])
+        after = after_token
+
+
 def clauses(root):
-    """Clauses that PROVED.md gives to functions that have none of the name. A line of contracts has groups with `;` between them, each of functions, then a space and clauses with `/` between them."""
-    known, wrong = contracts(root), []
-    for line in re.findall(r"(?m)^  (`.*)$", read(f"{root}/docs/PROVED.md")):
-        if "` of `" in line:
-            continue  # there the clauses come first
-        functions, after = [], ""
-        for token, after_token in re.findall(r"`([^`]+)`([^`]*)", line):
-            name = token.split("::")[-1]
-            if after in (" ", "/") and re.fullmatch(r"\w+", token):
-                if functions and not any(token in known[it] for it in functions):
-                    wrong.append(f"{functions[-1]} {token}")
-            else:
-                functions = (functions if after.strip() in (",", "") and after != "" else []) + ([name] if name in known else [])
-            after = after_token
-    return f"docs/PROVED.md gives clauses to functions that lack them: {', '.join(wrong)}" if wrong else None
+    """What PROVED.md gives to functions that lack it, and the README.md of a crate to functions of this crate."""
+    wrong = []
+    for path in ("docs/PROVED.md", *documents(root, "crates/*/README.md")):
+        known = contracts(root, path.split("/")[1] if path.startswith("crates/") else "*")
+        # Where a line has "` of `", the clauses come first.
+        lines = [it for it in re.findall(r"(?m)^  (`.*)$", read(f"{root}/{path}")) if "` of `" not in it]
+        wrong += [f"{path}: {it}" for line in lines for it in lacking_clauses(known, line)]
+        if path.startswith("crates/"):
+            named = {token.split("::")[-1] for line in lines for token, after in re.findall(r"`([^`]+)`([^`]*)", line) if after[:1] in (";", ".")}
+            wrong += [f"{path}: {it}" for it in sorted(named) if it not in known and not any(it in clauses for clauses in known.values())]
+    return f"functions that are not there or lack a clause: {', '.join(wrong)}" if wrong else None
 
 
 def cases(_programs, root):
-    """A case for each document, and some for the sources."""
-    for document in DOCUMENTS:
-        yield document, partial(outcome, root, document)
+    """A case for each document, one for those of all crates, and some for the sources."""
+    for pattern in DOCUMENTS:
+        yield pattern, partial(outcome, root, pattern)
     yield "clauses", partial(clauses, root)
     yield "test_attributes", partial(test_attributes, root)
     yield "float_types", partial(float_types, root)
