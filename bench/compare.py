@@ -1,7 +1,7 @@
 #!/usr/bin/env python3
 """Compares two programs on random inputs: bench/compare.py PROGRAM OTHER [--scripts N] [--hostile N] [--first N] [--keep FOLDER].
 
-The inputs are documents (compare_documents.py), always the same ones, and with --hostile also those of bench/hostile.py. Status, answers, messages and files have to be
+The inputs are documents (compare_documents.py), always the same ones, and with --hostile also those of bench/trials/hostile.py. Status, answers, messages and files have to be
 equal, and the listings of the files that each program makes. Printed are the inputs that differ, and what the documents had in them; the status is 1 where one
 differs. What --version prints may differ."""
 
@@ -12,10 +12,11 @@ import re
 import sys
 import tempfile
 
-from compare_documents import document_of
-from hostile import Room, keep
-from hostile_inputs import Good, input_of
-from items import CMR10
+sys.path.insert(1, os.path.join(os.path.dirname(os.path.abspath(__file__)), "trials"))
+from compare_documents import document_of  # noqa: E402 (after the path)
+from hostile import Room, keep  # noqa: E402
+from hostile_inputs import Good, input_of  # noqa: E402
+from items import CMR10  # noqa: E402
 
 SHOWN = 20
 FOUND = {"paragraphs of no line": rb"lines 0 pass 0", "paragraphs of pass 1": rb"pass 1", "paragraphs of pass 2": rb"pass 2", "paragraphs of pass 3": rb"pass 3", "pages": rb": shipped",
@@ -61,7 +62,7 @@ def main():
     parser = argparse.ArgumentParser(description=__doc__, formatter_class=argparse.RawDescriptionHelpFormatter)
     parser.add_argument("programs", nargs=2, metavar="PROGRAM", help="the two programs")
     parser.add_argument("--scripts", type=int, default=4000, metavar="N", help="how many documents (4,000)")
-    parser.add_argument("--hostile", type=int, default=0, metavar="N", help="how many inputs of bench/hostile.py (0)")
+    parser.add_argument("--hostile", type=int, default=0, metavar="N", help="how many inputs of bench/trials/hostile.py (0)")
     parser.add_argument("--first", type=int, default=0, metavar="N", help="the number of the first (0)")
     parser.add_argument("--keep", metavar="FOLDER", help="where the inputs go that differ")
     words = parser.parse_args()

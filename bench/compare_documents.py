@@ -1,26 +1,12 @@
 """Random documents, always the same ones: paragraphs in cmr10 with all kinds of items, under common and odd parameters, in boxes that are split into pages."""
 
+import generator
+from generator import DOCUMENT_SEEDS, NUMBERS, Chance, dimension, words
 from hostile_inputs import Input
-from hostile_scripts import Chance
 
-WORDS = "the of and difficult AV Wafer office fluffy a in particular xylophone to fi ff ffl".split()
-NUMBERS = (
-    ("tolerance", (0, 50, 200, 1000, 9999, 10000, 20000, -5)),
-    ("pretolerance", (-1, 0, 50, 100, 100, 100, 10000)),
-    ("linepenalty", (0, 10, 10, 100, -50, -20000)),
-    ("adjdemerits", (10000, 10000, 0, -10000, 500000)),
-    ("clubpenalty", (150, 0, -30)),
-    ("widowpenalty", (150, 0, 10000)),
-    ("interlinepenalty", (0, 0, 7)),
-    ("firstlines", (0, 0, 0, 0, 1, 2, 3, 32)),
-)
+FIRST_LINES = (0, 0, 0, 0, 1, 2, 3, 32)
 PENALTIES = (0, 50, -50, 10000, 9999, -10000, -10001, 300)
 SIDES = ("hbox", "vbox", "vtop")
-
-
-def points(chance, low, high):
-    """A dimension between two numbers of points."""
-    return "%.2fpt" % (low + chance.below(100 * (high - low) + 1) / 100)
 
 
 class Document:
@@ -28,24 +14,18 @@ class Document:
 
     def __init__(self, chance):
         self.chance, self.lowest, self.narrowest = chance, -1 if chance.one_in(3) else 0, chance.pick((20, 120))
-        self.lines = ["font 0 cmr10", "font 1 cmr10 at " + points(chance, 4, 14), "use 0"]
+        self.lines = ["font 0 cmr10", "font 1 cmr10 at " + dimension(chance, 4, 14), "use 0"]
 
     def add(self, *lines):
         self.lines += lines
 
     def glue(self):
         it, low = self.chance, self.lowest
-        text = "glue " + points(it, 4 * low, 9)
-        if not it.one_in(5):
-            text += " plus " + (points(it, 3 * low, 6) if not it.one_in(3) else it.pick(("1fil", "0.5fill", "2fill", "1filll", "0pt")))
-        if it.one_in(2):
-            text += " minus " + (points(it, low, 3) if not it.one_in(60) else "1fil")
-        return text
+        return "glue " + generator.glue(it, dimension(it, 4 * low, 9), lambda: generator.stretch(it, 0.3, 3 * low, 6), lambda: generator.stretch(it, 0.02, low, 3))
 
     def text(self):
         it = self.chance
-        words = " ".join(it.pick(WORDS) for _ in range(1 + it.below(12)))
-        return "text " + it.pick(("", " ")) + words + it.pick(("", " "))
+        return "text " + it.pick(("", " ")) + words(it, 12) + it.pick(("", " "))
 
     def box(self, depth=0):
         """A small box of its own, with a change of the font in it, and now and then a box in that."""
@@ -55,7 +35,7 @@ class Document:
         if side == "hbox":
             self.add(it.pick(("text in", "use 1", "special in a box")), "char 65", "glue 2pt plus 1fil", it.pick(("kern 1pt", "use 0", "rule 2pt * *")))
         else:
-            self.add("rule %s 2pt 1pt" % points(it, 0, 9), it.pick(("rule * 2pt 1pt", "kern 2pt", "glue 1pt plus 1fill")))
+            self.add("rule %s 2pt 1pt" % dimension(it, 0, 9), it.pick(("rule * 2pt 1pt", "kern 2pt", "glue 1pt plus 1fill")))
         if depth < 3 and it.one_in(3):
             self.box(depth + 1)
         self.add("end")
@@ -71,9 +51,9 @@ class Document:
         elif way < 77:
             self.add("penalty %d" % it.pick(PENALTIES))
         elif way < 83:
-            self.add("kern " + points(it, 5 * self.lowest, 5))
+            self.add("kern " + dimension(it, 5 * self.lowest, 5))
         elif way < 87:
-            self.add("rule %s %s %s" % (points(it, 3 * self.lowest, 20), points(it, 0, 8), points(it, 0, 3)))
+            self.add("rule %s %s %s" % (dimension(it, 3 * self.lowest, 20), dimension(it, 0, 8), dimension(it, 0, 3)))
         elif way < 90:
             self.box()
         elif way < 92:
@@ -87,14 +67,16 @@ class Document:
 
     def parameters(self):
         it = self.chance
-        for name, values in NUMBERS:
+        for name, (common, odd) in NUMBERS.items():
             if it.one_in(2):
-                self.add("set %s %d" % (name, it.pick(values)))
+                self.add("set %s %d" % (name, it.pick(common + odd)))
+        if it.one_in(2):
+            self.add("set firstlines %d" % it.pick(FIRST_LINES))
         for name, low, high in (("hsize", self.narrowest, 400), ("firstsize", self.narrowest, 400), ("boxmaxdepth", 0, 9)):
             if it.one_in(2):
-                self.add("set %s %s" % (name, points(it, low, high)))
+                self.add("set %s %s" % (name, dimension(it, low, high)))
         if it.one_in(2):
-            self.add("set baselineskip " + points(it, 8, 14) + it.pick(("", " plus 1pt")))
+            self.add("set baselineskip " + dimension(it, 8, 14) + it.pick(("", " plus 1pt")))
         if it.one_in(6):
             self.add("set parfillskip " + it.pick(("0pt", "0pt plus 300pt", "20pt plus 60pt minus 20pt", "0pt plus 1fil")))
         if it.one_in(6):
@@ -123,7 +105,7 @@ class Document:
             self.paragraph()
         self.add("end")
         for _ in range(it.below(4)):
-            self.add("vsplit %d to %s into 1" % (register, points(it, 20, 300)), "count 0 %d" % it.below(99), "ship 1")
+            self.add("vsplit %d to %s into 1" % (register, dimension(it, 20, 300)), "count 0 %d" % it.below(99), "ship 1")
         self.add("measure %d" % register, "measure 7", "ship %d" % register)
 
     def script(self):
@@ -132,7 +114,7 @@ class Document:
 
 def document_of(number, metrics):
     """The document of this number."""
-    document = Document(Chance(number, 2))
+    document = Document(Chance(number, DOCUMENT_SEEDS))
     for _ in range(1 + document.chance.below(4)):
         document.chapter()
     script = document.script()

@@ -1,8 +1,8 @@
 #!/usr/bin/env python3
-"""Runs a command, as `rt ci --anew`, and prints the seconds of processor that the prover took: bench/gate_times.py [--every SECONDS] COMMAND..
+"""Runs a command, as `rt ci --anew`, and prints the seconds of processor that the prover took: bench/gate_times.py [--every SECONDS] [--write FILE] COMMAND..
 
 For each crate: its proof, its tests, its edits with the second proof that they begin with, and the dearest edit. It reads /proc a few times a second, so what
-a process did after its last sample is missing. What else the command runs (compilers, programs) is in the total alone. docs/GATE.md has the results."""
+a process did after its last sample is missing. What else the command runs (compilers, programs) is in the total alone. With --write the times by crate go into a table too, as docs/gate.tsv."""
 
 import argparse
 import os
@@ -10,7 +10,7 @@ import re
 import resource
 import subprocess
 import time
-from collections import defaultdict
+from collections import defaultdict, namedtuple
 
 TICKS = os.sysconf("SC_CLK_TCK")
 
@@ -83,29 +83,44 @@ class Samples:
         return total
 
 
-def show(samples, root):
-    """Prints a line for each crate, in the order of crates.txt, and the sums."""
+# The seconds of a crate: of its proof, its tests, and its edits with the second proof, and its dearest edit, as "39 some_name.edit".
+Row = namedtuple("Row", "crate proof tests edits dearest")
+
+
+def rows(samples, root):
+    """A row for each crate, in the order of crates.txt."""
     spent = samples.by_task()
-    sums = defaultdict(float)
     with open(os.path.join(root, "crates.txt")) as file:
         crates = [line.split()[0].rstrip(":") for line in file if line.strip() and not line.startswith("#")]
     for crate in crates:
         folder = os.path.join(root, "crates", crate, "must-fail")
         names = sorted(name for name in os.listdir(folder) if name.endswith(".edit")) if os.path.isdir(folder) else []
         edits = {what: it for (name, what), it in spent.items() if name == crate and what not in ("proof", "tests")}
-        proof, tests = spent.get((crate, "proof"), 0), spent.get((crate, "tests"), 0)
         each = {what: it for what, it in edits.items() if what != "seed"}
         dearest = max(each, key=each.get, default=None)
         name = "" if dearest is None else names[int(dearest)] if dearest.isdigit() else names[0]
-        for what, it in (("proofs", proof), ("tests", tests), ("edits", sum(edits.values()))):
-            sums[what] += it
-        print("%-17s proof %4.0f  tests %4.0f  edits %4.0f%s" % (crate, proof, tests, sum(edits.values()), "  dearest %.0f %s" % (each[dearest], name) if each else ""))
-    print("; ".join("%s %.0f minutes" % (what, it / 60) for what, it in sums.items()))
+        yield Row(crate, spent.get((crate, "proof"), 0), spent.get((crate, "tests"), 0), sum(edits.values()), "%.0f %s" % (each[dearest], name) if each else "")
+
+
+def show(table):
+    """Prints a line for each crate, and the sums."""
+    for row in table:
+        print("%-17s proof %4.0f  tests %4.0f  edits %4.0f%s" % (*row[:4], "  dearest " + row.dearest if row.dearest else ""))
+    print("; ".join("%s %.0f minutes" % (what, sum(it) / 60) for what, it in zip(("proofs", "tests", "edits"), list(zip(*table))[1:4])))
+
+
+def write(path, table, command):
+    """Writes the table of a run, with its day, its commit and its command."""
+    commit = subprocess.run(["git", "rev-parse", "--short=8", "HEAD"], capture_output=True, text=True).stdout.strip()
+    with open(path, "w", encoding="utf-8") as it:
+        it.write("# seconds of processor of the prover, by bench/gate_times.py: %s, %s, %s, %d cores\n" % (" ".join(command), time.strftime("%d %B %Y"), commit, os.cpu_count()))
+        it.write("crate\tproof\ttests\tedits\tdearest edit\n" + "".join("%s\t%.0f\t%.0f\t%.0f\t%s\n" % row for row in table))
 
 
 def main():
     words = argparse.ArgumentParser(description=__doc__, formatter_class=argparse.RawDescriptionHelpFormatter)
     words.add_argument("--every", type=float, default=0.25)
+    words.add_argument("--write", metavar="FILE")
     words.add_argument("command", nargs=argparse.REMAINDER)
     asked = words.parse_args()
     begun = time.time()
@@ -114,7 +129,10 @@ def main():
     while running.poll() is None:
         samples.take()
         time.sleep(asked.every)
-    show(samples, os.getcwd())
+    table = list(rows(samples, os.getcwd()))
+    show(table)
+    if asked.write:
+        write(asked.write, table, asked.command)
     used = resource.getrusage(resource.RUSAGE_CHILDREN)
     print("%.1f minutes, %.0f of processor, status %d" % ((time.time() - begun) / 60, (used.ru_utime + used.ru_stime) / 60, running.returncode))
     raise SystemExit(running.returncode)

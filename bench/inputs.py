@@ -1,6 +1,11 @@
 """The inputs of the measurements, always the same: scripts of boxglue, the texts of tex beside them, and a metric file."""
 
+import os
 import struct
+import sys
+
+sys.path.insert(1, os.path.join(os.path.dirname(os.path.dirname(os.path.abspath(__file__))), "tests"))
+from steps.plain_font import metric_bytes  # noqa: E402 (after the path)
 
 # Words of running prose: frequent ones, and others.
 OFTEN = "the of and to in a that is was it for with as his on be at by had not are but from which have they one were their there would when what about"
@@ -142,8 +147,7 @@ def metric_file():
     header, parameters = [fixed(0), fixed(10 << 20)], [fixed(0), fixed(349526), fixed(174763), fixed(116508)]
     parts = [header, characters, widths, heights, depths, italics, steps, [], [], parameters]
     parts[7] = [fixed(-20000 + kern) for kern in range(length - 6 - sum(map(len, parts)))]
-    sizes = (length, len(header), 0, 255) + tuple(map(len, parts[2:]))
-    return struct.pack(">12H", *sizes) + b"".join(sum(parts, []))
+    return metric_bytes(0, 255, parts)
 
 
 def font_name(number):
@@ -158,8 +162,7 @@ def small_metric_file(number):
     widths, heights, depths, italics = [fixed(0), fixed(10 + number % 23)], [fixed(0), fixed(22)], [fixed(0), fixed(6)], [fixed(0)]
     header, parameters = [struct.pack(">I", 1 + number), struct.pack(">i", 10 << 20)], [fixed(it) for it in (0, 16, 8, 5, 14, 32, 0)]
     parts = [header, characters, widths, heights, depths, italics, [], [], [], parameters]
-    sizes = (6 + sum(map(len, parts)), len(header), 32, 126) + tuple(map(len, parts[2:]))
-    return struct.pack(">12H", *sizes) + b"".join(sum(parts, []))
+    return metric_bytes(32, 126, parts)
 
 
 def pages_of_fonts(pages, loaded):

@@ -23,9 +23,10 @@ class Cost:
 
 def run_once(words, stdin, folder, output="out.txt"):
     """One run of a program on one core; its output goes to files of the folder, or elsewhere."""
-    command = "exec taskset -c %d %s < %s > %s 2> err.txt & echo $!" % (CORE, shlex.join(words), shlex.quote(stdin), output)
-    shell = subprocess.run(["/bin/sh", "-c", command], cwd=folder, stdout=subprocess.PIPE, check=True)
-    _, status, used = os.wait4(int(shell.stdout), 0)
+    # The shell ends at once: if it did anything more, it might wait for a short program itself.
+    command = "exec taskset -c %d %s < %s > %s 2> err.txt &" % (CORE, shlex.join(words), shlex.quote(stdin), output)
+    subprocess.run(["/bin/sh", "-c", command], cwd=folder, check=True)
+    _, status, used = os.wait4(-1, 0)
     if os.waitstatus_to_exitcode(status) != 0:
         tail = "".join(open(os.path.join(folder, name), errors="replace").read()[-500:] for name in ("err.txt", output))
         sys.exit("%s: status %s\n%s" % (shlex.join(words), os.waitstatus_to_exitcode(status), tail))

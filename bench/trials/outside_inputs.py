@@ -1,8 +1,7 @@
 """Random work that boxglue and TeX do alike: a script and a text of TeX, line beside line, from fixed seeds."""
 
-import random
-
-from inputs import OFTEN, WORDS
+import generator
+from generator import NUMBERS, TEX_SEEDS, Chance
 
 # The fonts of the scripts: slot, name, and size where it is not the design size.
 FONTS = ((0, "cmr10", None), (1, "cmr10", "7.3pt"), (2, "cmbx12", None), (3, "cmti10", "11.5bp"))
@@ -30,7 +29,7 @@ class Pair:
 
     def __init__(self, seed):
         self.used, self.slot, self.hsize = {}, 0, None
-        self.random, self.box, self.tex, self.expected, self.paragraphs, self.kinds = random.Random(seed), [], [TEX_HEAD], [], [], {}
+        self.chance, self.box, self.tex, self.expected, self.paragraphs, self.kinds = Chance(seed, TEX_SEEDS), [], [TEX_HEAD], [], [], {}
         for slot, name, size in FONTS:
             self.add("font %d %s%s" % (slot, name, " at " + size if size else ""),
                 "\\font\\f%s=%s%s \\hyphenchar\\f%s=-1 " % (letter(slot), name, " at " + size if size else "", letter(slot)))
@@ -47,30 +46,15 @@ class Pair:
 
     # Amounts.
 
-    def chance(self, part):
-        return self.random.random() < part
-
     def dimen(self, low, high):
-        """A dimension between two numbers of points, in some unit, with some digits."""
-        points = self.random.uniform(low, high)
-        unit, size = self.random.choice((("pt", 1), ("pt", 1), ("pt", 1), ("pc", 12), ("in", 72.27), ("bp", 1.00375), ("cm", 28.45276), ("mm", 2.845276), ("dd", 1.07), ("cc", 12.84), ("sp", 1 / 65536)))
-        return "%.*f%s" % (0 if unit == "sp" else self.random.choice((0, 1, 2, 5, 9)), points / size, unit)
-
-    def stretch(self, infinite, most=12):
-        if self.chance(infinite):
-            return "%.*f%s" % (self.random.choice((0, 1, 5)), self.random.uniform(-1, 3), self.random.choice(("fil", "fil", "fill", "filll")))
-        return self.dimen(-2 if self.chance(0.1) else 0, most)
+        return generator.dimension(self.chance, low, high)
 
     def glue(self, low=-2, high=12, infinite=0.1, infinite_shrink=0.05):
-        text = self.dimen(low, high)
-        if self.chance(0.7):
-            text += " plus " + self.stretch(infinite)
-        if self.chance(0.6):
-            text += " minus " + self.stretch(infinite_shrink, 4)
-        return text
+        least = -2 if self.chance.part(0.1) else 0
+        return generator.glue(self.chance, self.dimen(low, high), lambda: generator.stretch(self.chance, infinite, least, 12), lambda: generator.stretch(self.chance, infinite_shrink, least, 4))
 
     def words(self, most=6):
-        return " ".join(self.random.choice(self.random.choice((OFTEN.split(), WORDS.split()))) for _ in range(self.random.randint(1, most)))
+        return generator.words(self.chance, most)
 
     # Items.
 
@@ -86,8 +70,8 @@ class Pair:
         self.add("text " + text, "{}%s{}" % text)
 
     def special(self):
-        text = "%s %d" % (self.random.choice(("color push", "papersize", "html", "src")), self.random.randint(0, 10 ** self.random.choice((1, 5, 9))))
-        text += self.random.choice(("", "x" * self.random.choice((30, 300))))
+        text = "%s %d" % (self.chance.pick(("color push", "papersize", "html", "src")), self.chance.below(10 ** self.chance.pick((1, 5, 9))))
+        text += self.chance.pick(("", "x" * self.chance.pick((30, 300))))
         self.add("special " + text, "\\special{%s}" % text)
 
     def kern(self, low=-3, high=9):
@@ -99,29 +83,29 @@ class Pair:
         self.add("glue " + glue, "\\%sskip %s\\relax" % ("h" if horizontal else "v", glue))
 
     def penalty(self, numbers):
-        number = self.random.choice(numbers)
+        number = self.chance.pick(numbers)
         self.add("penalty %d" % number, "\\penalty%d\\relax" % number)
 
     def rule(self, horizontal, most=30):
-        sizes = [self.dimen(-1 if self.chance(0.1) else 0, most) for _ in range(3)]
+        sizes = [self.dimen(-1 if self.chance.part(0.1) else 0, most) for _ in range(3)]
         for i in (1, 2) if horizontal else (0,):
-            if self.chance(0.2):
+            if self.chance.part(0.2):
                 sizes[i] = "*"
         named = " ".join("%s %s" % it for it in zip(("width", "height", "depth"), sizes) if it[1] != "*")
         self.add("rule %s %s %s" % tuple(sizes), "\\%srule %s\\relax" % ("v" if horizontal else "h", named))
 
     def register(self, horizontal):
         """A box of a register, or its items, is appended."""
-        number = self.random.choice(sorted(self.kinds))
-        copies = self.chance(0.7)
+        number = self.chance.pick(sorted(self.kinds))
+        copies = self.chance.part(0.7)
         # Items go into a list of their own kind only.
-        if self.chance(0.4) and self.kinds[number] == horizontal:
+        if self.chance.part(0.4) and self.kinds[number] == horizontal:
             word = ("unh" if horizontal else "unv") + ("copy" if copies else "box")
             self.add("%s %d" % (word, number), "\\%s%d" % (word, number))
             return
         word, shift = "copy" if copies else "box", ""
         tex = "\\%s%d" % (word, number)
-        if self.chance(0.5):
+        if self.chance.part(0.5):
             amount = self.dimen(-9, 9)
             shift, tex = " shift " + amount, "\\%s %s%s" % ("lower" if horizontal else "moveright", amount, tex)
         self.add("%s %d%s" % (word, number, shift), tex)
@@ -129,7 +113,7 @@ class Pair:
     # Boxes.
 
     def opening(self):
-        return self.random.choice(("hbox", "hbox", "vbox", "vbox", "vtop")), self.random.choice((" ", " ", " to " + self.dimen(0, 250), " spread " + self.dimen(-9, 25)))
+        return self.chance.pick(("hbox", "hbox", "vbox", "vbox", "vtop")), self.chance.pick((" ", " ", " to " + self.dimen(0, 250), " spread " + self.dimen(-9, 25)))
 
     def inner_box(self, depth):
         form, size = self.opening()
@@ -143,8 +127,8 @@ class Pair:
             self.slot = slot
 
     def items(self, horizontal, depth):
-        for _ in range(self.random.choice((0, 1, 3, 6, 10, 15))):
-            kind = self.random.choice(("rule", "rule", "kern", "skip", "skip", "penalty", "special", "box", "register", "words", "words", "last"))
+        for _ in range(self.chance.pick((0, 1, 3, 6, 10, 15))):
+            kind = self.chance.pick(("rule", "rule", "kern", "skip", "skip", "penalty", "special", "box", "register", "words", "words", "last"))
             if kind == "rule":
                 self.rule(horizontal)
             elif kind == "kern":
@@ -160,9 +144,9 @@ class Pair:
             elif kind == "register" and self.kinds:
                 self.register(horizontal)
             elif kind == "words" and horizontal:
-                self.font(self.random.randrange(len(FONTS)))
+                self.font(self.chance.below(len(FONTS)))
                 self.text(self.words(4))
-            elif kind == "last" and self.chance(0.3):
+            elif kind == "last" and self.chance.part(0.3):
                 # Register 9 is for this alone.
                 self.add("lastbox 9", "\\global\\setbox9=\\lastbox")
                 self.asked("measure 9", "\\saymeasure9")
@@ -172,7 +156,7 @@ class Pair:
         self.set("baselineskip", self.glue(0, 15, 0, 0))
         self.set("lineskip", self.glue(0, 3, 0.05))
         self.set("lineskiplimit", self.dimen(-2, 2))
-        self.set("boxmaxdepth", self.dimen(0, 6) if self.chance(0.5) else "1073741823sp")
+        self.set("boxmaxdepth", self.dimen(0, 6) if self.chance.part(0.5) else "1073741823sp")
         form, size = self.opening()
         self.add("%s%s into %d" % (form, size, register), "\\setbox%d=\\%s%s{" % (register, form, size))
         self.items(form == "hbox", 0)
@@ -188,15 +172,14 @@ class Pair:
     def paragraph_parameters(self):
         self.hsize, self.used = self.dimen(90, 420), {}
         self.set("hsize", self.hsize)
-        for name, values in (("pretolerance", (-1, 50, 100, 100, 1000)), ("tolerance", (200, 500, 2000, 5000, 10000)), ("linepenalty", (0, 10, 10, 150, -20)), ("adjdemerits", (0, 10000, 10000, -5000, 400000)),
-                ("clubpenalty", (0, 150, -70)), ("widowpenalty", (0, 150, 9000)), ("interlinepenalty", (0, 0, 33))):
-            self.used[name] = self.random.choice(values)
+        for name, (common, _) in NUMBERS.items():
+            self.used[name] = self.chance.pick(common)
             self.set(name, self.used[name])
-        self.set("parfillskip", self.random.choice(("0pt plus 1fil", "0pt plus 1fil", "0pt plus 1fil", "20pt plus 60pt minus 20pt", "0pt plus 300pt")))
+        self.set("parfillskip", self.chance.pick(("0pt plus 1fil", "0pt plus 1fil", "0pt plus 1fil", "20pt plus 60pt minus 20pt", "0pt plus 300pt")))
 
     def first_lines(self):
         """Some first lines get a width of their own, or none does."""
-        lines = self.random.choice((0, 0, 1, 2, 3, 5))
+        lines = self.chance.pick((0, 0, 1, 2, 3, 5))
         width = self.dimen(90, 420)
         shape = "\\parshape%d %s 0pt %s\\relax" % (lines + 1, "0pt %s " % width * lines, self.hsize) if lines else ""
         self.add("set firstlines %d" % lines, shape)
@@ -205,7 +188,7 @@ class Pair:
     def piece(self, kind):
         """One or more items of a paragraph."""
         if kind == "text":
-            self.text(self.random.choice(("", " ")) + self.words(12).capitalize() + self.random.choice((". ", ", ", " ", "")))
+            self.text(self.chance.pick(("", " ")) + self.words(12).capitalize() + self.chance.pick((". ", ", ", " ", "")))
         elif kind == "rule":
             self.rule(True, 40)
         elif kind == "skip":
@@ -223,7 +206,7 @@ class Pair:
         """A paragraph in the open vertical list. TeX says in its log which one it was and how many lines it has; its trace is before that.
         It is `loose` where a break near its end may leave no items for a line."""
         self.add("par", "\\noindent")
-        chosen = [self.random.choice(kinds) for _ in range(pieces)]
+        chosen = [self.chance.pick(kinds) for _ in range(pieces)]
         for kind in chosen:
             self.piece(kind)
         self.used["loose"] = len(chosen) > 1 and {"skip", "kern", "penalty"}.issuperset(chosen[-2:])
@@ -237,7 +220,7 @@ class Pair:
 
     def vertical_items(self, count):
         for _ in range(count):
-            kind = self.random.choice(("rule", "hbox", "hbox", "text", "skip", "skip", "skip", "kern", "penalty", "special", "vbox"))
+            kind = self.chance.pick(("rule", "hbox", "hbox", "text", "skip", "skip", "skip", "kern", "penalty", "special", "vbox"))
             if kind == "rule":
                 self.rule(False, 20)
             elif kind == "hbox":
@@ -247,7 +230,7 @@ class Pair:
                 self.tex.append("}%")
             elif kind == "text":
                 self.add("hbox", "\\hbox{")
-                self.font(self.random.randrange(len(FONTS)))
+                self.font(self.chance.below(len(FONTS)))
                 self.text(self.words(5))
                 self.box.append("end")
                 self.tex.append("}%")
@@ -274,11 +257,11 @@ def boxes(seed, count):
     """Random boxes, each a page: the box of a register itself, or a box around a copy, which leaves it for later boxes."""
     pair = Pair(seed)
     for number in range(count):
-        register = 10 + pair.random.randrange(6)
+        register = 10 + pair.chance.below(6)
         pair.named_box(register)
         pair.set("hoffset", pair.dimen(-20, 20))
         pair.set("voffset", pair.dimen(-20, 20))
-        if pair.chance(0.7):
+        if pair.chance.part(0.7):
             pair.add("hbox into 1", "\\setbox1=\\hbox{")
             pair.add("copy %d" % register, "\\copy%d" % register)
             pair.asked("end", "}\\saybox1")
@@ -299,10 +282,10 @@ def paragraphs(seed, count, kinds):
     pair.tex.append("\\tracingparagraphs1 ")
     for number in range(count):
         pair.paragraph_parameters()
-        pair.font(pair.random.choice((0, 0, 0, 1)))
+        pair.font(pair.chance.pick((0, 0, 0, 1)))
         pair.add("vbox into 1", "\\setbox1=\\vbox{")
         pair.first_lines()
-        pair.paragraph(number, pair.random.choice((1, 2, 5, 10, 20)) * (2 if kinds == "rules" else 1), KINDS[kinds])
+        pair.paragraph(number, pair.chance.pick((1, 2, 5, 10, 20)) * (2 if kinds == "rules" else 1), KINDS[kinds])
         pair.asked("end", "}\\saybox1", number)
         pair.ship(1, number)
     return pair
@@ -313,10 +296,10 @@ def splits(seed, count):
     pair = Pair(seed)
     for number in range(count):
         pair.set("splittopskip", pair.glue(0, 15, 0.05, 0))
-        pair.set("splitmaxdepth", pair.dimen(0, 6) if pair.chance(0.5) else "1073741823sp")
-        pair.set("boxmaxdepth", pair.dimen(0, 6) if pair.chance(0.3) else "1073741823sp")
+        pair.set("splitmaxdepth", pair.dimen(0, 6) if pair.chance.part(0.5) else "1073741823sp")
+        pair.set("boxmaxdepth", pair.dimen(0, 6) if pair.chance.part(0.3) else "1073741823sp")
         pair.add("vbox into 1", "\\setbox1=\\vbox{")
-        pair.vertical_items(pair.random.choice((3, 10, 30, 60)))
+        pair.vertical_items(pair.chance.pick((3, 10, 30, 60)))
         pair.asked("end", "}\\saybox1")
         for page in range(4):
             pair.split(1, pair.dimen(5, 150))

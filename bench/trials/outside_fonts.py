@@ -1,12 +1,12 @@
 """The metric files of TeX Live: whether boxglue, tftopl and tex read them, and what they say of sizes and of ligatures and kerns."""
 
 import os
-import random
 import re
 import subprocess
 from collections import Counter
 from concurrent.futures import ThreadPoolExecutor
 
+from generator import DAMAGE_SEEDS, FONT_SEEDS, Chance, other_bytes
 from outside_inputs import TEX_HEAD
 from outside_pages import Tally, by_dvitype
 
@@ -52,27 +52,27 @@ def words_of(listing, chosen):
             after.setdefault(left, []).append(right)
     words = []
     for _ in range(10 if after else 0):
-        word = [chosen.choice(sorted(after))]
-        while len(word) < 6 and (len(word) < 2 or chosen.random() < 0.8):
-            word.append(chosen.choice(after.get(word[-1], sorted(after))))
+        word = [chosen.pick(sorted(after))]
+        while len(word) < 6 and (len(word) < 2 or chosen.part(0.8)):
+            word.append(chosen.pick(after.get(word[-1], sorted(after))))
         words.append(bytes(word).decode())
     return words + WORDS
 
 
 def size_of(chosen):
-    return "%.5fpt" % chosen.uniform(*chosen.choice(((0.5, 30), (0.5, 30), (100, 300), (1000, 2000))))
+    return "%.5fpt" % chosen.between(*chosen.pick(((0.5, 30), (0.5, 30), (100, 300), (1000, 2000))))
 
 
 class Batch:
     """Some files, each in two slots: at its design size and at another one."""
 
     def __init__(self, first, listings):
-        chosen = random.Random(first)
+        chosen = Chance(first, FONT_SEEDS)
         self.box, self.tex, self.keys = [], [TEX_HEAD], {}
         self.names = {"f%04d" % (first + i): listing.path for i, listing in enumerate(listings)}
         for i, listing in enumerate(listings):
             name = "f%04d" % (first + i)
-            codes = chosen.sample(listing.codes, min(CHARACTERS, len(listing.codes))) if listing.read else range(60, 80)
+            codes = chosen.sample(listing.codes, CHARACTERS) if listing.read else range(60, 80)
             for slot, size in ((i, ""), (BATCH + i, " at " + size_of(chosen))):
                 self.font(first + i, slot, name, size)
                 for code in codes:
@@ -135,7 +135,9 @@ def metrics(work):
                 causes["files with bytes after their last word, of which tftopl warns; boxglue and tex read them"] += 1
             elif not ours == tex == quiet:
                 notes.append("%s: boxglue: %s; tex: %s; tftopl: %s" % (listing.path, accepted[i][0], "read" if tex else "refused", "; ".join(listing.complaints[:3]) or "no complaint"))
-            if accepted[BATCH + i][0] != accepted[i][0]:
+            if ours and accepted[BATCH + i][0] == "refused 3 DimensionTooLarge":
+                causes["fonts with a width, height, depth or kern that does not fit at the other size, which boxglue refuses (FORMATS.md)"] += 1
+            elif accepted[BATCH + i][0] != accepted[i][0]:
                 notes.append("%s: at another size: %s" % (listing.path, accepted[BATCH + i][0]))
         pages = [{page.counts[0]: page for page in by_dvitype(file, work.folder).named()} for file in (name + ".ours.dvi", name + ".dvi")]
         for number in sorted(set(pages[0]) & set(pages[1])):
@@ -154,14 +156,14 @@ def metrics(work):
 
 def damaged(work):
     """Metric files of TeX Live with one byte changed, most of them in the tables that readers check: who reads them."""
-    chosen, small = random.Random(5), [path for path in files() if os.path.getsize(path) < 3000]
+    chosen, small = Chance(0, DAMAGE_SEEDS), [path for path in files() if os.path.getsize(path) < 3000]
     cases = []
     for number in range(450):
-        path = chosen.choice(small)
+        path = chosen.pick(small)
         with open(path, "rb") as file:
-            data = bytearray(file.read())
-        place = chosen.randrange(chosen.choice((24, 32, 200, len(data), len(data))))
-        data[place] = (data[place] + chosen.choice((1, 2, 16, 64, 127, 128, 255))) % 256
+            good = file.read()
+        data = other_bytes(chosen, good, 1, chosen.pick((24, 32, 200, len(good), len(good))))
+        place = next(at for at, two in enumerate(zip(good, data)) if two[0] != two[1])
         name = "d%03d" % number
         with open(work.path(name + ".tfm"), "wb") as file:
             file.write(data)

@@ -1,5 +1,5 @@
 #!/usr/bin/env python3
-"""Runs boxglue on hostile inputs: bench/hostile.py [--boxglue PROGRAM] [--count N] [--first N] [--keep FOLDER].
+"""Runs boxglue on hostile inputs: bench/trials/hostile.py [--boxglue PROGRAM] [--count N] [--first N] [--keep FOLDER].
 
 The inputs are scripts, DVI files, metric files and command lines, the same in every run (hostile_inputs.py). Each is run in a process of its own.
 What it prints, writes and returns has to be of a documented form (hostile_answers.py), its file is absent or one that `list` reads, and one input in fifty is run a second time.
@@ -224,7 +224,7 @@ def try_all(room, good, numbers, kept):
 
 def main():
     parser = argparse.ArgumentParser(description=__doc__, formatter_class=argparse.RawDescriptionHelpFormatter)
-    parser.add_argument("--boxglue", default=os.environ.get("BOXGLUE", os.path.join(HERE, "../crates/boxglue/out/boxglue")))
+    parser.add_argument("--boxglue", default=os.environ.get("BOXGLUE", os.path.join(HERE, "../../crates/boxglue/out/boxglue")))
     parser.add_argument("--count", type=int, default=100_000, help="how many inputs")
     parser.add_argument("--first", type=int, default=0, help="the number of the first")
     parser.add_argument("--keep", metavar="FOLDER", help="where the inputs go that went wrong; with --count 1 also one that went right")

@@ -45,7 +45,7 @@ PAGE = re.compile(rb"page (\d+) counts(?: -?\d+){10}")
 HEX = re.compile(rb"(?:(?:[0-9a-f]{32}\n)*(?:(?:[0-9a-f]{2}){1,15}\n)?)")
 ONE_MESSAGE = re.compile(rb"boxglue: (?:(cannot (?:read|write)) |not NAME=TFM: |name given twice: |no such page)[^\0]*\n", re.S)
 HELP = re.compile(rb"(?:error: |[^\n]*\n\nUsage: boxglue)", re.S)
-VERSION = re.compile(rb"boxglue \d+\.\d+\.\d+ \(rattle logic [0-9a-f]+\)\n")
+VERSION = re.compile(rb"boxglue \d+\.\d+\.\d+ (?:\(rattle logic [0-9a-f]+\)|UNPROVED, with(?:out)? run-time checks)\n")
 
 
 class Ran:

@@ -1,7 +1,7 @@
 #!/usr/bin/env python3
-"""Calls the library for C on hostile inputs, and compares it with the program: bench/hostile_library.py --archive LIBBOXGLUE_C [--boxglue PROGRAM] [--count N] [--first N].
+"""Calls the library for C on hostile inputs, and compares it with the program: bench/trials/hostile_library.py --archive LIBBOXGLUE_C [--boxglue PROGRAM] [--count N] [--first N].
 
-The inputs are the scripts, DVI files and metric files of bench/hostile.py. The caller is that of bindings/c, with AddressSanitizer where the compiler has it: it makes each call
+The inputs are the scripts, DVI files and metric files of hostile.py. The caller is that of bindings/c, with AddressSanitizer where the compiler has it: it makes each call
 also with no room and with a byte too little, and fails where a byte outside its buffers is written or memory is not freed.
 A script is run at once and in pieces on a job; a file is listed, painted, and asked for its marks and its fonts. The answers and bytes have to be those of the program."""
 

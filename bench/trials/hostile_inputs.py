@@ -6,16 +6,16 @@ Most inputs are good ones with a few changes, since random bytes are refused at 
 import glob
 import os
 import re
-import struct
 import sys
 
-ROOT = os.path.dirname(os.path.dirname(os.path.abspath(__file__)))
-sys.path.insert(0, ROOT + "/tests")
-from steps.dvi_writer import Font, Page, definition, dvi_file  # noqa: E402
+ROOT = os.path.dirname(os.path.dirname(os.path.dirname(os.path.abspath(__file__))))
+sys.path[:0] = [ROOT + "/tests", ROOT + "/bench"]
+from steps.dvi_writer import Font, Page, dvi_file  # noqa: E402
 from steps.large_inputs import TINY  # noqa: E402
 from steps.library_inputs import case_script, font_files  # noqa: E402
 from steps.plain_font import metric_file  # noqa: E402
-from hostile_scripts import Chance, changed, changed_script, large_script, random_script  # noqa: E402
+from generator import HOSTILE_SEEDS, Chance, changed, changed_metrics, framed, sheet  # noqa: E402
+from hostile_scripts import changed_script, large_script, random_script  # noqa: E402
 
 # Twenty inputs have these kinds, and so has each next twenty.
 KINDS = ("script",) * 7 + ("dvi",) * 6 + ("metrics",) * 3 + ("words",) * 4
@@ -92,76 +92,6 @@ def script_input(chance, good):
 
 # DVI files
 
-EDGES = (0, 1, -1, 2 ** 31 - 1, -2 ** 31, 65536, 2 ** 30, -2 ** 30, 2 ** 24, 127, 128, 255, 256)
-
-
-def operand(chance, size):
-    """The bytes of a number, an extreme one in half of the cases."""
-    return ((chance.pick(EDGES) if chance.one_in(2) else chance.next()) % 256 ** size).to_bytes(size, "big")
-
-
-def movement(chance):
-    size = 1 + chance.below(4 if chance.one_in(3) else 2)
-    return bytes([chance.pick((142, 147, 152, 156, 161, 166)) + size]) + operand(chance, size)
-
-
-def calm_instruction(chance):
-    """An instruction that may come anywhere in a page, though a movement may leave the range."""
-    way = chance.below(10)
-    if way < 3:
-        return bytes([chance.pick(b"abcde")])
-    if way == 3:
-        return bytes([chance.pick((132, 137))]) + operand(chance, 4) + operand(chance, 3).rjust(4, b"\0")
-    if way < 6:
-        return movement(chance)
-    if way == 6:
-        return bytes([chance.pick((147, 152, 161, 166, 138, 171, 172))])
-    if way == 7:
-        return b"\x8d" + calm_instruction(chance) + calm_instruction(chance) + b"\x8e"
-    if way == 8:
-        words = chance.bytes(chance.below(20))
-        return bytes([239, len(words)]) + words
-    size = 1 + chance.below(4)
-    return bytes([chance.pick((127, 132)) + size]) + chance.pick(b"abcde").to_bytes(size, "big")
-
-
-def wild_instruction(chance):
-    """An instruction that is often wrong at its place."""
-    way = chance.below(6)
-    if way == 0:
-        return chance.pick((b"\x8d", b"\x8e", b"\x8d" * chance.below(40), b"\x8e\x8d"))
-    if way == 1:
-        size = 1 + chance.below(4)
-        return bytes([chance.pick((127, 132, 234, 238)) + size]) + operand(chance, size)
-    if way == 2:
-        return definition(Font(chance.below(3), chance.pick((b"tiny", b"tiny", b"absent")), chance.pick((655360, 655360, 1, 134217727))))
-    if way == 3:
-        return bytes([chance.below(256)])
-    return calm_instruction(chance)
-
-
-def framed(chance):
-    """A file with a right frame, and random instructions in its pages: calm ones alone in half of the files."""
-    fonts = (Font(0, b"tiny"), Font(1, b"tiny", chance.pick((655360, 1, 2 ** 27 - 1, 2 ** 23 + 1))))
-    pages, wild = [], chance.one_in(2)
-    for at in range(1 + chance.below(3)):
-        count = chance.below(12 if chance.one_in(2) else 40)
-        body = b"".join(wild_instruction(chance) if wild and chance.one_in(8) else calm_instruction(chance) for _ in range(count))
-        pages.append(Page([(b"" if chance.one_in(20) else b"\xab") + body], tuple(chance.pick(EDGES[:9]) for _ in range(10)), fonts if at == 0 else ()))
-    made = dvi_file(pages, 0, 0)
-    depth = chance.pick((100, 1024, 65535, 1)).to_bytes(2, "big")
-    return made.data[:made.post + 25] + depth + made.data[made.post + 27:]
-
-
-def sheet(chance):
-    """The numbers of a bitmap, small ones in most."""
-    dpi, page = chance.pick((1, 72, 300, 600, 10000, 1 + chance.below(10000))), 1 + chance.below(2)
-    width, height = 1 + chance.below(200), 1 + chance.below(100)
-    if chance.one_in(100):
-        width, height = chance.pick(((10000, 30), (1, 10000), (70, 70), (10000, 1000)))
-    return [str(it) for it in (page, dpi, width, height)]
-
-
 def reading(chance, kind, way, data, fonts):
     """`list` of a file, or `paint` of a page of it."""
     words = ["list"]
@@ -182,28 +112,12 @@ def dvi_input(chance, good):
 
 # Metric files
 
-WORDS_OF_16 = (0, 1, 2, 3, 255, 256, 257, 32767, 32768, 65535, 65534, 6, 12, 29)
 USE_ALL = b"font 0 f\nfont 1 f at 134217727sp\nfont 2 f at 1sp\nuse 0\nhbox into 0\ntext abcdeabcde zz aab\n" + b"".join(b"char %d\n" % it for it in (0, 97, 98, 200, 201, 255)) + \
     b"end\nship 0\nuse 2\nhbox into 0\ntext abcde edcba\nend\nship 0\n"
 
 
 def metrics_input(chance, good):
-    data = chance.pick(good.metrics)
-    if chance.one_in(3):
-        way, data = "lengths", bytearray(data)
-        for _ in range(1 + chance.below(3)):
-            at = 2 * chance.below(12)
-            value = chance.pick(WORDS_OF_16) if chance.one_in(2) else int.from_bytes(data[at:at + 2], "big") + chance.below(5) - 2
-            data[at:at + 2] = (value % 65536).to_bytes(2, "big")
-        if chance.one_in(2):  # the first number is right again, and so are the bytes
-            lf, lh, bc, ec, *tables = struct.unpack(">12H", data[:24])
-            words = 6 + lh + ec - bc + 1 + sum(tables)
-            if 0 < words < 33000:
-                data[:2] = words.to_bytes(2, "big")
-                data = data + (bytes(4 * words) if chance.one_in(2) else chance.bytes(4 * words))
-        data = bytes(data)
-    else:
-        way, data = changed(chance, data, chance.pick(good.metrics))
+    way, data = changed_metrics(chance, chance.pick(good.metrics), chance.pick(good.metrics))
     if chance.one_in(3):
         glyphs = bytes([171]) + bytes(it for it in chance.bytes(chance.below(6)) if it < 128)
         made = dvi_file([Page([glyphs], new_fonts=(Font(0, b"f", chance.pick((655360, 1, 2 ** 27 - 1, 2 ** 26))),))], 0, 0)
@@ -266,4 +180,4 @@ MAKERS = {"script": script_input, "dvi": dvi_input, "metrics": metrics_input, "w
 def input_of(number, good):
     """The input of this number."""
     kind = KINDS[number % len(KINDS)]
-    return MAKERS[kind](Chance(number, 1), good)
+    return MAKERS[kind](Chance(number, HOSTILE_SEEDS), good)

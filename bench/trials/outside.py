@@ -1,8 +1,8 @@
 #!/usr/bin/env python3
-"""Compares boxglue with TeX's programs: bench/outside.py [--boxglue PROGRAM] [--folder FOLDER] [--notes N] [--seeds N] [PART ..], all parts if none is named.
+"""Compares boxglue with TeX's programs: bench/trials/outside.py [--boxglue PROGRAM] [--folder FOLDER] [--notes N] [--seeds N] [PART ..], all parts if none is named.
 
-Each part prints one line of counts and differences, and below it the causes that are known, and the first N of the others. Everything random has a fixed seed.
-The inputs and outputs stay in FOLDER, if one is named. It needs Debian's packages texlive-base, texlive-latex-base, dvipng, ghostscript and poppler-utils;
+Each part prints one line of counts and differences, and below it the causes that are known, and the first N of the others; or which tools it lacks, and then the status is 1.
+Everything random has a fixed seed. The inputs and outputs stay in FOLDER, if one is named. It needs Debian's packages texlive-base, texlive-latex-base, dvipng, ghostscript and poppler-utils;
 with texlive-fonts-recommended, texlive-latex-recommended, texlive-pictures and texlive-extra-utils it has more metric files and documents. docs/EVIDENCE.md has the results."""
 
 import argparse
@@ -17,16 +17,16 @@ from collections import Counter
 from fractions import Fraction
 from math import ceil
 
-import inputs
-from outside_documents import DOCUMENTS
-from outside_fonts import TREES, damaged, metrics
-from outside_pages import Tally, black, by_boxglue, by_dvitype
-from outside_random import boxes, pages, paragraphs, splits
-from outside_work import Work
-
 HERE = os.path.dirname(os.path.abspath(__file__))
-EXAMPLES = os.path.join(HERE, "../examples")
-PROGRAMS = "tex latex tftopl dvitype dvicopy dvips gs dvipdfmx pdftoppm dvipng kpsewhich".split()
+sys.path.insert(1, os.path.dirname(HERE))
+import inputs  # noqa: E402 (after the path)
+from outside_documents import DOCUMENTS  # noqa: E402
+from outside_fonts import TREES, damaged, metrics  # noqa: E402
+from outside_pages import Tally, black, by_boxglue, by_dvitype  # noqa: E402
+from outside_random import boxes, pages, paragraphs, splits  # noqa: E402
+from outside_work import Work  # noqa: E402
+
+EXAMPLES = os.path.join(HERE, "../../examples")
 
 
 # Files of TeX.
@@ -149,12 +149,23 @@ def paint(work):
     work.show("paint: 1600 rules, pixels that differ from dvipng's: " + ", ".join(parts), {}, notes)
 
 
-PARTS = {"metrics": metrics, "damaged": damaged, "boxes": boxes, "splits": splits, "paragraphs": paragraphs, "pages": pages, "documents": documents, "readers": readers, "paint": paint}
+# Each part with the tools that it needs.
+PARTS = {
+    "metrics": (metrics, "tex tftopl dvitype"),
+    "damaged": (damaged, "tex tftopl"),
+    "boxes": (boxes, "tex dvitype kpsewhich"),
+    "splits": (splits, "tex dvitype kpsewhich"),
+    "paragraphs": (paragraphs, "tex dvitype kpsewhich"),
+    "pages": (pages, "tex dvitype kpsewhich"),
+    "documents": (documents, "tex latex dvitype dvicopy kpsewhich"),
+    "readers": (readers, "dvitype dvips gs dvipdfmx pdftoppm dvipng kpsewhich"),
+    "paint": (paint, "dvitype dvipng"),
+}
 
 
 def main():
     parser = argparse.ArgumentParser(description=__doc__, formatter_class=argparse.RawDescriptionHelpFormatter)
-    parser.add_argument("--boxglue", default=os.environ.get("BOXGLUE", os.path.join(HERE, "../crates/boxglue/out/boxglue")))
+    parser.add_argument("--boxglue", default=os.environ.get("BOXGLUE", os.path.join(HERE, "../../crates/boxglue/out/boxglue")))
     parser.add_argument("--folder", help="a folder for all inputs and outputs, else one that is removed")
     parser.add_argument("--notes", type=int, default=5, metavar="N", help="how many differences of a part are shown")
     parser.add_argument("--seeds", type=int, metavar="N", help="of random work the first N seeds of a part alone")
@@ -163,17 +174,23 @@ def main():
     parts = words.parts or list(PARTS)
     if not set(parts) <= set(PARTS):
         parser.error("the parts are " + ", ".join(PARTS))
-    lacks = [it for it in PROGRAMS if shutil.which(it) is None] + ([] if os.access(words.boxglue, os.X_OK) else [words.boxglue])
-    if lacks:
-        sys.exit("not there: " + ", ".join(lacks))
+    if not os.access(words.boxglue, os.X_OK):
+        sys.exit("%s is not there" % words.boxglue)
+    left_out = 0
     with tempfile.TemporaryDirectory() as room:
         folder = os.path.abspath(words.folder or room)
         os.makedirs(folder, exist_ok=True)
         work = Work(words.boxglue, folder, words.notes, words.seeds)
         for part in parts:
-            start = time.monotonic()
-            PARTS[part](work)
+            start, (compare, tools) = time.monotonic(), PARTS[part]
+            lacks = [it for it in tools.split() if shutil.which(it) is None]
+            if lacks:
+                print("%s: not tried, not there: %s" % (part, ", ".join(lacks)), flush=True)
+                left_out += 1
+                continue
+            compare(work)
             print("    %.0f s" % (time.monotonic() - start), flush=True)
+    sys.exit(bool(left_out))
 
 
 main()

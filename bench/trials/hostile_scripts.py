@@ -1,85 +1,9 @@
-"""A small random generator, changes of bytes, and hostile scripts."""
+"""Hostile scripts."""
 
 import re
 
-
-class Chance:
-    """xorshift64*, from a seed of two numbers."""
-
-    def __init__(self, first, second):
-        self.state = (first * 0x9E3779B97F4A7C15 + second * 0xD1342543DE82EF95 + 0x2545F4914F6CDD1D) % 2 ** 64 or 1
-        for _ in range(4):
-            self.next()
-
-    def next(self):
-        it = self.state
-        it ^= it >> 12
-        it ^= it << 25 & 0xFFFFFFFFFFFFFFFF
-        it ^= it >> 27
-        self.state = it
-        return it * 0x2545F4914F6CDD1D % 2 ** 64 >> 31
-
-    def below(self, bound):
-        return self.next() % bound
-
-    def pick(self, values):
-        return values[self.below(len(values))]
-
-    def one_in(self, count):
-        return self.below(count) == 0
-
-    def bytes(self, count):
-        return b"".join(self.next().to_bytes(5, "big")[1:] for _ in range(count // 4 + 1))[:count]
-
-
-# Changes of bytes
-
-def other_bytes(chance, data, count):
-    """Other bytes at this many places."""
-    data = bytearray(data)
-    for _ in range(count if data else 0):
-        data[chance.below(len(data))] ^= 1 + chance.below(255)
-    return bytes(data)
-
-
-def cut(chance, data):
-    return data[:chance.below(len(data) + 1)]
-
-
-def spliced(chance, data, other):
-    """A beginning of one and an end of the other, or a piece of the other inside."""
-    first, last = chance.below(len(data) + 1), chance.below(len(other) + 1)
-    if chance.one_in(2):
-        return data[:first] + other[last:]
-    return data[:first] + other[last:last + chance.below(64)] + data[first:]
-
-
-def lengthened(chance, data):
-    """With more bytes inside or after it: random ones, bytes 223, or a piece of it again."""
-    place, way = chance.below(len(data) + 1), chance.below(4)
-    if way == 0:
-        return data[:place] + chance.bytes(1 + chance.below(40)) + data[place:]
-    if way == 1:
-        return data + b"\xdf" * (1 + chance.below(300))
-    if way == 2:
-        return data + chance.bytes(1 + chance.below(300))
-    piece = data[place:place + 1 + chance.below(60)]
-    return data[:place] + piece * (1 + chance.below(20)) + data[place:]
-
-
-def changed(chance, data, other):
-    """One of these changes, and its name."""
-    way = chance.pick(("one byte", "two bytes", "cut", "spliced", "lengthened"))
-    if way == "cut":
-        return way, cut(chance, data)
-    if way == "spliced":
-        return way, spliced(chance, data, other)
-    if way == "lengthened":
-        return way, lengthened(chance, data)
-    return way, other_bytes(chance, data, 1 if way == "one byte" else 2)
-
-
-# Scripts
+import generator
+from generator import PARAMETERS
 
 DIMENSIONS = ("0pt 1sp -1sp 5pt 10pt 1pt -2.5pt 16383.99999pt -16383.99999pt 1073741823sp -1073741823sp 536870912sp 8191.99999pt 0.00001pt 22.75in 575.8cm 5758.3mm 1276cc "
               "300pt 40pt 65536sp 16383.99998pt 1000pt .5pt 1.pt -1000pt 134217727sp +0001pt").split()
@@ -88,11 +12,6 @@ ORDERS = "1fil -1fil 1fill 1filll 0fil 16383.99999filll -16383.99999fil .00001fi
 NUMBERS = "0 1 -1 100 10000 -10000 9999 -9999 500000000 -500000000 +003 -0 32 200 10 250000000".split()
 BAD_NUMBERS = "500000001 -500000001 2147483648 -2147483649 99999999999999999999 1pt x 32768 256 10 0x1 1.0 -".split()
 REGISTERS = "0 0 0 1 1 2 3 7 32767 00 +1".split()
-PARAMETERS = {
-    "dimension": "hsize firstsize lineskiplimit boxmaxdepth splitmaxdepth hoffset voffset".split(),
-    "glue": "baselineskip lineskip parfillskip splittopskip".split(),
-    "number": "pretolerance tolerance linepenalty adjdemerits clubpenalty widowpenalty interlinepenalty".split(),
-}
 LETTERS = "abcdeabcde zfi-`'"
 
 
@@ -107,12 +26,7 @@ def stretch(chance):
 
 
 def glue(chance):
-    words = [dimension(chance)]
-    if chance.one_in(2):
-        words += ["plus", stretch(chance)]
-    if chance.one_in(3):
-        words += ["minus", stretch(chance)]
-    return " ".join(words)
+    return generator.glue(chance, dimension(chance), lambda: stretch(chance), lambda: stretch(chance))
 
 
 def parameter(chance):
