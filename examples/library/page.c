@@ -1,4 +1,4 @@
-/* Runs a script in the font cmtt10: page SCRIPT METRICS OUT. It prints the answers, and writes the DVI file to OUT.
+/* Runs a script in the font cmtt10: page SCRIPT METRICS OUT. It prints the answers, and writes the DVI file to OUT where nothing was refused.
  *
  *     cc -o page page.c $(pkg-config --cflags --libs boxglue)
  */
@@ -52,8 +52,10 @@ int main(int count, char **words) {
     } while (status == BOXGLUE_BUFFER_TOO_SMALL);
     if (status == BOXGLUE_OUT_OF_MEMORY) return 2;
     fwrite(answers, 1, sizes.answers, stdout);
-    FILE *file = fopen(words[3], "wb");
-    if (!file || fwrite(dvi, 1, sizes.dvi, file) != sizes.dvi || fclose(file)) return 2;
+    if (status == BOXGLUE_ACCEPTED) { /* where something was refused, no file is written */
+        FILE *file = fopen(words[3], "wb");
+        if (!file || fwrite(dvi, 1, sizes.dvi, file) != sizes.dvi || fclose(file)) return 2;
+    }
     free(answers);
     free(dvi);
     free(script.at);

@@ -1,5 +1,5 @@
-"""Callers of the library for C: those of docs/LIBRARY.md, in C, Python and Rust, compile and give the page of one rule; the tests of the binding for Python pass;
-the client of examples/markdown makes a page, and a book; the driver of examples/library draws a page; and through the header a pointer with the size 0 may be null, in C and C++."""
+"""Callers of the library for C: those of docs/LIBRARY.md, in C, Python and Rust, and of examples/library compile and give the page of one rule; the tests of the binding for
+Python pass; the client of examples/markdown makes a page, and a book; the driver of examples/library draws a page; and through the header a pointer with the size 0 may be null, in C and C++."""
 import os
 import re
 import subprocess
@@ -12,7 +12,7 @@ from steps.outcome import lacks, without
 from steps.plain_font import metric_file
 from steps.texts import last_lines
 
-TITLE = "callers of the library for C: docs/LIBRARY.md, bindings/python, examples/markdown"
+TITLE = "callers of the library for C: docs/LIBRARY.md, examples/library, bindings/python, examples/markdown"
 PROGRAM = "library"
 NEEDS_PROGRAM = True
 LIMIT = 120
@@ -42,12 +42,15 @@ take 0 0 0: accepted
 WANTED = b"1: ok\n2: ok\n3: packed 1.0pt 1.0pt 0.0pt badness 0\n4: shipped 1\nend: pages 1 bytes 116\n"
 
 
-def block(root, language, number):
-    """The block of docs/LIBRARY.md in a language with this number, from 0. The first one runs a whole script. In C the second keeps a job, and the third takes replies
-    as numbers; in Python the second takes replies and marks, and the third keeps a job."""
+def text_of(root, name):
+    """The text of a caller: the one block of docs/LIBRARY.md in a language, or a file of examples/library."""
+    if "." in name:
+        with open(f"{root}/examples/library/{name}", encoding="utf-8") as it:
+            return it.read()
     with open(f"{root}/docs/LIBRARY.md", encoding="utf-8") as it:
         section = it.read().partition(f"{SECTION}\n")[2].split("\n## ")[0]
-    return re.findall(rf"^```{language}\n(.*?)^```$", section, flags=re.M | re.S)[number]
+    found, = re.findall(rf"^```{name}\n(.*?)^```$", section, flags=re.M | re.S)
+    return found
 
 
 def write(path, text):
@@ -69,28 +72,40 @@ def file_wrong(folder):
     return None if size == FILE_SIZE else f"page.dvi has {size} bytes"
 
 
-def compiled_in_c(number, root, archive, folder, wanted=WANTED):
+def compiled_in_c(text, root, archive, folder, wanted=WANTED):
     """Runs a caller in C, and says what is wrong, or returns None."""
-    write(f"{folder}/caller.c", block(root, "c", number))
+    write(f"{folder}/caller.c", text)
     return compile_c(root, archive, [f"{folder}/caller.c"], f"{folder}/caller", []) or run_wrong([f"{folder}/caller"], folder=folder, wanted=wanted)
 
 
-def caller_in_c(number, root, archive, folder):
-    return compiled_in_c(number, root, archive, folder) or file_wrong(folder)
+def caller_in_c(name, root, archive, folder):
+    return compiled_in_c(text_of(root, name), root, archive, folder) or file_wrong(folder)
+
+
+def refused_in_c(name, root, archive, folder):
+    """The same caller over a script with a bad line, and over one with a refused command: its status is 1, and it writes no file."""
+    text, line = text_of(root, name), "rule 1pt 1pt 0pt"
+    for other in ("rule 1em 1pt 0pt", "penalty 0\\nunhbox 7\\npar"):
+        write(f"{folder}/caller.c", text.replace(line, other))
+        wrong = compile_c(root, archive, [f"{folder}/caller.c"], f"{folder}/caller", [])
+        status = None if wrong else subprocess.run([f"{folder}/caller"], cwd=folder, capture_output=True, timeout=LIMIT).returncode
+        if wrong or line not in text or status != 1 or os.path.exists(f"{folder}/page.dvi"):
+            return wrong or f"with {other!r} the status is {status}, and page.dvi is {'there' if os.path.exists(f'{folder}/page.dvi') else 'not there'}"
+    return None
 
 
 def replies_in_c(root, archive, folder):
-    return compiled_in_c(2, root, archive, folder, b"line 3: 65536 sp wide\n")
+    return compiled_in_c(text_of(root, "replies.c"), root, archive, folder, b"line 3: 65536 sp wide\n")
 
 
-def caller_in_python(number, root, archive, folder):
-    write(f"{folder}/caller.py", block(root, "python", number))
+def job_in_python(root, archive, folder):
+    write(f"{folder}/caller.py", text_of(root, "job.py"))
     words, env = python_words(root, archive, [f"{folder}/caller.py"])
-    return run_wrong(words, env, folder=folder) or (file_wrong(folder) if number else None)
+    return run_wrong(words, env, folder=folder) or file_wrong(folder)
 
 
-def typed_in_python(root, archive, folder):
-    write(f"{folder}/caller.py", block(root, "python", 1))
+def caller_in_python(root, archive, folder):
+    write(f"{folder}/caller.py", text_of(root, "python"))
     words, env = python_words(root, archive, [f"{folder}/caller.py"])
     return run_wrong(words, env, b"65536 2.0pt\n0 Rule(h=0, v=131072, height=131072, width=65536)\n", folder)
 
@@ -100,7 +115,7 @@ def caller_in_rust(root, archive, folder):
         return lacks("cargo")
     write(f"{folder}/Cargo.toml", f'[package]\nname = "caller"\nversion = "0.1.0"\nedition = "2021"\n[dependencies]\nboxglue = {{ path = "{root}/bindings/rust/boxglue" }}\n')
     os.mkdir(f"{folder}/src")
-    write(f"{folder}/src/main.rs", block(root, "rs", 0))
+    write(f"{folder}/src/main.rs", text_of(root, "rs"))
     env = {**os.environ, "BOXGLUE_LIB_DIR": folder, "CARGO_TARGET_DIR": f"{folder}/target"}
     words = ["cargo", "run", "--quiet", "--offline", "--manifest-path", f"{folder}/Cargo.toml"]
     return run_build([f"{root}/bindings/build", "--static", archive, f"{folder}/libboxglue.a"]) or run_wrong(words, env)
@@ -203,10 +218,9 @@ def outcome(call, root, archive=None, *_programs):
 
 def cases(programs, root):
     """The callers."""
-    calls = {"LIBRARY.md in C": partial(caller_in_c, 0), "LIBRARY.md in C, a job": partial(caller_in_c, 1), "LIBRARY.md in C, replies": replies_in_c,
-             "LIBRARY.md in Python": partial(caller_in_python, 0),
-             "LIBRARY.md in Python, replies and marks": typed_in_python, "LIBRARY.md in Python, a job": partial(caller_in_python, 2),
-             "LIBRARY.md in Rust": caller_in_rust, "tests of bindings/python": partial(binding, "test_*.py"),
+    calls = {"LIBRARY.md in C": partial(caller_in_c, "c"), "LIBRARY.md in C, refused": partial(refused_in_c, "c"), "examples/library/job.c": partial(caller_in_c, "job.c"),
+             "examples/library/job.c, refused": partial(refused_in_c, "job.c"), "examples/library/replies.c": replies_in_c,
+             "LIBRARY.md in Python": caller_in_python, "examples/library/job.py": job_in_python, "LIBRARY.md in Rust": caller_in_rust, "tests of bindings/python": partial(binding, "test_*.py"),
              "types of bindings/python": types_of_binding, "marks of bindings/python in numpy": marks_in_numpy, "examples/markdown": partial(client, page_of_markdown, 1),
              "examples/library/svg_pages.py": driver, "examples/markdown in 1,000 pages": partial(client, book_of_markdown, 1000)}
     calls |= {f"null pointers in {it}": partial(null_pointers, it) for it in LANGUAGES}

@@ -1,5 +1,5 @@
-"""The manual page, docs/boxglue.1: its lists of refusals and of bad scripts are those of COMMANDS.md and FORMATS.md, the program refuses its usual mistakes, and
-its lines for many scripts at once run 200 of them."""
+"""The manual page, docs/boxglue.1: its lists of refusals and of bad scripts are those of COMMANDS.md and FORMATS.md, the program refuses its usual mistakes,
+its lines for many scripts at once run 200 of them, its calls of the library are those of the header, and it fits into 80 columns."""
 import os
 import re
 import subprocess
@@ -9,6 +9,7 @@ from functools import partial
 from steps.dvi_writer import Page, down, dvi_file, set_rule
 from steps.outcome import lacks
 from steps.plain_font import metric_file
+from tools.exports import calls
 
 TITLE = "the manual page: refusals, usual mistakes, and lines for many scripts at once"
 NEEDS_PROGRAM = True
@@ -129,10 +130,29 @@ def many(programs, root, tool, before):
     return None
 
 
+def columns(root):
+    """Lines of the page that are longer than 80 columns where the terminal has so many."""
+    if lacks("man"):
+        return lacks("man")
+    env = {"PATH": os.environ["PATH"], "MANWIDTH": "80", "LC_ALL": "C.UTF-8"}
+    shown = subprocess.run(["man", "-l", f"{root}/docs/boxglue.1"], env=env, capture_output=True, timeout=LIMIT)
+    lines = re.sub(r".\x08|\x1b\[[\d;]*m", "", shown.stdout.decode()).splitlines()
+    long_ones = [it for it in lines if len(it) > 80]
+    return f"{len(long_ones)} of {len(lines)} lines are longer, as {long_ones[0]!r}" if long_ones else None if len(lines) > 300 else f"the page has {len(lines)} lines"
+
+
+def library(root):
+    """The calls of the library: those of the header."""
+    here, there = {*re.findall(r"^(boxglue_\w+);", part(read(f"{root}/docs/boxglue.1"), "LIBRARY"), re.M)}, {*calls(root)}
+    return None if here == there and here else f"these are not in both: {sorted(here ^ there)}"
+
+
 def cases(programs, root):
     """The cases, by name."""
     yield "refusals", partial(refusals, root)
     yield "causes of bad scripts", partial(causes, root)
+    yield "calls of the library", partial(library, root)
+    yield "80 columns", partial(columns, root)
     yield "usual mistakes", partial(usual_mistakes, programs, root)
     yield "200 scripts by xargs", partial(many, programs, root, "xargs", "For all scripts of a folder")
     yield "200 scripts by make", partial(many, programs, root, "make", "begins with a tab.*?\\.fi")
