@@ -22,9 +22,9 @@ Usage: boxglue [COMMAND]
 For more information, try '--help'.
 ";
 
-/// Files of which one is opened three times before anything else, and never read. The number of a closed standard stream goes to the next file that is
-/// opened, and what is meant for the stream would then go into that file. So the numbers of all three are taken first, and a write to a closed stream
-/// fails. The user may lack the right to read the first ones.
+/// Files of which one is opened three times before anything else, and never read. The number of a closed standard stream goes to the next file that
+/// is opened, and what is meant for the stream would then go into that file. So the numbers of all three are taken first, and a write to a closed
+/// stream fails. The user may lack the right to read the first ones.
 const PLACEHOLDERS: [&str; 3] = ["/", "/dev/null", "."];
 
 /// A file that is open while the program runs, if one of the placeholders can be opened.

@@ -1,5 +1,6 @@
-//! The typesetter for programs in C, and for languages that call C. Each function calls the one of its name in `boxglue_calls` or `boxglue_jobs`, and states its clauses again;
-//! `include/boxglue.h` describes them for callers in C. A function has no `requires`: it returns a status for every input.
+//! The typesetter for programs in C, and for languages that call C. Each function calls the one of its name in `boxglue_calls`, or in its module
+//! `jobs`, and states its clauses again; `include/boxglue.h` describes them for callers in C. A function has no `requires`: it returns a status for
+//! every input.
 #![tactic(auto)]
 
 ghost use Rattle.std.specs.Prelude.{◌≡◌, ◌≢◌, ◌↔◌, ◌⊎◌, ◌≤◌, ◌/◌, length, false, true, None, Some};
@@ -8,16 +9,16 @@ ghost use Rattle.boxglue_calls.specs.FontTables.{HandsOverFonts};
 ghost use Rattle.boxglue_calls.specs.MarkTables.{HandsOverMarks, mark_outputs};
 ghost use Rattle.boxglue_calls.specs.Pages.{HandsOverPages, is_in_range};
 ghost use Rattle.boxglue_calls.specs.Runs.{HandsOverRun, IsRun};
-ghost use Rattle.boxglue_jobs.specs.Calls.{OnJob};
-ghost use Rattle.boxglue_jobs.specs.Jobs.{IsNewJob, KeptState};
-ghost use Rattle.boxglue_jobs.specs.Pieces.{DoesCommands, FinishesKept, HandsAnswers, HandsBytes};
-ghost use Rattle.boxglue_jobs.specs.Replies.{RepliesTo, RepliesToEnd};
-ghost use Rattle.boxglue_jobs.specs.Whole.{IsReplied};
-ghost use Rattle.boxglue_print.specs.Outputs.{IsListed, IsPainted, LacksPage};
+ghost use Rattle.boxglue_calls.specs.Calls.{OnJob};
+ghost use Rattle.boxglue_calls.specs.Jobs.{IsNewJob, KeptState};
+ghost use Rattle.boxglue_calls.specs.Pieces.{DoesCommands, FinishesKept, HandsAnswers, HandsBytes};
+ghost use Rattle.boxglue_calls.specs.Replies.{RepliesTo, RepliesToEnd};
+ghost use Rattle.boxglue_calls.specs.Whole.{IsReplied};
+ghost use Rattle.boxglue_program.specs.Outputs.{IsListed, IsPainted, LacksPage};
 ghost use Rattle.raster_core.specs.Sheets.{sheet_of};
 
+use boxglue_calls::jobs::{JobHandle, ReplyRow, ReplySizes};
 use boxglue_calls::{DviFont, DviMark, DviPage, Font, FontSizes, Lengths, MarkSizes};
-use boxglue_jobs::{JobHandle, ReplyRow, ReplySizes};
 use std::alloc::Global;
 
 /// Runs a script with these fonts. The answers and the bytes of the DVI file go into the buffers, and the numbers of these bytes into `lengths`.
@@ -40,7 +41,8 @@ pub extern "C" fn boxglue_run(
     boxglue_calls::run(alloc, script, fonts, answers, dvi, lengths)
 }
 
-/// Lists the marks of all pages of a DVI file with these fonts. The listing, or the line of the refusal, goes into `text`, and the number of its bytes into `size`.
+/// Lists the marks of all pages of a DVI file with these fonts. The listing, or the line of the refusal, goes into `text`, and the number of its
+/// bytes into `size`.
 #[unsafe(no_mangle)]
 pub extern "C" fn boxglue_list(
     alloc: Global,
@@ -57,8 +59,8 @@ pub extern "C" fn boxglue_list(
     boxglue_calls::list(alloc, dvi, fonts, text, size)
 }
 
-/// Paints the rules of a page of a DVI file with these fonts. Pages are counted from 1. The bitmap as plain PBM, or the line of the refusal, goes into `text`, and the
-/// number of its bytes into `size`.
+/// Paints the rules of a page of a DVI file with these fonts. Pages are counted from 1. The bitmap as plain PBM, or the line of the refusal, goes
+/// into `text`, and the number of its bytes into `size`.
 #[unsafe(no_mangle)]
 pub extern "C" fn boxglue_paint(
     alloc: Global,
@@ -74,7 +76,8 @@ pub extern "C" fn boxglue_paint(
     ensures named { result ≡ 3 ↔ are_named fonts.now ≡ false }
     ensures range { result ≡ 6 ↔ ((are_named fonts.now ≡ true) × (is_in_range page dpi width height ≡ false)) }
     ensures lacking { result ≡ 5 → LacksPage (files_of fonts.now) dvi.now page }
-    ensures found { LacksPage (files_of fonts.now) dvi.now page → are_named fonts.now ≡ true → is_in_range page dpi width height ≡ true → (result ≡ 2) ⊎ (result ≡ 5) }
+    ensures found { LacksPage (files_of fonts.now) dvi.now page → are_named fonts.now ≡ true → is_in_range page dpi width height ≡ true
+        → (result ≡ 2) ⊎ (result ≡ 5) }
     ensures done { (result ≡ 2) ⊎ (result ≡ 3) ⊎ (result ≡ 5) ⊎ (result ≡ 6)
         ⊎ HandsOverPages (IsPainted (files_of fonts.now) dvi.now (sheet_of page dpi width height)) text.old text.new size.new result }
     ensures text { (result ≡ 2) ⊎ (result ≡ 3) ⊎ (result ≡ 5) ⊎ (result ≡ 6) → text.new ≡ text.old }
@@ -83,7 +86,8 @@ pub extern "C" fn boxglue_paint(
     boxglue_calls::paint(alloc, dvi, fonts, page, dpi, width, height, text, size)
 }
 
-/// Reads the fonts that a DVI file defines after its pages. They go into `fonts`, their names or the line of the refusal into `text`, and the numbers of both into `sizes`.
+/// Reads the fonts that a DVI file defines after its pages. They go into `fonts`, their names or the line of the refusal into `text`, and the numbers
+/// of both into `sizes`.
 #[unsafe(no_mangle)]
 pub extern "C" fn boxglue_fonts(
     alloc: Global,
@@ -141,7 +145,7 @@ pub extern "C" fn boxglue_job_new(alloc: Global, job: &mut JobHandle, fonts: &[F
     ensures same { result ≢ 0 → job.new.value ≡ job.old.value }
     ensures statuses { (result ≡ 0) ⊎ (result ≡ 2) ⊎ (result ≡ 3) ⊎ (result ≡ 9) }
 {
-    boxglue_jobs::new(alloc, job, fonts)
+    boxglue_calls::jobs::new(alloc, job, fonts)
 }
 
 /// Runs a piece of a script, which is whole lines, on a job.
@@ -150,7 +154,7 @@ pub extern "C" fn boxglue_job_commands(alloc: Global, job: &mut JobHandle, scrip
     ensures no_job { result ≡ 8 ↔ job.old.value ≡ None }
     ensures done { OnJob (DoesCommands script.now) job.old.value job.new.value result }
 {
-    boxglue_jobs::commands(alloc, job, script)
+    boxglue_calls::jobs::commands(alloc, job, script)
 }
 
 /// Hands the answers over that were not handed over yet.
@@ -166,7 +170,7 @@ pub extern "C" fn boxglue_job_answers(
     ensures text { result ≡ 8 → text.new ≡ text.old }
     ensures size { result ≡ 8 → size.new ≡ size.old }
 {
-    boxglue_jobs::answers(alloc, job, text, size)
+    boxglue_calls::jobs::answers(alloc, job, text, size)
 }
 
 /// Hands the bytes of the file over that went out since the last time.
@@ -182,7 +186,7 @@ pub extern "C" fn boxglue_job_take(
     ensures dvi { result ≡ 8 → dvi.new ≡ dvi.old }
     ensures size { result ≡ 8 → size.new ≡ size.old }
 {
-    boxglue_jobs::take(alloc, job, dvi, size)
+    boxglue_calls::jobs::take(alloc, job, dvi, size)
 }
 
 /// Writes the end of the file of a job.
@@ -191,7 +195,7 @@ pub extern "C" fn boxglue_job_finish(alloc: Global, job: &mut JobHandle) -> u32
     ensures no_job { result ≡ 8 ↔ job.old.value ≡ None }
     ensures done { OnJob FinishesKept job.old.value job.new.value result }
 {
-    boxglue_jobs::finish(alloc, job)
+    boxglue_calls::jobs::finish(alloc, job)
 }
 
 /// Runs a piece of a script, which is whole lines, on a job. The replies go into `replies`, and their number into `count`.
@@ -209,7 +213,7 @@ pub extern "C" fn boxglue_job_run(
     ensures replies { result ≡ 8 → replies.new ≡ replies.old }
     ensures count { result ≡ 8 → count.new ≡ count.old }
 {
-    boxglue_jobs::run(alloc, job, script, replies, count)
+    boxglue_calls::jobs::run(alloc, job, script, replies, count)
 }
 
 /// Writes the end of the file of a job. Its reply goes into `reply`.
@@ -219,7 +223,7 @@ pub extern "C" fn boxglue_job_end(alloc: Global, job: &mut JobHandle, reply: &mu
     ensures done { OnJob (RepliesToEnd reply.new) job.old.value job.new.value result }
     ensures reply { result ≡ 8 → reply.new ≡ reply.old }
 {
-    boxglue_jobs::end(alloc, job, reply)
+    boxglue_calls::jobs::end(alloc, job, reply)
 }
 
 /// Runs a script with these fonts. The replies and the bytes of the DVI file go into the buffers, and the numbers of both into `sizes`.
@@ -239,7 +243,7 @@ pub extern "C" fn boxglue_run_replies(
     ensures dvi { (result ≡ 2) ⊎ (result ≡ 3) → dvi.new ≡ dvi.old }
     ensures sizes { (result ≡ 2) ⊎ (result ≡ 3) → sizes.new ≡ sizes.old }
 {
-    boxglue_jobs::run_replies(alloc, script, fonts, replies, dvi, sizes)
+    boxglue_calls::jobs::run_replies(alloc, script, fonts, replies, dvi, sizes)
 }
 
 /// Gives all memory of a job back. The handle is null then.
@@ -247,5 +251,5 @@ pub extern "C" fn boxglue_run_replies(
 pub extern "C" fn boxglue_job_free(alloc: Global, job: &mut JobHandle)
     ensures { job.new.value ≡ None }
 {
-    boxglue_jobs::free(alloc, job)
+    boxglue_calls::jobs::free(alloc, job)
 }

@@ -5,3 +5,16 @@ pub mod MarkTableLaws
 pub mod PageLaws
 pub mod RunLaws
 pub mod StatusLaws
+pub mod Crossing
+pub mod HandedBytes
+pub mod Handles
+pub mod KeptLaws
+pub mod KeptMoves
+pub mod LineCounts
+pub mod LineNumbers
+pub mod NodesCrossing
+pub mod PieceLaws
+pub mod RoomLaws
+pub mod RowLaws
+pub mod Values
+pub mod WholeLaws

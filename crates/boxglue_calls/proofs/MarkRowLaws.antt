@@ -12,7 +12,7 @@ use Rattle.dvi_read.specs.declared.read_fonts.ReadFonts.{ReadFonts}
 use Rattle.dvi_scan.specs.View.{mark_of}
 use Rattle.dvi_scan.specs.declared.page.Mark.{Mark as PassMark}
 use Rattle.scaled_core.specs.Mark.{Mark, Glyph, Rule, Special}
-use Rattle.boxglue_calls.specs.MarkRows.{mark_rows, places_after, places_left, row_of, size_of}
+use Rattle.boxglue_calls.specs.Private.MarkRows.{mark_rows, places_after, places_left, row_of, size_of}
 use Rattle.boxglue_calls.specs.MarkTables.{AreMarkRows, glyph_row, page_row, page_rows, special_row}
 use Rattle.boxglue_calls.specs.declared.mark_table.DviMark.{DviMark}
 use Rattle.boxglue_calls.specs.declared.mark_table.DviPage.{DviPage}

@@ -13,8 +13,8 @@ use Rattle.dvi_read.specs.declared.fault.DviFault.TheVariants.{OutOfMemory}
 use Rattle.dvi_read.specs.declared.opening.ReadDvi.{ReadDvi}
 use Rattle.tfm_core.specs.FileWidths.{file_widths}
 use Rattle.tfm_core.specs.NamedBytes.{NamedBytes}
-use Rattle.boxglue_print.specs.Outputs.{RefusesFile}
-use Rattle.boxglue_calls.specs.MarkRows.{FitsIn, HasRowsOf, IsRefusal, outputs_of}
+use Rattle.boxglue_program.specs.Outputs.{RefusesFile}
+use Rattle.boxglue_calls.specs.Private.MarkRows.{FitsIn, HasRowsOf, IsRefusal, outputs_of}
 use Rattle.boxglue_calls.specs.MarkTables.{AreMarkRows, HandsOverAll, HandsOverMarks, IsMarkTable, LacksRoom, MarkOutputs}
 use Rattle.boxglue_calls.specs.Pages.{status_of}
 use Rattle.boxglue_calls.specs.declared.mark_table.DviMark.{DviMark}

@@ -1,9 +1,9 @@
 -- A run that is handed over.
 use Rattle.std.proofs.Common.{◌≡◌, ◌∙◌, ℕ, List, length, Result, Ok, Err, IfOk, Some, inl, inr, refl, sym, ap, subst}
 use Rattle.tfm_core.specs.NamedBytes.{NamedBytes}
-use Rattle.job_commands.specs.declared.replies.Refusal.{Refusal}
-use Rattle.job_commands.specs.declared.replies.Summary.{Summary}
-use Rattle.job_commands.specs.Reply.{Reply}
+use Rattle.job_machine.specs.declared.replies.Refusal.{Refusal}
+use Rattle.job_machine.specs.declared.replies.Summary.{Summary}
+use Rattle.job_machine.specs.Reply.{Reply}
 use Rattle.boxglue_script.specs.declared.script.Line.{Line}
 use Rattle.boxglue_script.specs.Script.{IsScript}
 use Rattle.boxglue_program.specs.Runs.{WasRun, commands_of, is_accepted, line_numbers}

@@ -3,7 +3,7 @@ use Rattle.std.specs.Prelude.{◌≡◌, ◌⊎◌, ◌+◌, ℕ, Bool, true, Li
 use Rattle.std.specs.Int.{w32, cast_unsigned}
 use Rattle.std.specs.List.{flat_map}
 use Rattle.dvi_ops.specs.Instruction.{Definition, Units}
-use Rattle.boxglue_print.specs.Fonts.{DefinesFonts, RefusesFonts}
+use Rattle.boxglue_program.specs.Fonts.{DefinesFonts, RefusesFonts}
 use Rattle.boxglue_calls.specs.Buffers.{HandsOverBoth}
 use Rattle.boxglue_calls.specs.Pages.{status_of}
 use Rattle.boxglue_calls.specs.declared.font_table.DviFont.{DviFont}
@@ -32,7 +32,8 @@ names_of fonts = flat_map (λ font. font.name) fonts
 -- The rows and the names of the fonts of these bytes; or no rows, and the line of the refusal.
 abbrev pub IsFontTable : List ℕ → (rows : List DviFont) → (text : List ℕ) → (accepted : Bool) → Type 0
 IsFontTable bytes rows text accepted =
-    ((units : Units) × (fonts : List Definition) × DefinesFonts bytes units fonts × (rows ≡ rows_from 0 fonts) × (text ≡ names_of fonts) × (accepted ≡ true))
+    ((units : Units) × (fonts : List Definition) × DefinesFonts bytes units fonts × (rows ≡ rows_from 0 fonts) × (text ≡ names_of fonts)
+    × (accepted ≡ true))
     ⊎ (RefusesFonts bytes text accepted × (rows ≡ []))
 
 -- The fonts and the text of a DVI file are handed over, and the sizes are theirs.

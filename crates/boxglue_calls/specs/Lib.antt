@@ -1,8 +1,15 @@
 pub mod Buffers
 pub mod Fonts
 pub mod FontTables
-pub mod MarkRows
 pub mod MarkTables
 pub mod Pages
 pub mod RunStatus
 pub mod Runs
+pub mod Calls
+pub mod Jobs
+pub mod Numbers
+pub mod Pieces
+pub mod Replies
+pub mod Rows
+pub mod Whole
+pub mod Private

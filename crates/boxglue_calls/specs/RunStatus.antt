@@ -1,9 +1,9 @@
 -- The status of a run, from its replies (own).
 use Rattle.std.specs.Prelude.{ℕ, List, [], ◌∷◌, max, Result, Ok, Err}
-use Rattle.job_commands.specs.declared.replies.Refusal.{Refusal}
-use Rattle.job_commands.specs.declared.replies.Refusal.TheVariants.{OutOfMemory}
-use Rattle.job_commands.specs.declared.replies.Summary.{Summary}
-use Rattle.job_commands.specs.Reply.{Reply}
+use Rattle.job_machine.specs.declared.replies.Refusal.{Refusal}
+use Rattle.job_machine.specs.declared.replies.Refusal.TheVariants.{OutOfMemory}
+use Rattle.job_machine.specs.declared.replies.Summary.{Summary}
+use Rattle.job_machine.specs.Reply.{Reply}
 use Rattle.boxglue_program.specs.declared.outcome.Outcome.{Outcome}
 use Rattle.boxglue_program.specs.declared.outcome.Outcome.TheVariants.{Accepted, Refused, LackedMemory}
 

@@ -2,13 +2,13 @@
 
 ghost use Rattle.std.specs.Prelude.{◌≡◌, ◌++◌, ◌∷◌, ◌⊎◌, ℕ, List, [], length, map, true, IfOk, OnOk};
 ghost use Rattle.boxglue_calls.specs.FontTables.{HandsOverFonts, IsFontTable, names_of, row_at, rows_from};
-ghost use Rattle.boxglue_print.specs.Fonts.{BreaksFonts};
+ghost use Rattle.boxglue_program.specs.Fonts.{BreaksFonts};
 ghost use Rattle.dvi_ops.specs.View.{definition};
 
 use crate::buffers::hand_over_both;
 use crate::pages::file_status;
 use crate::status::OUT_OF_MEMORY;
-use boxglue_print::{DviFault, Output, defined_fonts, refusal};
+use boxglue_program::{DviFault, Output, defined_fonts, refusal};
 use dvi_ops::FontDefinition;
 use std::alloc::{AllocError, Global};
 
@@ -86,7 +86,8 @@ fn table_of(alloc: Global, definitions: &[FontDefinition<'_>]) -> Result<FontTab
 
 /// The table of a file that is refused.
 fn refused_table(alloc: Global, fault: DviFault) -> Result<FontTable, AllocError>
-    ensures { IfOk result (λ table. (bytes : List ℕ) → BreaksFonts bytes fault → IsFontTable bytes table.fonts.items table.text.items table.accepted) }
+    ensures { IfOk result (λ table. (bytes : List ℕ) → BreaksFonts bytes fault
+        → IsFontTable bytes table.fonts.items table.text.items table.accepted) }
 {
     let Output { text, accepted } = refusal(alloc, fault)?;
     Ok(FontTable {
@@ -106,11 +107,12 @@ fn font_table(alloc: Global, dvi: &[u8]) -> Result<FontTable, AllocError>
     }
 }
 
-/// Reads the fonts that a DVI file defines after its pages, where each font that a page selects is defined. They go into `fonts`, their names one after the other into
-/// `text`, and the numbers of both into `sizes`. The end of the file, the chain of its pages and its preamble are checked, and the pages are not read.
+/// Reads the fonts that a DVI file defines after its pages, where each font that a page selects is defined. They go into `fonts`, their names one
+/// after the other into `text`, and the numbers of both into `sizes`. The end of the file, the chain of its pages and its preamble are checked, and
+/// the pages are not read.
 ///
-/// Returns ACCEPTED, and then all are written; REFUSED, and then there are no fonts, and the text is the line of the refusal; BUFFER_TOO_SMALL, and then `sizes` alone
-/// is written; or OUT_OF_MEMORY, and then nothing is.
+/// Returns ACCEPTED, and then all are written; REFUSED, and then there are no fonts, and the text is the line of the refusal; BUFFER_TOO_SMALL, and
+/// then `sizes` alone is written; or OUT_OF_MEMORY, and then nothing is.
 pub fn fonts(
     alloc: Global,
     dvi: &[u8],

@@ -2,10 +2,10 @@
 
 ghost use Rattle.std.specs.Prelude.{◌≡◌, ◌⊎◌, ◌↔◌, List, Contains, Result, Err, true, is_ok};
 ghost use Rattle.std.specs.List.{list_all};
-ghost use Rattle.job_commands.specs.declared.replies.Refusal.{Refusal};
-ghost use Rattle.job_commands.specs.declared.replies.Refusal.TheVariants.{OutOfMemory};
-ghost use Rattle.job_commands.specs.declared.replies.Summary.{Summary};
-ghost use Rattle.job_commands.specs.Reply.{Reply};
+ghost use Rattle.job_machine.specs.declared.replies.Refusal.{Refusal};
+ghost use Rattle.job_machine.specs.declared.replies.Refusal.TheVariants.{OutOfMemory};
+ghost use Rattle.job_machine.specs.declared.replies.Summary.{Summary};
+ghost use Rattle.job_machine.specs.Reply.{Reply};
 ghost use Rattle.boxglue_program.specs.Runs.{is_accepted};
 ghost use Rattle.boxglue_calls.specs.RunStatus.{replies_status, reply_status, run_status};
 

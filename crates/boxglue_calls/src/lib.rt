@@ -1,11 +1,14 @@
-//! The calls of the library for C, as safe functions over slices: a script is run, a DVI file is listed, its marks are read, a page of it is painted,
-//! its fonts are read. A call writes into buffers of its caller and returns a status. `boxglue_c` exports each of these functions to C.
+//! The calls of the library for C, as safe functions over slices and a handle. `boxglue_c` exports each of them to C.
+//!
+//! A script is run, a DVI file is listed, its marks are read, a page of it is painted, its fonts are read; `jobs` has the calls on a job that is kept
+//! between two calls, and those whose replies are rows of numbers. A call writes into buffers of its caller and returns a status.
 #![tactic(auto)]
 
 pub mod buffers;
 mod edition;
 mod font_table;
 mod given;
+pub mod jobs;
 pub mod laws;
 mod mark_table;
 mod pages;

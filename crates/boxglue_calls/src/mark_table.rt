@@ -6,8 +6,8 @@ ghost use Rattle.dvi_read.specs.PageMarks.{marks_of};
 ghost use Rattle.dvi_read.specs.ReadFonts.{HaveByteCodes};
 ghost use Rattle.dvi_scan.specs.View.{mark_of, marked_page};
 ghost use Rattle.boxglue_calls.specs.Fonts.{are_named, files_of};
-ghost use Rattle.boxglue_calls.specs.MarkRows.{FitsIn, HasRowsOf, IsRefusal, first_place, later_places, mark_rows, outputs_of, place_of};
-ghost use Rattle.boxglue_calls.specs.MarkRows.{places_after, places_left, row_of, size_of};
+ghost use Rattle.boxglue_calls.specs.Private.MarkRows.{FitsIn, HasRowsOf, IsRefusal, first_place, later_places, mark_rows, outputs_of, place_of};
+ghost use Rattle.boxglue_calls.specs.Private.MarkRows.{places_after, places_left, row_of, size_of};
 ghost use Rattle.boxglue_calls.specs.MarkTables.{HandsOverAll, HandsOverMarks, IsMarkTable, empty_row, mark_outputs, page_row, page_rows};
 ghost use Rattle.boxglue_calls.specs.Pages.{status_of};
 
@@ -15,10 +15,10 @@ use crate::buffers::{hand_over_both, put};
 use crate::given::{Font, are_named, font_files};
 use crate::pages::file_status;
 use crate::status::{BAD_FONT_NAME, BUFFER_TOO_SMALL, OUT_OF_MEMORY};
-use boxglue_print::{DviFault, Output, refusal};
-use dvi_fonts::FontNumber;
+use boxglue_program::{DviFault, Output, refusal};
 use dvi_ops::Units;
 use dvi_read::{CharCode, Mark, Page, ReadDvi, ReadFonts, read_dvi};
+use dvi_scan::FontNumber;
 use std::alloc::{AllocError, Global};
 
 /// A page of a DVI file: its ten counts, and its marks, which stand one after the other in the table of marks.
@@ -303,12 +303,12 @@ fn hand_over_table(
     status
 }
 
-/// Reads the marks of all pages of a DVI file with these fonts, as `list`. The pages go into `pages`, their marks one after the other into `marks`, and
-/// the numbers of both and the units of the file into `sizes`. Of a file that is refused there are no pages, no marks and no units, and the line of the
-/// refusal goes into `text`. `dvi.len()` marks, `dvi.len() / 46` pages and 64 bytes of text always suffice.
+/// Reads the marks of all pages of a DVI file with these fonts, as `list`. The pages go into `pages`, their marks one after the other into `marks`,
+/// and the numbers of both and the units of the file into `sizes`. Of a file that is refused there are no pages, no marks and no units, and the line
+/// of the refusal goes into `text`. `dvi.len()` marks, `dvi.len() / 46` pages and 64 bytes of text always suffice.
 ///
-/// Returns ACCEPTED or REFUSED, and then all are written; BUFFER_TOO_SMALL, and then `sizes` alone is written; OUT_OF_MEMORY or BAD_FONT_NAME, and then
-/// nothing is.
+/// Returns ACCEPTED or REFUSED, and then all are written; BUFFER_TOO_SMALL, and then `sizes` alone is written; OUT_OF_MEMORY or BAD_FONT_NAME, and
+/// then nothing is.
 pub fn marks(
     alloc: Global,
     dvi: &[u8],

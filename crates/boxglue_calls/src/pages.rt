@@ -3,14 +3,14 @@
 ghost use Rattle.std.specs.Prelude.{◌≡◌, ◌↔◌, ◌⊎◌, false, true, Err, IfOk, IsTrue, SomeIff};
 ghost use Rattle.boxglue_calls.specs.Fonts.{are_named, files_of};
 ghost use Rattle.boxglue_calls.specs.Pages.{HandsOverPages, is_in_range, status_of};
-ghost use Rattle.boxglue_print.specs.Outputs.{IsListed, IsPainted, LacksPage};
-ghost use Rattle.boxglue_print.specs.declared.output.PaintFault.TheVariants.{NoSuchPage};
+ghost use Rattle.boxglue_program.specs.Outputs.{IsListed, IsPainted, LacksPage};
+ghost use Rattle.boxglue_program.specs.declared.output.PaintFault.TheVariants.{NoSuchPage};
 ghost use Rattle.raster_core.specs.Sheets.{sheet_of};
 
 use crate::buffers::hand_over;
 use crate::given::{Font, are_named, font_files};
 use crate::status::{ACCEPTED, BAD_FONT_NAME, NO_SUCH_PAGE, OUT_OF_MEMORY, OUT_OF_RANGE, REFUSED};
-use boxglue_print::{Output, PaintFault, PaintOptions, list_text, paint_text};
+use boxglue_program::{Output, PaintFault, PaintOptions, list_text, paint_text};
 use std::alloc::{AllocError, Global};
 
 /// The status of a DVI file that was read.
@@ -29,7 +29,8 @@ fn listed(alloc: Global, dvi: &[u8], fonts: &[Font<'_>]) -> Result<Output, Alloc
     list_text(alloc, dvi, &files)
 }
 
-/// Lists the marks of all pages of a DVI file with these fonts. The listing, or the line of the refusal, goes into `text`, and the number of its bytes into `size`.
+/// Lists the marks of all pages of a DVI file with these fonts. The listing, or the line of the refusal, goes into `text`, and the number of its
+/// bytes into `size`.
 ///
 /// Returns ACCEPTED or REFUSED, and then both are written; BUFFER_TOO_SMALL, and then `size` alone is written;
 /// OUT_OF_MEMORY or BAD_FONT_NAME, and then nothing is.
@@ -76,8 +77,8 @@ fn painted(
     paint_text(alloc, dvi, &files, sheet)
 }
 
-/// Paints the rules of a page of a DVI file with these fonts. Pages are counted from 1. The bitmap as plain PBM, or the line of the refusal, goes into `text`, and the
-/// number of its bytes into `size`.
+/// Paints the rules of a page of a DVI file with these fonts. Pages are counted from 1. The bitmap as plain PBM, or the line of the refusal, goes
+/// into `text`, and the number of its bytes into `size`.
 ///
 /// Returns ACCEPTED or REFUSED, and then both are written; BUFFER_TOO_SMALL, and then `size` alone is written;
 /// OUT_OF_MEMORY, BAD_FONT_NAME, OUT_OF_RANGE or NO_SUCH_PAGE, and then nothing is.
@@ -95,7 +96,8 @@ pub fn paint(
     ensures named { result ≡ 3 ↔ are_named fonts.now ≡ false }
     ensures range { result ≡ 6 ↔ ((are_named fonts.now ≡ true) × (is_in_range page dpi width height ≡ false)) }
     ensures lacking { result ≡ 5 → LacksPage (files_of fonts.now) dvi.now page }
-    ensures found { LacksPage (files_of fonts.now) dvi.now page → are_named fonts.now ≡ true → is_in_range page dpi width height ≡ true → (result ≡ 2) ⊎ (result ≡ 5) }
+    ensures found { LacksPage (files_of fonts.now) dvi.now page → are_named fonts.now ≡ true → is_in_range page dpi width height ≡ true
+        → (result ≡ 2) ⊎ (result ≡ 5) }
     ensures done { (result ≡ 2) ⊎ (result ≡ 3) ⊎ (result ≡ 5) ⊎ (result ≡ 6)
         ⊎ HandsOverPages (IsPainted (files_of fonts.now) dvi.now (sheet_of page dpi width height)) text.old text.new size.new result }
     ensures text { (result ≡ 2) ⊎ (result ≡ 3) ⊎ (result ≡ 5) ⊎ (result ≡ 6) → text.new ≡ text.old }

@@ -1,9 +1,9 @@
 //! Runs of scripts in memory.
 
 ghost use Rattle.std.specs.Prelude.{◌≡◌, ◌↔◌, ◌⊎◌, false, true, List, [], Result, Some, IfOk};
-ghost use Rattle.job_commands.specs.declared.replies.Refusal.{Refusal};
-ghost use Rattle.job_commands.specs.declared.replies.Summary.{Summary};
-ghost use Rattle.job_commands.specs.Reply.{Reply};
+ghost use Rattle.job_machine.specs.declared.replies.Refusal.{Refusal};
+ghost use Rattle.job_machine.specs.declared.replies.Summary.{Summary};
+ghost use Rattle.job_machine.specs.Reply.{Reply};
 ghost use Rattle.boxglue_script.specs.Blocks.{lines_of};
 ghost use Rattle.boxglue_program.specs.Runs.{WasRun, commands_of, line_numbers};
 ghost use Rattle.boxglue_program.specs.Texts.{answers_text, script_refusal_text};

@@ -6,16 +6,16 @@ use Rattle.std.specs.Borrow.{Bor}
 use Rattle.std.specs.Io.KnownBytes.{Appends, Keeps}
 use Rattle.std.specs.Prelude.{◌==◌, not, [], IfSome, IsSome}
 use Rattle.std.proofs.lemmas.Bool.{eq-eqb, eqb-true}
-use Rattle.boxglue_host.specs.Hosts.{AreFilesOf, IsUnread, begun_for, created_after, has_failed, written_to_file}
+use Rattle.boxglue_words.specs.Hosts.{AreFilesOf, IsUnread, begun_for, created_after, has_failed, written_to_file}
 use Rattle.std.specs.Coded.{Coded}
-use Rattle.boxglue_host.proofs.HostLemmas.{begun_alike}
+use Rattle.boxglue_words.proofs.HostLemmas.{begun_alike}
 use Rattle.tfm_core.specs.NamedBytes.{NamedBytes}
-use Rattle.boxglue_host.specs.declared.font_files.Unread.{Unread}
-use Rattle.boxglue_host.specs.declared.font_files.Unread.TheVariants.{OutOfMemory as WantsMemory, File}
+use Rattle.boxglue_words.specs.declared.font_files.Unread.{Unread}
+use Rattle.boxglue_words.specs.declared.font_files.Unread.TheVariants.{OutOfMemory as WantsMemory, File}
 use Rattle.boxglue_words.specs.declared.fonts.NamedPath.{NamedPath}
 use Rattle.boxglue_lib.specs.Inputs.{IsUnreadDvi, IsUnreadScript}
-use Rattle.boxglue_lib.specs.Parts.{end_of}
-use Rattle.boxglue_host.specs.Readings.{Files, IsFileReading, IsReadable, IsReading}
+use Rattle.boxglue_lib.specs.Private.Parts.{end_of}
+use Rattle.boxglue_words.specs.Readings.{Files, IsFileReading, IsReadable, IsReading}
 use Rattle.boxglue_lib.specs.Printed.{LacksMemoryForDvi}
 use Rattle.boxglue_lib.specs.Views.{HostView, IsSame, Streams, view_of}
 use Rattle.boxglue_lib.specs.Typesets.{HasTypeset, IsLeftAlone, IsLeftToFile, IsToFile, IsUsed, LeavesHost, OutFile, TellsUnwritten, script_rules, typesetting_rules}

@@ -1,6 +1,6 @@
 -- A file whose fonts are printed.
 use Rattle.std.proofs.Common.{List, ℕ, Option, Some, None}
-use Rattle.boxglue_host.specs.Readings.{IsFileReading, IsReadableFile}
+use Rattle.boxglue_words.specs.Readings.{IsFileReading, IsReadableFile}
 
 -- A file that was read can be read.
 pub was_readable_file : (contents : Option (Option (List ℕ))) (bytes : List ℕ) → IsFileReading contents bytes → IsReadableFile contents

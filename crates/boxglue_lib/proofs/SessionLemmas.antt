@@ -2,17 +2,17 @@
 use Rattle.std.proofs.Common.{◌≡◌, ◌⊎◌, ap, append-nil, false, true, ◌++◌, ℕ, Bool, List, Option, Some, None, Result, Ok, Err, inl, inr, refl, sym, ◌∙◌, subst}
 use Rattle.std.specs.Prelude.{◌==◌, ◌≤◌, length, IfOk}
 use Rattle.std.specs.Io.KnownBytes.{Consumes, IsAtEnd}
-use Rattle.boxglue_host.specs.Hosts.{AreFilesOf, IsUnread, written_to_file}
-use Rattle.boxglue_host.specs.Readings.{Files, IsBeginning, IsReading}
-use Rattle.boxglue_host.specs.declared.font_files.Unread.{Unread}
-use Rattle.boxglue_host.specs.declared.font_files.Unread.TheVariants.{OutOfMemory as WantsMemory, File}
-use Rattle.boxglue_host.specs.declared.host.TheConstants.{READ_LIMIT}
+use Rattle.boxglue_words.specs.Hosts.{AreFilesOf, IsUnread, written_to_file}
+use Rattle.boxglue_words.specs.Readings.{Files, IsBeginning, IsReading}
+use Rattle.boxglue_words.specs.declared.font_files.Unread.{Unread}
+use Rattle.boxglue_words.specs.declared.font_files.Unread.TheVariants.{OutOfMemory as WantsMemory, File}
+use Rattle.boxglue_words.specs.declared.host.TheConstants.{READ_LIMIT}
 use Rattle.tfm_core.specs.NamedBytes.{NamedBytes}
 use Rattle.boxglue_program.specs.Sessions.{IsCutOff, IsSent, IsUnreadable, LacksSessionMemory, RanSession}
 use Rattle.boxglue_program.specs.declared.session.SessionFault.{SessionFault}
 use Rattle.boxglue_program.specs.declared.session.SessionFault.TheVariants.{OutOfMemory as WantsRoom, Unreadable as LosesInput}
 use Rattle.boxglue_lib.specs.Ends.{TellsErrors, TellsOutput, status_of}
-use Rattle.boxglue_lib.specs.Parts.{IsSessionEnd, end_of}
+use Rattle.boxglue_lib.specs.Private.Parts.{IsSessionEnd, end_of}
 use Rattle.boxglue_lib.specs.Sessions.{EndsSession, HasSession, HoldsOfFile}
 use Rattle.boxglue_lib.specs.Typesets.{IsUsed, LeavesHost, OutFile, TellsUnwritten}
 use Rattle.boxglue_lib.specs.Views.{HostView, Streams, view_of}

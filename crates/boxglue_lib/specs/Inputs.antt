@@ -1,9 +1,9 @@
 -- What a task reads, and why it is not read (own).
 use Rattle.std.specs.Prelude.{◌≡◌, ◌⊎◌, ℕ, List, Option, codes}
-use Rattle.boxglue_host.specs.Hosts.{AreFilesOf, IsUnread}
-use Rattle.boxglue_host.specs.Readings.{Files, IsFileReading, IsReadable, IsReadableFile, IsUnreadable, IsUnreadableFile}
-use Rattle.boxglue_host.specs.declared.font_files.Unread.{Unread}
-use Rattle.boxglue_host.specs.declared.font_files.Unread.TheVariants.{OutOfMemory, File}
+use Rattle.boxglue_words.specs.Hosts.{AreFilesOf, IsUnread}
+use Rattle.boxglue_words.specs.Readings.{Files, IsFileReading, IsReadable, IsReadableFile, IsUnreadable, IsUnreadableFile}
+use Rattle.boxglue_words.specs.declared.font_files.Unread.{Unread}
+use Rattle.boxglue_words.specs.declared.font_files.Unread.TheVariants.{OutOfMemory, File}
 use Rattle.tfm_core.specs.NamedBytes.{NamedBytes}
 use Rattle.boxglue_words.specs.declared.fonts.NamedPath.{NamedPath}
 

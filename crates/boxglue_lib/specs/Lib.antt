@@ -6,4 +6,4 @@ pub mod FontListings
 pub mod Typesets
 pub mod Sessions
 pub mod Programs
-pub mod Parts
+pub mod Private

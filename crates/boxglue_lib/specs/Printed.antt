@@ -1,9 +1,9 @@
 -- What `list` and `paint` print of files that are read (own).
 use Rattle.std.specs.Prelude.{◌⊎◌, ℕ, Bool, List}
-use Rattle.boxglue_print.specs.Outputs.{IsListed, IsPainted, LacksPage}
-use Rattle.boxglue_host.specs.Hosts.{AreFilesOf}
-use Rattle.boxglue_host.specs.Readings.{Files, IsFileReading}
-use Rattle.boxglue_host.specs.declared.font_files.Unread.TheVariants.{OutOfMemory as WantsMemory, File}
+use Rattle.boxglue_program.specs.Outputs.{IsListed, IsPainted, LacksPage}
+use Rattle.boxglue_words.specs.Hosts.{AreFilesOf}
+use Rattle.boxglue_words.specs.Readings.{Files, IsFileReading}
+use Rattle.boxglue_words.specs.declared.font_files.Unread.TheVariants.{OutOfMemory as WantsMemory, File}
 use Rattle.raster_core.specs.Sheets.{Sheet}
 use Rattle.tfm_core.specs.NamedBytes.{NamedBytes}
 use Rattle.boxglue_words.specs.declared.fonts.NamedPath.{NamedPath}

@@ -2,7 +2,7 @@
 use Rattle.std.specs.Prelude.{◌≡◌, ◌⊎◌, ℕ, Bool, List, [], Option, codes, string_bytes}
 use Rattle.std.specs.Borrow.{Bor}
 use Rattle.std.specs.Io.KnownBytes.{Keeps}
-use Rattle.boxglue_host.specs.Readings.{IsReadable, IsReading, IsUnreadable}
+use Rattle.boxglue_words.specs.Readings.{IsReadable, IsReading, IsUnreadable}
 use Rattle.boxglue_program.specs.Runs.{IsAnswerInMemory, memory_line}
 use Rattle.boxglue_words.specs.Tasks.{IsRefused, IsTask}
 use Rattle.boxglue_words.specs.declared.fonts.WordFault.{WordFault}

@@ -1,10 +1,10 @@
 -- Sessions whose pages go to a file (own).
 use Rattle.std.specs.Prelude.{◌≡◌, ◌==◌, ◌⊎◌, ◌++◌, ℕ, Bool, true, List, Option, codes}
 use Rattle.std.specs.Io.KnownBytes.{Appends}
-use Rattle.boxglue_host.specs.Hosts.{AreFilesOf, IsUnread, written_to_file}
-use Rattle.boxglue_host.specs.Readings.{Files, IsBeginning, IsReading}
-use Rattle.boxglue_host.specs.declared.font_files.Unread.TheVariants.{OutOfMemory as WantsMemory, File}
-use Rattle.boxglue_host.specs.declared.host.TheConstants.{READ_LIMIT}
+use Rattle.boxglue_words.specs.Hosts.{AreFilesOf, IsUnread, written_to_file}
+use Rattle.boxglue_words.specs.Readings.{Files, IsBeginning, IsReading}
+use Rattle.boxglue_words.specs.declared.font_files.Unread.TheVariants.{OutOfMemory as WantsMemory, File}
+use Rattle.boxglue_words.specs.declared.host.TheConstants.{READ_LIMIT}
 use Rattle.boxglue_program.specs.Runs.{WritesFront}
 use Rattle.boxglue_program.specs.Sessions.{IsCutOff, IsSent, IsUnreadable, LacksSessionMemory, RanSession}
 use Rattle.tfm_core.specs.NamedBytes.{NamedBytes}

@@ -1,6 +1,6 @@
 -- What contracts know of a host, and of the two streams of a program (own).
 use Rattle.std.specs.Prelude.{◌≡◌, ℕ, List, Option}
-use Rattle.boxglue_host.specs.Readings.{Files}
+use Rattle.boxglue_words.specs.Readings.{Files}
 
 -- A host as contracts see it: the host of its files itself; its files by their paths, and its standard input, if they are known; the paths of the
 -- files that it has created, the last one first; the bytes that the last one took, if they are known; and how many creations and writes have failed.

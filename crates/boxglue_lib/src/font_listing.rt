@@ -1,14 +1,13 @@
 //! `fonts`: the units of a DVI file and the fonts that it defines.
 
 ghost use Rattle.std.specs.Prelude.{◌≡◌};
-ghost use Rattle.boxglue_host.specs.Readings.{IsReadableFile};
+ghost use Rattle.boxglue_words.specs.Readings.{IsReadableFile};
 ghost use Rattle.boxglue_lib.specs.Ends.{EndsTask};
 ghost use Rattle.boxglue_lib.specs.FontListings.{font_rules};
 
 use crate::task_end::TaskEnd;
-use boxglue_host::{FileHost, HostFault};
-use boxglue_print::{Output, fonts_text};
-use boxglue_program::write_text;
+use boxglue_program::{Output, fonts_text, write_text};
+use boxglue_words::{FileHost, HostFault};
 use std::alloc::Global;
 use std::io::Write;
 

@@ -1,13 +1,12 @@
 //! Reading the input of a task.
 
 ghost use Rattle.std.specs.Prelude.{◌≡◌, IfErr, IfOk};
-ghost use Rattle.boxglue_host.specs.Hosts.{AreFilesOf};
-ghost use Rattle.boxglue_host.specs.Readings.{IsFileReading, IsReading};
+ghost use Rattle.boxglue_words.specs.Hosts.{AreFilesOf};
+ghost use Rattle.boxglue_words.specs.Readings.{IsFileReading, IsReading};
 ghost use Rattle.boxglue_lib.specs.Inputs.{IsUnreadDvi, IsUnreadScript};
 
-use boxglue_host::{FileHost, HostFault, StandardInput, Unread, read_fonts};
 use boxglue_program::FontFile;
-use boxglue_words::NamedPath;
+use boxglue_words::{FileHost, HostFault, NamedPath, StandardInput, Unread, read_fonts};
 use std::alloc::Global;
 
 /// The bytes of a script or a DVI file, and the files of the fonts.
@@ -19,8 +18,8 @@ pub struct Inputs {
 
 /// Reads the files of fonts, in the order of their words, and then the script of standard input.
 ///
-/// Errors: File with the path that could not be read, `-` for standard input; OutOfMemory for a refused growth at one that can be. Nothing was run or created
-/// then.
+/// Errors: File with the path that could not be read, `-` for standard input; OutOfMemory for a refused growth at one that can be. Nothing was run or
+/// created then.
 #[tactic(auto, using(crate::proofs::EndLemmas::unread_script))]
 pub fn read_script_inputs<'a, H: FileHost, I: StandardInput + Drop>(
     alloc: Global,

@@ -1,7 +1,7 @@
 //! A law of files that are written.
 
 ghost use Rattle.std.specs.Prelude.{◌≡◌, [], true, false, IsSome, IfSome};
-ghost use Rattle.boxglue_host.specs.Hosts.{written_to_file};
+ghost use Rattle.boxglue_words.specs.Hosts.{written_to_file};
 ghost use Rattle.boxglue_lib.specs.Typesets.{IsUsed, OutFile};
 
 /// A device that took no byte has not created its file, if it is known what the file took and no write failed. So a job without a page, and a

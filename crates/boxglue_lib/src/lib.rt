@@ -14,16 +14,15 @@ mod tasks;
 mod telling;
 mod typesetting;
 
-pub use boxglue_host::{
-    CreatedPaths, FailureCount, FileDevice, FileHost, HeldFile, Host, HostFault, HostParts,
-    MemoryFiles, MemoryHost, READ_LIMIT, StandardInput, Unread, read_all, read_fonts, write_some,
-};
-pub use boxglue_print::fonts_text;
 pub use boxglue_program::{
     Cause, Device, DeviceFault, FontFile, FontName, Line, Memory, RunFault, ScriptFault, Unwritten,
-    read_script, refuse_memory, run_memory, run_script, write_text,
+    fonts_text, read_script, refuse_memory, run_memory, run_script, write_text,
 };
-pub use boxglue_words::{NamedPath, PaintOptions, Task, VERSION_LINE, WordFault, read_words};
+pub use boxglue_words::{
+    CreatedPaths, FailureCount, FileDevice, FileHost, HeldFile, Host, HostFault, HostParts,
+    MemoryFiles, MemoryHost, NamedPath, PaintOptions, READ_LIMIT, StandardInput, Task, Unread,
+    VERSION_LINE, WordFault, read_all, read_fonts, read_words, write_some,
+};
 pub use inputs::{Inputs, read_dvi_inputs, read_script_inputs};
 pub use printing::{PrintFault, list_file, paint_file};
 pub use running::program;

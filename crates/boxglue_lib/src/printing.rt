@@ -2,16 +2,18 @@
 
 ghost use Rattle.std.specs.Prelude.{◌≡◌, ◌≢◌, ◌≤◌, ◌⊎◌, ℕ, Bool, List, vec_capacity, Err, IfOk, OnErr, OnOk};
 ghost use Rattle.std.specs.Io.KnownBytes.{Appends, Keeps};
-ghost use Rattle.dvi_read.specs.Listing.{listing};
+ghost use Rattle.dvi_read.specs.SeenAhead.{AreLinesAhead};
 ghost use Rattle.dvi_read.specs.declared.part.TheConstants.{PART};
-ghost use Rattle.boxglue_print.specs.Outputs.{IsListed, IsPainted, LacksPage};
+ghost use Rattle.boxglue_program.specs.Outputs.{IsListed, IsPainted, LacksPage};
 ghost use Rattle.raster_core.specs.PlainText.{pbm};
 ghost use Rattle.raster_core.specs.declared.text.TheConstants.{ROW_TEXT};
 ghost use Rattle.boxglue_program.specs.Runs.{WritesFront};
 ghost use Rattle.boxglue_lib.specs.declared.printing.PrintFault.TheVariants.{OutOfMemory, Unwritten};
 
-use boxglue_print::{Bitmap, Dvi, Output, PaintFault, PaintOptions, page_bitmap, refusal};
-use boxglue_program::{FontFile, Unwritten, write_text};
+use boxglue_program::{
+    Bitmap, CheckedDvi, CheckedLines, Dvi, FontFile, Output, PaintFault, PaintOptions, Unwritten,
+    page_bitmap, refusal, write_text,
+};
 use std::alloc::{AllocError, Global};
 use std::io::Write;
 use thiserror::Error;
@@ -49,17 +51,17 @@ impl From<Unwritten> for PrintFault {
 /// The most bytes of a listing or a bitmap that are offered to a writer at once. It must be at least PART and ROW_TEXT, the longest line or row.
 const PIECE: usize = 65_536;
 
-/// Writes the listing of a file in pieces. All memory is taken before: a piece has room for PART bytes, so memory is never refused within the text.
+/// Writes the lines of a listing in pieces. All memory is taken before: a piece has room for PART bytes, so memory is never refused within the text.
 fn write_listing<W: Write>(
-    dvi: &Dvi<'_>,
+    lines: &mut CheckedLines<'_>,
     piece: &mut Vec<u8>,
     writer: &mut W,
 ) -> Result<(), Unwritten>
-    requires { PART ≤ vec_capacity piece.old }
-    ensures all { OnOk result (Appends (W.contents writer.old) (W.contents writer.new) (listing dvi.now.pages)) }
-    ensures front { OnErr result (WritesFront (W.contents writer.old) (W.contents writer.new) (listing dvi.now.pages)) }
+    requires room { PART ≤ vec_capacity piece.old }
+    requires ahead { (text : List ℕ) × AreLinesAhead lines.old text }
+    ensures all { (text : List ℕ) → AreLinesAhead lines.old text → OnOk result (Appends (W.contents writer.old) (W.contents writer.new) text) }
+    ensures front { (text : List ℕ) → AreLinesAhead lines.old text → OnErr result (WritesFront (W.contents writer.old) (W.contents writer.new) text) }
 {
-    let mut lines = dvi.lines();
     while lines.next_piece(piece) {
         write_text(writer, piece)?;
     }
@@ -76,22 +78,24 @@ pub fn list_file<W: Write>(
     files: &[FontFile],
     writer: &mut W,
 ) -> Result<bool, PrintFault>
-    ensures listed { IfOk result (λ fine. (text : List ℕ) × IsListed files.now dvi.now text fine × Appends (W.contents writer.old) (W.contents writer.new) text) }
+    ensures listed { IfOk result (λ fine. (text : List ℕ) × IsListed files.now dvi.now text fine
+        × Appends (W.contents writer.old) (W.contents writer.new) text) }
     ensures unwritten { result ≡ Err PrintFault.Unwritten → (text : List ℕ) × (fine : Bool) × IsListed files.now dvi.now text fine
         × WritesFront (W.contents writer.old) (W.contents writer.new) text }
     ensures silent { result ≡ Err PrintFault.OutOfMemory → Keeps (W.contents writer.old) (W.contents writer.new) }
     ensures always { result ≢ Err PrintFault.NoSuchPage }
 {
-    let opened = match Dvi::open(alloc, dvi, files) {
-        Ok(opened) => opened,
+    let checked = match CheckedDvi::open(alloc, dvi, files) {
+        Ok(checked) => checked,
         Err(fault) => {
             let Output { text, accepted } = refusal(alloc, fault)?;
             write_text(writer, &text)?;
             return Ok(accepted);
         }
     };
+    let mut lines = checked.lines(alloc)?;
     let mut piece = Vec::with_capacity(alloc, PIECE)?;
-    write_listing(&opened, &mut piece, writer)?;
+    write_listing(&mut lines, &mut piece, writer)?;
     Ok(true)
 }
 

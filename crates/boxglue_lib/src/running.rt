@@ -7,8 +7,7 @@ ghost use Rattle.boxglue_lib.specs.Views.{streams_of, view_of};
 use crate::font_listing::list_fonts;
 use crate::tasks::{list, paint, run_input, session, typeset};
 use crate::telling::{finish, print_version, say, say_out_of_memory, tell};
-use boxglue_host::{FileHost, Host, HostParts, StandardInput};
-use boxglue_words::{Task, WordFault, read_words};
+use boxglue_words::{FileHost, Host, HostParts, StandardInput, Task, WordFault, read_words};
 use std::alloc::Global;
 use std::io::Write;
 

@@ -1,15 +1,15 @@
 //! `session`: a script is run as it comes, and its pages go to a file.
 
 ghost use Rattle.std.specs.Prelude.{◌≡◌, ◌+◌, ◌==◌, ◌^◌, ◌<◌, [], IfSome, false, true, not};
-ghost use Rattle.boxglue_host.specs.Hosts.{created_after, has_failed};
-ghost use Rattle.boxglue_lib.specs.Parts.{IsSessionEnd};
+ghost use Rattle.boxglue_words.specs.Hosts.{created_after, has_failed};
+ghost use Rattle.boxglue_lib.specs.Private.Parts.{IsSessionEnd};
 ghost use Rattle.boxglue_lib.specs.Sessions.{EndsSession};
 ghost use Rattle.boxglue_lib.specs.Typesets.{OutFile};
 
 use crate::task_end::TaskEnd;
 use crate::typesetting::{TypesetEnd, end_with};
-use boxglue_host::{FileDevice, FileHost, READ_LIMIT};
 use boxglue_program::{FontFile, SessionEnd, SessionFault, run_session};
+use boxglue_words::{FileDevice, FileHost, READ_LIMIT};
 use std::alloc::Global;
 use std::io::{Read, Write};
 

@@ -1,9 +1,9 @@
 //! The tasks, with the files of a host.
 
 ghost use Rattle.std.specs.Prelude.{◌≡◌, None};
-ghost use Rattle.boxglue_host.specs.Readings.{IsReadable};
+ghost use Rattle.boxglue_words.specs.Readings.{IsReadable};
 ghost use Rattle.boxglue_lib.specs.Ends.{EndsTask};
-ghost use Rattle.boxglue_lib.specs.Parts.{end_of};
+ghost use Rattle.boxglue_lib.specs.Private.Parts.{end_of};
 ghost use Rattle.boxglue_lib.specs.Printed.{LacksMemoryForDvi, listing_rules, painting_rules};
 ghost use Rattle.boxglue_lib.specs.Programs.{input_rules};
 ghost use Rattle.boxglue_lib.specs.Sessions.{HasSession};
@@ -16,9 +16,10 @@ use crate::sessions::session_file;
 use crate::task_end::TaskEnd;
 use crate::telling::{finish, tell};
 use crate::typesetting::{TypesetEnd, typeset_file};
-use boxglue_host::{FileHost, HostFault, HostParts, StandardInput, Unread, read_fonts};
 use boxglue_program::{RunFault, run_memory};
-use boxglue_words::{NamedPath, PaintOptions};
+use boxglue_words::{
+    FileHost, HostFault, HostParts, NamedPath, PaintOptions, StandardInput, Unread, read_fonts,
+};
 use std::alloc::Global;
 use std::io::Write;
 

@@ -1,14 +1,14 @@
 //! `typeset`: a script is run, and its pages go to a file.
 
 ghost use Rattle.std.specs.Prelude.{◌≡◌, ◌+◌, ◌==◌, false, true, not};
-ghost use Rattle.boxglue_host.specs.Hosts.{created_after, has_failed};
+ghost use Rattle.boxglue_words.specs.Hosts.{created_after, has_failed};
 ghost use Rattle.boxglue_lib.specs.Ends.{EndsTask};
 ghost use Rattle.boxglue_lib.specs.Typesets.{IsLeftToFile, IsUsed, OutFile, script_rules};
 
 use crate::inputs::Inputs;
 use crate::task_end::TaskEnd;
-use boxglue_host::{FileDevice, FileHost};
 use boxglue_program::{Device, RunFault, run_script};
+use boxglue_words::{FileDevice, FileHost};
 use std::alloc::Global;
 use std::io::Write;
 

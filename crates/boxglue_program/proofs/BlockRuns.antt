@@ -1,8 +1,8 @@
 -- Lines that are run in blocks.
 use Rattle.std.proofs.Common.{◌≡◌, ◌+◌, ◌++◌, ◌∷◌, [], Bool, true, ℕ, List, length, refl, ap, sym, subst, append_assoc, arith, ◌∙◌}
 use Rattle.std.proofs.lemmas.List.{length-append, map-append}
-use Rattle.job_commands.specs.declared.command.Command.{Command}
-use Rattle.job_commands.specs.Reply.{Reply}
+use Rattle.job_machine.specs.declared.command.Command.{Command}
+use Rattle.job_machine.specs.Reply.{Reply}
 use Rattle.job_core.specs.Jobs.{JobView, RunsTo}
 use Rattle.job_core.proofs.WholeRuns.{runs_joined}
 use Rattle.boxglue_script.specs.declared.script.Line.{Line}

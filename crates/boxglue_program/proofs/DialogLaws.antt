@@ -4,7 +4,7 @@ use Rattle.std.specs.Prelude.{is_ok, Result, Ok, Err, OnOk, OnErr}
 use Rattle.std.specs.Io.KnownBytes.{Appends}
 use Rattle.std.specs.Str.Lines.{lines}
 use Rattle.std.proofs.lemmas.List.{append-nil}
-use Rattle.job_commands.specs.Reply.{Reply}
+use Rattle.job_machine.specs.Reply.{Reply}
 use Rattle.dvi_write.specs.Writing.{GoesOn}
 use Rattle.dvi_write.proofs.Writings.{goes_not}
 use Rattle.job_core.specs.Jobs.{JobView, RunsTo, writing_of}
@@ -22,7 +22,7 @@ use Rattle.boxglue_program.specs.Outcomes.{is_accepting, replies_outcome}
 use Rattle.boxglue_program.specs.Texts.{answer_line, answer_lines, script_refusal_text}
 use Rattle.boxglue_program.specs.Runs.{WritesFront, commands_of, line_numbers}
 use Rattle.boxglue_program.specs.Sessions.{DialogView, AnswersLines, StopsIn, IsSent}
-use Rattle.boxglue_program.specs.Dialogs.{dialog_of, OutboxView, outbox_of, Sends}
+use Rattle.boxglue_program.specs.Private.Dialogs.{dialog_of, OutboxView, outbox_of, Sends}
 use Rattle.boxglue_program.proofs.OutcomeLaws.{accepting_all}
 use Rattle.boxglue_program.proofs.SessionLaws.{answered_both, none_answered, sent_both, sent_none, same_answered}
 

@@ -10,3 +10,8 @@ pub mod SessionScripts
 pub mod RowLaws
 pub mod WritingLemmas
 pub mod BlockRuns
+pub mod FontLemmas
+pub mod PrintLemmas
+pub mod TextLemmas
+pub mod ReadBackLemmas
+pub mod ListedLemmas

@@ -1,10 +1,10 @@
 -- What was refused of some commands, taken together.
 use Rattle.std.proofs.Common.{◌≡◌, ◌&&◌, ◌++◌, ◌∷◌, [], Bool, false, List, Result, Ok, Err, is_ok, refl, sym, ap, ◌∙◌}
 use Rattle.std.specs.List.{list_all}
-use Rattle.job_commands.specs.declared.replies.Refusal.{Refusal}
-use Rattle.job_commands.specs.declared.replies.Refusal.TheVariants.{OutOfMemory}
-use Rattle.job_commands.specs.declared.replies.Summary.{Summary}
-use Rattle.job_commands.specs.Reply.{Reply}
+use Rattle.job_machine.specs.declared.replies.Refusal.{Refusal}
+use Rattle.job_machine.specs.declared.replies.Refusal.TheVariants.{OutOfMemory}
+use Rattle.job_machine.specs.declared.replies.Summary.{Summary}
+use Rattle.job_machine.specs.Reply.{Reply}
 use Rattle.boxglue_program.specs.declared.outcome.Outcome.{Outcome}
 use Rattle.boxglue_program.specs.declared.outcome.Outcome.TheVariants.{Accepted, Refused, LackedMemory}
 use Rattle.boxglue_program.specs.Outcomes.{is_accepting, outcome_of, refusal_outcome, replies_outcome, run_outcome, worse}

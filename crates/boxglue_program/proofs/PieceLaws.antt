@@ -7,7 +7,7 @@ use Rattle.std.proofs.lemmas.List.{append-nil}
 use Rattle.job_core.specs.Jobs.{JobView}
 use Rattle.boxglue_script.specs.SaidLines.{IsWhole}
 use Rattle.boxglue_program.specs.Sessions.{IsSent, DialogView, AnswersLines, SessionView, Exchanges, LacksRoom, StopsIn}
-use Rattle.boxglue_program.specs.Dialogs.{IsCut}
+use Rattle.boxglue_program.specs.Private.Dialogs.{IsCut}
 use Rattle.boxglue_program.proofs.SessionLaws.{none_answered, sent_none}
 use Rattle.boxglue_program.proofs.DialogLaws.{stops_further, stops_at_once, stops_at_rest}
 

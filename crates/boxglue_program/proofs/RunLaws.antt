@@ -1,10 +1,10 @@
 -- A job that runs the commands of a script and is finished.
 use Rattle.std.proofs.Common.{◌≡◌, ◌⊎◌, ◌+◌, ◌∷◌, inl, inr, ℕ, Bool, true, false, List, [], ◌++◌, length, take, drop, Option, Some, None, IfSome, Result, Ok, Err, IfOk, OnOk, OnErr, is_err, refl, sym, append_assoc, arith, ◌∙◌, ap, subst, ⊎_elim}
-use Rattle.job_commands.specs.declared.command.Command.{Command}
-use Rattle.job_commands.specs.declared.replies.Refusal.{Refusal}
-use Rattle.job_commands.specs.declared.replies.Refusal.TheVariants as refusals
-use Rattle.job_commands.specs.declared.replies.Summary.{Summary}
-use Rattle.job_commands.specs.Reply.{Reply}
+use Rattle.job_machine.specs.declared.command.Command.{Command}
+use Rattle.job_machine.specs.declared.replies.Refusal.{Refusal}
+use Rattle.job_machine.specs.declared.replies.Refusal.TheVariants as refusals
+use Rattle.job_machine.specs.declared.replies.Summary.{Summary}
+use Rattle.job_machine.specs.Reply.{Reply}
 use Rattle.tfm_core.specs.NamedBytes.{NamedBytes}
 use Rattle.dvi_device.specs.Written.{written_then, IsFrontOf}
 use Rattle.dvi_device.specs.Beginnings.{Beginning}
@@ -12,7 +12,7 @@ use Rattle.dvi_device.specs.Pasts.{Past, Differs, KeepsPast, no_past}
 use Rattle.dvi_device.specs.Seen.{DeviceView, device_view}
 use Rattle.dvi_device.specs.Resumed.{Resumed, written_by, began_by, past_by, GoesOnAs, PassesOn}
 use Rattle.dvi_device.proofs.PastLaws.{no_difference}
-use Rattle.dvi_layout.specs.Layout.{front, whole}
+use Rattle.dvi_write.specs.Layout.{front, whole}
 use Rattle.job_core.specs.Shown.{GivesFiles, FilesPages}
 use Rattle.job_core.specs.Closing.{ClosesFile}
 use Rattle.job_machine.specs.Machine.{Machine, first_machine}

@@ -2,7 +2,7 @@
 use Rattle.std.proofs.Common.{◌++◌, inl, inr, ℕ, List, length, take, Option, IfSome, refl, sym}
 use Rattle.std.proofs.Math.Seq.{take-append_seam}
 use Rattle.dvi_device.specs.Written.{GrowsByFront, IsFrontOf}
-use Rattle.dvi_layout.specs.Layout.{front, whole}
+use Rattle.dvi_write.specs.Layout.{front, whole}
 use Rattle.job_machine.specs.Machine.{Machine}
 use Rattle.job_core.specs.Jobs.{before_writing, HasPages, HasSent}
 use Rattle.job_core.proofs.Endings.{said}

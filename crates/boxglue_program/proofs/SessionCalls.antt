@@ -5,8 +5,8 @@ use Rattle.std.specs.Str.Lines.{lines}
 use Rattle.std.specs.Io.KnownBytes.{Consumes, IsAtEnd, Keeps}
 use Rattle.std.proofs.KnownBytes.{Consumes-nil, Consumes-trans}
 use Rattle.std.proofs.lemmas.List.{append-nil}
-use Rattle.job_commands.specs.declared.replies.Refusal.{Refusal}
-use Rattle.job_commands.specs.declared.replies.Summary.{Summary}
+use Rattle.job_machine.specs.declared.replies.Refusal.{Refusal}
+use Rattle.job_machine.specs.declared.replies.Summary.{Summary}
 use Rattle.tfm_core.specs.NamedBytes.{NamedBytes}
 use Rattle.job_core.specs.Jobs.{JobView}
 use Rattle.boxglue_program.specs.Texts.{end_line}

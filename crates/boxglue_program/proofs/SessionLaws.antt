@@ -6,8 +6,8 @@ use Rattle.std.specs.Io.KnownBytes.{Appends, Keeps}
 use Rattle.std.proofs.lemmas.List.{append-nil, length-append, take-append-le}
 use Rattle.std.proofs.lemmas.List.Folds.{list_all-append}
 use Rattle.std.proofs.Math.Bool.{and-true}
-use Rattle.job_commands.specs.declared.command.Command.{Command as ACommand}
-use Rattle.job_commands.specs.Reply.{Reply}
+use Rattle.job_machine.specs.declared.command.Command.{Command as ACommand}
+use Rattle.job_machine.specs.Reply.{Reply}
 use Rattle.dvi_write.proofs.Writings.{goes_further, goes_not}
 use Rattle.job_core.specs.Jobs.{RunsTo, writing_of}
 use Rattle.job_core.proofs.WholeRuns.{runs_joined, no_run}

@@ -3,4 +3,9 @@ pub mod Outcomes
 pub mod Runs
 pub mod Rows
 pub mod Sessions
-pub mod Dialogs
+pub mod Faults
+pub mod FontLines
+pub mod Fonts
+pub mod Outputs
+pub mod ReadBack
+pub mod Private

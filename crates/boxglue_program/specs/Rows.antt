@@ -1,7 +1,7 @@
 -- Known texts of answers (own).
 use Rattle.std.specs.Prelude.{◌≡◌, pos, [], ◌∷◌, Ok, Err, codes}
-use Rattle.job_commands.specs.declared.replies.Answer.TheVariants.{Done, Packed, Shaped, Shipped}
-use Rattle.job_commands.specs.declared.replies.Refusal.TheVariants.{NoFont, BadTfm, SlotTaken, TooMuchSpecial, ListsOpen}
+use Rattle.job_machine.specs.declared.replies.Answer.TheVariants.{Done, Packed, Shaped, Shipped}
+use Rattle.job_machine.specs.declared.replies.Refusal.TheVariants.{NoFont, BadTfm, SlotTaken, TooMuchSpecial, ListsOpen}
 use Rattle.tfm_core.specs.declared.fault.TfmCause.TheVariants.{Counts}
 use Rattle.boxglue_program.specs.Texts.{answers_text}
 
@@ -16,5 +16,6 @@ OneRuleAnswers =
 -- The known text of answers and refusals of fonts, texts and specials.
 abbrev pub TextAnswers : Type 0
 TextAnswers =
-    answers_text (1 ∷ 2 ∷ 4 ∷ 5 ∷ 6 ∷ []) (Err (BadTfm Counts) ∷ Err NoFont ∷ Ok (Shaped 2 1) ∷ Err SlotTaken ∷ Err TooMuchSpecial ∷ []) (Err ListsOpen)
+    answers_text (1 ∷ 2 ∷ 4 ∷ 5 ∷ 6 ∷ []) (Err (BadTfm Counts) ∷ Err NoFont ∷ Ok (Shaped 2 1) ∷ Err SlotTaken ∷ Err TooMuchSpecial
+    ∷ []) (Err ListsOpen)
     ≡ codes "1: refused 5 BadTfm Counts\n2: refused 4 NoFont\n4: added 2 missing 1\n5: refused 6 SlotTaken\n6: refused 22 TooMuchSpecial\nend: refused 17 ListsOpen\n"

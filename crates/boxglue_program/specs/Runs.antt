@@ -1,23 +1,24 @@
 -- Runs of a script, and what is written of them (own).
-use Rattle.std.specs.Prelude.{◌≡◌, ◌≢◌, ◌<◌, ◌+◌, ◌⊎◌, ◌&&◌, ◌++◌, ℕ, Bool, false, true, List, [], length, map, take, drop, codes, Option, Some, IfSome, Result, Err, IfOk, IfErr, OnOk, is_ok}
+use Rattle.std.specs.Prelude.{◌≡◌, ◌≢◌, ◌<◌, ◌+◌, ◌⊎◌, ◌&&◌, ◌++◌, ℕ, Bool, false, true, List, [], length, map, take, drop, codes, Option, Some}
+use Rattle.std.specs.Prelude.{IfSome, Result, Err, IfOk, IfErr, OnOk, is_ok}
 use Rattle.std.specs.List.{list_all, AllByRecursion}
 use Rattle.std.specs.Io.KnownBytes.{Appends, Keeps}
-use Rattle.job_commands.specs.declared.command.Command.{Command}
-use Rattle.job_commands.specs.declared.replies.Refusal.{Refusal}
-use Rattle.job_commands.specs.declared.replies.Refusal.TheVariants as refusals
-use Rattle.job_commands.specs.declared.replies.Summary.{Summary}
-use Rattle.job_commands.specs.Reply.{Reply}
+use Rattle.job_machine.specs.declared.command.Command.{Command}
+use Rattle.job_machine.specs.declared.replies.Refusal.{Refusal}
+use Rattle.job_machine.specs.declared.replies.Refusal.TheVariants as refusals
+use Rattle.job_machine.specs.declared.replies.Summary.{Summary}
+use Rattle.job_machine.specs.Reply.{Reply}
 use Rattle.tfm_core.specs.NamedBytes.{NamedBytes}
 use Rattle.dvi_device.specs.Written.{written_then, IsFrontOf}
 use Rattle.dvi_device.specs.Pasts.{Differs, KeepsPast}
 use Rattle.dvi_device.specs.Seen.{DeviceView, device_view}
 use Rattle.dvi_device.specs.Resumed.{PassesOn}
 use Rattle.dvi_ops.specs.Fonts.{WidthsByName}
-use Rattle.dvi_layout.specs.Layout.{front, whole}
-use Rattle.dvi_layout.specs.Shippable.{IsFileOfPages}
+use Rattle.dvi_write.specs.Layout.{front, whole}
+use Rattle.dvi_write.specs.Shippable.{IsFileOfPages}
 use Rattle.job_core.specs.Jobs.{due}
 use Rattle.job_core.specs.Shown.{GivesFiles}
-use Rattle.dvi_layout.specs.Closing.{IsClosedFor}
+use Rattle.dvi_write.specs.Closing.{IsClosedFor}
 use Rattle.dvi_device.specs.Held.{MemoryState, new_memory}
 use Rattle.job_machine.specs.Machine.{Machine, first_machine}
 use Rattle.job_machine.specs.Runs.{Run, Finishes}
@@ -55,9 +56,10 @@ IsSentPart m bytes =
 -- went from n to k, and the device then reported these bytes. If the end succeeded, they are a DVI file of exactly the machine's pages, by the
 -- definition of DVI files alone and by the widths that the font files give; they are the file that this writer lays out, and it ends as a file of
 -- these pages does. If the device failed in the end, they are a proper beginning of that file. If the job is not over because its end was
--- refused, they are the bytes of all pages that were shipped. If the job is over, whatever failed, they are a beginning of the one file. In each case they
--- begin with all bytes of the pages that were shipped, and they lack some of what a `ship` or end that lost its device sends.
-pub record WasRun (files : List NamedBytes) (n : ℕ) (commands : List Command) (replies : List Reply) (end : Result Summary Refusal) (k : ℕ) (bytes_written : Option (List ℕ)) : Type 0 where
+-- refused, they are the bytes of all pages that were shipped. If the job is over, whatever failed, they are a beginning of the one file. In each case
+-- they begin with all bytes of the pages that were shipped, and they lack some of what a `ship` or end that lost its device sends.
+pub record WasRun (files : List NamedBytes) (n : ℕ) (commands : List Command) (replies : List Reply) (end : Result Summary Refusal) (k : ℕ)
+    (bytes_written : Option (List ℕ)) : Type 0 where
   pub middle : Machine
   pub failed : ℕ
   pub ran : Run (first_machine files) n commands replies middle failed
@@ -74,7 +76,8 @@ pub record WasRun (files : List NamedBytes) (n : ℕ) (commands : List Command) 
   pub part : last.state.over ≡ true → IfSome bytes_written (IsSentPart last)
 
 -- A script was run, and this is the text of its answers.
-pub record RanScript (text : List ℕ) (files : List NamedBytes) (n k : ℕ) (bytes_written : Option (List ℕ)) (answer : List ℕ) (fine : Bool) : Type 0 where
+pub record RanScript (text : List ℕ) (files : List NamedBytes) (n k : ℕ) (bytes_written : Option (List ℕ)) (answer : List ℕ)
+    (fine : Bool) : Type 0 where
   pub lines : List Line
   pub replies : List Reply
   pub end : Result Summary Refusal
@@ -145,16 +148,17 @@ abbrev pub IsUnansweredInMemory : List ℕ → List NamedBytes → MemoryState �
 IsUnansweredInMemory text files memory =
     (memory ≡ new_memory) ⊎ ((answer : List ℕ) × (fine : Bool) × RanScript text files 0 memory.failures (Some memory.bytes) answer fine)
 
--- What is known if a run on a device in memory failed: memory was refused, and nothing was written; or the writer took a beginning of the answer, and not all
--- of it.
+-- What is known if a run on a device in memory failed: memory was refused, and nothing was written; or the writer took a beginning of the answer, and
+-- not all of it.
 abbrev pub IsLeftInMemory : List ℕ → List NamedBytes → RunFault MemoryState → (old new : Option (List ℕ)) → Type 0
 IsLeftInMemory text files (Memory memory) old new = IsUnansweredInMemory text files memory × Keeps old new
 IsLeftInMemory text files (Answers memory) old new =
     (answer : List ℕ) × (fine : Bool) × IsAnsweredInMemory text files memory answer fine × WritesFront old new answer
 
--- A script was run again over the rest of a file of which these bytes were sent before. Suppose that its end succeeded. If they are a beginning of the
--- file of its machine's pages, the inner device then reports exactly this file; if not, it got nothing.
-pub record CompletesFile (text : List ℕ) (files : List NamedBytes) (sent : List ℕ) (bytes_written : Option (List ℕ)) (answer : List ℕ) (fine : Bool) : Type 0 where
+-- A script was run again over the rest of a file of which these bytes were sent before. Suppose that its end succeeded. If they are a beginning of
+-- the file of its machine's pages, the inner device then reports exactly this file; if not, it got nothing.
+pub record CompletesFile (text : List ℕ) (files : List NamedBytes) (sent : List ℕ) (bytes_written : Option (List ℕ)) (answer : List ℕ)
+    (fine : Bool) : Type 0 where
   pub lines : List Line
   pub replies : List Reply
   pub end : Result Summary Refusal
@@ -172,29 +176,35 @@ pub record CompletesFile (text : List ℕ) (files : List NamedBytes) (sent : Lis
   pub other : (IsFrontOf sent (whole middle.state.fonts middle.pages) → ⊥) → OnOk end (bytes_written ≡ Some sent)
 
 -- The answer to a script that is run again over the rest of a file of which these bytes were sent before; a bad script has its one line.
-abbrev pub IsAnswerOfRest : List ℕ → List NamedBytes → (sent : List ℕ) → (bytes_written : Option (List ℕ)) → (answer : List ℕ) → (fine : Bool) → Type 0
-IsAnswerOfRest text files sent bytes_written answer fine = CompletesFile text files sent bytes_written answer fine ⊎ (RefusedScript text answer fine × (bytes_written ≡ Some sent))
+abbrev pub IsAnswerOfRest : List ℕ → List NamedBytes → (sent : List ℕ) → (bytes_written : Option (List ℕ)) → (answer : List ℕ) → (fine : Bool)
+    → Type 0
+IsAnswerOfRest text files sent bytes_written answer fine =
+    CompletesFile text files sent bytes_written answer fine ⊎ (RefusedScript text answer fine × (bytes_written ≡ Some sent))
 
 -- No reply is Device, and the end succeeded, unless memory was refused or a list is open.
 abbrev pub NeverLost : List Reply → Result Summary Refusal → Type 0
 NeverLost replies end =
-    AllByRecursion (λ reply. reply ≢ Err refusals.Device) replies × IfErr end (λ refusal. (refusal ≡ refusals.OutOfMemory) ⊎ (refusal ≡ refusals.ListsOpen))
+    AllByRecursion (λ reply. reply ≢ Err refusals.Device) replies
+    × IfErr end (λ refusal. (refusal ≡ refusals.OutOfMemory) ⊎ (refusal ≡ refusals.ListsOpen))
 
--- A script was run again over the rest of a file, whatever the inner device reports. The run's device reported these bytes, those sent before among them, which
--- were not sent again. Its failures are those of the inner device and its own: none, or one, and then the bytes sent before differ from those of the run.
--- Where both begin one file and the inner device did not fail, no failure was met, and the inner device has got exactly the rest of the file of the pages.
-pub record RanOverRest {D : Type 0} (text : List ℕ) (files : List NamedBytes) (sent : List ℕ) (device back : DeviceView D) (answer : List ℕ) (fine : Bool) : Type 0 where
+-- A script was run again over the rest of a file, whatever the inner device reports. The run's device reported these bytes, those sent before among
+-- them, which were not sent again. Its failures are those of the inner device and its own: none, or one, and then the bytes sent before differ from
+-- those of the run. Where both begin one file and the inner device did not fail, no failure was met, and the inner device has got exactly the rest of
+-- the file of the pages.
+pub record RanOverRest {D : Type 0} (text : List ℕ) (files : List NamedBytes) (sent : List ℕ) (device back : DeviceView D) (answer : List
+    ℕ) (fine : Bool) : Type 0 where
   pub reported : Option (List ℕ)
   pub differing : ℕ
   pub passes_on : PassesOn sent device.bytes_written back.bytes_written reported
   pub ran : RanScript text files device.failed (back.failed + differing) reported answer fine
   pub own : (differing ≡ 0) ⊎ ((differing ≡ 1) × Differs sent (due ran.run.last))
-  pub lossless : (file : List ℕ) → IsFrontOf sent file → IsFrontOf (due ran.run.last) file → back.failed ≡ device.failed → NeverLost ran.replies ran.end
+  pub lossless : (file : List ℕ) → IsFrontOf sent file → IsFrontOf (due ran.run.last) file → back.failed ≡ device.failed
+      → NeverLost ran.replies ran.end
   pub rest : let all = whole ran.run.middle.state.fonts ran.run.middle.pages in
       IsFrontOf sent all → OnOk ran.end (back.bytes_written ≡ written_then device.bytes_written (drop (length sent) all))
 
--- The answer to a script that is run again over the rest of a file, whatever the inner device reports. A bad script has its one line, and the inner device is
--- as it was.
+-- The answer to a script that is run again over the rest of a file, whatever the inner device reports. A bad script has its one line, and the inner
+-- device is as it was.
 abbrev pub IsAnsweredOverRest : {D : Type 0} → List ℕ → List NamedBytes → (sent : List ℕ) → (device back : DeviceView D)
     → (answer : List ℕ) → (fine : Bool) → Type 0
 IsAnsweredOverRest text files sent device back answer fine =
@@ -205,8 +215,8 @@ abbrev pub IsUnansweredOverRest : {D : Type 0} → List ℕ → List NamedBytes 
 IsUnansweredOverRest text files sent device back =
     (back ≡ device) ⊎ ((answer : List ℕ) × (fine : Bool) × RanOverRest text files sent device back answer fine)
 
--- What is known if a run over the rest of a file failed: memory was refused, and nothing was written; or the writer took a beginning of the answer, once, and
--- not all of it.
+-- What is known if a run over the rest of a file failed: memory was refused, and nothing was written; or the writer took a beginning of the answer,
+-- once, and not all of it.
 abbrev pub IsLeftOverRest : {D : Type 0} → List ℕ → List NamedBytes → (sent : List ℕ) → (device : DeviceView D) → RunFault (DeviceView D)
     → (old new : Option (List ℕ)) → Type 0
 IsLeftOverRest text files sent device (Memory back) old new = IsUnansweredOverRest text files sent device back × Keeps old new

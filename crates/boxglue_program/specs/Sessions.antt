@@ -3,10 +3,10 @@ use Rattle.std.specs.Prelude.{◌≡◌, ◌≢◌, ◌⊎◌, ◌≤◌, ◌<�
 use Rattle.std.specs.List.{list_all, Contains}
 use Rattle.std.specs.Str.Lines.{lines}
 use Rattle.std.specs.Io.KnownBytes.{Appends, Keeps}
-use Rattle.job_commands.specs.declared.command.Command.{Command as ACommand}
-use Rattle.job_commands.specs.declared.replies.Refusal.{Refusal}
-use Rattle.job_commands.specs.declared.replies.Summary.{Summary}
-use Rattle.job_commands.specs.Reply.{Reply}
+use Rattle.job_machine.specs.declared.command.Command.{Command as ACommand}
+use Rattle.job_machine.specs.declared.replies.Refusal.{Refusal}
+use Rattle.job_machine.specs.declared.replies.Summary.{Summary}
+use Rattle.job_machine.specs.Reply.{Reply}
 use Rattle.std.specs.Prelude.{is_ok}
 use Rattle.tfm_core.specs.NamedBytes.{NamedBytes}
 use Rattle.dvi_write.specs.Writing.{GoesOn}
@@ -31,7 +31,8 @@ session_text number (Command command ∷ more) (reply ∷ replies) = answer_line
 abbrev pub are_accepted : List Said → List Reply → Bool
 are_accepted said replies = has_no_bad said && list_all is_ok replies
 
--- A text was sent to a client that reads, or does not read any longer. All of it went out; or a beginning of it, and the client does not read any longer.
+-- A text was sent to a client that reads, or does not read any longer. All of it went out; or a beginning of it, and the client does not read any
+-- longer.
 abbrev pub IsSent : (read reads : Bool) → (old new : Option (List ℕ)) → List ℕ → Type 0
 IsSent true true old new text = Appends old new text
 IsSent true false old new text = WritesFront old new text
@@ -59,7 +60,8 @@ pub record AnswersLines (old : DialogView) (all : List (List ℕ)) (answers : Li
 -- A job was finished with this end: what a new job had run up to then was run whole.
 abbrev pub EndsRun : JobView → Result Summary Refusal → (k : ℕ) → (bytes_written : Option (List ℕ)) → Type 0
 EndsRun job end k bytes_written =
-    (files : List NamedBytes) (first : JobView) (commands : List ACommand) (replies : List Reply) → Represents first (first_machine files) → RunsTo first commands replies job
+    (files : List NamedBytes) (first : JobView) (commands : List ACommand) (replies : List Reply) → Represents first (first_machine files)
+    → RunsTo first commands replies job
     → WasRun files first.failed commands replies end k bytes_written
 
 -- What contracts see of a session: its dialog; whether the client reads; the bytes after the last line feed; and how many bytes may still be read.
@@ -105,8 +107,8 @@ pub record IsNewSession (files : List NamedBytes) (n : ℕ) (new : SessionView) 
   pub reads : new.reads ≡ true
   pub kept : new.kept ≡ []
 
--- A session came to the end of its input: a last line without a line feed was run, and the job was finished. The device of the job failed k times and reports
--- these bytes. This is the text of the last answers, and whether nothing was refused in the whole session.
+-- A session came to the end of its input: a last line without a line feed was run, and the job was finished. The device of the job failed k times and
+-- reports these bytes. This is the text of the last answers, and whether nothing was refused in the whole session.
 pub record EndsSession (old : SessionView) (k : ℕ) (bytes_written : Option (List ℕ)) (answer : List ℕ) (accepted : Bool) : Type 0 where
   pub answers : List ℕ
   pub middle : DialogView
@@ -117,7 +119,8 @@ pub record EndsSession (old : SessionView) (k : ℕ) (bytes_written : Option (Li
   pub accepted_is : accepted ≡ (middle.accepted && is_ok end)
 
 -- The whole input was run, and the job was finished. This is the text of all answers, and whether nothing was refused.
-pub record RanSession (text : List ℕ) (files : List NamedBytes) (n k : ℕ) (bytes_written : Option (List ℕ)) (answer : List ℕ) (accepted : Bool) : Type 0 where
+pub record RanSession (text : List ℕ) (files : List NamedBytes) (n k : ℕ) (bytes_written : Option (List ℕ)) (answer : List ℕ)
+    (accepted : Bool) : Type 0 where
   pub said : List Said
   pub replies : List Reply
   pub end : Result Summary Refusal
@@ -143,7 +146,8 @@ pub record StoppedSession (text : List ℕ) (files : List NamedBytes) (n k : ℕ
   pub answer_is : answer ≡ session_text 1 said replies
 
 -- Memory was refused: before anything was run, or later.
-abbrev pub LacksSessionMemory : (text : List ℕ) → (files : List NamedBytes) → (n k : ℕ) → (bytes_written : Option (List ℕ)) → (answer : List ℕ) → Type 0
+abbrev pub LacksSessionMemory : (text : List ℕ) → (files : List NamedBytes) → (n k : ℕ) → (bytes_written : Option (List ℕ)) → (answer : List ℕ)
+    → Type 0
 LacksSessionMemory text files n k bytes_written answer =
     (IsUntouched n k bytes_written × (text ≡ []) × (answer ≡ [])) ⊎ StoppedSession text files n k bytes_written answer
 

@@ -1,18 +1,23 @@
 -- The texts of answers (own).
-use Rattle.std.specs.Prelude.{◌==◌, ℕ, ℤ, ◌+◌, ◌/◌, ◌%◌, Bool, ◌||◌, if◌then◌else◌, List, [], ◌∷◌, ◌++◌, Result, Ok, Err, codes, decimal, length, nat_lt, Option, Some, None}
+use Rattle.std.specs.Prelude.{◌==◌, ℕ, ℤ, ◌+◌, ◌/◌, ◌%◌, Bool, ◌||◌, if◌then◌else◌, List, [], ◌∷◌, ◌++◌, Result, Ok, Err, codes, decimal, length}
+use Rattle.std.specs.Prelude.{Option, Some, None}
 use Rattle.std.specs.List.{flat_map, zip, enumerate_from}
 use Rattle.std.specs.Fmt.{signed_decimal}
 use Rattle.scaled_core.specs.PrintedDimensions.{dimension_text}
 use Rattle.node_core.specs.declared.tree.Kind.{Kind}
 use Rattle.node_core.specs.declared.tree.Kind.TheVariants.{Horizontal, Vertical}
-use Rattle.job_commands.specs.declared.replies.Sizes.{Sizes}
-use Rattle.job_commands.specs.declared.replies.Answer.{Answer}
-use Rattle.job_commands.specs.declared.replies.Answer.TheVariants.{Done, Packed, Measured, MeasuredVoid, Shaped, Added, Paragraph, Split, SplitVoid, Shipped}
-use Rattle.job_commands.specs.declared.replies.Refusal.{Refusal}
-use Rattle.job_commands.specs.declared.replies.Refusal.TheVariants.{OutOfMemory, DimensionTooLarge, NoFont, BadTfm, SlotTaken, NoOpenList, WrongMode, WrongKind, ListTooLong, TooDeep, InfiniteShrink, TooManyBreaks, HugePage, TooManyPages, TooMuchShipped, TooMuchSpecial, ListsOpen, Device, JobOver, VoidBox}
-use Rattle.job_commands.specs.declared.replies.Summary.{Summary}
+use Rattle.job_machine.specs.declared.replies.Sizes.{Sizes}
+use Rattle.job_machine.specs.declared.replies.Answer.{Answer}
+use Rattle.job_machine.specs.declared.replies.Answer.TheVariants.{Done, Packed, Measured, MeasuredVoid, Shaped, Added, Paragraph, Split, SplitVoid}
+use Rattle.job_machine.specs.declared.replies.Answer.TheVariants.{Shipped}
+use Rattle.job_machine.specs.declared.replies.Refusal.{Refusal}
+use Rattle.job_machine.specs.declared.replies.Refusal.TheVariants.{OutOfMemory, DimensionTooLarge, NoFont, BadTfm, SlotTaken, NoOpenList, WrongMode}
+use Rattle.job_machine.specs.declared.replies.Refusal.TheVariants.{WrongKind, ListTooLong, TooDeep, InfiniteShrink, TooManyBreaks, HugePage}
+use Rattle.job_machine.specs.declared.replies.Refusal.TheVariants.{TooManyPages, TooMuchShipped, TooMuchSpecial, ListsOpen, Device, JobOver, VoidBox}
+use Rattle.job_machine.specs.declared.replies.Summary.{Summary}
 use Rattle.tfm_core.specs.declared.fault.TfmCause.{TfmCause}
 use Rattle.tfm_core.specs.declared.fault.TfmCause.TheVariants.{TooShort, Counts, DesignSize, CharInfo, FixWord, LigKern}
+use Rattle.dvi_read.specs.Listing.{hexadecimal_digit}
 use Rattle.boxglue_script.specs.declared.cause.Cause.{Cause}
 use Rattle.boxglue_script.specs.declared.cause.Cause.TheVariants as causes
 use Rattle.boxglue_script.specs.declared.cause.Cause.TheVariants.{Byte, Word, Missing, Extra, Number, Dimension}
@@ -141,10 +146,6 @@ answers_text numbers replies end = answer_lines numbers replies ++ end_line end
 -- The text for a bad script.
 unfoldable pub script_refusal_text : ℕ → Cause → List ℕ
 script_refusal_text number cause = codes "refused 2 BadScript " ++ (decimal number ++ (codes " " ++ (cause_name cause ++ line_feed)))
-
--- A lower case hexadecimal digit.
-abbrev pub hexadecimal_digit : ℕ → ℕ
-hexadecimal_digit n = if nat_lt n 10 then 48 + n else 87 + n
 
 -- Whether a line feed comes after the byte at an index: after each sixteenth byte and after the last of `count`.
 abbrev pub ends_line : ℕ → ℕ → Bool

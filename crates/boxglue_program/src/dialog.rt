@@ -2,13 +2,13 @@
 
 ghost use Rattle.std.specs.Prelude.{◌≡◌, ◌++◌, ◌∷◌, ◌<◌, ◌≤◌, ◌+◌, ◌^◌, ◌&&◌, true, [], ℕ, List, length, Result, is_ok, IfOk, OnOk, OnErr, vec_len};
 ghost use Rattle.std.specs.Str.Lines.{lines};
-ghost use Rattle.job_commands.specs.declared.replies.Refusal.{Refusal as ARefusal};
-ghost use Rattle.job_commands.specs.declared.replies.Summary.{Summary as ASummary};
+ghost use Rattle.job_machine.specs.declared.replies.Refusal.{Refusal as ARefusal};
+ghost use Rattle.job_machine.specs.declared.replies.Summary.{Summary as ASummary};
 ghost use Rattle.dvi_write.specs.Writing.{GoesOn};
 ghost use Rattle.job_core.specs.Jobs.{writing_of};
 ghost use Rattle.boxglue_program.specs.Texts.{end_line};
 ghost use Rattle.boxglue_program.specs.Sessions.{AnswersLines, DialogView, EndsRun, IsSent, StopsIn};
-ghost use Rattle.boxglue_program.specs.Dialogs.{dialog_of, outbox_of, Sends};
+ghost use Rattle.boxglue_program.specs.Private.Dialogs.{dialog_of, outbox_of, Sends};
 
 use crate::run::run_lines;
 use crate::texts::{ANSWER_SIZE, push_end_line, push_script_refusal};
@@ -22,8 +22,8 @@ use std::slice::from_ref;
 /// Room for the answers that wait.
 pub(crate) const OUTBOX_SIZE: usize = 65_536;
 
-/// Runs a line on a job after so many lines, and appends its answer, if it has one. Returns whether it was not refused. If memory is refused, nothing was
-/// run, and nothing is appended.
+/// Runs a line on a job after so many lines, and appends its answer, if it has one. Returns whether it was not refused. If memory is refused, nothing
+/// was run, and nothing is appended.
 fn answer_line<D: Device>(
     alloc: Global,
     job: &mut Job<D>,
@@ -69,7 +69,8 @@ impl<D: Device> Dialog<D> {
     fn answer(&mut self, line: &[u8], answers: &mut Vec<u8>) -> Result<(), AllocError>
         requires countable { self.old.lines + 1 < 2 ^ 64 }
         ensures ok { OnOk result ((text : List ℕ) × (answers.new.items ≡ answers.old.items ++ text)
-            × AnswersLines (dialog_of self.old.job self.old.lines self.old.accepted) (line.now ∷ []) text (dialog_of self.new.job self.new.lines self.new.accepted)) }
+            × AnswersLines (dialog_of self.old.job self.old.lines self.old.accepted) (line.now ∷ []) text
+            (dialog_of self.new.job self.new.lines self.new.accepted)) }
         ensures unchanged { OnErr result (self.new.job ≡ self.old.job) }
         ensures cut { OnErr result (answers.new.items ≡ answers.old.items) }
         ensures counted { self.new.lines ≤ self.old.lines + 1 }
@@ -82,7 +83,8 @@ impl<D: Device> Dialog<D> {
 
     /// Finishes the job, and appends the last line. Returns whether nothing was refused in all. If memory is refused, the job is not finished.
     fn finish(&mut self, answers: &mut Vec<u8>) -> Result<bool, AllocError>
-        ensures ended { IfOk result (λ accepted. (end : Result ASummary ARefusal) × EndsRun self.old.job end self.new.job.failed self.new.job.bytes_written
+        ensures ended { IfOk result (λ accepted. (end : Result ASummary ARefusal)
+            × EndsRun self.old.job end self.new.job.failed self.new.job.bytes_written
             × (answers.new.items ≡ answers.old.items ++ end_line end) × (accepted ≡ (self.old.accepted && is_ok end))) }
         ensures none { OnErr result (self.new.job ≡ self.old.job) }
         ensures cut { OnErr result (answers.new.items ≡ answers.old.items) }
@@ -126,7 +128,8 @@ impl Outbox {
 
     /// Writes the answers that wait if the room for another one is not there.
     fn make_room<W: Write>(&mut self, writer: &mut W)
-        ensures sent { Sends (outbox_of self.old.waiting.items self.old.reads) (outbox_of self.new.waiting.items self.new.reads) (W.contents writer.old) (W.contents writer.new) [] }
+        ensures sent { Sends (outbox_of self.old.waiting.items self.old.reads) (outbox_of self.new.waiting.items self.new.reads)
+            (W.contents writer.old) (W.contents writer.new) [] }
     {
         if self.waiting.len() <= OUTBOX_SIZE - ANSWER_SIZE {
             return;
@@ -143,11 +146,14 @@ impl Outbox {
     ) -> Result<(), AllocError>
         requires countable { dialog.old.lines + length text.now < 2 ^ 64 }
         ensures ok { OnOk result ((answers : List ℕ)
-            × AnswersLines (dialog_of dialog.old.job dialog.old.lines dialog.old.accepted) (lines text.now) answers (dialog_of dialog.new.job dialog.new.lines dialog.new.accepted)
-            × Sends (outbox_of self.old.waiting.items self.old.reads) (outbox_of self.new.waiting.items self.new.reads) (W.contents writer.old) (W.contents writer.new) answers) }
+            × AnswersLines (dialog_of dialog.old.job dialog.old.lines dialog.old.accepted) (lines text.now) answers
+            (dialog_of dialog.new.job dialog.new.lines dialog.new.accepted)
+            × Sends (outbox_of self.old.waiting.items self.old.reads) (outbox_of self.new.waiting.items self.new.reads) (W.contents writer.old)
+            (W.contents writer.new) answers) }
         ensures stopped { OnErr result ((answers : List ℕ)
             × StopsIn text.now (dialog_of dialog.old.job dialog.old.lines dialog.old.accepted) answers dialog.new.job
-            × Sends (outbox_of self.old.waiting.items self.old.reads) (outbox_of self.new.waiting.items self.new.reads) (W.contents writer.old) (W.contents writer.new) answers) }
+            × Sends (outbox_of self.old.waiting.items self.old.reads) (outbox_of self.new.waiting.items self.new.reads) (W.contents writer.old)
+            (W.contents writer.new) answers) }
         ensures counted { dialog.new.lines ≤ dialog.old.lines + length text.now }
     {
         let mut rest = text;
@@ -170,7 +176,8 @@ impl Outbox {
         requires countable { dialog.old.lines + length text.now < 2 ^ 64 }
         requires empty { self.old.waiting.items ≡ [] }
         ensures ok { OnOk result ((answers : List ℕ)
-            × AnswersLines (dialog_of dialog.old.job dialog.old.lines dialog.old.accepted) (lines text.now) answers (dialog_of dialog.new.job dialog.new.lines dialog.new.accepted)
+            × AnswersLines (dialog_of dialog.old.job dialog.old.lines dialog.old.accepted) (lines text.now) answers
+            (dialog_of dialog.new.job dialog.new.lines dialog.new.accepted)
             × IsSent self.old.reads self.new.reads (W.contents writer.old) (W.contents writer.new) answers) }
         ensures stopped { OnErr result ((answers : List ℕ)
             × StopsIn text.now (dialog_of dialog.old.job dialog.old.lines dialog.old.accepted) answers dialog.new.job
@@ -212,9 +219,12 @@ impl Outbox {
         writer: &mut W,
     ) -> Result<bool, AllocError>
         requires empty { self.old.waiting.items ≡ [] }
-        ensures ended { IfOk result (λ accepted. (end : Result ASummary ARefusal) × EndsRun dialog.old.job end dialog.new.job.failed dialog.new.job.bytes_written
-            × IsSent self.old.reads self.new.reads (W.contents writer.old) (W.contents writer.new) (end_line end) × (accepted ≡ (dialog.old.accepted && is_ok end))) }
-        ensures none { OnErr result ((dialog.new.job ≡ dialog.old.job) × IsSent self.old.reads self.new.reads (W.contents writer.old) (W.contents writer.new) []) }
+        ensures ended { IfOk result (λ accepted. (end : Result ASummary ARefusal)
+            × EndsRun dialog.old.job end dialog.new.job.failed dialog.new.job.bytes_written
+            × IsSent self.old.reads self.new.reads (W.contents writer.old) (W.contents writer.new) (end_line end)
+            × (accepted ≡ (dialog.old.accepted && is_ok end))) }
+        ensures none { OnErr result ((dialog.new.job ≡ dialog.old.job) × IsSent self.old.reads self.new.reads (W.contents writer.old)
+            (W.contents writer.new) []) }
         ensures goes_on { GoesOn (writing_of dialog.old.job) (writing_of dialog.new.job) }
     {
         let ended = dialog.finish(&mut self.waiting);

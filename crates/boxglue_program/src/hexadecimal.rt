@@ -1,11 +1,13 @@
 //! Bytes in hexadecimal digits.
 
 ghost use Rattle.std.specs.Prelude.{◌≡◌, ◌++◌, ◌<◌, OnOk};
-ghost use Rattle.boxglue_program.specs.Texts.{hexadecimal_digit, ends_line, byte_text, hexadecimal_text};
+ghost use Rattle.boxglue_program.specs.Texts.{ends_line, byte_text, hexadecimal_text};
 
+use dvi_read::hexadecimal_digit;
 use std::alloc::AllocError;
 
-/// Appends bytes as two lower case hexadecimal digits each, sixteen bytes on a line. If memory is refused, a beginning of that text may have been appended.
+/// Appends bytes as two lower case hexadecimal digits each, sixteen bytes on a line. If memory is refused, a beginning of that text may have been
+/// appended.
 #[tactic(auto, unfolding(crate::specs::Texts::hexadecimal_text))]
 pub fn push_hexadecimal(bytes: &[u8], text: &mut Vec<u8>) -> Result<(), AllocError>
     ensures { OnOk result (text.new.items ≡ text.old.items ++ hexadecimal_text bytes.now) }
@@ -28,18 +30,6 @@ fn push_byte(count: usize, index: usize, byte: u8, text: &mut Vec<u8>) -> Result
         text.push(b'\n')?;
     }
     Ok(())
-}
-
-/// The lower case hexadecimal digit of a number below 16.
-pub fn hexadecimal_digit(number: u8) -> u8
-    requires { number < 16 }
-    ensures { result ≡ hexadecimal_digit number }
-{
-    if number < 10 {
-        b'0' + number
-    } else {
-        b'a' + (number - 10)
-    }
 }
 
 /// Whether a line ends after the byte at an index: it is the sixteenth of its line, or the last of `count` bytes.

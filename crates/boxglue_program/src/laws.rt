@@ -1,12 +1,13 @@
-//! Laws that compare the definitions of texts with known answers, a law about every run, and laws that compare a session with a run and with its pieces.
+//! Laws that compare the definitions of texts with known answers, a law about every run, and laws that compare a session with a run and with its
+//! pieces.
 
 ghost use Rattle.std.specs.Prelude.{◌≡◌, ◌+◌, ◌++◌, [], ℕ, Bool, List, Option, Result, is_ok, OnOk, IfSome, length, take, drop};
 ghost use Rattle.std.specs.List.{list_all};
 ghost use Rattle.std.specs.Str.Lines.{lines};
-ghost use Rattle.job_commands.specs.declared.command.Command.{Command};
-ghost use Rattle.job_commands.specs.declared.replies.Refusal.{Refusal};
-ghost use Rattle.job_commands.specs.declared.replies.Summary.{Summary};
-ghost use Rattle.job_commands.specs.Reply.{Reply};
+ghost use Rattle.job_machine.specs.declared.command.Command.{Command};
+ghost use Rattle.job_machine.specs.declared.replies.Refusal.{Refusal};
+ghost use Rattle.job_machine.specs.declared.replies.Summary.{Summary};
+ghost use Rattle.job_machine.specs.Reply.{Reply};
 ghost use Rattle.tfm_core.specs.NamedBytes.{NamedBytes};
 ghost use Rattle.boxglue_script.specs.declared.script.Line.{Line};
 ghost use Rattle.boxglue_script.specs.declared.said.Said.{Said};
@@ -36,24 +37,28 @@ pub fn outcomes_of_replies()
 
 /// A run without a page has sent nothing, if its end succeeded.
 pub fn a_run_without_a_page_sends_nothing()
-    ensures { (files : List NamedBytes) (n k : ℕ) (commands : List Command) (replies : List Reply) (end : Result Summary Refusal) (bytes_written : Option (List ℕ))
+    ensures { (files : List NamedBytes) (n k : ℕ) (commands : List Command) (replies : List Reply) (end : Result Summary Refusal)
+        (bytes_written : Option (List ℕ))
         (run : WasRun files n commands replies end k bytes_written) → run.middle.pages ≡ [] → OnOk end (IfSome bytes_written (λ bytes. bytes ≡ [])) }
 {}
 
 /// A session over a good script has the answers, the file and the acceptance that the run of the whole script has, and no others.
 pub fn a_session_over_a_good_script()
-    ensures texts { (text : List ℕ) (found : List Line) (said : List Said) (replies : List Reply) (end : Result Summary Refusal) → IsScript text found → SayEach (lines text) said
+    ensures texts { (text : List ℕ) (found : List Line) (said : List Said) (replies : List Reply) (end : Result Summary Refusal) → IsScript text found
+        → SayEach (lines text) said
         → length replies ≡ length found → session_text 1 said replies ++ end_line end ≡ answers_text (line_numbers found) replies end }
-    ensures run { (text answer : List ℕ) (found : List Line) (files : List NamedBytes) (n k : ℕ) (bytes_written : Option (List ℕ)) (accepted : Bool) → IsScript text found
+    ensures run { (text answer : List ℕ) (found : List Line) (files : List NamedBytes) (n k : ℕ) (bytes_written : Option (List ℕ)) (accepted : Bool)
+        → IsScript text found
         → RanSession text files n k bytes_written answer accepted → RanScript text files n k bytes_written answer accepted }
     ensures session { (text answer : List ℕ) (files : List NamedBytes) (n k : ℕ) (bytes_written : Option (List ℕ)) (accepted : Bool)
         → RanScript text files n k bytes_written answer accepted → RanSession text files n k bytes_written answer accepted }
 {}
 
-/// What is read in two pieces, the first of them with whole lines, is run and answered as what is read at once: the answers are those to the first piece and
-/// then those to the second, whose lines are counted on.
+/// What is read in two pieces, the first of them with whole lines, is run and answered as what is read at once: the answers are those to the first
+/// piece and then those to the second, whose lines are counted on.
 pub fn a_session_in_pieces()
-    ensures texts { (text more : List ℕ) (first second said : List Said) (replies : List Reply) → IsWhole text → SayEach (lines text) first → SayEach (lines more) second
+    ensures texts { (text more : List ℕ) (first second said : List Said) (replies : List Reply) → IsWhole text → SayEach (lines text) first
+        → SayEach (lines more) second
         → SayEach (lines (text ++ more)) said → length replies ≡ length (lines_said 1 said)
         → session_text 1 said replies ≡ session_text 1 first (take (length (lines_said 1 first)) replies)
         ++ session_text (length first + 1) second (drop (length (lines_said 1 first)) replies) }

@@ -1,10 +1,11 @@
 //! Running a script.
 
-ghost use Rattle.std.specs.Prelude.{◌≡◌, ◌<◌, ◌≤◌, ◌+◌, ◌*◌, ◌^◌, ◌++◌, ℕ, false, true, List, [], length, Some, Result, IfOk, IfErr, IfSome, vec_len, vec_capacity};
+ghost use Rattle.std.specs.Prelude.{◌≡◌, ◌<◌, ◌≤◌, ◌+◌, ◌*◌, ◌^◌, ◌++◌, ℕ, false, true, List, [], length, Some, Result, IfOk, IfErr, IfSome, vec_len};
+ghost use Rattle.std.specs.Prelude.{vec_capacity};
 ghost use Rattle.std.specs.Io.KnownBytes.{Appends};
-ghost use Rattle.job_commands.specs.declared.replies.Refusal.{Refusal as ARefusal};
-ghost use Rattle.job_commands.specs.declared.replies.Summary.{Summary as ASummary};
-ghost use Rattle.job_commands.specs.Reply.{Reply};
+ghost use Rattle.job_machine.specs.declared.replies.Refusal.{Refusal as ARefusal};
+ghost use Rattle.job_machine.specs.declared.replies.Summary.{Summary as ASummary};
+ghost use Rattle.job_machine.specs.Reply.{Reply};
 ghost use Rattle.dvi_device.specs.Pasts.{KeepsPast};
 ghost use Rattle.dvi_device.specs.Seen.{device_view};
 ghost use Rattle.dvi_write.specs.Writing.{GoesOn};
@@ -12,7 +13,8 @@ ghost use Rattle.job_core.specs.Jobs.{RunsTo, due, writing_of};
 ghost use Rattle.boxglue_program.specs.Texts.{answer_line, answer_lines, answers_text, end_line};
 ghost use Rattle.boxglue_script.specs.Blocks.{lines_of};
 ghost use Rattle.boxglue_program.specs.Outcomes.{replies_outcome, run_outcome, worse};
-ghost use Rattle.boxglue_program.specs.Runs.{commands_of, line_numbers, fault_view, WasRun, IsAnswered, IsUnanswered, IsLeft, IsAnswerOfRest, IsAnsweredOverRest, IsLeftOverRest};
+ghost use Rattle.boxglue_program.specs.Runs.{commands_of, line_numbers, fault_view, WasRun, IsAnswered, IsUnanswered, IsLeft, IsAnswerOfRest};
+ghost use Rattle.boxglue_program.specs.Runs.{IsAnsweredOverRest, IsLeftOverRest};
 
 use crate::outcome::Outcome;
 use crate::texts::{push_answer_line, push_end_line, script_refusal_text};
@@ -44,7 +46,8 @@ pub struct Answered<D> {
 }
 
 /// Runs a script's text with these font files on a device, and returns the text of its answers, which is not written yet. A bad script is
-/// refused whole: its text is its one line, and nothing is run. If memory is refused, the error is the device: nothing was run, or the whole script was.
+/// refused whole: its text is its one line, and nothing is run. If memory is refused, the error is the device: nothing was run, or the whole script
+/// was.
 pub fn answer_script<D: Device>(
     alloc: Global,
     text: &[u8],
@@ -126,12 +129,12 @@ pub fn run_script<D: Device, W: Write>(
 
 /// Runs a script's text again over `Rest` of a device, to which these bytes were sent before, and returns that device.
 ///
-/// Suppose that the device had reported exactly these bytes, and that the end succeeds. If they are a beginning of the file of the script's pages, the
-/// device then reports exactly that file; if not, nothing was sent. The errors are those of `run_script`. In each case the device keeps what it had
-/// reported, and only bytes after those sent before follow it.
+/// Suppose that the device had reported exactly these bytes, and that the end succeeds. If they are a beginning of the file of the script's pages,
+/// the device then reports exactly that file; if not, nothing was sent. The errors are those of `run_script`. In each case the device keeps what it
+/// had reported, and only bytes after those sent before follow it.
 ///
-/// If these bytes and those of the run begin one file, and the device does not fail, no answer is Device, and the end succeeds unless memory is refused or a
-/// list is open.
+/// If these bytes and those of the run begin one file, and the device does not fail, no answer is Device, and the end succeeds unless memory is
+/// refused or a list is open.
 pub fn run_rest<D: Device, W: Write>(
     alloc: Global,
     text: &[u8],
@@ -141,7 +144,8 @@ pub fn run_rest<D: Device, W: Write>(
     writer: &mut W,
 ) -> Result<(bool, D), RunFault<D>>
     requires { D.failed device + 1 < 2 ^ 64 }
-    ensures whole { D.bytes_written device ≡ Some sent.items → IfOk result (λ done. (answer : List ℕ) × IsAnswerOfRest text.now files.now sent.items (D.bytes_written done.1) answer done.0
+    ensures whole { D.bytes_written device ≡ Some sent.items
+        → IfOk result (λ done. (answer : List ℕ) × IsAnswerOfRest text.now files.now sent.items (D.bytes_written done.1) answer done.0
         × Appends (W.contents writer.old) (W.contents writer.new) answer) }
     ensures answers { let seen = device_view D.bytes_written D.failed D.past in
         IfOk result (λ done. (answer : List ℕ) × IsAnsweredOverRest text.now files.now sent.items (seen device) (seen done.1) answer done.0
@@ -178,7 +182,8 @@ pub fn run_whole<D: Device>(
     ensures ran { IfOk result (λ ran. (replies : List Reply) × (end : Result ASummary ARefusal)
         × (run : WasRun files.now (D.failed device) (commands_of (lines_of lines)) replies end (D.failed ran.device) (D.bytes_written ran.device))
         × KeepsPast (D.past device) (due run.last) (D.past ran.device)
-        × IfSome ran.answers (λ text. text.items ≡ answers_text (line_numbers (lines_of lines)) replies end) × (ran.outcome ≡ run_outcome replies end)) }
+        × IfSome ran.answers (λ text. text.items ≡ answers_text (line_numbers (lines_of lines)) replies end)
+        × (ran.outcome ≡ run_outcome replies end)) }
     ensures none { IfErr result (λ back. back ≡ device) }
 {
     let mut job = Job::new(alloc, device, files)?;
@@ -229,7 +234,8 @@ impl LinesRun {
 /// Runs the lines of a script as `run_lines` does. The memory of each block is given back once its lines were run, so that their answers may take it.
 fn run_blocks<D: Device>(job: &mut Job<D>, lines: LineBlocks, answers: &mut Vec<u8>) -> LinesRun
     ensures ran { (replies : List Reply) × RunsTo job.old (commands_of (lines_of lines)) replies job.new
-        × (result.kept ≡ true → answers.new.items ≡ answers.old.items ++ answer_lines (line_numbers (lines_of lines)) replies) × (result.outcome ≡ replies_outcome replies) }
+        × (result.kept ≡ true → answers.new.items ≡ answers.old.items ++ answer_lines (line_numbers (lines_of lines)) replies)
+        × (result.outcome ≡ replies_outcome replies) }
     ensures goes_on { GoesOn (writing_of job.old) (writing_of job.new) }
 {
     let LineBlocks { full, last } = lines;

@@ -1,7 +1,8 @@
-//! A session: a script that is run as it comes. Each reading brings some bytes, the lines that end in them are run, and their answers are written before
-//! the next reading.
+//! A session: a script that is run as it comes. Each reading brings some bytes, the lines that end in them are run, and their answers are written
+//! before the next reading.
 
-ghost use Rattle.std.specs.Prelude.{◌≡◌, ◌≤◌, ◌<◌, ◌+◌, ◌++◌, ◌^◌, ℕ, true, List, [], length, take, drop, Contains, None, Ok, Err, IfOk, IfErr, IfSome, OnOk, OnErr, vec_len};
+ghost use Rattle.std.specs.Prelude.{◌≡◌, ◌≤◌, ◌<◌, ◌+◌, ◌++◌, ◌^◌, ℕ, true, List, [], length, take, drop, Contains, None, Ok, Err, IfOk, IfErr};
+ghost use Rattle.std.specs.Prelude.{IfSome, OnOk, OnErr, vec_len};
 ghost use Rattle.std.specs.Str.Lines.{lines};
 ghost use Rattle.std.specs.Io.KnownBytes.{Consumes, IsAtEnd, Keeps};
 ghost use Rattle.dvi_device.specs.Seen.{device_view};
@@ -9,7 +10,7 @@ ghost use Rattle.dvi_write.specs.Writing.{IsDeviceOf};
 ghost use Rattle.job_core.specs.Jobs.{writing_of};
 ghost use Rattle.boxglue_script.specs.SaidLines.{IsWhole};
 ghost use Rattle.boxglue_program.specs.Sessions.{AnswersLines, RanSession, LacksSessionMemory, IsUnreadable, IsCutOff, IsSent, StopsIn};
-ghost use Rattle.boxglue_program.specs.Dialogs.{dialog_of, IsCut};
+ghost use Rattle.boxglue_program.specs.Private.Dialogs.{dialog_of, IsCut};
 
 use crate::dialog::{Dialog, OUTBOX_SIZE, Outbox};
 use job_core::{Device, FontFile, Job};
@@ -64,13 +65,14 @@ pub struct Session<D: Device> {
 impl<D: Device> Model for Session<D> {
     ghost use Rattle.std.specs.Prelude.{◌≡◌, ◌≤◌, ◌<◌, ◌+◌, ◌^◌, [], length, Contains, vec_len};
     ghost use Rattle.boxglue_program.specs.Sessions.{SessionView};
-    ghost use Rattle.boxglue_program.specs.Dialogs.{dialog_of, coded_session};
+    ghost use Rattle.boxglue_program.specs.Private.Dialogs.{dialog_of, coded_session};
 
     ghost Value = { SessionView };
 
     ghost coded = { coded_session };
 
-    ghost view = { λ s. record { dialog = dialog_of s.dialog.job s.dialog.lines s.dialog.accepted; reads = s.outbox.reads; kept = s.kept.items; left = s.left } };
+    ghost view = { λ s.
+        record { dialog = dialog_of s.dialog.job s.dialog.lines s.dialog.accepted; reads = s.outbox.reads; kept = s.kept.items; left = s.left } };
 
     ghost invariant = { λ s. (s.outbox.waiting.items ≡ []) × (vec_len s.buffer ≡ 65536) × (Contains s.kept.items 10 → ⊥)
         × (s.dialog.lines + length s.kept.items + s.left < 2 ^ 64) };
@@ -80,7 +82,8 @@ impl<D: Device> Model for Session<D> {
 fn read_once<R: Read>(reader: &mut R, buffer: &mut Vec<u8>) -> Result<Option<usize>, SessionFault>
     requires some { 0 < vec_len buffer.old }
     ensures size { vec_len buffer.new ≡ vec_len buffer.old }
-    ensures bytes { IfOk result (λ read. IfSome read (λ count. (count ≤ vec_len buffer.new) × Consumes (R.remaining reader.old) (R.remaining reader.new) (take count buffer.new.items))) }
+    ensures bytes { IfOk result (λ read. IfSome read (λ count. (count ≤ vec_len buffer.new)
+        × Consumes (R.remaining reader.old) (R.remaining reader.new) (take count buffer.new.items))) }
     ensures end { IfOk result (λ read. IfSome read (λ count. count ≡ 0 → IsAtEnd (R.remaining reader.new))) }
     ensures none { result ≡ Ok None → Keeps (R.remaining reader.old) (R.remaining reader.new) }
     ensures unread { IfErr result (λ fault. (fault ≡ SessionFault.Unreadable) × Keeps (R.remaining reader.old) (R.remaining reader.new)) }
@@ -127,7 +130,8 @@ fn take_piece<D: Device, W: Write>(
     requires unended { Contains kept.old.items 10 → ⊥ }
     requires countable { dialog.old.lines + length kept.old.items + length piece.now < 2 ^ 64 }
     ensures ok { OnOk result ((whole answers : List ℕ) × (kept.old.items ++ piece.now ≡ whole ++ kept.new.items) × IsWhole whole
-        × AnswersLines (dialog_of dialog.old.job dialog.old.lines dialog.old.accepted) (lines whole) answers (dialog_of dialog.new.job dialog.new.lines dialog.new.accepted)
+        × AnswersLines (dialog_of dialog.old.job dialog.old.lines dialog.old.accepted) (lines whole) answers
+        (dialog_of dialog.new.job dialog.new.lines dialog.new.accepted)
         × IsSent outbox.old.reads outbox.new.reads (W.contents writer.old) (W.contents writer.new) answers) }
     ensures stopped { OnErr result ((answers : List ℕ)
         × StopsIn (kept.old.items ++ piece.now) (dialog_of dialog.old.job dialog.old.lines dialog.old.accepted) answers dialog.new.job
@@ -155,8 +159,8 @@ impl<D: Device> Session<D> {
     ghost use Rattle.job_core.specs.Jobs.{JobView, writing_of};
     ghost use Rattle.boxglue_program.specs.Sessions.{EndsSession, Exchanges, IsNewSession, IsSent, LacksRoom, StopsIn};
 
-    /// A new session with these font files, which may read `limit` bytes in all. The device must have reported no byte yet. If memory is refused, the error is
-    /// the device, unchanged.
+    /// A new session with these font files, which may read `limit` bytes in all. The device must have reported no byte yet. If memory is refused, the
+    /// error is the device, unchanged.
     pub fn new(alloc: Global, files: &[FontFile], device: D, limit: usize) -> Result<Session<D>, D>
         requires countable { D.failed device + 1 < 2 ^ 64 }
         requires fresh { IfSome (D.bytes_written device) (λ bytes. bytes ≡ []) }
@@ -201,11 +205,13 @@ impl<D: Device> Session<D> {
     ) -> Result<Reading, SessionFault>
         ensures more { result ≡ Ok Reading.More → (piece : List ℕ) × Consumes (R.remaining reader.old) (R.remaining reader.new) piece
             × Exchanges self.old piece self.new (W.contents writer.old) (W.contents writer.new) }
-        ensures end { result ≡ Ok Reading.End → (self.new ≡ self.old) × Consumes (R.remaining reader.old) (R.remaining reader.new) [] × IsAtEnd (R.remaining reader.new)
+        ensures end { result ≡ Ok Reading.End → (self.new ≡ self.old) × Consumes (R.remaining reader.old) (R.remaining reader.new) []
+            × IsAtEnd (R.remaining reader.new)
             × Keeps (W.contents writer.old) (W.contents writer.new) }
         ensures memory { result ≡ Err SessionFault.OutOfMemory → (piece : List ℕ) × Consumes (R.remaining reader.old) (R.remaining reader.new) piece
             × LacksRoom self.old piece self.new (W.contents writer.old) (W.contents writer.new) }
-        ensures unread { result ≡ Err SessionFault.Unreadable → (self.new ≡ self.old) × (lost : List ℕ) × Consumes (R.remaining reader.old) (R.remaining reader.new) lost
+        ensures unread { result ≡ Err SessionFault.Unreadable
+            → (self.new ≡ self.old) × (lost : List ℕ) × Consumes (R.remaining reader.old) (R.remaining reader.new) lost
             × (length lost ≤ 65536) × (lost ≢ [] → self.old.left < length lost) × Keeps (W.contents writer.old) (W.contents writer.new) }
     {
         let Some(count) = read_once(reader, &mut self.buffer)? else {
@@ -294,12 +300,12 @@ fn close<D: Device>(
     }
 }
 
-/// Runs a script as it comes from a reader, at most `limit` bytes of it, on a new job with these font files. Each line is run when it is whole, and the
-/// answers of all lines that one reading brings are written before the next reading. At the end of the input a last line without a line feed is run, and
-/// the job is finished. A bad line is answered by the text for a bad script, with its number in the input, and the job goes on.
+/// Runs a script as it comes from a reader, at most `limit` bytes of it, on a new job with these font files. Each line is run when it is whole, and
+/// the answers of all lines that one reading brings are written before the next reading. At the end of the input a last line without a line feed is
+/// run, and the job is finished. A bad line is answered by the text for a bad script, with its number in the input, and the job goes on.
 ///
-/// A session that stops does not finish its job, so its file has the pages that were shipped and no end. It stops if memory is refused; if a reading fails; and
-/// if the end is not reached within `limit` bytes and as many calls.
+/// A session that stops does not finish its job, so its file has the pages that were shipped and no end. It stops if memory is refused; if a reading
+/// fails; and if the end is not reached within `limit` bytes and as many calls.
 pub fn run_session<D: Device, R: Read, W: Write>(
     alloc: Global,
     files: &[FontFile],
@@ -314,7 +320,8 @@ pub fn run_session<D: Device, R: Read, W: Write>(
         × IsAtEnd (R.remaining reader.new) × (length text ≤ limit)
         × RanSession text files.now (D.failed device) (D.failed result.device) (D.bytes_written result.device) answer accepted
         × IsSent true result.written (W.contents writer.old) (W.contents writer.new) answer) }
-    ensures memory { result.outcome ≡ Err SessionFault.OutOfMemory → (text answer : List ℕ) × Consumes (R.remaining reader.old) (R.remaining reader.new) text
+    ensures memory { result.outcome ≡ Err SessionFault.OutOfMemory
+        → (text answer : List ℕ) × Consumes (R.remaining reader.old) (R.remaining reader.new) text
         × LacksSessionMemory text files.now (D.failed device) (D.failed result.device) (D.bytes_written result.device) answer
         × IsSent true result.written (W.contents writer.old) (W.contents writer.new) answer }
     ensures unreadable { result.outcome ≡ Err SessionFault.Unreadable → (text lost answer : List ℕ)

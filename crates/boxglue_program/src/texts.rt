@@ -3,7 +3,8 @@
 ghost use Rattle.std.specs.Prelude.{◌≡◌, ◌++◌, ◌+◌, ◌*◌, ◌<◌, ◌≤◌, length, codes, decimal, OnOk, OnErr, IfOk};
 ghost use Rattle.std.specs.Fmt.{signed_decimal};
 ghost use Rattle.scaled_core.specs.Rooms.{TakesRoom};
-ghost use Rattle.boxglue_program.specs.Texts.{cause_name, kind_name, points_text, sizes_text, rest_text, lines_text, costs_text, answer_text, reply_text, answer_line, summary_text, end_line, line_feed, script_refusal_text};
+ghost use Rattle.boxglue_program.specs.Texts.{cause_name, kind_name, points_text, sizes_text, rest_text, lines_text, costs_text, answer_text};
+ghost use Rattle.boxglue_program.specs.Texts.{reply_text, answer_line, summary_text, end_line, line_feed, script_refusal_text};
 
 use crate::refusals::{push_number, push_refusal, push_text};
 use boxglue_script::Cause;
@@ -56,7 +57,8 @@ pub fn push_signed(number: i64, out: &mut Vec<u8>) -> Result<(), AllocError>
     out.extend_from_slice(buffer.format(number).as_bytes())
 }
 
-/// Appends width, height and depth, each in points. If memory is refused, here and in the functions below, a beginning of the text may have been appended.
+/// Appends width, height and depth, each in points. If memory is refused, here and in the functions below, a beginning of the text may have been
+/// appended.
 #[tactic(auto, unfolding(crate::specs::Texts::sizes_text, crate::specs::Texts::points_text))]
 fn push_sizes(sizes: &Sizes, out: &mut Vec<u8>) -> Result<(), AllocError>
     ensures ok { OnOk result (out.new.items ≡ out.old.items ++ sizes_text sizes.now) }

@@ -15,7 +15,7 @@ use Rattle.boxglue_script.specs.declared.amounts.Amount.{Amount}
 use Rattle.boxglue_script.specs.declared.cause.Cause.{Cause}
 use Rattle.boxglue_script.specs.declared.cause.Cause.TheVariants.{Dimension}
 use Rattle.boxglue_script.specs.Grammar.{IsDimension, IsAmount}
-use Rattle.boxglue_script.specs.Reading.{before_unit, amount, amount_in, amount_or, amount_of, map_ok, dimension_or}
+use Rattle.boxglue_script.specs.Private.Reading.{before_unit, amount, amount_in, amount_or, amount_of, map_ok, dimension_or}
 use Rattle.boxglue_script.proofs.FieldLaws.{same_bytes, bytes_same, reads_dimension, dimension_read}
 
 front_size : (number unit : List ℕ) → length (number ++ unit) - length unit ≡ length number

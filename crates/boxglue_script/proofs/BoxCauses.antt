@@ -1,13 +1,13 @@
 -- The cause that the function names holds of the fields after `box` and `copy`.
 use Rattle.std.proofs.Common.{◌≡◌, ℕ, pos, Bool, true, false, List, [], ◌∷◌, Option, Some, None, Ok, Err, codes, refl, ap, sym, ◌∙◌, subst, arith}
 use Rattle.std.specs.Str.{bytes_eq}
-use Rattle.job_commands.specs.declared.command.Transfer.{Transfer}
+use Rattle.job_machine.specs.declared.command.Transfer.{Transfer}
 use Rattle.boxglue_script.specs.declared.cause.Cause.{Cause}
 use Rattle.boxglue_script.specs.declared.cause.Cause.TheVariants.{Word, Missing, Number}
 use Rattle.boxglue_script.specs.declared.name.Name.TheVariants as names
 use Rattle.boxglue_script.specs.Grammar.{register_count, taking_text}
 use Rattle.boxglue_script.specs.Causes.{IsWord, IsFieldCause}
-use Rattle.boxglue_script.specs.Reading.{number_of, last_dimension, map_ok, append, shift_of, append_of, command_named, command_of, last_value, value_first}
+use Rattle.boxglue_script.specs.Private.Reading.{number_of, last_dimension, map_ok, append, shift_of, append_of, command_named, command_of, last_value, value_first}
 use Rattle.boxglue_script.proofs.FieldLaws.{same_bytes}
 use Rattle.boxglue_script.proofs.NameLaws.{named}
 use Rattle.boxglue_script.proofs.CauseForms.{missing, has_bad_elsewhere, as_cause, not_made, zero_text, zero_names, zero_dimension, shift_is_word, letter, letter_no_number, no_number_cause, dimension_cause}

@@ -1,16 +1,16 @@
 -- The forms of causes, and right fields of each kind.
-use Rattle.std.proofs.Common.{◌≡◌, inl, inr, ℕ, ℤ, pos, ◌<◌, true, List, [], ◌∷◌, ◌++◌, Option, Some, None, Result, Ok, Err, codes, refl, ap, sym, ◌∙◌, subst, arith, append_assoc}
+use Rattle.std.proofs.Common.{◌≡◌, inl, inr, ℕ, ℤ, pos, ◌<◌, true, List, [], ◌∷◌, ◌++◌, Option, Some, None, Result, Ok, Err, codes, refl, ap, sym, ◌∙◌, subst, arith, append_assoc, length}
 use Rattle.std.proofs.lemmas.Bool.{lt-ltb}
 use Rattle.std.proofs.lemmas.List.{append-nil}
 use Rattle.node_core.specs.declared.tree.Order.TheVariants.{Normal}
 use Rattle.node_core.specs.declared.tree.RuleSize.TheVariants.{Running, Fixed}
-use Rattle.job_commands.specs.declared.command.Command.{Command}
+use Rattle.job_machine.specs.declared.command.Command.{Command}
 use Rattle.boxglue_script.specs.declared.amounts.Amount.{Amount}
 use Rattle.boxglue_script.specs.declared.cause.Cause.{Cause}
 use Rattle.boxglue_script.specs.declared.cause.Cause.TheVariants.{Missing, Extra, Number, Dimension}
 use Rattle.boxglue_script.specs.Grammar.{register_count, IsName}
-use Rattle.boxglue_script.specs.Causes.{SaysSome, Begins, IsWord, GivesNumber, GivesDimension, GivesSize, HasBad, LacksField, HasExtra, TakesNames, HasBadElsewhere, IsFieldCause}
-use Rattle.boxglue_script.specs.Reading.{some_or, number_of, last_number, penalty_of, last_penalty, dimension_or, last_dimension, no_amount, before_unit, amount_in, amount_of, last_amount, map_ok, no_field_left, and_right, is_name, size_of, command_of, last_value, value_first}
+use Rattle.boxglue_script.specs.Causes.{inner_words, SaysSome, Begins, IsWord, GivesNumber, GivesDimension, GivesSize, HasBad, LacksField, HasExtra, TakesNames, HasBadElsewhere, IsFieldCause}
+use Rattle.boxglue_script.specs.Private.Reading.{some_or, number_of, last_number, penalty_of, last_penalty, dimension_or, last_dimension, no_amount, before_unit, amount_in, amount_of, last_amount, map_ok, no_field_left, and_right, is_name, size_of, command_of, last_value, value_first}
 use Rattle.scaled_core.specs.declared.fault.DimenFault.{DimenFault}
 use Rattle.scaled_core.specs.declared.fault.DimenFault.TheVariants.{NotADimension}
 use Rattle.scaled_core.specs.Rounding.{nearest}
@@ -174,7 +174,7 @@ pub shift_is_word : IsWord (codes "shift")
 shift_is_word = inr (6, omega arith, refl)
 
 pub depth_is_word : IsWord (codes "boxmaxdepth")
-depth_is_word = inr (7, omega arith, refl)
+depth_is_word = let count : length inner_words ≡ 26 = refl in inr (7, omega (arith, count), refl)
 
 -- With a right field after these a command is given.
 abbrev pub Wanted : List (List ℕ) → List ℕ → List (List ℕ) → Command → Type 0

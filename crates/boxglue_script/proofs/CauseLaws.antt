@@ -3,16 +3,16 @@ use Rattle.std.proofs.Common.{◌≡◌, inl, ℕ, ℤ, ◌<◌, Bool, true, fal
 use Rattle.std.specs.Str.{bytes_eq}
 use Rattle.node_core.specs.declared.tree.RuleSize.{RuleSize}
 use Rattle.node_core.specs.declared.tree.RuleSize.TheVariants.{Running, Fixed}
-use Rattle.job_commands.specs.declared.command.Command.{Command}
-use Rattle.job_commands.specs.declared.command.Command.TheVariants.{UseFont, Paragraph, End, Character, Rule, Kern, Penalty, LastBox, Measure, Void, Ship}
+use Rattle.job_machine.specs.declared.command.Command.{Command}
+use Rattle.job_machine.specs.declared.command.Command.TheVariants.{UseFont, Paragraph, End, Character, Rule, Kern, Penalty, LastBox, Measure, Void, Ship}
 use Rattle.boxglue_script.specs.declared.cause.Cause.{Cause}
 use Rattle.boxglue_script.specs.declared.cause.Cause.TheVariants.{Word, Missing, Extra, Dimension}
 use Rattle.boxglue_script.specs.declared.name.Name.{Name}
 use Rattle.boxglue_script.specs.declared.name.Name.TheVariants as names
-use Rattle.boxglue_script.specs.Names.{box_name, register_name, item_name, name_of}
+use Rattle.boxglue_script.specs.Private.Names.{box_name, register_name, item_name, name_of}
 use Rattle.boxglue_script.specs.Grammar.{register_count, slot_count, character_count}
 use Rattle.boxglue_script.specs.Causes.{IsWord, GivesSize, IsFieldCause}
-use Rattle.boxglue_script.specs.Reading.{dimension_or, map_ok, size_of, no_field_left, last_number, last_dimension, last_penalty, right_and, unboxing, rule_of, command_named, named_by, command_of, value_first}
+use Rattle.boxglue_script.specs.Private.Reading.{dimension_or, map_ok, size_of, no_field_left, last_number, last_dimension, last_penalty, right_and, unboxing, rule_of, command_named, named_by, command_of, value_first}
 use Rattle.scaled_core.specs.declared.fault.DimenFault.{DimenFault}
 use Rattle.scaled_core.specs.ParsedTexts.{read_dimension}
 use Rattle.boxglue_script.proofs.NameLaws.{name_text, name_written, named}

@@ -1,32 +1,29 @@
 -- The function that reads a command gives the commands of the grammar.
 use Rattle.std.proofs.Common.{◌≡◌, ℕ, ℤ, Bool, true, false, if◌then◌else◌, List, [], ◌∷◌, ◌++◌, Option, Some, None, Ok, Err, codes, refl, ap, sym, ◌∙◌, subst}
 use Rattle.std.specs.Str.{bytes_eq}
-use Rattle.node_core.specs.declared.tree.Glue as glues
 use Rattle.pack_core.specs.declared.pack.Target.{Target}
 use Rattle.pack_core.specs.declared.pack.Target.TheVariants.{Natural, To, Spread}
-use Rattle.job_commands.specs.declared.command.BoxForm.{BoxForm}
-use Rattle.job_commands.specs.declared.command.Transfer.{Transfer}
-use Rattle.job_commands.specs.declared.command.Parameter.{Parameter}
-use Rattle.job_commands.specs.declared.command.Parameter.TheVariants.{FirstLines}
-use Rattle.job_commands.specs.declared.command.Command.{Command}
-use Rattle.job_commands.specs.declared.command.Command.TheVariants.{UseFont, Paragraph, End, Character, Kern, Glue, Penalty, LastBox, Measure, Void, Set, Ship}
+use Rattle.job_machine.specs.declared.command.BoxForm.{BoxForm}
+use Rattle.job_machine.specs.declared.command.Transfer.{Transfer}
+use Rattle.job_machine.specs.declared.parameter.SizeParameter.{SizeParameter}
+use Rattle.job_machine.specs.declared.parameter.SkipParameter.{SkipParameter}
+use Rattle.job_machine.specs.declared.parameter.NumberParameter.{NumberParameter}
+use Rattle.job_machine.specs.declared.parameter.Parameter.{Parameter}
+use Rattle.job_machine.specs.declared.parameter.Parameter.TheVariants as parameters
+use Rattle.job_machine.specs.declared.command.Command.{Command}
+use Rattle.job_machine.specs.declared.command.Command.TheVariants.{UseFont, Paragraph, End, Character, Kern, Glue, Penalty, LastBox, Measure, Void, Set, Ship}
 use Rattle.boxglue_script.specs.declared.cause.Cause.TheVariants.{Word, Number}
 use Rattle.boxglue_script.specs.declared.name.Name.{Name}
 use Rattle.boxglue_script.specs.declared.name.Name.TheVariants as names
-use Rattle.boxglue_script.specs.declared.parameter.SizeParameter.{SizeParameter}
-use Rattle.boxglue_script.specs.declared.parameter.SizeParameter.TheVariants as sizes
-use Rattle.boxglue_script.specs.declared.parameter.SkipParameter.{SkipParameter}
-use Rattle.boxglue_script.specs.declared.parameter.SkipParameter.TheVariants as skips
-use Rattle.boxglue_script.specs.declared.parameter.NumberParameter.{NumberParameter}
-use Rattle.boxglue_script.specs.declared.parameter.NumberParameter.TheVariants as numbers
-use Rattle.boxglue_script.specs.Names.{name_of}
-use Rattle.boxglue_script.specs.ParameterNames.{size_name, skip_name, number_name, names_first_lines, with_size, with_skip, with_number}
-use Rattle.boxglue_script.specs.Grammar.{register_count, slot_count, character_count, count_count, first_lines_count, IsNumberAmong, IsCount, IsPenalty, IsDimension, form_text, IsTarget, taking_text, unboxing_text, IsGlue, SaysCommand}
-use Rattle.boxglue_script.specs.Reading.{rest_of, some_or, count_of, last_count, counting, counting_of, number_first, dimension_first, map_ok, no_field_left, last_number, last_dimension, right_and, font_of, rule_of, last_penalty, opening, opening_with_register, opening_into, opening_with_size, opening_of, append, shift_of, append_of, unboxing, split, split_into, split_height, split_to, split_of, glue_of, parameter_by, parameter_of, command_named, named_by, command_of, last_value, value_first}
+use Rattle.boxglue_script.specs.Private.Names.{name_of}
+use Rattle.boxglue_script.specs.ParameterNames.{first_lines_text, size_name, skip_name, number_name}
+use Rattle.boxglue_script.specs.Private.ParameterNames.{names_first_lines}
+use Rattle.boxglue_script.specs.Grammar.{register_count, slot_count, character_count, count_count, first_lines_count, IsNumberAmong, IsCount, IsDimension, form_text, IsTarget, taking_text, unboxing_text, SaysParameter, SaysCommand}
+use Rattle.boxglue_script.specs.Private.Reading.{rest_of, some_or, count_of, last_count, counting, counting_of, number_first, dimension_first, map_ok, no_field_left, last_number, last_dimension, right_and, font_of, rule_of, last_penalty, opening, opening_with_register, opening_into, opening_with_size, opening_of, append, shift_of, append_of, unboxing, split, split_into, split_height, split_to, split_of, glue_of, parameter_by, parameter_of, command_named, named_by, command_of, last_value, value_first}
 use Rattle.boxglue_script.proofs.FieldLaws.{same_bytes}
 use Rattle.boxglue_script.proofs.CountNumbers.{writes_count}
 use Rattle.boxglue_script.proofs.NameLaws.{name_text, name_written}
-use Rattle.boxglue_script.proofs.ParameterNameLaws.{size_text, skip_text, number_text, first_lines_text, size_written, skip_written, number_written, first_lines_written}
+use Rattle.boxglue_script.proofs.ParameterNameLaws.{first_lines_written}
 use Rattle.boxglue_script.proofs.ReadFields.{nothing_after, number_last, dimension_last, number_read, font_name_read, two_fields, chosen_size_read, size_read, nothing_left, rule_read, font_read, made, then_read, dimension_first_read, shift_read, glue_read, penalty_last}
 
 along : (fields : List (List ℕ)) (c d : Command) → c ≡ d → SaysCommand fields c → SaysCommand fields d
@@ -169,75 +166,46 @@ says_count rest command h =
     let all : rest ≡ i.0 ∷ last.0 ∷ [] = i.1 ∙ ap (λ (xs : List (List ℕ)). i.0 ∷ xs) last.1 in
     along _ _ _ m.2 (i.0, last.0, ap (λ (xs : List (List ℕ)). codes "count" ∷ xs) all, i.2, last.2)
 
--- A parameter that is a dimension was read.
-says_size : (name : SizeParameter) (d : List ℕ) (z : ℤ) → IsDimension d z → SaysCommand (codes "set" ∷ size_text name ∷ d ∷ []) (Set (with_size name z))
-says_size sizes.BoxMaxDepth d z is = (d, refl, is)
-says_size sizes.LineSkipLimit d z is = (d, refl, is)
-says_size sizes.SplitMaxDepth d z is = (d, refl, is)
-says_size sizes.Hsize d z is = (d, refl, is)
-says_size sizes.FirstSize d z is = (d, refl, is)
-says_size sizes.Hoffset d z is = (d, refl, is)
-says_size sizes.Voffset d z is = (d, refl, is)
+-- A parameter was read.
+says_as : (w : List ℕ) (rest : List (List ℕ)) (p q : Parameter) → p ≡ q → SaysParameter w rest p → SaysParameter w rest q
+says_as w rest p q e h = let P : Parameter → Type 0 = λ x. SaysParameter w rest x in subst P e h
 
-says_skip : (name : SkipParameter) (more : List (List ℕ)) (g : glues.Glue) → IsGlue more g → SaysCommand (codes "set" ∷ skip_text name ∷ more) (Set (with_skip name g))
-says_skip skips.BaselineSkip more g is = (more, refl, is)
-says_skip skips.LineSkip more g is = (more, refl, is)
-says_skip skips.SplitTopSkip more g is = (more, refl, is)
-says_skip skips.ParFillSkip more g is = (more, refl, is)
-
-says_number : (name : NumberParameter) (f : List ℕ) (z : ℤ) → IsPenalty f z → SaysCommand (codes "set" ∷ number_text name ∷ f ∷ []) (Set (with_number name z))
-says_number numbers.Pretolerance f z is = (f, refl, is)
-says_number numbers.Tolerance f z is = (f, refl, is)
-says_number numbers.LinePenalty f z is = (f, refl, is)
-says_number numbers.AdjDemerits f z is = (f, refl, is)
-says_number numbers.ClubPenalty f z is = (f, refl, is)
-says_number numbers.WidowPenalty f z is = (f, refl, is)
-says_number numbers.InterlinePenalty f z is = (f, refl, is)
-
-by_size : (w : List ℕ) (rest : List (List ℕ)) (p : Parameter) (name : SizeParameter) → w ≡ size_text name → map_ok (with_size name) (last_dimension rest) ≡ Ok p
-    → SaysCommand (codes "set" ∷ w ∷ rest) (Set p)
-by_size w rest p name written h =
-    let m = made (with_size name) (last_dimension rest) p h in
+by_size : (w : List ℕ) (rest : List (List ℕ)) (p : Parameter) (name : SizeParameter) → size_name w ≡ Some name → map_ok (parameters.Size name) (last_dimension rest) ≡ Ok p → SaysParameter w rest p
+by_size w rest p name is h =
+    let m = made (parameters.Size name) (last_dimension rest) p h in
     let last = dimension_last rest m.0 m.1 in
-    let P : List (List ℕ) → Type 0 = λ xs. SaysCommand (codes "set" ∷ xs) (Set (with_size name m.0)) in
-    along _ _ _ (ap (λ (x : Parameter). Set x) m.2) (subst P (sym (two_fields w (size_text name) rest last.0 written last.1)) (says_size name last.0 m.0 last.2))
+    says_as w rest _ _ m.2 (last.0, is, last.1, last.2)
 
-by_skip : (w : List ℕ) (rest : List (List ℕ)) (p : Parameter) (name : SkipParameter) → w ≡ skip_text name → map_ok (with_skip name) (glue_of rest) ≡ Ok p
-    → SaysCommand (codes "set" ∷ w ∷ rest) (Set p)
-by_skip w rest p name written h =
-    let m = made (with_skip name) (glue_of rest) p h in
-    let P : List ℕ → Type 0 = λ x. SaysCommand (codes "set" ∷ x ∷ rest) (Set (with_skip name m.0)) in
-    along _ _ _ (ap (λ (x : Parameter). Set x) m.2) (subst P (sym written) (says_skip name rest m.0 (glue_read rest m.0 m.1)))
+by_skip : (w : List ℕ) (rest : List (List ℕ)) (p : Parameter) (name : SkipParameter) → skip_name w ≡ Some name → map_ok (parameters.Skip name) (glue_of rest) ≡ Ok p → SaysParameter w rest p
+by_skip w rest p name is h =
+    let m = made (parameters.Skip name) (glue_of rest) p h in
+    says_as w rest _ _ m.2 (is, glue_read rest m.0 m.1)
 
-by_number : (w : List ℕ) (rest : List (List ℕ)) (p : Parameter) (name : NumberParameter) → w ≡ number_text name → map_ok (with_number name) (last_penalty rest) ≡ Ok p
-    → SaysCommand (codes "set" ∷ w ∷ rest) (Set p)
-by_number w rest p name written h =
-    let m = made (with_number name) (last_penalty rest) p h in
+by_number : (w : List ℕ) (rest : List (List ℕ)) (p : Parameter) (name : NumberParameter) → number_name w ≡ Some name → map_ok (parameters.Number name) (last_penalty rest) ≡ Ok p → SaysParameter w rest p
+by_number w rest p name is h =
+    let m = made (parameters.Number name) (last_penalty rest) p h in
     let last = penalty_last rest m.0 m.1 in
-    let P : List (List ℕ) → Type 0 = λ xs. SaysCommand (codes "set" ∷ xs) (Set (with_number name m.0)) in
-    along _ _ _ (ap (λ (x : Parameter). Set x) m.2) (subst P (sym (two_fields w (number_text name) rest last.0 written last.1)) (says_number name last.0 m.0 last.2))
+    says_as w rest _ _ m.2 (last.0, is, last.1, last.2)
 
-by_lines : (w : List ℕ) (rest : List (List ℕ)) (p : Parameter) → w ≡ first_lines_text → map_ok FirstLines (last_number first_lines_count rest) ≡ Ok p
-    → SaysCommand (codes "set" ∷ w ∷ rest) (Set p)
-by_lines w rest p written h =
-    let m = made FirstLines (last_number first_lines_count rest) p h in
+by_lines : (w : List ℕ) (rest : List (List ℕ)) (p : Parameter) → w ≡ first_lines_text → map_ok parameters.FirstLines (last_number first_lines_count rest) ≡ Ok p → SaysParameter w rest p
+by_lines w rest p is h =
+    let m = made parameters.FirstLines (last_number first_lines_count rest) p h in
     let last = number_last first_lines_count rest m.0 m.1 in
-    let P : List (List ℕ) → Type 0 = λ xs. SaysCommand (codes "set" ∷ xs) (Set (FirstLines m.0)) in
-    along _ _ _ (ap (λ (x : Parameter). Set x) m.2) (subst P (sym (two_fields w first_lines_text rest last.0 written last.1)) (last.0, refl, last.2))
+    says_as w rest _ _ m.2 (last.0, is, last.1, last.2)
 
 by_names : (w : List ℕ) (rest : List (List ℕ)) (p : Parameter) (size : Option SizeParameter) (skip : Option SkipParameter) (number : Option NumberParameter) (lines : Bool)
     → size_name w ≡ size → skip_name w ≡ skip → number_name w ≡ number → names_first_lines w ≡ lines → parameter_by size skip number lines rest ≡ Ok p
-    → SaysCommand (codes "set" ∷ w ∷ rest) (Set p)
-by_names w rest p (Some name) skip number lines a b c e h = by_size w rest p name (size_written w name a) h
-by_names w rest p None (Some name) number lines a b c e h = by_skip w rest p name (skip_written w name b) h
-by_names w rest p None None (Some name) lines a b c e h = by_number w rest p name (number_written w name c) h
+    → SaysParameter w rest p
+by_names w rest p (Some name) skip number lines a b c e h = by_size w rest p name a h
+by_names w rest p None (Some name) number lines a b c e h = by_skip w rest p name b h
+by_names w rest p None None (Some name) lines a b c e h = by_number w rest p name c h
 by_names w rest p None None None true a b c e h = by_lines w rest p (first_lines_written w e) h
 by_names w rest p None None None false a b c e h = absurd (cc)
 
 says_parameter : (rest : List (List ℕ)) (p : Parameter) → parameter_of rest ≡ Ok p → SaysCommand (codes "set" ∷ rest) (Set p)
 unfolding parameter_of
 says_parameter [] p h = absurd (cc)
-says_parameter (w ∷ rest) p h = by_names w rest p (size_name w) (skip_name w) (number_name w) (names_first_lines w) refl refl refl refl h
+says_parameter (w ∷ rest) p h = (w, rest, refl, by_names w rest p (size_name w) (skip_name w) (number_name w) (names_first_lines w) refl refl refl refl h)
 
 says_set : (rest : List (List ℕ)) (command : Command) → map_ok Set (parameter_of rest) ≡ Ok command → SaysCommand (codes "set" ∷ rest) command
 says_set rest command h =

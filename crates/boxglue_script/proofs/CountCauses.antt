@@ -1,12 +1,12 @@
 -- The cause that the function names holds of the fields after `count`.
 use Rattle.std.proofs.Common.{◌≡◌, ℕ, ℤ, pos, inl, List, [], ◌∷◌, ◌++◌, Option, Some, None, Ok, Err, codes, refl, ap, sym, ◌∙◌, arith}
-use Rattle.job_commands.specs.declared.command.Command.{Command}
+use Rattle.job_machine.specs.declared.command.Command.{Command}
 use Rattle.boxglue_script.specs.declared.cause.Cause.{Cause}
 use Rattle.boxglue_script.specs.declared.cause.Cause.TheVariants.{Missing, Number}
 use Rattle.boxglue_script.specs.declared.name.Name.TheVariants as names
 use Rattle.boxglue_script.specs.Grammar.{count_count}
 use Rattle.boxglue_script.specs.Causes.{GivesNumber, IsFieldCause}
-use Rattle.boxglue_script.specs.Reading.{some_or, number_of, count_of, last_count, map_ok, counting, counting_of, command_named, command_of, last_value, value_first}
+use Rattle.boxglue_script.specs.Private.Reading.{some_or, number_of, count_of, last_count, map_ok, counting, counting_of, command_named, command_of, last_value, value_first}
 use Rattle.boxglue_script.proofs.NameLaws.{named}
 use Rattle.boxglue_script.proofs.CauseForms.{AllFail, Wanted, missing, has_bad_elsewhere, as_cause, not_made, zero_text, zero_names, zero_number, letter, letter_no_number, no_number_cause, last_cause}
 

@@ -4,7 +4,7 @@ use Rattle.std.specs.Int.{w32, w64}
 use Rattle.std.specs.Str.Parse.{without_leading_sign, signed_digits_value}
 use Rattle.std.proofs.lemmas.Bool.{ltb-true, lt-ltb, le-ltb, cases_lt}
 use Rattle.boxglue_script.specs.Grammar.{IsInteger, IsCount}
-use Rattle.boxglue_script.specs.Reading.{is_numeral, count_value, count_of}
+use Rattle.boxglue_script.specs.Private.Reading.{is_numeral, count_value, count_of}
 use Rattle.boxglue_script.proofs.Numbers.{numeral, numeral_passes}
 
 -- The range of a count.

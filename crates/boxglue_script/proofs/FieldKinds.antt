@@ -140,10 +140,13 @@ high_by : (b : Bool) → not b ≡ true → b ≡ false
 high_by false h = refl
 high_by true h = absurd (cc)
 
+-- A field whose first byte does not come before the small letters is a word.
+pub high_kind : (field : List ℕ) → not (begins_low field) ≡ true → kind_of field ≡ Word
+high_kind field h = rw (high_by (begins_low field) h) refl
+
 word_among : (words : List (List ℕ)) (field : List ℕ) → Contains words field → list_all (λ word. not (begins_low word)) words ≡ true → kind_of field ≡ Word
 word_among words field h all =
-    let high : begins_low field ≡ false = high_by (begins_low field) (All-contains (λ (word : List ℕ). not (begins_low word) ≡ true) words field (AllPass-from_list_all (λ word. not (begins_low word)) words all) h) in
-    rw high refl
+    high_kind field (All-contains (λ (word : List ℕ). not (begins_low word) ≡ true) words field (AllPass-from_list_all (λ word. not (begins_low word)) words all) h)
 
 pub inner_word_kind : (field : List ℕ) → IsInnerWord field → kind_of field ≡ Word
 inner_word_kind field h = word_among inner_words field h refl

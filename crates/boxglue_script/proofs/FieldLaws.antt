@@ -16,7 +16,7 @@ use Rattle.scaled_core.proofs.TextLaws.{dimension_value-from_text}
 use Rattle.node_core.specs.declared.tree.RuleSize.{RuleSize}
 use Rattle.node_core.specs.declared.tree.RuleSize.TheVariants.{Running, Fixed}
 use Rattle.boxglue_script.specs.Grammar.{IsNumberAmong, IsPenalty, IsDimension, IsRuleSizeField, IsName, is_name_byte}
-use Rattle.boxglue_script.specs.Reading.{number_of, number_among, penalty_of, penalty_number, size_of_font, is_short, is_name, is_numeral, size_of, map_ok, dimension_or}
+use Rattle.boxglue_script.specs.Private.Reading.{number_of, number_among, penalty_of, penalty_number, size_of_font, is_short, is_name, is_numeral, size_of, map_ok, dimension_or}
 use Rattle.boxglue_script.proofs.Numbers.{and_parts, numeral, number_names, within_penalties, penalty_names, penalty_in}
 
 -- The bytes are those of the text.

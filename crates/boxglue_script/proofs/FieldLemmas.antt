@@ -7,8 +7,8 @@ use Rattle.std.proofs.lemmas.List.Sums.{fails_before_first, passes_at_first}
 use Rattle.std.proofs.lemmas.List.{drop_more, take_all, drop_all}
 use Rattle.std.proofs.lemmas.Bool.{cases_lt}
 use Rattle.boxglue_script.specs.ScriptLines.{fields_of, is_space, is_filled}
-use Rattle.boxglue_script.specs.Names.{name_of}
-use Rattle.boxglue_script.specs.Reading.{front_field, after_field, without_spaces, in_field, first_word, named_by, command_by, command_of}
+use Rattle.boxglue_script.specs.Private.Names.{name_of}
+use Rattle.boxglue_script.specs.Private.Reading.{front_field, after_field, without_spaces, in_field, first_word, named_by, command_by, command_of}
 
 -- A space at the beginning of a line gives no field.
 pub fields-space : (byte : ℕ) (line : List ℕ) → is_space byte ≡ true → fields_of (byte ∷ line) ≡ fields_of line

@@ -1,28 +1,33 @@
 -- At each place in the fields of a command one kind of field belongs, or any name of a font. The kind follows from the fields before the place.
-use Rattle.std.proofs.Common.{◌≡◌, ◌⊎◌, inl, inr, ℕ, ℤ, pos, Bool, true, false, if◌then◌else◌, List, [], ◌∷◌, ◌++◌, Option, Some, None, codes, refl, sym, subst}
+use Rattle.std.proofs.Common.{◌≡◌, ◌⊎◌, inl, inr, ℕ, ℤ, pos, true, if◌then◌else◌, List, [], ◌∷◌, ◌++◌, Option, Some, None, codes, refl, sym, subst}
+use Rattle.std.specs.Prelude.{not}
+use Rattle.std.specs.List.{list_all}
 use Rattle.std.specs.Str.{bytes_eq}
 use Rattle.node_core.specs.declared.tree.Kind.TheVariants.{Horizontal, Vertical}
 use Rattle.node_core.specs.declared.tree.Glue as glues
 use Rattle.node_core.specs.declared.tree.Order.{Order}
 use Rattle.pack_core.specs.declared.pack.Target.{Target}
 use Rattle.pack_core.specs.declared.pack.Target.TheVariants.{Natural, To, Spread}
-use Rattle.job_commands.specs.declared.command.BoxForm.TheVariants as forms
-use Rattle.job_commands.specs.declared.command.Transfer.TheVariants.{Move, Copy}
-use Rattle.job_commands.specs.declared.command.Parameter.TheVariants.{BoxMaxDepth, BaselineSkip, LineSkip, LineSkipLimit, SplitMaxDepth, SplitTopSkip, Hsize, FirstLines, FirstSize, ParFillSkip, Pretolerance, Tolerance, LinePenalty, AdjDemerits, ClubPenalty, WidowPenalty, InterlinePenalty, Hoffset, Voffset}
-use Rattle.job_commands.specs.declared.command.Command.{Command}
-use Rattle.job_commands.specs.declared.command.Command.TheVariants.{LoadFont, UseFont, Open, Paragraph, End, Text, Character, Rule, Kern, Glue, Penalty, Append, Unbox, LastBox, Split, Measure, Void, Set, Count, Special, Ship}
+use Rattle.job_machine.specs.declared.command.BoxForm.TheVariants as forms
+use Rattle.job_machine.specs.declared.command.Transfer.TheVariants.{Move, Copy}
+use Rattle.job_machine.specs.declared.parameter.SizeParameter.{SizeParameter}
+use Rattle.job_machine.specs.declared.parameter.SkipParameter.{SkipParameter}
+use Rattle.job_machine.specs.declared.parameter.Parameter.{Parameter}
+use Rattle.job_machine.specs.declared.parameter.Parameter.TheVariants as parameters
+use Rattle.job_machine.specs.declared.command.Command.{Command}
+use Rattle.job_machine.specs.declared.command.Command.TheVariants.{LoadFont, UseFont, Open, Paragraph, End, Text, Character, Rule, Kern, Glue, Penalty, Append, Unbox, LastBox, Split, Measure, Void, Set, Count, Special, Ship}
 use Rattle.boxglue_script.specs.declared.cause.Cause.{Cause}
 use Rattle.boxglue_script.specs.declared.cause.Cause.TheVariants as causes
 use Rattle.boxglue_script.specs.declared.cause.Cause.TheVariants.{Word, Number, Dimension}
 use Rattle.boxglue_script.specs.declared.name.Name.{Name}
 use Rattle.boxglue_script.specs.declared.name.Name.TheVariants as names
-use Rattle.boxglue_script.specs.declared.parameter.NumberParameter.{NumberParameter}
-use Rattle.boxglue_script.specs.Names.{name_of}
-use Rattle.boxglue_script.specs.ParameterNames.{number_name, names_first_lines}
-use Rattle.boxglue_script.specs.Grammar.{IsSlot, IsChosenSize, IsTarget, IsDestination, IsShift, IsGluePart, IsGlue, SaysCommand}
+use Rattle.boxglue_script.specs.Private.Names.{name_of}
+use Rattle.boxglue_script.specs.ParameterNames.{sizes, skips, numbers, names_in, named_in, size_name, skip_name, number_name}
+use Rattle.boxglue_script.specs.Grammar.{IsSlot, IsChosenSize, IsTarget, IsDestination, IsShift, IsGluePart, IsGlue, SaysParameter, SaysCommand}
 use Rattle.boxglue_script.specs.Causes.{TakesNames}
 use Rattle.boxglue_script.proofs.NameLaws.{name_text, name_read}
-use Rattle.boxglue_script.proofs.FieldKinds.{kind_of, integer_kind, dimension_kind, amount_kind, size_kind}
+use Rattle.boxglue_script.proofs.ParameterNameLaws.{named_all, skip_no_size, number_no_size, number_no_skip, first_lines_no_size, first_lines_no_skip}
+use Rattle.boxglue_script.proofs.FieldKinds.{begins_low, kind_of, high_kind, integer_kind, dimension_kind, amount_kind, size_kind}
 
 -- The kind that belongs after some fields, by the part of the command that these fields begin.
 abbrev font_size_place : List (List ℕ) → Cause
@@ -62,14 +67,14 @@ abbrev glue_place : List (List ℕ) → Cause
 glue_place [] = Dimension
 glue_place (width ∷ fields) = part_place fields
 
-abbrev value_place : Option NumberParameter → (lines : Bool) → List (List ℕ) → Cause
-value_place (Some name) lines fields = Number
-value_place None true fields = Number
-value_place None false fields = glue_place fields
+abbrev value_place : Option SizeParameter → Option SkipParameter → List (List ℕ) → Cause
+value_place (Some name) skip fields = Dimension
+value_place None (Some name) fields = glue_place fields
+value_place None None fields = Number
 
 abbrev set_place : List (List ℕ) → Cause
 set_place [] = Word
-set_place (word ∷ fields) = value_place (number_name word) (names_first_lines word) fields
+set_place (word ∷ fields) = value_place (size_name word) (skip_name word) fields
 
 abbrev place_after : Name → List (List ℕ) → Cause
 place_after names.Font fields = font_place fields
@@ -169,9 +174,30 @@ glue_kinds takes fields g (d, plus, minus, e, width, stretch, shrink) =
       part_kinds (λ front. takes (d ∷ front)) (codes "plus") refl plus minus g.stretch_order g.stretch stretch (λ others. last_part_kinds others (codes "minus") refl minus g.shrink_order g.shrink shrink),
     )
 
+-- The name of a parameter is a word.
+named_kind : {A : Type 0} (table : List (List ℕ × A)) (word : List ℕ) (name : A) → named_in table word ≡ Some name → list_all (λ w. not (begins_low w)) (names_in table) ≡ true → kind_of word ≡ Word
+named_kind table word name is all = high_kind word (named_all (λ w. not (begins_low w)) table word name is all)
+
+value_kinds : (takes : List (List ℕ) → Type 0) (word : List ℕ) (fields : List (List ℕ)) (size : Option SizeParameter) (skip : Option SkipParameter) → size_name word ≡ size → skip_name word ≡ skip
+    → HasKinds (λ front. value_place size skip front) takes fields → HasKinds (λ front. set_place (word ∷ front)) takes fields
+value_kinds takes word fields size skip is at h =
+    let P : Option SizeParameter → Option SkipParameter → Type 0 = λ s k. HasKinds (λ front. value_place s k front) takes fields in
+    subst (λ s. P s (skip_name word)) (sym is) (subst (λ k. P size k) (sym at) h)
+
+-- The name of a parameter, and its value.
+parameter_kinds : (word : List ℕ) (fields : List (List ℕ)) (parameter : Parameter) → SaysParameter word fields parameter → HasKinds set_place (λ front. TakesNames (codes "set" ∷ front)) (word ∷ fields)
+unfolding size_name skip_name number_name
+parameter_kinds word fields (parameters.Size name z) (d, is, e, h) =
+    (inr (named_kind sizes word name is refl), value_kinds _ word fields (Some name) (skip_name word) is refl (rw e (inr (dimension_kind d z h), tt)))
+parameter_kinds word fields (parameters.Skip name g) (is, h) =
+    (inr (named_kind skips word name is refl), value_kinds _ word fields None (Some name) (skip_no_size word name is) is (glue_kinds _ fields g h))
+parameter_kinds word fields (parameters.Number name z) (p, is, e, h) =
+    (inr (named_kind numbers word name is refl), value_kinds _ word fields None None (number_no_size word name is) (number_no_skip word name is) (rw e (inr (integer_kind p z h.written), tt)))
+parameter_kinds word fields (parameters.FirstLines n) (l, is, e, h) =
+    (inr (rw is refl), value_kinds _ word fields None None (rw is first_lines_no_size) (rw is first_lines_no_skip) (rw e (inr (integer_kind l (pos n) h.written), tt)))
+
 -- Each field of a command has the kind of its place.
 pub says_kinds : (fields : List (List ℕ)) (command : Command) → SaysCommand fields command → HasKinds place_of TakesNames fields
-unfolding number_name names_first_lines
 says_kinds fields (LoadFont load) (s, more, e, slot, name, size) =
     rw e (after_name names.Font (s ∷ load.name ∷ more) (inr (integer_kind s (pos load.slot) slot.written), (inl (slot_takes s load.slot slot), font_size_kinds (λ front. TakesNames (codes "font" ∷ s ∷ load.name ∷ front)) more load.size size)))
 says_kinds fields (UseFont n) (s, e, h) = rw e (after_name names.Use (s ∷ []) (inr (integer_kind s (pos n) h.written), tt))
@@ -182,8 +208,8 @@ says_kinds fields End e = rw e (after_name names.End [] tt)
 says_kinds fields (Text text) h = absurd h
 says_kinds fields (Special text) h = absurd h
 says_kinds fields (Character n) (c, e, h) = rw e (after_name names.Character (c ∷ []) (inr (integer_kind c (pos n) h.written), tt))
-says_kinds fields (Rule sizes) (w, h, d, e, width, height, depth) =
-    rw e (after_name names.Rule (w ∷ h ∷ d ∷ []) (inr (size_kind w sizes.width width), (inr (size_kind h sizes.height height), (inr (size_kind d sizes.depth depth), tt))))
+says_kinds fields (Rule rule) (w, h, d, e, width, height, depth) =
+    rw e (after_name names.Rule (w ∷ h ∷ d ∷ []) (inr (size_kind w rule.width width), (inr (size_kind h rule.height height), (inr (size_kind d rule.depth depth), tt))))
 says_kinds fields (Kern z) (d, e, h) = rw e (after_name names.Kern (d ∷ []) (inr (dimension_kind d z h), tt))
 says_kinds fields (Glue g) (more, e, h) = rw e (after_name names.Glue more (glue_kinds (λ front. TakesNames (codes "glue" ∷ front)) more g h))
 says_kinds fields (Penalty z) (p, e, h) = rw e (after_name names.Penalty (p ∷ []) (inr (integer_kind p z h.written), tt))
@@ -198,25 +224,7 @@ says_kinds fields (Split splitting) (r, d, q, e, from, height, into) =
     ))
 says_kinds fields (Measure n) (r, e, h) = rw e (after_name names.Measure (r ∷ []) (inr (integer_kind r (pos n) h.written), tt))
 says_kinds fields (Void n) (r, e, h) = rw e (after_name names.Void (r ∷ []) (inr (integer_kind r (pos n) h.written), tt))
-says_kinds fields (Set (BoxMaxDepth z)) (d, e, h) = rw e (after_name names.Set (codes "boxmaxdepth" ∷ d ∷ []) (inr refl, (inr (dimension_kind d z h), tt)))
-says_kinds fields (Set (BaselineSkip g)) (more, e, h) = rw e (after_name names.Set (codes "baselineskip" ∷ more) (inr refl, glue_kinds (λ front. TakesNames (codes "set" ∷ codes "baselineskip" ∷ front)) more g h))
-says_kinds fields (Set (LineSkip g)) (more, e, h) = rw e (after_name names.Set (codes "lineskip" ∷ more) (inr refl, glue_kinds (λ front. TakesNames (codes "set" ∷ codes "lineskip" ∷ front)) more g h))
-says_kinds fields (Set (LineSkipLimit z)) (d, e, h) = rw e (after_name names.Set (codes "lineskiplimit" ∷ d ∷ []) (inr refl, (inr (dimension_kind d z h), tt)))
-says_kinds fields (Set (SplitMaxDepth z)) (d, e, h) = rw e (after_name names.Set (codes "splitmaxdepth" ∷ d ∷ []) (inr refl, (inr (dimension_kind d z h), tt)))
-says_kinds fields (Set (SplitTopSkip g)) (more, e, h) = rw e (after_name names.Set (codes "splittopskip" ∷ more) (inr refl, glue_kinds (λ front. TakesNames (codes "set" ∷ codes "splittopskip" ∷ front)) more g h))
-says_kinds fields (Set (Hsize z)) (d, e, h) = rw e (after_name names.Set (codes "hsize" ∷ d ∷ []) (inr refl, (inr (dimension_kind d z h), tt)))
-says_kinds fields (Set (FirstLines n)) (l, e, h) = rw e (after_name names.Set (codes "firstlines" ∷ l ∷ []) (inr refl, (inr (integer_kind l (pos n) h.written), tt)))
-says_kinds fields (Set (FirstSize z)) (d, e, h) = rw e (after_name names.Set (codes "firstsize" ∷ d ∷ []) (inr refl, (inr (dimension_kind d z h), tt)))
-says_kinds fields (Set (ParFillSkip g)) (more, e, h) = rw e (after_name names.Set (codes "parfillskip" ∷ more) (inr refl, glue_kinds (λ front. TakesNames (codes "set" ∷ codes "parfillskip" ∷ front)) more g h))
-says_kinds fields (Set (Pretolerance z)) (p, e, h) = rw e (after_name names.Set (codes "pretolerance" ∷ p ∷ []) (inr refl, (inr (integer_kind p z h.written), tt)))
-says_kinds fields (Set (Tolerance z)) (p, e, h) = rw e (after_name names.Set (codes "tolerance" ∷ p ∷ []) (inr refl, (inr (integer_kind p z h.written), tt)))
-says_kinds fields (Set (LinePenalty z)) (p, e, h) = rw e (after_name names.Set (codes "linepenalty" ∷ p ∷ []) (inr refl, (inr (integer_kind p z h.written), tt)))
-says_kinds fields (Set (AdjDemerits z)) (p, e, h) = rw e (after_name names.Set (codes "adjdemerits" ∷ p ∷ []) (inr refl, (inr (integer_kind p z h.written), tt)))
-says_kinds fields (Set (ClubPenalty z)) (p, e, h) = rw e (after_name names.Set (codes "clubpenalty" ∷ p ∷ []) (inr refl, (inr (integer_kind p z h.written), tt)))
-says_kinds fields (Set (WidowPenalty z)) (p, e, h) = rw e (after_name names.Set (codes "widowpenalty" ∷ p ∷ []) (inr refl, (inr (integer_kind p z h.written), tt)))
-says_kinds fields (Set (InterlinePenalty z)) (p, e, h) = rw e (after_name names.Set (codes "interlinepenalty" ∷ p ∷ []) (inr refl, (inr (integer_kind p z h.written), tt)))
-says_kinds fields (Set (Hoffset z)) (d, e, h) = rw e (after_name names.Set (codes "hoffset" ∷ d ∷ []) (inr refl, (inr (dimension_kind d z h), tt)))
-says_kinds fields (Set (Voffset z)) (d, e, h) = rw e (after_name names.Set (codes "voffset" ∷ d ∷ []) (inr refl, (inr (dimension_kind d z h), tt)))
+says_kinds fields (Set parameter) (word, more, e, h) = rw e (after_name names.Set (word ∷ more) (parameter_kinds word more parameter h))
 says_kinds fields (Count counted) (i, n, e, count, value) =
     rw e (after_name names.Count (i ∷ n ∷ []) (inr (integer_kind i (pos counted.count) count.written), (inr (integer_kind n counted.value value.written), tt)))
 says_kinds fields (Ship n) (r, e, h) = rw e (after_name names.Ship (r ∷ []) (inr (integer_kind r (pos n) h.written), tt))

@@ -2,8 +2,8 @@
 use Rattle.std.proofs.Common.{◌≡◌, inl, inr, ℕ, ℤ, pos, Bool, true, false, List, [], ◌∷◌, Option, Some, None, Result, Ok, Err, codes, refl, sym, ◌∙◌, subst, arith}
 use Rattle.std.specs.Str.{bytes_eq}
 use Rattle.node_core.specs.declared.tree.RuleSize.TheVariants.{Fixed}
-use Rattle.job_commands.specs.declared.command.Command.{Command}
-use Rattle.job_commands.specs.declared.command.Command.TheVariants.{LoadFont}
+use Rattle.job_machine.specs.declared.command.Command.{Command}
+use Rattle.job_machine.specs.declared.command.Command.TheVariants.{LoadFont}
 use Rattle.scaled_core.specs.declared.fault.DimenFault.{DimenFault}
 use Rattle.scaled_core.specs.declared.fault.DimenFault.TheVariants.{NotADimension}
 use Rattle.scaled_core.specs.Rounding.{nearest}
@@ -15,7 +15,7 @@ use Rattle.boxglue_script.specs.declared.cause.Cause.TheVariants.{Word, Missing,
 use Rattle.boxglue_script.specs.declared.name.Name.TheVariants as names
 use Rattle.boxglue_script.specs.Grammar.{slot_count, IsName}
 use Rattle.boxglue_script.specs.Causes.{IsWord, GivesNumber, GivesSizeOfFont, GivesSize, IsFieldCause}
-use Rattle.boxglue_script.specs.Reading.{number_of, size_of_font, size_of_font_first, is_name, name_first, chosen_size_of, font_by, font_of, map_ok, command_named, command_of, value_first}
+use Rattle.boxglue_script.specs.Private.Reading.{number_of, size_of_font, size_of_font_first, is_name, name_first, chosen_size_of, font_by, font_of, map_ok, command_named, command_of, value_first}
 use Rattle.boxglue_script.proofs.FieldLaws.{same_bytes, reads_dimension, font_named, is_size_of_font}
 use Rattle.boxglue_script.proofs.NameLaws.{named}
 use Rattle.boxglue_script.proofs.CommandLaws.{sound}

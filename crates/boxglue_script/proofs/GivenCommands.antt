@@ -4,20 +4,21 @@ use Rattle.node_core.specs.declared.tree.Glue as glues
 use Rattle.node_core.specs.declared.tree.Order.{Order}
 use Rattle.pack_core.specs.declared.pack.Target.{Target}
 use Rattle.pack_core.specs.declared.pack.Target.TheVariants.{Natural, To, Spread}
-use Rattle.job_commands.specs.declared.command.BoxForm.{BoxForm}
-use Rattle.job_commands.specs.declared.command.Transfer.{Transfer}
-use Rattle.job_commands.specs.declared.command.Parameter.TheVariants.{BoxMaxDepth, BaselineSkip, LineSkip, LineSkipLimit, SplitMaxDepth, SplitTopSkip, Hsize, FirstLines, FirstSize, ParFillSkip, Pretolerance, Tolerance, LinePenalty, AdjDemerits, ClubPenalty, WidowPenalty, InterlinePenalty, Hoffset, Voffset}
-use Rattle.job_commands.specs.declared.command.Command.{Command}
-use Rattle.job_commands.specs.declared.command.Command.TheVariants.{LoadFont, UseFont, Open, Paragraph, End, Text, Character, Rule, Kern, Glue, Penalty, Append, Unbox, LastBox, Split, Measure, Void, Set, Count, Special, Ship}
+use Rattle.job_machine.specs.declared.command.BoxForm.{BoxForm}
+use Rattle.job_machine.specs.declared.command.Transfer.{Transfer}
+use Rattle.job_machine.specs.declared.parameter.Parameter.{Parameter}
+use Rattle.job_machine.specs.declared.parameter.Parameter.TheVariants as parameters
+use Rattle.job_machine.specs.declared.command.Command.{Command}
+use Rattle.job_machine.specs.declared.command.Command.TheVariants.{LoadFont, UseFont, Open, Paragraph, End, Text, Character, Rule, Kern, Glue, Penalty, Append, Unbox, LastBox, Split, Measure, Void, Set, Count, Special, Ship}
 use Rattle.boxglue_script.specs.declared.name.Name.TheVariants as names
 use Rattle.boxglue_script.specs.declared.amounts.Amount.{Amount}
-use Rattle.boxglue_script.specs.Grammar.{register_count, slot_count, character_count, count_count, first_lines_count, IsFirstLines, IsCountNumber, IsCount, IsNumberAmong, IsRegister, IsChosenSize, IsTarget, IsDestination, IsShift, IsDimension, IsAmount, IsGluePart, IsGlue, SaysCommand}
-use Rattle.boxglue_script.specs.ParameterNames.{size_name, skip_name, number_name, names_first_lines}
-use Rattle.boxglue_script.specs.Reading.{counting, counting_of, size_of_font_first, name_first, map_ok, last_number, chosen_size_of, font_of, rule_of, amount, last_amount, opening, opening_with_register, opening_into, opening_with_size, opening_of, append, shift_of, append_of, unboxing, split, split_into, split_height, split_to, split_of, no_amount, glue, last_shrink_of, shrink_of, parts_of, glue_of, parameter_of, command_named, command_of, last_value, value_first}
+use Rattle.boxglue_script.specs.Grammar.{register_count, slot_count, character_count, count_count, first_lines_count, IsCountNumber, IsCount, IsNumberAmong, IsRegister, IsChosenSize, IsTarget, IsDestination, IsShift, IsDimension, IsAmount, IsGluePart, IsGlue, SaysParameter, SaysCommand}
+use Rattle.boxglue_script.specs.Private.Reading.{counting, counting_of, size_of_font_first, name_first, map_ok, last_number, chosen_size_of, font_of, rule_of, amount, last_amount, opening, opening_with_register, opening_into, opening_with_size, opening_of, append, shift_of, append_of, unboxing, split, split_into, split_height, split_to, split_of, no_amount, glue, last_shrink_of, shrink_of, parts_of, glue_of, parameter_of, command_named, command_of, last_value, value_first}
 use Rattle.boxglue_script.proofs.AmountLaws.{amount_given}
 use Rattle.boxglue_script.proofs.FieldLaws.{number_written, penalty_written, dimension_read, size_given, font_named, size_of_font_is}
 use Rattle.boxglue_script.proofs.CountNumbers.{count_written}
 use Rattle.boxglue_script.proofs.NameLaws.{named}
+use Rattle.boxglue_script.proofs.ParameterNameLaws.{skip_no_size, number_no_size, number_no_skip, first_lines_no_size, first_lines_no_skip, first_lines_no_number, first_lines_read}
 
 -- A number that is the last field.
 pub number_alone : (count : ℕ) (make : ℕ → Command) (r : List ℕ) (n : ℕ) → IsNumberAmong count r n → map_ok make (last_number count (r ∷ [])) ≡ Ok (make n)
@@ -94,13 +95,18 @@ unfolding glue_of value_first
 glue_given fields g (d, plus, minus, e, width, stretch, shrink) =
     rw (e, dimension_read d g.width width) (parts_given g.width plus minus g.stretch_order g.stretch g.shrink_order g.shrink stretch shrink)
 
-first_lines_given : (l : List ℕ) (n : ℕ) → IsFirstLines l n → map_ok Set (map_ok FirstLines (last_number first_lines_count (l ∷ []))) ≡ Ok (Set (FirstLines n))
-unfolding last_value value_first
-first_lines_given l n h = rw (number_written first_lines_count l n h) refl
+-- A parameter.
+parameter_given : (word : List ℕ) (fields : List (List ℕ)) (parameter : Parameter) → SaysParameter word fields parameter → map_ok Set (parameter_of (word ∷ fields)) ≡ Ok (Set parameter)
+unfolding parameter_of last_value value_first
+parameter_given word fields (parameters.Size name z) (d, is, e, h) = rw (is, e, dimension_read d z h) refl
+parameter_given word fields (parameters.Skip name g) (is, h) = rw (skip_no_size word name is, is, glue_given fields g h) refl
+parameter_given word fields (parameters.Number name z) (p, is, e, h) = rw (number_no_size word name is, number_no_skip word name is, is, e, penalty_written p z h) refl
+parameter_given word fields (parameters.FirstLines n) (l, is, e, h) =
+    rw (is, e, first_lines_no_size, first_lines_no_skip, first_lines_no_number, first_lines_read, number_written first_lines_count l n h) refl
 
 -- The fields of a command are read as this command.
 pub complete : (fields : List (List ℕ)) (command : Command) → SaysCommand fields command → command_of fields ≡ Ok command
-unfolding command_named font_of value_first name_first rule_of parameter_of size_name skip_name number_name names_first_lines last_value
+unfolding command_named font_of value_first name_first rule_of last_value
 complete fields (LoadFont load) (s, more, e, slot, name, size) =
     rw e (named names.Font (s ∷ load.name ∷ more) ∙ (rw (number_written slot_count s load.slot slot, font_named load.name name, chosen_size_given more load.size size) refl))
 complete fields (UseFont n) (s, e, h) = rw e (named names.Use (s ∷ []) ∙ number_alone slot_count UseFont s n h)
@@ -123,24 +129,6 @@ complete fields (Split splitting) (r, d, q, e, from, height, into) =
     rw e (named names.Split (r ∷ codes "to" ∷ d ∷ codes "into" ∷ q ∷ []) ∙ split_given r splitting.register d splitting.height q splitting.into from height into)
 complete fields (Measure n) (r, e, h) = rw e (named names.Measure (r ∷ []) ∙ number_alone register_count Measure r n h)
 complete fields (Void n) (r, e, h) = rw e (named names.Void (r ∷ []) ∙ number_alone register_count Void r n h)
-complete fields (Set (BoxMaxDepth z)) (d, e, h) = rw e (named names.Set (codes "boxmaxdepth" ∷ d ∷ []) ∙ (rw (dimension_read d z h) refl))
-complete fields (Set (BaselineSkip g)) (more, e, h) = rw e (named names.Set (codes "baselineskip" ∷ more) ∙ (rw (glue_given more g h) refl))
-complete fields (Set (LineSkip g)) (more, e, h) = rw e (named names.Set (codes "lineskip" ∷ more) ∙ (rw (glue_given more g h) refl))
-complete fields (Set (LineSkipLimit z)) (d, e, h) = rw e (named names.Set (codes "lineskiplimit" ∷ d ∷ []) ∙ (rw (dimension_read d z h) refl))
-complete fields (Set (SplitMaxDepth z)) (d, e, h) = rw e (named names.Set (codes "splitmaxdepth" ∷ d ∷ []) ∙ (rw (dimension_read d z h) refl))
-complete fields (Set (SplitTopSkip g)) (more, e, h) = rw e (named names.Set (codes "splittopskip" ∷ more) ∙ (rw (glue_given more g h) refl))
-complete fields (Set (Hsize z)) (d, e, h) = rw e (named names.Set (codes "hsize" ∷ d ∷ []) ∙ (rw (dimension_read d z h) refl))
-complete fields (Set (FirstLines n)) (l, e, h) = rw e (named names.Set (codes "firstlines" ∷ l ∷ []) ∙ first_lines_given l n h)
-complete fields (Set (FirstSize z)) (d, e, h) = rw e (named names.Set (codes "firstsize" ∷ d ∷ []) ∙ (rw (dimension_read d z h) refl))
-complete fields (Set (ParFillSkip g)) (more, e, h) = rw e (named names.Set (codes "parfillskip" ∷ more) ∙ (rw (glue_given more g h) refl))
-complete fields (Set (Pretolerance z)) (p, e, h) = rw e (named names.Set (codes "pretolerance" ∷ p ∷ []) ∙ (rw (penalty_written p z h) refl))
-complete fields (Set (Tolerance z)) (p, e, h) = rw e (named names.Set (codes "tolerance" ∷ p ∷ []) ∙ (rw (penalty_written p z h) refl))
-complete fields (Set (LinePenalty z)) (p, e, h) = rw e (named names.Set (codes "linepenalty" ∷ p ∷ []) ∙ (rw (penalty_written p z h) refl))
-complete fields (Set (AdjDemerits z)) (p, e, h) = rw e (named names.Set (codes "adjdemerits" ∷ p ∷ []) ∙ (rw (penalty_written p z h) refl))
-complete fields (Set (ClubPenalty z)) (p, e, h) = rw e (named names.Set (codes "clubpenalty" ∷ p ∷ []) ∙ (rw (penalty_written p z h) refl))
-complete fields (Set (WidowPenalty z)) (p, e, h) = rw e (named names.Set (codes "widowpenalty" ∷ p ∷ []) ∙ (rw (penalty_written p z h) refl))
-complete fields (Set (InterlinePenalty z)) (p, e, h) = rw e (named names.Set (codes "interlinepenalty" ∷ p ∷ []) ∙ (rw (penalty_written p z h) refl))
-complete fields (Set (Hoffset z)) (d, e, h) = rw e (named names.Set (codes "hoffset" ∷ d ∷ []) ∙ (rw (dimension_read d z h) refl))
-complete fields (Set (Voffset z)) (d, e, h) = rw e (named names.Set (codes "voffset" ∷ d ∷ []) ∙ (rw (dimension_read d z h) refl))
+complete fields (Set parameter) (word, more, e, h) = rw e (named names.Set (word ∷ more) ∙ parameter_given word more parameter h)
 complete fields (Count counted) (i, n, e, count, value) = rw e (named names.Count (i ∷ n ∷ []) ∙ counting_given i counted.count n counted.value count value)
 complete fields (Ship n) (r, e, h) = rw e (named names.Ship (r ∷ []) ∙ number_alone register_count Ship r n h)

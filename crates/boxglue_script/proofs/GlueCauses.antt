@@ -4,14 +4,14 @@ use Rattle.std.specs.Str.{bytes_eq}
 use Rattle.scaled_core.specs.declared.fault.DimenFault.{DimenFault}
 use Rattle.scaled_core.specs.declared.fault.DimenFault.TheVariants.{NotADimension}
 use Rattle.scaled_core.specs.ParsedTexts.{read_dimension}
-use Rattle.job_commands.specs.declared.command.Command.{Command}
-use Rattle.job_commands.specs.declared.command.Command.TheVariants.{Glue}
+use Rattle.job_machine.specs.declared.command.Command.{Command}
+use Rattle.job_machine.specs.declared.command.Command.TheVariants.{Glue}
 use Rattle.boxglue_script.specs.declared.amounts.Amount.{Amount}
 use Rattle.boxglue_script.specs.declared.cause.Cause.{Cause}
 use Rattle.boxglue_script.specs.declared.cause.Cause.TheVariants.{Word, Missing, Dimension}
 use Rattle.boxglue_script.specs.declared.name.Name.TheVariants as names
 use Rattle.boxglue_script.specs.Causes.{IsWord, IsFieldCause}
-use Rattle.boxglue_script.specs.Reading.{amount_of, last_amount, map_ok, no_amount, glue, last_shrink_of, shrink_of, parts_of, glue_of, command_named, command_of, last_value, value_first}
+use Rattle.boxglue_script.specs.Private.Reading.{amount_of, last_amount, map_ok, no_amount, glue, last_shrink_of, shrink_of, parts_of, glue_of, command_named, command_of, last_value, value_first}
 use Rattle.boxglue_script.proofs.FieldLaws.{same_bytes}
 use Rattle.boxglue_script.proofs.NameLaws.{named}
 use Rattle.boxglue_script.proofs.CauseForms.{missing, has_bad_elsewhere, as_cause, not_made, twice, zero_dimension, zero_amount, plus_is_word, minus_is_word, letter, letter_no_dimension, letter_no_amount, no_dimension_cause, no_amount_cause, amount_cause}

@@ -1,9 +1,8 @@
 -- The first line of a text, and the lines of two texts.
 use Rattle.std.proofs.Common.{◌≡◌, ◌⊎◌, inl, inr, ◌==◌, not, Option, None, Some, ℕ, suc, ◌+◌, ◌<◌, ◌≤◌, Bool, true, false, List, [], ◌∷◌, ◌++◌, length, get_or, take, drop, refl, ap, sym, ◌∙◌, arith, append_assoc, drop-cons}
 use Rattle.std.specs.Prelude.{map, unwrap_or}
-use Rattle.std.specs.List.{onto_first}
+use Rattle.std.specs.List.{onto_first, slice_split, prefix_len, before_first, after_first}
 use Rattle.std.proofs.Math.Dec.{eqb-suc-zero}
-use Rattle.std.specs.List.{slice_split, prefix_len, before_first, after_first}
 use Rattle.std.specs.Str.Lines.{lines, lines_of_parts, strip_carriage_return}
 use Rattle.std.proofs.lemmas.Bool.Decides.{nat_tests}
 use Rattle.std.proofs.lemmas.List.Splits.{slice_split_first, slice_split_none, slice_split-cons_yes, slice_split-cons_no, length-slice_split}
@@ -11,7 +10,7 @@ use Rattle.std.proofs.lemmas.List.Sums.{fails_before_first, prefix_len_is, prefi
 use Rattle.std.proofs.lemmas.List.{take_all, drop_all, take-append-drop, append-nil, append_cancel_right, length-append}
 use Rattle.memchr.specs.Find.{IsFirstByte, is_byte}
 use Rattle.boxglue_script.specs.SaidLines.{IsWhole}
-use Rattle.boxglue_script.specs.Reading.{in_line}
+use Rattle.boxglue_script.specs.Private.Reading.{in_line}
 
 abbrev pub is_feed : ℕ → Bool
 is_feed b = b == 10

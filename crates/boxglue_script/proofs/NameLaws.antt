@@ -2,13 +2,13 @@
 use Rattle.std.proofs.Common.{◌≡◌, ℕ, Bool, true, false, if◌then◌else◌, List, ◌∷◌, Option, Some, None, codes, refl, ap, ◌∙◌}
 use Rattle.std.specs.Str.{bytes_eq}
 use Rattle.node_core.specs.declared.tree.Kind.TheVariants.{Horizontal, Vertical}
-use Rattle.job_commands.specs.declared.command.BoxForm.TheVariants as forms
-use Rattle.job_commands.specs.declared.command.Transfer.TheVariants.{Move, Copy}
+use Rattle.job_machine.specs.declared.command.BoxForm.TheVariants as forms
+use Rattle.job_machine.specs.declared.command.Transfer.TheVariants.{Move, Copy}
 use Rattle.boxglue_script.specs.declared.name.Name.{Name}
 use Rattle.boxglue_script.specs.declared.name.Name.TheVariants as names
-use Rattle.boxglue_script.specs.Names.{box_name, register_name, item_name, name_or, name_of}
+use Rattle.boxglue_script.specs.Private.Names.{box_name, register_name, item_name, name_or, name_of}
 use Rattle.boxglue_script.specs.Grammar.{form_text, taking_text, unboxing_text}
-use Rattle.boxglue_script.specs.Reading.{command_named, command_of}
+use Rattle.boxglue_script.specs.Private.Reading.{command_named, command_of}
 use Rattle.boxglue_script.proofs.FieldLaws.{same_bytes}
 
 -- How a name is written.

@@ -12,7 +12,7 @@ use Rattle.std.proofs.lemmas.Bool.{ltb-true, lt-ltb, le-ltb, le-leb, lt-leb, eqb
 use Rattle.std.proofs.lemmas.Int.{ints, fits_signed_from_abs}
 use Rattle.scaled_core.specs.Dimensions.{Within}
 use Rattle.boxglue_script.specs.Grammar.{IsInteger}
-use Rattle.boxglue_script.specs.Reading.{number_of, number_among, penalty_of, penalty_number, is_numeral}
+use Rattle.boxglue_script.specs.Private.Reading.{number_of, number_among, penalty_of, penalty_number, is_numeral}
 
 abbrev is_decimal : ℕ → Bool
 is_decimal c = nat_lt (digit_value c) 10

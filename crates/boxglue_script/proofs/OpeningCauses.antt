@@ -3,8 +3,8 @@ use Rattle.std.proofs.Common.{◌≡◌, ℕ, ℤ, pos, Bool, true, false, List,
 use Rattle.std.specs.Str.{bytes_eq}
 use Rattle.pack_core.specs.declared.pack.Target.{Target}
 use Rattle.pack_core.specs.declared.pack.Target.TheVariants.{Natural, To, Spread}
-use Rattle.job_commands.specs.declared.command.BoxForm.{BoxForm}
-use Rattle.job_commands.specs.declared.command.Command.{Command}
+use Rattle.job_machine.specs.declared.command.BoxForm.{BoxForm}
+use Rattle.job_machine.specs.declared.command.Command.{Command}
 use Rattle.scaled_core.specs.declared.fault.DimenFault.{DimenFault}
 use Rattle.scaled_core.specs.declared.fault.DimenFault.TheVariants.{NotADimension}
 use Rattle.scaled_core.specs.ParsedTexts.{read_dimension}
@@ -13,7 +13,7 @@ use Rattle.boxglue_script.specs.declared.cause.Cause.TheVariants.{Word, Missing,
 use Rattle.boxglue_script.specs.declared.name.Name.TheVariants as names
 use Rattle.boxglue_script.specs.Grammar.{register_count, form_text}
 use Rattle.boxglue_script.specs.Causes.{IsWord, IsFieldCause}
-use Rattle.boxglue_script.specs.Reading.{last_number, map_ok, opening, opening_with_register, opening_into, opening_with_size, opening_of, command_named, command_of, last_value, value_first}
+use Rattle.boxglue_script.specs.Private.Reading.{last_number, map_ok, opening, opening_with_register, opening_into, opening_with_size, opening_of, command_named, command_of, last_value, value_first}
 use Rattle.boxglue_script.proofs.FieldLaws.{same_bytes}
 use Rattle.boxglue_script.proofs.NameLaws.{named}
 use Rattle.boxglue_script.proofs.CauseForms.{missing, has_bad_elsewhere, as_cause, not_made, zero_text, zero_names, zero_dimension, into_is_word, letter, letter_no_dimension, no_dimension_cause, number_cause}

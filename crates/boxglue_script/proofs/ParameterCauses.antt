@@ -1,22 +1,23 @@
 -- The cause that the function names holds of the fields after `set`.
 use Rattle.std.proofs.Common.{◌≡◌, ℕ, ℤ, pos, Bool, true, false, arith, List, [], ◌∷◌, Option, Some, None, Ok, Err, codes, refl, sym, ◌∙◌, subst}
 use Rattle.node_core.specs.declared.tree.Glue as glues
-use Rattle.job_commands.specs.declared.command.Parameter.TheVariants.{FirstLines}
-use Rattle.job_commands.specs.declared.command.Command.{Command}
-use Rattle.job_commands.specs.declared.command.Command.TheVariants.{Glue, Set}
+use Rattle.job_machine.specs.declared.parameter.SizeParameter.{SizeParameter}
+use Rattle.job_machine.specs.declared.parameter.SizeParameter.TheVariants as sizes
+use Rattle.job_machine.specs.declared.parameter.SkipParameter.{SkipParameter}
+use Rattle.job_machine.specs.declared.parameter.NumberParameter.{NumberParameter}
+use Rattle.job_machine.specs.declared.parameter.Parameter.TheVariants as parameters
+use Rattle.job_machine.specs.declared.command.Command.{Command}
+use Rattle.job_machine.specs.declared.command.Command.TheVariants.{Glue, Set}
 use Rattle.boxglue_script.specs.declared.cause.Cause.{Cause}
 use Rattle.boxglue_script.specs.declared.cause.Cause.TheVariants.{Word, Missing}
 use Rattle.boxglue_script.specs.declared.name.Name.TheVariants as names
-use Rattle.boxglue_script.specs.declared.parameter.SizeParameter.{SizeParameter}
-use Rattle.boxglue_script.specs.declared.parameter.SizeParameter.TheVariants as sizes
-use Rattle.boxglue_script.specs.declared.parameter.SkipParameter.{SkipParameter}
-use Rattle.boxglue_script.specs.declared.parameter.NumberParameter.{NumberParameter}
 use Rattle.boxglue_script.specs.Grammar.{first_lines_count}
 use Rattle.boxglue_script.specs.Causes.{IsWord, IsFieldCause}
-use Rattle.boxglue_script.specs.ParameterNames.{size_name, skip_name, number_name, names_first_lines, with_size, with_skip, with_number}
-use Rattle.boxglue_script.specs.Reading.{last_dimension, last_number, last_penalty, map_ok, no_amount, glue, parts_of, glue_of, parameter_of, command_named, command_of, last_value, value_first}
+use Rattle.boxglue_script.specs.ParameterNames.{first_lines_text, size_name, skip_name, number_name}
+use Rattle.boxglue_script.specs.Private.ParameterNames.{names_first_lines}
+use Rattle.boxglue_script.specs.Private.Reading.{last_dimension, last_number, last_penalty, map_ok, no_amount, glue, parts_of, glue_of, parameter_of, command_named, command_of, last_value, value_first}
 use Rattle.boxglue_script.proofs.NameLaws.{named}
-use Rattle.boxglue_script.proofs.ParameterNameLaws.{size_text, skip_text, number_text, size_written, skip_written, number_written, size_read, skip_read, number_read, skip_no_size, number_no_size, number_no_skip, first_lines_text, first_lines_written, first_lines_no_size, first_lines_no_skip, first_lines_no_number, first_lines_read}
+use Rattle.boxglue_script.proofs.ParameterNameLaws.{skip_no_size, number_no_size, number_no_skip, first_lines_written, first_lines_no_size, first_lines_no_skip, first_lines_no_number, first_lines_read}
 use Rattle.boxglue_script.proofs.CauseForms.{missing, has_bad_elsewhere, as_cause, not_made, twice, zero_dimension, depth_is_word, letter, dimension_cause, penalty_cause}
 use Rattle.boxglue_script.proofs.CauseForms as forms
 use Rattle.boxglue_script.proofs.GlueCauses.{glue_reads, glue_cause}
@@ -53,42 +54,48 @@ letter_no_lines = refl
 
 -- A dimension.
 abbrev set_size : SizeParameter → ℤ → Command
-set_size name z = Set (with_size name z)
+set_size name z = Set (parameters.Size name z)
 
-size_reads : (name : SizeParameter) (rest : List (List ℕ)) → command_of (codes "set" ∷ size_text name ∷ rest) ≡ map_ok (set_size name) (last_dimension rest)
+size_reads : (word : List ℕ) (name : SizeParameter) → size_name word ≡ Some name → (rest : List (List ℕ)) → command_of (codes "set" ∷ word ∷ rest) ≡ map_ok (set_size name) (last_dimension rest)
 unfolding parameter_of
-size_reads name rest = set_reads (size_text name ∷ rest) ∙ (rw (size_read name) (twice Set (with_size name) (last_dimension rest)))
+size_reads word name is rest = set_reads (word ∷ rest) ∙ (rw is (twice Set (parameters.Size name) (last_dimension rest)))
+
+depth_named : size_name (codes "boxmaxdepth") ≡ Some sizes.BoxMaxDepth
+unfolding size_name
+depth_named = refl
 
 depth_zero : command_of (codes "set" ∷ codes "boxmaxdepth" ∷ codes "0sp" ∷ []) ≡ Ok (set_size sizes.BoxMaxDepth (pos 0))
 unfolding last_value value_first
-depth_zero = size_reads sizes.BoxMaxDepth (codes "0sp" ∷ []) ∙ (rw zero_dimension refl)
+depth_zero = size_reads (codes "boxmaxdepth") sizes.BoxMaxDepth depth_named (codes "0sp" ∷ []) ∙ (rw zero_dimension refl)
 
-size_cause : (name : SizeParameter) (rest : List (List ℕ)) (cause : Cause) → command_of (codes "set" ∷ size_text name ∷ rest) ≡ Err cause → IsFieldCause cause (codes "set" ∷ size_text name ∷ rest)
-size_cause name rest cause h =
-    dimension_cause (codes "set" ∷ size_text name ∷ []) (set_size name) (size_reads name) rest cause (not_made (set_size name) (last_dimension rest) cause (sym (size_reads name rest) ∙ h))
+size_cause : (word : List ℕ) (name : SizeParameter) → size_name word ≡ Some name → (rest : List (List ℕ)) (cause : Cause) → command_of (codes "set" ∷ word ∷ rest) ≡ Err cause → IsFieldCause cause (codes "set" ∷ word ∷ rest)
+size_cause word name is rest cause h =
+    let reads = size_reads word name is in
+    dimension_cause (codes "set" ∷ word ∷ []) (set_size name) reads rest cause (not_made (set_size name) (last_dimension rest) cause (sym (reads rest) ∙ h))
 
 -- A number.
 abbrev set_number : NumberParameter → ℤ → Command
-set_number name z = Set (with_number name z)
+set_number name z = Set (parameters.Number name z)
 
-number_reads : (name : NumberParameter) (rest : List (List ℕ)) → command_of (codes "set" ∷ number_text name ∷ rest) ≡ map_ok (set_number name) (last_penalty rest)
+number_reads : (word : List ℕ) (name : NumberParameter) → number_name word ≡ Some name → (rest : List (List ℕ)) → command_of (codes "set" ∷ word ∷ rest) ≡ map_ok (set_number name) (last_penalty rest)
 unfolding parameter_of
-number_reads name rest =
-    set_reads (number_text name ∷ rest) ∙ (rw (number_no_size name, number_no_skip name, number_read name) (twice Set (with_number name) (last_penalty rest)))
+number_reads word name is rest =
+    set_reads (word ∷ rest) ∙ (rw (number_no_size word name is, number_no_skip word name is, is) (twice Set (parameters.Number name) (last_penalty rest)))
 
-number_cause : (name : NumberParameter) (rest : List (List ℕ)) (cause : Cause) → command_of (codes "set" ∷ number_text name ∷ rest) ≡ Err cause → IsFieldCause cause (codes "set" ∷ number_text name ∷ rest)
-number_cause name rest cause h =
-    penalty_cause (codes "set" ∷ number_text name ∷ []) (set_number name) (number_reads name) rest cause (not_made (set_number name) (last_penalty rest) cause (sym (number_reads name rest) ∙ h))
+number_cause : (word : List ℕ) (name : NumberParameter) → number_name word ≡ Some name → (rest : List (List ℕ)) (cause : Cause) → command_of (codes "set" ∷ word ∷ rest) ≡ Err cause → IsFieldCause cause (codes "set" ∷ word ∷ rest)
+number_cause word name is rest cause h =
+    let reads = number_reads word name is in
+    penalty_cause (codes "set" ∷ word ∷ []) (set_number name) reads rest cause (not_made (set_number name) (last_penalty rest) cause (sym (reads rest) ∙ h))
 
 -- A number of first lines.
 abbrev set_lines : ℕ → Command
-set_lines n = Set (FirstLines n)
+set_lines n = Set (parameters.FirstLines n)
 
 lines_read : (rest : List (List ℕ)) → command_of (codes "set" ∷ first_lines_text ∷ rest) ≡ map_ok set_lines (last_number first_lines_count rest)
 unfolding parameter_of
 lines_read rest =
     set_reads (first_lines_text ∷ rest)
-    ∙ (rw (first_lines_no_size, first_lines_no_skip, first_lines_no_number, first_lines_read) (twice Set FirstLines (last_number first_lines_count rest)))
+    ∙ (rw (first_lines_no_size, first_lines_no_skip, first_lines_no_number, first_lines_read) (twice Set parameters.FirstLines (last_number first_lines_count rest)))
 
 lines_cause : (rest : List (List ℕ)) (cause : Cause) → command_of (codes "set" ∷ first_lines_text ∷ rest) ≡ Err cause → IsFieldCause cause (codes "set" ∷ first_lines_text ∷ rest)
 lines_cause rest cause h =
@@ -97,11 +104,11 @@ lines_cause rest cause h =
 
 -- A glue.
 abbrev set_skip : SkipParameter → glues.Glue → Command
-set_skip name g = Set (with_skip name g)
+set_skip name g = Set (parameters.Skip name g)
 
-skip_reads : (name : SkipParameter) (rest : List (List ℕ)) → command_of (codes "set" ∷ skip_text name ∷ rest) ≡ map_ok (set_skip name) (glue_of rest)
+skip_reads : (word : List ℕ) (name : SkipParameter) → skip_name word ≡ Some name → (rest : List (List ℕ)) → command_of (codes "set" ∷ word ∷ rest) ≡ map_ok (set_skip name) (glue_of rest)
 unfolding parameter_of
-skip_reads name rest = set_reads (skip_text name ∷ rest) ∙ (rw (skip_no_size name, skip_read name) (twice Set (with_skip name) (glue_of rest)))
+skip_reads word name is rest = set_reads (word ∷ rest) ∙ (rw (skip_no_size word name is, is) (twice Set (parameters.Skip name) (glue_of rest)))
 
 zero_glue : glue_of (codes "0sp" ∷ []) ≡ Ok (glue (pos 0) no_amount no_amount)
 unfolding glue_of value_first parts_of
@@ -113,25 +120,25 @@ of_glue rest make cause h =
     let fault = not_made make (glue_of rest) cause h in
     glue_cause rest cause (glue_reads rest ∙ (rw fault refl))
 
-skip_cause : (name : SkipParameter) (rest : List (List ℕ)) (cause : Cause) → command_of (codes "set" ∷ skip_text name ∷ rest) ≡ Err cause → IsFieldCause cause (codes "set" ∷ skip_text name ∷ rest)
-skip_cause name rest cause h =
-    shared_cause glues.Glue glue_of (codes "glue") (codes "set") (skip_text name) Glue (set_skip name) glue_reads (skip_reads name) (codes "0sp" ∷ []) _ zero_glue cause rest
-    (of_glue rest (set_skip name) cause (sym (skip_reads name rest) ∙ h))
+skip_cause : (word : List ℕ) (name : SkipParameter) → skip_name word ≡ Some name → (rest : List (List ℕ)) (cause : Cause) → command_of (codes "set" ∷ word ∷ rest) ≡ Err cause → IsFieldCause cause (codes "set" ∷ word ∷ rest)
+skip_cause word name is rest cause h =
+    let reads = skip_reads word name is in
+    shared_cause glues.Glue glue_of (codes "glue") (codes "set") word Glue (set_skip name) glue_reads reads (codes "0sp" ∷ []) _ zero_glue cause rest
+    (of_glue rest (set_skip name) cause (sym (reads rest) ∙ h))
 
--- What holds after a word holds after another one that is the same.
-along_word : (w word : List ℕ) (rest : List (List ℕ)) (cause : Cause) → w ≡ word → (command_of (codes "set" ∷ word ∷ rest) ≡ Err cause → IsFieldCause cause (codes "set" ∷ word ∷ rest)) → command_of (codes "set" ∷ w ∷ rest) ≡ Err cause → IsFieldCause cause (codes "set" ∷ w ∷ rest)
-along_word w word rest cause is there h =
+lines_cause_by : (w : List ℕ) (rest : List (List ℕ)) (cause : Cause) → w ≡ first_lines_text → command_of (codes "set" ∷ w ∷ rest) ≡ Err cause → IsFieldCause cause (codes "set" ∷ w ∷ rest)
+lines_cause_by w rest cause is h =
     let P : List ℕ → Type 0 = λ x. IsFieldCause cause (codes "set" ∷ x ∷ rest) in
     let Q : List ℕ → Type 0 = λ x. command_of (codes "set" ∷ x ∷ rest) ≡ Err cause in
-    subst P (sym is) (there (subst Q is h))
+    subst P (sym is) (lines_cause rest cause (subst Q is h))
 
 by_word : (w : List ℕ) (rest : List (List ℕ)) (size : Option SizeParameter) (skip : Option SkipParameter) (number : Option NumberParameter) (lines : Bool) (cause : Cause)
     → size_name w ≡ size → skip_name w ≡ skip → number_name w ≡ number → names_first_lines w ≡ lines
     → command_of (codes "set" ∷ w ∷ rest) ≡ Err cause → IsFieldCause cause (codes "set" ∷ w ∷ rest)
-by_word w rest (Some name) skip number lines cause a b c d h = along_word w (size_text name) rest cause (size_written w name a) (size_cause name rest cause) h
-by_word w rest None (Some name) number lines cause a b c d h = along_word w (skip_text name) rest cause (skip_written w name b) (skip_cause name rest cause) h
-by_word w rest None None (Some name) lines cause a b c d h = along_word w (number_text name) rest cause (number_written w name c) (number_cause name rest cause) h
-by_word w rest None None None true cause a b c d h = along_word w first_lines_text rest cause (first_lines_written w d) (lines_cause rest cause) h
+by_word w rest (Some name) skip number lines cause a b c d h = size_cause w name a rest cause h
+by_word w rest None (Some name) number lines cause a b c d h = skip_cause w name b rest cause h
+by_word w rest None None (Some name) lines cause a b c d h = number_cause w name c rest cause h
+by_word w rest None None None true cause a b c d h = lines_cause_by w rest cause (first_lines_written w d) h
 by_word w rest None None None false cause a b c d h =
     as_cause _ Word cause (let no = no_parameter w rest a b c d in cc)
     (has_bad_elsewhere IsWord (codes "set" ∷ []) w rest (codes "boxmaxdepth") (codes "0sp" ∷ []) (set_size sizes.BoxMaxDepth (pos 0)) depth_is_word depth_zero

@@ -5,7 +5,7 @@ use Rattle.std.specs.Str.Lines.{lines, lines_of_parts, strip_carriage_return}
 use Rattle.std.proofs.lemmas.List.Splits.{slice_split-cons_yes, slice_split-cons_no}
 use Rattle.boxglue_script.specs.ScriptLines.{is_printable}
 use Rattle.boxglue_script.specs.Causes.{IsPrintable}
-use Rattle.boxglue_script.specs.Reading.{is_plain}
+use Rattle.boxglue_script.specs.Private.Reading.{is_plain}
 use Rattle.boxglue_script.proofs.LineLemmas.{is_feed}
 
 -- Each line is printable.

@@ -3,14 +3,14 @@ use Rattle.std.proofs.Common.{◌≡◌, inl, inr, ℕ, ℤ, Bool, true, false, 
 use Rattle.std.specs.Str.{bytes_eq}
 use Rattle.node_core.specs.declared.tree.Glue as glues
 use Rattle.node_core.specs.declared.tree.RuleSize.{RuleSize}
-use Rattle.job_commands.specs.declared.command.Command.{Command}
-use Rattle.job_commands.specs.declared.command.Command.TheVariants.{LoadFont, Rule}
+use Rattle.job_machine.specs.declared.command.Command.{Command}
+use Rattle.job_machine.specs.declared.command.Command.TheVariants.{LoadFont, Rule}
 use Rattle.boxglue_script.specs.declared.cause.Cause.{Cause}
 use Rattle.boxglue_script.specs.declared.cause.Cause.TheVariants as causes
 use Rattle.boxglue_script.specs.declared.cause.Cause.TheVariants.{Word, Number}
 use Rattle.boxglue_script.specs.declared.amounts.Amount.{Amount}
 use Rattle.boxglue_script.specs.Grammar.{IsNumberAmong, IsPenalty, IsDimension, IsRuleSizeField, IsName, IsSizeOfFont, IsChosenSize, IsShift, IsAmount, IsGluePart, IsGlue}
-use Rattle.boxglue_script.specs.Reading.{rest_of, some_or, number_of, number_first, dimension_or, dimension_first, size_of_font, as_size_of_font, size_of_font_first, is_name, as_name, name_first, map_ok, size_first, no_field_left, and_right, last_number, last_dimension, chosen_size_of, font_by, rule_by, penalty_of, last_penalty, amount_of, amount_first, last_amount, and_then, shift_of, no_amount, glue, last_shrink_of, shrink_of, parts_of, glue_of, last_value, value_first}
+use Rattle.boxglue_script.specs.Private.Reading.{rest_of, some_or, number_of, number_first, dimension_or, dimension_first, size_of_font, as_size_of_font, size_of_font_first, is_name, as_name, name_first, map_ok, size_first, no_field_left, and_right, last_number, last_dimension, chosen_size_of, font_by, rule_by, penalty_of, last_penalty, amount_of, amount_first, last_amount, and_then, shift_of, no_amount, glue, last_shrink_of, shrink_of, parts_of, glue_of, last_value, value_first}
 use Rattle.scaled_core.specs.declared.fault.DimenFault.{DimenFault}
 use Rattle.scaled_core.specs.ParsedTexts.{read_dimension}
 use Rattle.boxglue_script.proofs.AmountLaws.{gives_amount}

@@ -8,10 +8,10 @@ use Rattle.scaled_core.specs.ParsedTexts.{read_dimension, dimension_value, parse
 use Rattle.boxglue_script.specs.declared.cause.Cause.TheVariants as causes
 use Rattle.boxglue_script.specs.declared.cause.Cause.TheVariants.{Missing, Extra, Number, Dimension}
 use Rattle.boxglue_script.specs.declared.script.ScriptFault.TheVariants.{BadScript}
-use Rattle.boxglue_script.specs.Names.{box_name, register_name, item_name, name_of}
+use Rattle.boxglue_script.specs.Private.Names.{box_name, register_name, item_name, name_of}
 use Rattle.boxglue_script.specs.ScriptLines.{fields_of}
 use Rattle.boxglue_script.specs.ParameterNames.{size_name, skip_name, number_name}
-use Rattle.boxglue_script.specs.Reading.{name_first, size_of_font_first, chosen_size_of, font_of, number_of, size_of, penalty_of, before_unit, amount_in, amount_of, opening_with_register, opening_into, opening_with_size, opening_of, last_shrink_of, shrink_of, parts_of, glue_of, parameter_of, rule_of, command_named, command_of, front_field, after_field, given, line_of, reads, last_value, value_first}
+use Rattle.boxglue_script.specs.Private.Reading.{name_first, size_of_font_first, chosen_size_of, font_of, number_of, size_of, penalty_of, before_unit, amount_in, amount_of, opening_with_register, opening_into, opening_with_size, opening_of, last_shrink_of, shrink_of, parts_of, glue_of, parameter_of, rule_of, command_named, command_of, front_field, after_field, given, line_of, reads, last_value, value_first}
 use Rattle.boxglue_script.specs.Rows.{one_rule_lines, OneRuleScript, UnitlessRow, text_lines, TextScript, special_lines, SpecialScript, NoSuchRegisterRow, NoSizeRow, StrokeInNameRow, tall_box_lines, TallBoxScript, NoRegisterRow, LateStretchRow}
 use Rattle.boxglue_script.proofs.ScriptLaws.{script_read, script_refused}
 

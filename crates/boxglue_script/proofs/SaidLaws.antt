@@ -1,7 +1,7 @@
 -- What the lines of an input say.
 use Rattle.std.proofs.Common.{◌≡◌, inl, inr, ℕ, ◌+◌, Bool, true, false, List, [], ◌∷◌, ◌++◌, Result, Ok, Err, IsOk, OnErr, refl, ap, sym, ◌∙◌, subst, append_assoc}
 use Rattle.std.specs.Str.Lines.{lines}
-use Rattle.job_commands.specs.declared.command.Command.{Command as ACommand}
+use Rattle.job_machine.specs.declared.command.Command.{Command as ACommand}
 use Rattle.boxglue_script.specs.declared.cause.Cause.{Cause}
 use Rattle.boxglue_script.specs.declared.script.Line.{Line}
 use Rattle.boxglue_script.specs.declared.said.Said.{Said}
@@ -11,7 +11,7 @@ use Rattle.boxglue_script.specs.Causes.{IsCause}
 use Rattle.boxglue_script.specs.Script.{SaysLine, SayFrom}
 use Rattle.boxglue_script.specs.SaidLines.{Says, SayEach, SayOne, IsWhole, lines_said, has_no_bad}
 use Rattle.boxglue_script.specs.declared.script.ScriptFault.TheVariants.{BadScript}
-use Rattle.boxglue_script.specs.Reading.{line_of, Found, lines_then, reads, GivesCommand, ReadsOn, StopsAtLine}
+use Rattle.boxglue_script.specs.Private.Reading.{line_of, Found, lines_then, reads, GivesCommand, ReadsOn, StopsAtLine}
 use Rattle.boxglue_script.proofs.LineLemmas.{lines_joined}
 use Rattle.boxglue_script.proofs.ScriptLaws.{line_said, line_read, line_fault}
 use Rattle.boxglue_script.proofs.OneCause.{one_line_cause, not_said}

@@ -4,19 +4,19 @@ use Rattle.std.specs.List.{list_all, AllByRecursion}
 use Rattle.std.specs.Str.{bytes_eq}
 use Rattle.std.specs.Str.Lines.{lines}
 use Rattle.std.proofs.lemmas.List.{append-nil}
-use Rattle.job_commands.specs.declared.command.Command.{Command}
-use Rattle.job_commands.specs.declared.command.Command.TheVariants.{Text, Special}
+use Rattle.job_machine.specs.declared.command.Command.{Command}
+use Rattle.job_machine.specs.declared.command.Command.TheVariants.{Text, Special}
 use Rattle.boxglue_script.specs.declared.cause.Cause.{Cause}
 use Rattle.boxglue_script.specs.declared.cause.Cause.TheVariants.{Byte, Word}
 use Rattle.boxglue_script.specs.declared.script.Line.{Line}
 use Rattle.boxglue_script.specs.declared.script.ScriptFault.{ScriptFault}
 use Rattle.boxglue_script.specs.declared.script.ScriptFault.TheVariants.{OutOfMemory, BadScript}
 use Rattle.boxglue_script.specs.ScriptLines.{is_passed_over, is_printable, fields_of, IsTextLine, IsSpecialLine, HasText}
-use Rattle.boxglue_script.specs.Names.{box_name, register_name, item_name, name_of}
+use Rattle.boxglue_script.specs.Private.Names.{box_name, register_name, item_name, name_of}
 use Rattle.boxglue_script.specs.Grammar.{SaysCommand}
 use Rattle.boxglue_script.specs.Causes.{IsPrintable, IsFieldCause, IsCause}
 use Rattle.boxglue_script.specs.Script.{IsPassedOver, Gives, SaysLine, SayFrom, IsScript, IsRightLine, IsFirstBad, Explains, IsOneFault, IsRightSoFar}
-use Rattle.boxglue_script.specs.Reading.{front_field, after_field, command_of, kept_text, given, line_of, Found, lines_then, reads_by, reads, GivesCommand, ReadsOn}
+use Rattle.boxglue_script.specs.Private.Reading.{front_field, after_field, command_of, kept_text, given, line_of, Found, lines_then, reads_by, reads, GivesCommand, ReadsOn}
 use Rattle.boxglue_script.proofs.GivenCommands.{complete}
 use Rattle.boxglue_script.proofs.CommandLaws.{sound}
 use Rattle.boxglue_script.proofs.FieldLaws.{same_bytes, bytes_same}

@@ -1,11 +1,11 @@
 -- The cause after one word is that after two other words, if the same is read after them.
 use Rattle.std.proofs.Common.{◌≡◌, inl, inr, ℕ, List, [], ◌∷◌, ◌++◌, Result, Ok, refl, ap, sym, ◌∙◌, subst}
-use Rattle.job_commands.specs.declared.command.Command.{Command}
+use Rattle.job_machine.specs.declared.command.Command.{Command}
 use Rattle.boxglue_script.specs.declared.cause.Cause.{Cause}
 use Rattle.boxglue_script.specs.declared.cause.Cause.TheVariants as causes
 use Rattle.boxglue_script.specs.Grammar.{IsName}
 use Rattle.boxglue_script.specs.Causes.{SaysSome, Begins, IsWord, GivesNumber, GivesDimension, GivesSizeOfFont, GivesSize, HasBad, HasExtra, HasBadElsewhere, IsFieldCause}
-use Rattle.boxglue_script.specs.Reading.{map_ok, command_of}
+use Rattle.boxglue_script.specs.Private.Reading.{map_ok, command_of}
 use Rattle.boxglue_script.proofs.ReadFields.{made}
 use Rattle.boxglue_script.proofs.GivenCommands.{complete}
 use Rattle.boxglue_script.proofs.CommandLaws.{sound}

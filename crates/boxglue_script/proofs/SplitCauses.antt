@@ -1,7 +1,7 @@
 -- The cause that the function names holds of the fields after `vsplit`.
 use Rattle.std.proofs.Common.{◌≡◌, ℕ, ℤ, pos, Bool, true, false, List, [], ◌∷◌, Option, Some, None, Result, Ok, Err, codes, refl, ap, sym, ◌∙◌, subst, arith}
 use Rattle.std.specs.Str.{bytes_eq}
-use Rattle.job_commands.specs.declared.command.Command.{Command}
+use Rattle.job_machine.specs.declared.command.Command.{Command}
 use Rattle.scaled_core.specs.declared.fault.DimenFault.{DimenFault}
 use Rattle.scaled_core.specs.declared.fault.DimenFault.TheVariants.{NotADimension}
 use Rattle.scaled_core.specs.ParsedTexts.{read_dimension}
@@ -10,7 +10,7 @@ use Rattle.boxglue_script.specs.declared.cause.Cause.TheVariants.{Word, Missing,
 use Rattle.boxglue_script.specs.declared.name.Name.TheVariants as names
 use Rattle.boxglue_script.specs.Grammar.{register_count}
 use Rattle.boxglue_script.specs.Causes.{IsWord, IsFieldCause}
-use Rattle.boxglue_script.specs.Reading.{number_of, last_number, map_ok, split, split_into, split_height, split_to, split_of, command_named, command_of, last_value, value_first}
+use Rattle.boxglue_script.specs.Private.Reading.{number_of, last_number, map_ok, split, split_into, split_height, split_to, split_of, command_named, command_of, last_value, value_first}
 use Rattle.boxglue_script.proofs.FieldLaws.{same_bytes}
 use Rattle.boxglue_script.proofs.NameLaws.{named}
 use Rattle.boxglue_script.proofs.CauseForms.{missing, has_bad_elsewhere, as_cause, not_made, zero_text, zero_names, zero_dimension, to_is_word, into_is_word, letter, letter_no_number, letter_no_dimension, no_number_cause, no_dimension_cause, number_cause}

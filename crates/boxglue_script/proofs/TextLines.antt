@@ -8,7 +8,7 @@ use Rattle.std.proofs.lemmas.Bool.{eqb-true, cases_lt}
 use Rattle.std.proofs.lemmas.List.{take-append-drop, drop_more, take_all, drop_all, append-nil}
 use Rattle.std.proofs.lemmas.List.Sums.{passes_at_first}
 use Rattle.boxglue_script.specs.ScriptLines.{is_space, fields_of, IsLineOf, IsTextLine, IsSpecialLine}
-use Rattle.boxglue_script.specs.Reading.{in_field, without_spaces, front_field, after_field, kept_text}
+use Rattle.boxglue_script.specs.Private.Reading.{in_field, without_spaces, front_field, after_field, kept_text}
 use Rattle.boxglue_script.proofs.FieldLemmas.{fields_first}
 
 spaced_one : (byte : ℕ) (line : List ℕ) (b : Bool) → is_space byte ≡ b → line ≡ replicate (prefix_len is_space line) 32 ++ without_spaces line → byte ∷ line ≡ replicate (prefix_len is_space (byte ∷ line)) 32 ++ without_spaces (byte ∷ line)

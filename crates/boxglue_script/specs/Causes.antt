@@ -2,11 +2,12 @@
 use Rattle.std.specs.Prelude.{◌≡◌, ◌⊎◌, ℕ, ℤ, true, false, List, [], ◌∷◌, ◌++◌, codes}
 use Rattle.std.specs.List.{Contains, list_all}
 use Rattle.node_core.specs.declared.tree.RuleSize.{RuleSize}
-use Rattle.job_commands.specs.declared.command.Command.{Command}
+use Rattle.job_machine.specs.declared.command.Command.{Command}
 use Rattle.boxglue_script.specs.declared.cause.Cause.{Cause}
 use Rattle.boxglue_script.specs.declared.cause.Cause.TheVariants as causes
 use Rattle.boxglue_script.specs.declared.cause.Cause.TheVariants.{Byte, Word, Missing, Extra, Number, Dimension}
 use Rattle.boxglue_script.specs.ScriptLines.{is_printable, fields_of, HasText}
+use Rattle.boxglue_script.specs.ParameterNames.{parameter_names}
 use Rattle.boxglue_script.specs.Grammar.{IsRegister, IsSlot, IsCharacterCode, IsDimension, IsRuleSizeField, IsName, IsSizeOfFont, SaysCommand}
 
 -- The fields give some command.
@@ -20,10 +21,7 @@ Begins fields = (more : List (List ℕ)) × SaysSome (fields ++ more)
 -- The words that come after others: keywords and the names of parameters.
 abbrev pub inner_words : List (List ℕ)
 inner_words =
-    codes "at" ∷ codes "to" ∷ codes "spread" ∷ codes "into" ∷ codes "plus" ∷ codes "minus" ∷ codes "shift"
-    ∷ codes "boxmaxdepth" ∷ codes "baselineskip" ∷ codes "lineskip" ∷ codes "lineskiplimit" ∷ codes "splitmaxdepth" ∷ codes "splittopskip"
-    ∷ codes "hsize" ∷ codes "firstlines" ∷ codes "firstsize" ∷ codes "parfillskip" ∷ codes "pretolerance" ∷ codes "tolerance" ∷ codes "linepenalty" ∷ codes "adjdemerits" ∷ codes "clubpenalty"
-    ∷ codes "widowpenalty" ∷ codes "interlinepenalty" ∷ codes "hoffset" ∷ codes "voffset" ∷ []
+    codes "at" ∷ codes "to" ∷ codes "spread" ∷ codes "into" ∷ codes "plus" ∷ codes "minus" ∷ codes "shift" ∷ parameter_names
 
 -- A word that comes after others.
 abbrev pub IsInnerWord : List ℕ → Type 0
@@ -83,9 +81,9 @@ pub record HasBadElsewhere (IsRight : List ℕ → Type 0) (fields : List (List 
   pub found : HasBad IsRight fields
   pub elsewhere : TakesNames found.front → ⊥
 
--- The cause holds of the fields. Name: the bad field is where any name of a font may be, and has no other cause. Dimension: it is not a dimension that
--- fits. Number: it is where the number of a register, a slot, a character, a count, a penalty or a parameter, or the value of a count belongs, and
--- is not such a number; or it is where the size of a font belongs, and is a dimension that is no such size.
+-- The cause holds of the fields. Name: the bad field is where any name of a font may be, and has no other cause. Dimension: it is not a dimension
+-- that fits. Number: it is where the number of a register, a slot, a character, a count, a penalty or a parameter, or the value of a count belongs,
+-- and is not such a number; or it is where the size of a font belongs, and is a dimension that is no such size.
 abbrev pub IsFieldCause : Cause → List (List ℕ) → Type 0
 IsFieldCause Byte fields = ⊥
 IsFieldCause Word fields = HasBadElsewhere IsWord fields
@@ -99,7 +97,8 @@ IsFieldCause causes.Name fields = (bad : HasBad IsName fields) × TakesNames bad
 abbrev pub IsPrintable : List ℕ → Type 0
 IsPrintable line = list_all is_printable line ≡ true
 
--- The cause holds of the line: a byte is not printable; or all are, and it is not a line of `text` or of `special`, and the cause holds of the fields.
+-- The cause holds of the line: a byte is not printable; or all are, and it is not a line of `text` or of `special`, and the cause holds of the
+-- fields.
 abbrev pub IsCause : Cause → List ℕ → Type 0
 IsCause cause line =
     ((cause ≡ Byte) × (list_all is_printable line ≡ false))

@@ -1,5 +1,6 @@
 -- The grammar of the commands of a script (own).
-use Rattle.std.specs.Prelude.{◌≡◌, ◌⊎◌, FitsSigned, ◌<◌, ◌&&◌, ◌||◌, ◌==◌, ℕ, ℤ, pos, Bool, true, nat_le, List, [], ◌∷◌, ◌++◌, codes, length, Option, None, Some}
+use Rattle.std.specs.Prelude.{◌≡◌, ◌⊎◌, FitsSigned, ◌<◌, ◌&&◌, ◌||◌, ◌==◌, ℕ, ℤ, pos, Bool, true, nat_le, List, [], ◌∷◌, ◌++◌, codes, length, Option}
+use Rattle.std.specs.Prelude.{None, Some}
 use Rattle.std.specs.Int.{w32}
 use Rattle.std.specs.List.{list_all}
 use Rattle.std.specs.Str.Parse.{IsNumeral, without_leading_sign, signed_digits_value}
@@ -17,13 +18,16 @@ use Rattle.node_core.specs.declared.tree.RuleSize.{RuleSize}
 use Rattle.node_core.specs.declared.tree.RuleSize.TheVariants.{Running, Fixed}
 use Rattle.pack_core.specs.declared.pack.Target.{Target}
 use Rattle.pack_core.specs.declared.pack.Target.TheVariants.{Natural, To, Spread}
-use Rattle.job_commands.specs.declared.command.BoxForm.{BoxForm}
-use Rattle.job_commands.specs.declared.command.BoxForm.TheVariants.{Hbox, Vbox, Vtop}
-use Rattle.job_commands.specs.declared.command.Transfer.{Transfer}
-use Rattle.job_commands.specs.declared.command.Transfer.TheVariants.{Move, Copy}
-use Rattle.job_commands.specs.declared.command.Parameter.TheVariants.{BoxMaxDepth, BaselineSkip, LineSkip, LineSkipLimit, SplitMaxDepth, SplitTopSkip, Hsize, FirstLines, FirstSize, ParFillSkip, Pretolerance, Tolerance, LinePenalty, AdjDemerits, ClubPenalty, WidowPenalty, InterlinePenalty, Hoffset, Voffset}
-use Rattle.job_commands.specs.declared.command.Command.{Command}
-use Rattle.job_commands.specs.declared.command.Command.TheVariants.{LoadFont, UseFont, Open, Paragraph, End, Text, Character, Rule, Kern, Glue, Penalty, Append, Unbox, LastBox, Split, Measure, Void, Set, Count, Special, Ship}
+use Rattle.job_machine.specs.declared.command.BoxForm.{BoxForm}
+use Rattle.job_machine.specs.declared.command.BoxForm.TheVariants.{Hbox, Vbox, Vtop}
+use Rattle.job_machine.specs.declared.command.Transfer.{Transfer}
+use Rattle.job_machine.specs.declared.command.Transfer.TheVariants.{Move, Copy}
+use Rattle.job_machine.specs.declared.parameter.Parameter.{Parameter}
+use Rattle.job_machine.specs.declared.parameter.Parameter.TheVariants as parameters
+use Rattle.job_machine.specs.declared.command.Command.{Command}
+use Rattle.job_machine.specs.declared.command.Command.TheVariants.{LoadFont, UseFont, Open, Paragraph, End, Text, Character, Rule, Kern, Glue}
+use Rattle.job_machine.specs.declared.command.Command.TheVariants.{Penalty, Append, Unbox, LastBox, Split, Measure, Void, Set, Count, Special, Ship}
+use Rattle.boxglue_script.specs.ParameterNames.{first_lines_text, size_name, skip_name, number_name}
 
 -- A field that writes this whole number with an optional sign and digits.
 pub record IsInteger (field : List ℕ) (z : ℤ) : Type 0 where
@@ -177,6 +181,13 @@ IsGlue fields glue =
     × IsDimension d glue.width × IsGluePart (codes "plus") plus glue.stretch_order glue.stretch
     × IsGluePart (codes "minus") minus glue.shrink_order glue.shrink
 
+-- A word and the fields after it give this parameter.
+abbrev pub SaysParameter : (word : List ℕ) → List (List ℕ) → Parameter → Type 0
+SaysParameter word fields (parameters.Size name z) = (d : List ℕ) × (size_name word ≡ Some name) × (fields ≡ d ∷ []) × IsDimension d z
+SaysParameter word fields (parameters.Skip name glue) = (skip_name word ≡ Some name) × IsGlue fields glue
+SaysParameter word fields (parameters.Number name z) = (p : List ℕ) × (number_name word ≡ Some name) × (fields ≡ p ∷ []) × IsPenalty p z
+SaysParameter word fields (parameters.FirstLines n) = (l : List ℕ) × (word ≡ first_lines_text) × (fields ≡ l ∷ []) × IsFirstLines l n
+
 -- The fields of a line give this command. The text of a line of `text` or of `special` is not cut into fields.
 abbrev pub SaysCommand : List (List ℕ) → Command → Type 0
 SaysCommand fields (LoadFont load) =
@@ -197,7 +208,8 @@ SaysCommand fields (Kern z) = (d : List ℕ) × (fields ≡ codes "kern" ∷ d �
 SaysCommand fields (Glue glue) = (more : List (List ℕ)) × (fields ≡ codes "glue" ∷ more) × IsGlue more glue
 SaysCommand fields (Penalty z) = (p : List ℕ) × (fields ≡ codes "penalty" ∷ p ∷ []) × IsPenalty p z
 SaysCommand fields (Append box_use) =
-    (r : List ℕ) × (shift : List (List ℕ)) × (fields ≡ taking_text box_use.taking ∷ r ∷ shift) × IsRegister r box_use.register × IsShift shift box_use.shift
+    (r : List ℕ) × (shift : List (List ℕ)) × (fields ≡ taking_text box_use.taking ∷ r ∷ shift) × IsRegister r box_use.register
+    × IsShift shift box_use.shift
 SaysCommand fields (Unbox unboxing) = (r : List ℕ) × (fields ≡ unboxing_text unboxing.kind unboxing.taking ∷ r ∷ []) × IsRegister r unboxing.register
 SaysCommand fields (LastBox n) = (r : List ℕ) × (fields ≡ codes "lastbox" ∷ r ∷ []) × IsRegister r n
 SaysCommand fields (Split splitting) =
@@ -205,25 +217,8 @@ SaysCommand fields (Split splitting) =
     × IsRegister r splitting.register × IsDimension d splitting.height × IsRegister q splitting.into
 SaysCommand fields (Measure n) = (r : List ℕ) × (fields ≡ codes "measure" ∷ r ∷ []) × IsRegister r n
 SaysCommand fields (Void n) = (r : List ℕ) × (fields ≡ codes "void" ∷ r ∷ []) × IsRegister r n
-SaysCommand fields (Set (BoxMaxDepth z)) = (d : List ℕ) × (fields ≡ codes "set" ∷ codes "boxmaxdepth" ∷ d ∷ []) × IsDimension d z
-SaysCommand fields (Set (BaselineSkip glue)) = (more : List (List ℕ)) × (fields ≡ codes "set" ∷ codes "baselineskip" ∷ more) × IsGlue more glue
-SaysCommand fields (Set (LineSkip glue)) = (more : List (List ℕ)) × (fields ≡ codes "set" ∷ codes "lineskip" ∷ more) × IsGlue more glue
-SaysCommand fields (Set (LineSkipLimit z)) = (d : List ℕ) × (fields ≡ codes "set" ∷ codes "lineskiplimit" ∷ d ∷ []) × IsDimension d z
-SaysCommand fields (Set (SplitMaxDepth z)) = (d : List ℕ) × (fields ≡ codes "set" ∷ codes "splitmaxdepth" ∷ d ∷ []) × IsDimension d z
-SaysCommand fields (Set (SplitTopSkip glue)) = (more : List (List ℕ)) × (fields ≡ codes "set" ∷ codes "splittopskip" ∷ more) × IsGlue more glue
-SaysCommand fields (Set (Hsize z)) = (d : List ℕ) × (fields ≡ codes "set" ∷ codes "hsize" ∷ d ∷ []) × IsDimension d z
-SaysCommand fields (Set (FirstLines n)) = (l : List ℕ) × (fields ≡ codes "set" ∷ codes "firstlines" ∷ l ∷ []) × IsFirstLines l n
-SaysCommand fields (Set (FirstSize z)) = (d : List ℕ) × (fields ≡ codes "set" ∷ codes "firstsize" ∷ d ∷ []) × IsDimension d z
-SaysCommand fields (Set (ParFillSkip glue)) = (more : List (List ℕ)) × (fields ≡ codes "set" ∷ codes "parfillskip" ∷ more) × IsGlue more glue
-SaysCommand fields (Set (Pretolerance z)) = (p : List ℕ) × (fields ≡ codes "set" ∷ codes "pretolerance" ∷ p ∷ []) × IsPenalty p z
-SaysCommand fields (Set (Tolerance z)) = (p : List ℕ) × (fields ≡ codes "set" ∷ codes "tolerance" ∷ p ∷ []) × IsPenalty p z
-SaysCommand fields (Set (LinePenalty z)) = (p : List ℕ) × (fields ≡ codes "set" ∷ codes "linepenalty" ∷ p ∷ []) × IsPenalty p z
-SaysCommand fields (Set (AdjDemerits z)) = (p : List ℕ) × (fields ≡ codes "set" ∷ codes "adjdemerits" ∷ p ∷ []) × IsPenalty p z
-SaysCommand fields (Set (ClubPenalty z)) = (p : List ℕ) × (fields ≡ codes "set" ∷ codes "clubpenalty" ∷ p ∷ []) × IsPenalty p z
-SaysCommand fields (Set (WidowPenalty z)) = (p : List ℕ) × (fields ≡ codes "set" ∷ codes "widowpenalty" ∷ p ∷ []) × IsPenalty p z
-SaysCommand fields (Set (InterlinePenalty z)) = (p : List ℕ) × (fields ≡ codes "set" ∷ codes "interlinepenalty" ∷ p ∷ []) × IsPenalty p z
-SaysCommand fields (Set (Hoffset z)) = (d : List ℕ) × (fields ≡ codes "set" ∷ codes "hoffset" ∷ d ∷ []) × IsDimension d z
-SaysCommand fields (Set (Voffset z)) = (d : List ℕ) × (fields ≡ codes "set" ∷ codes "voffset" ∷ d ∷ []) × IsDimension d z
+SaysCommand fields (Set parameter) =
+    (word : List ℕ) × (more : List (List ℕ)) × (fields ≡ codes "set" ∷ word ∷ more) × SaysParameter word more parameter
 SaysCommand fields (Count counting) =
     (i : List ℕ) × (n : List ℕ) × (fields ≡ codes "count" ∷ i ∷ n ∷ []) × IsCountNumber i counting.count × IsCount n counting.value
 SaysCommand fields (Special text) = ⊥

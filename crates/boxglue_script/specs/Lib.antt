@@ -1,10 +1,9 @@
 pub mod ScriptLines
-pub mod Names
 pub mod ParameterNames
 pub mod Grammar
 pub mod Causes
 pub mod Script
 pub mod SaidLines
 pub mod Blocks
-pub mod Reading
 pub mod Rows
+pub mod Private

@@ -1,76 +1,74 @@
--- The names of parameters, by the kind of value that they take (own; private calls alone, no public clause speaks of it).
-use Rattle.std.specs.Prelude.{ℕ, ℤ, Bool, if◌then◌else◌, List, Option, None, Some, codes}
+-- The names of parameters, by the kind of their values (own).
+use Rattle.std.specs.Prelude.{ℕ, if◌then◌else◌, List, [], ◌∷◌, ◌++◌, Option, None, Some, codes}
 use Rattle.std.specs.Str.{bytes_eq}
-use Rattle.node_core.specs.declared.tree.Glue as glues
-use Rattle.job_commands.specs.declared.command.Parameter.{Parameter}
-use Rattle.job_commands.specs.declared.command.Parameter.TheVariants as parameters
-use Rattle.boxglue_script.specs.declared.parameter.SizeParameter.{SizeParameter}
-use Rattle.boxglue_script.specs.declared.parameter.SizeParameter.TheVariants as sizes
-use Rattle.boxglue_script.specs.declared.parameter.SkipParameter.{SkipParameter}
-use Rattle.boxglue_script.specs.declared.parameter.SkipParameter.TheVariants as skips
-use Rattle.boxglue_script.specs.declared.parameter.NumberParameter.{NumberParameter}
-use Rattle.boxglue_script.specs.declared.parameter.NumberParameter.TheVariants as numbers
+use Rattle.job_machine.specs.declared.parameter.SizeParameter.{SizeParameter}
+use Rattle.job_machine.specs.declared.parameter.SizeParameter.TheVariants.{BoxMaxDepth, LineSkipLimit, SplitMaxDepth, Hsize, FirstSize, Hoffset}
+use Rattle.job_machine.specs.declared.parameter.SizeParameter.TheVariants.{Voffset}
+use Rattle.job_machine.specs.declared.parameter.SkipParameter.{SkipParameter}
+use Rattle.job_machine.specs.declared.parameter.SkipParameter.TheVariants.{BaselineSkip, LineSkip, SplitTopSkip, ParFillSkip}
+use Rattle.job_machine.specs.declared.parameter.NumberParameter.{NumberParameter}
+use Rattle.job_machine.specs.declared.parameter.NumberParameter.TheVariants.{Pretolerance, Tolerance, LinePenalty, AdjDemerits, ClubPenalty}
+use Rattle.job_machine.specs.declared.parameter.NumberParameter.TheVariants.{WidowPenalty, InterlinePenalty}
+
+-- The names of the parameters that are dimensions.
+abbrev pub sizes : List (List ℕ × SizeParameter)
+sizes =
+    (codes "boxmaxdepth", BoxMaxDepth)
+    ∷ (codes "lineskiplimit", LineSkipLimit)
+    ∷ (codes "splitmaxdepth", SplitMaxDepth)
+    ∷ (codes "hsize", Hsize)
+    ∷ (codes "firstsize", FirstSize)
+    ∷ (codes "hoffset", Hoffset)
+    ∷ (codes "voffset", Voffset)
+    ∷ []
+
+-- The names of the parameters that are glue.
+abbrev pub skips : List (List ℕ × SkipParameter)
+skips =
+    (codes "baselineskip", BaselineSkip)
+    ∷ (codes "lineskip", LineSkip)
+    ∷ (codes "splittopskip", SplitTopSkip)
+    ∷ (codes "parfillskip", ParFillSkip)
+    ∷ []
+
+-- The names of the parameters that are numbers.
+abbrev pub numbers : List (List ℕ × NumberParameter)
+numbers =
+    (codes "pretolerance", Pretolerance)
+    ∷ (codes "tolerance", Tolerance)
+    ∷ (codes "linepenalty", LinePenalty)
+    ∷ (codes "adjdemerits", AdjDemerits)
+    ∷ (codes "clubpenalty", ClubPenalty)
+    ∷ (codes "widowpenalty", WidowPenalty)
+    ∷ (codes "interlinepenalty", InterlinePenalty)
+    ∷ []
+
+-- The name of the parameter that is a number of first lines.
+abbrev pub first_lines_text : List ℕ
+first_lines_text = codes "firstlines"
+
+-- The names in a table.
+abbrev pub names_in : {A : Type 0} → List (List ℕ × A) → List (List ℕ)
+names_in [] = []
+names_in ((name, x) ∷ rest) = name ∷ names_in rest
+
+-- All names of parameters.
+abbrev pub parameter_names : List (List ℕ)
+parameter_names = names_in sizes ++ names_in skips ++ names_in numbers ++ first_lines_text ∷ []
+
+-- What a word names by a table.
+abbrev pub named_in : {A : Type 0} → List (List ℕ × A) → (word : List ℕ) → Option A
+named_in [] word = None
+named_in ((name, x) ∷ rest) word = if bytes_eq word name then Some x else named_in rest word
 
 -- The parameter with a dimension that a word names.
 unfoldable pub size_name : List ℕ → Option SizeParameter
-size_name word =
-    if bytes_eq word (codes "boxmaxdepth") then Some sizes.BoxMaxDepth
-    else (if bytes_eq word (codes "lineskiplimit") then Some sizes.LineSkipLimit
-    else (if bytes_eq word (codes "splitmaxdepth") then Some sizes.SplitMaxDepth
-    else (if bytes_eq word (codes "hsize") then Some sizes.Hsize
-    else (if bytes_eq word (codes "firstsize") then Some sizes.FirstSize
-    else (if bytes_eq word (codes "hoffset") then Some sizes.Hoffset
-    else (if bytes_eq word (codes "voffset") then Some sizes.Voffset
-    else None))))))
+size_name word = named_in sizes word
 
 -- The parameter with glue that a word names.
 unfoldable pub skip_name : List ℕ → Option SkipParameter
-skip_name word =
-    if bytes_eq word (codes "baselineskip") then Some skips.BaselineSkip
-    else (if bytes_eq word (codes "lineskip") then Some skips.LineSkip
-    else (if bytes_eq word (codes "splittopskip") then Some skips.SplitTopSkip
-    else (if bytes_eq word (codes "parfillskip") then Some skips.ParFillSkip
-    else None)))
+skip_name word = named_in skips word
 
 -- The parameter with a number that a word names.
 unfoldable pub number_name : List ℕ → Option NumberParameter
-number_name word =
-    if bytes_eq word (codes "pretolerance") then Some numbers.Pretolerance
-    else (if bytes_eq word (codes "tolerance") then Some numbers.Tolerance
-    else (if bytes_eq word (codes "linepenalty") then Some numbers.LinePenalty
-    else (if bytes_eq word (codes "adjdemerits") then Some numbers.AdjDemerits
-    else (if bytes_eq word (codes "clubpenalty") then Some numbers.ClubPenalty
-    else (if bytes_eq word (codes "widowpenalty") then Some numbers.WidowPenalty
-    else (if bytes_eq word (codes "interlinepenalty") then Some numbers.InterlinePenalty
-    else None))))))
-
--- Whether a word names the parameter that is a number of first lines.
-unfoldable pub names_first_lines : List ℕ → Bool
-names_first_lines word = bytes_eq word (codes "firstlines")
-
--- A parameter that is a dimension, with a value for it.
-abbrev pub with_size : SizeParameter → ℤ → Parameter
-with_size sizes.BoxMaxDepth z = parameters.BoxMaxDepth z
-with_size sizes.LineSkipLimit z = parameters.LineSkipLimit z
-with_size sizes.SplitMaxDepth z = parameters.SplitMaxDepth z
-with_size sizes.Hsize z = parameters.Hsize z
-with_size sizes.FirstSize z = parameters.FirstSize z
-with_size sizes.Hoffset z = parameters.Hoffset z
-with_size sizes.Voffset z = parameters.Voffset z
-
--- A parameter that is glue, with a value for it.
-abbrev pub with_skip : SkipParameter → glues.Glue → Parameter
-with_skip skips.BaselineSkip glue = parameters.BaselineSkip glue
-with_skip skips.LineSkip glue = parameters.LineSkip glue
-with_skip skips.SplitTopSkip glue = parameters.SplitTopSkip glue
-with_skip skips.ParFillSkip glue = parameters.ParFillSkip glue
-
--- A parameter that is a number, with a value for it.
-abbrev pub with_number : NumberParameter → ℤ → Parameter
-with_number numbers.Pretolerance z = parameters.Pretolerance z
-with_number numbers.Tolerance z = parameters.Tolerance z
-with_number numbers.LinePenalty z = parameters.LinePenalty z
-with_number numbers.AdjDemerits z = parameters.AdjDemerits z
-with_number numbers.ClubPenalty z = parameters.ClubPenalty z
-with_number numbers.WidowPenalty z = parameters.WidowPenalty z
-with_number numbers.InterlinePenalty z = parameters.InterlinePenalty z
+number_name word = named_in numbers word

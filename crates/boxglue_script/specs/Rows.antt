@@ -3,9 +3,11 @@ use Rattle.std.specs.Prelude.{pos, negsuc, List, [], ◌∷◌, Some, codes}
 use Rattle.node_core.specs.declared.tree.RuleSize.TheVariants.{Fixed}
 use Rattle.node_core.specs.declared.tree.Order.TheVariants.{Normal, Fil}
 use Rattle.pack_core.specs.declared.pack.Target.TheVariants.{Natural, To}
-use Rattle.job_commands.specs.declared.command.BoxForm.TheVariants.{Hbox, Vbox}
-use Rattle.job_commands.specs.declared.command.Parameter.TheVariants.{BoxMaxDepth}
-use Rattle.job_commands.specs.declared.command.Command.TheVariants.{LoadFont, UseFont, Open, End, Text, Character, Rule, Glue, Penalty, Measure, Set, Special, Ship}
+use Rattle.job_machine.specs.declared.command.BoxForm.TheVariants.{Hbox, Vbox}
+use Rattle.job_machine.specs.declared.parameter.SizeParameter.TheVariants.{BoxMaxDepth}
+use Rattle.job_machine.specs.declared.parameter.Parameter.TheVariants.{Size}
+use Rattle.job_machine.specs.declared.command.Command.TheVariants.{LoadFont, UseFont, Open, End, Text, Character, Rule, Glue, Penalty, Measure, Set}
+use Rattle.job_machine.specs.declared.command.Command.TheVariants.{Special, Ship}
 use Rattle.boxglue_script.specs.declared.cause.Cause.TheVariants as causes
 use Rattle.boxglue_script.specs.declared.cause.Cause.TheVariants.{Missing, Extra, Number, Dimension}
 use Rattle.boxglue_script.specs.declared.script.Line.{Line}
@@ -68,9 +70,12 @@ StrokeInNameRow = IsFirstBad (codes "font 0 a/b at 0pt") 1 causes.Name
 -- The lines of a script of a vertical box of a given size.
 abbrev pub tall_box_lines : List Line
 tall_box_lines =
-    record { number = 1; command = Set (BoxMaxDepth (pos 65536)) }
+    record { number = 1; command = Set (Size BoxMaxDepth (pos 65536)) }
     ∷ record { number = 2; command = Open (record { form = Vbox; target = To (pos 1310720); into = Some 0 }) }
-    ∷ record { number = 3; command = Glue (record { width = pos 0; stretch = pos 65536; stretch_order = Fil; shrink = pos 0; shrink_order = Normal }) }
+    ∷ record {
+      number = 3;
+      command = Glue (record { width = pos 0; stretch = pos 65536; stretch_order = Fil; shrink = pos 0; shrink_order = Normal });
+    }
     ∷ record { number = 4; command = Penalty (negsuc 9999) }
     ∷ record { number = 5; command = End }
     ∷ []

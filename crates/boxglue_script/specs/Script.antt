@@ -2,8 +2,8 @@
 use Rattle.std.specs.Prelude.{◌≡◌, ◌⊎◌, ℕ, ◌+◌, true, false, List, [], ◌∷◌, ◌++◌, length}
 use Rattle.std.specs.List.{AllByRecursion}
 use Rattle.std.specs.Str.Lines.{lines}
-use Rattle.job_commands.specs.declared.command.Command.{Command}
-use Rattle.job_commands.specs.declared.command.Command.TheVariants.{Text, Special}
+use Rattle.job_machine.specs.declared.command.Command.{Command}
+use Rattle.job_machine.specs.declared.command.Command.TheVariants.{Text, Special}
 use Rattle.boxglue_script.specs.declared.cause.Cause.{Cause}
 use Rattle.boxglue_script.specs.declared.script.Line.{Line}
 use Rattle.boxglue_script.specs.declared.script.ScriptFault.{ScriptFault}

@@ -1,7 +1,7 @@
 //! Amounts of stretch and shrink.
 
 ghost use Rattle.std.specs.Prelude.{◌≡◌};
-ghost use Rattle.boxglue_script.specs.Reading.{amount_in, amount_of, no_amount, number_in_points};
+ghost use Rattle.boxglue_script.specs.Private.Reading.{amount_in, amount_of, no_amount, number_in_points};
 
 use crate::cause::Cause;
 use node_core::Order;
@@ -27,7 +27,7 @@ impl Amount {
 }
 
 /// The amount that a field writes: a dimension, or a number with the unit `fil`, `fill` or `filll`.
-#[tactic(auto, unfolding(crate::specs::Reading::amount_of, crate::specs::Reading::before_unit))]
+#[tactic(auto, unfolding(crate::specs::Private::Reading::amount_of, crate::specs::Private::Reading::before_unit))]
 pub fn amount_of(field: &[u8]) -> Result<Amount, Cause>
     ensures { result ≡ amount_of field.now }
 {
@@ -44,7 +44,7 @@ pub fn amount_of(field: &[u8]) -> Result<Amount, Cause>
 }
 
 /// The amount of that order whose value is that of a number in points: `1fil` is 65536, since amounts of all orders are dimensions.
-#[tactic(auto, unfolding(crate::specs::Reading::amount_in))]
+#[tactic(auto, unfolding(crate::specs::Private::Reading::amount_in))]
 fn number_in_points(order: Order, number: &[u8]) -> Result<Amount, Cause>
     ensures { result ≡ number_in_points order number.now }
 {
@@ -53,7 +53,7 @@ fn number_in_points(order: Order, number: &[u8]) -> Result<Amount, Cause>
 }
 
 /// The amount of that order whose value is that of a dimension.
-#[tactic(auto, unfolding(crate::specs::Reading::amount_in))]
+#[tactic(auto, unfolding(crate::specs::Private::Reading::amount_in))]
 fn amount_in(order: Order, text: &[u8]) -> Result<Amount, Cause>
     ensures { result ≡ amount_in order text.now }
 {

@@ -2,19 +2,21 @@
 
 ghost use Rattle.std.specs.Prelude.{◌≡◌, Ok, Err, IfOk, IfErr, IsOk, OnErr};
 ghost use Rattle.tfm_core.specs.NamedBytes.{IsFontName};
-ghost use Rattle.job_commands.specs.declared.command.Command.TheVariants as commands;
+ghost use Rattle.job_machine.specs.declared.command.Command.TheVariants as commands;
 ghost use Rattle.boxglue_script.specs.Grammar.{register_count};
 ghost use Rattle.boxglue_script.specs.ScriptLines.{fields_of};
-ghost use Rattle.boxglue_script.specs.Reading.{last_count, counting, counting_of, size_of_font, last_number, map_ok, chosen_size_of, font_of, last_penalty, last_amount, opening, opening_with_register, opening_into, opening_of, shift_of, append_of, unboxing, split_into, split_height, split_to, split_of, glue, shrink_of, last_shrink_of, parts_of, glue_of, parameter_of, rule_of, command_named, command_by, first_word};
+ghost use Rattle.boxglue_script.specs.Private.Reading.{last_count, counting, counting_of, size_of_font, last_number, map_ok, chosen_size_of, font_of};
+ghost use Rattle.boxglue_script.specs.Private.Reading.{last_penalty, last_amount, opening, opening_with_register, opening_into, opening_of, shift_of};
+ghost use Rattle.boxglue_script.specs.Private.Reading.{append_of, unboxing, split_into, split_height, split_to, split_of, glue, shrink_of};
+ghost use Rattle.boxglue_script.specs.Private.Reading.{last_shrink_of, parts_of, glue_of, parameter_of, rule_of, command_named, command_by};
+ghost use Rattle.boxglue_script.specs.Private.Reading.{first_word};
 
 use crate::amounts::Amount;
 use crate::cause::Cause;
 use crate::fields::Fields;
 use crate::name::Name;
-use crate::parameter::{
-    names_first_lines, number_name, size_name, skip_name, with_number, with_size, with_skip,
-};
-use job_commands::{
+use crate::parameter::{names_first_lines, number_name, size_name, skip_name};
+use job_machine::{
     AppendBox, BoxForm, Command, CountNumber, Counting, FontLoad, FontName, FontSize, Opening,
     Parameter, Register, Splitting, Target, Transfer, Unboxing,
 };
@@ -24,7 +26,7 @@ use std::alloc::{AllocError, Global};
 
 impl<'a> Fields<'a> {
     /// What follows the name of a font: nothing, or `at` and a size.
-    #[tactic(auto, unfolding(crate::specs::Reading::chosen_size_of))]
+    #[tactic(auto, unfolding(crate::specs::Private::Reading::chosen_size_of))]
     fn chosen_size(&mut self) -> Result<Option<FontSize>, Cause>
         ensures { result ≡ chosen_size_of (fields_of self.old.rest.now) }
     {
@@ -40,9 +42,10 @@ impl<'a> Fields<'a> {
     }
 
     /// The words after `font`, read.
-    #[tactic(auto, unfolding(crate::specs::Reading::font_of))]
+    #[tactic(auto, unfolding(crate::specs::Private::Reading::font_of))]
     fn font_words(&mut self) -> Result<FontWords<'a>, Cause>
-        ensures ok { IfOk result (λ words. font_of (fields_of self.old.rest.now) ≡ Ok (commands.LoadFont (record { slot = words.slot; name = words.name.now; size = words.size }))) }
+        ensures ok { IfOk result (λ words. font_of (fields_of self.old.rest.now)
+            ≡ Ok (commands.LoadFont (record { slot = words.slot; name = words.name.now; size = words.size }))) }
         ensures name_valid { IfOk result (λ words. IsFontName words.name.now) }
         ensures err { IfErr result (λ cause. font_of (fields_of self.old.rest.now) ≡ Err cause) }
     {
@@ -64,7 +67,7 @@ impl<'a> Fields<'a> {
     }
 
     /// What follows `hbox`, `vbox` or `vtop`: a size or none, and a register or none.
-    #[tactic(auto, unfolding(crate::specs::Reading::opening_of, crate::specs::Reading::opening_with_size))]
+    #[tactic(auto, unfolding(crate::specs::Private::Reading::opening_of, crate::specs::Private::Reading::opening_with_size))]
     fn opening(&mut self, form: BoxForm) -> Result<Command, Cause>
         ensures { result ≡ opening_of form (fields_of self.old.rest.now) }
     {
@@ -84,7 +87,7 @@ impl<'a> Fields<'a> {
     }
 
     /// The opening of a list, with nothing after its size, or with `into` and a register.
-    #[tactic(auto, unfolding(crate::specs::Reading::opening_into))]
+    #[tactic(auto, unfolding(crate::specs::Private::Reading::opening_into))]
     fn opening_into(&mut self, form: BoxForm, target: Target) -> Result<Command, Cause>
         ensures { result ≡ opening_into form target (fields_of self.old.rest.now) }
     {
@@ -96,7 +99,7 @@ impl<'a> Fields<'a> {
     }
 
     /// The opening of a list, with a register as the last field.
-    #[tactic(auto, unfolding(crate::specs::Reading::opening_with_register))]
+    #[tactic(auto, unfolding(crate::specs::Private::Reading::opening_with_register))]
     fn opening_with_register(&mut self, form: BoxForm, target: Target) -> Result<Command, Cause>
         ensures { result ≡ opening_with_register form target (fields_of self.old.rest.now) }
     {
@@ -105,7 +108,7 @@ impl<'a> Fields<'a> {
     }
 
     /// What follows `box` or `copy`: a register, and a shift or none.
-    #[tactic(auto, unfolding(crate::specs::Reading::append_of))]
+    #[tactic(auto, unfolding(crate::specs::Private::Reading::append_of))]
     fn append(&mut self, taking: Transfer) -> Result<Command, Cause>
         ensures { result ≡ append_of taking (fields_of self.old.rest.now) }
     {
@@ -119,7 +122,7 @@ impl<'a> Fields<'a> {
     }
 
     /// What follows the register of a box: nothing, or `shift` and a dimension.
-    #[tactic(auto, unfolding(crate::specs::Reading::shift_of))]
+    #[tactic(auto, unfolding(crate::specs::Private::Reading::shift_of))]
     fn shift(&mut self) -> Result<Dimen, Cause>
         ensures { result ≡ shift_of (fields_of self.old.rest.now) }
     {
@@ -143,7 +146,7 @@ impl<'a> Fields<'a> {
     }
 
     /// What follows `vsplit`: a register, `to` and a height, and `into` and a register.
-    #[tactic(auto, unfolding(crate::specs::Reading::split_of))]
+    #[tactic(auto, unfolding(crate::specs::Private::Reading::split_of))]
     fn split(&mut self) -> Result<Command, Cause>
         ensures { result ≡ split_of (fields_of self.old.rest.now) }
     {
@@ -152,7 +155,7 @@ impl<'a> Fields<'a> {
     }
 
     /// What follows the register of a split: `to`, and a height.
-    #[tactic(auto, unfolding(crate::specs::Reading::split_to))]
+    #[tactic(auto, unfolding(crate::specs::Private::Reading::split_to))]
     fn split_to(&mut self, register: Register) -> Result<Command, Cause>
         ensures { result ≡ split_to register (fields_of self.old.rest.now) }
     {
@@ -163,7 +166,7 @@ impl<'a> Fields<'a> {
     }
 
     /// The height of a split, and what follows it.
-    #[tactic(auto, unfolding(crate::specs::Reading::split_height))]
+    #[tactic(auto, unfolding(crate::specs::Private::Reading::split_height))]
     fn split_height(&mut self, register: Register) -> Result<Command, Cause>
         ensures { result ≡ split_height register (fields_of self.old.rest.now) }
     {
@@ -172,7 +175,7 @@ impl<'a> Fields<'a> {
     }
 
     /// What follows the height of a split: `into` and a register.
-    #[tactic(auto, unfolding(crate::specs::Reading::split_into))]
+    #[tactic(auto, unfolding(crate::specs::Private::Reading::split_into))]
     fn split_into(&mut self, register: Register, height: Dimen) -> Result<Command, Cause>
         ensures { result ≡ split_into register height (fields_of self.old.rest.now) }
     {
@@ -190,7 +193,7 @@ impl<'a> Fields<'a> {
     }
 
     /// The last fields as glue: its width, and its stretch, its shrink or both.
-    #[tactic(auto, unfolding(crate::specs::Reading::glue_of))]
+    #[tactic(auto, unfolding(crate::specs::Private::Reading::glue_of))]
     fn glue(&mut self) -> Result<Glue, Cause>
         ensures { result ≡ glue_of (fields_of self.old.rest.now) }
     {
@@ -199,7 +202,7 @@ impl<'a> Fields<'a> {
     }
 
     /// What follows the width of a glue: nothing, or its stretch, its shrink or both.
-    #[tactic(auto, unfolding(crate::specs::Reading::parts_of))]
+    #[tactic(auto, unfolding(crate::specs::Private::Reading::parts_of))]
     fn glue_parts(&mut self, width: Dimen) -> Result<Glue, Cause>
         ensures { result ≡ parts_of width (fields_of self.old.rest.now) }
     {
@@ -215,7 +218,7 @@ impl<'a> Fields<'a> {
     }
 
     /// What follows the stretch of a glue: nothing, or `minus` and its shrink.
-    #[tactic(auto, unfolding(crate::specs::Reading::shrink_of))]
+    #[tactic(auto, unfolding(crate::specs::Private::Reading::shrink_of))]
     fn shrink(&mut self, width: Dimen, stretch: Amount) -> Result<Glue, Cause>
         ensures { result ≡ shrink_of width stretch (fields_of self.old.rest.now) }
     {
@@ -227,7 +230,7 @@ impl<'a> Fields<'a> {
     }
 
     /// Glue of that width and stretch, with its shrink as the last field.
-    #[tactic(auto, unfolding(crate::specs::Reading::last_shrink_of))]
+    #[tactic(auto, unfolding(crate::specs::Private::Reading::last_shrink_of))]
     fn last_shrink(&mut self, width: Dimen, stretch: Amount) -> Result<Glue, Cause>
         ensures { result ≡ last_shrink_of width stretch (fields_of self.old.rest.now) }
     {
@@ -236,22 +239,22 @@ impl<'a> Fields<'a> {
     }
 
     /// What follows `set`: the name of a parameter and its value.
-    #[tactic(auto, unfolding(crate::specs::Reading::parameter_of))]
+    #[tactic(auto, unfolding(crate::specs::Private::Reading::parameter_of))]
     fn parameter(&mut self) -> Result<Parameter, Cause>
         ensures { result ≡ parameter_of (fields_of self.old.rest.now) }
     {
         let word = self.field()?;
         if let Some(name) = size_name(word) {
             let size = self.last_value::<Dimen>()?;
-            return Ok(with_size(name, size));
+            return Ok(Parameter::Size(name, size));
         }
         if let Some(name) = skip_name(word) {
             let glue = self.glue()?;
-            return Ok(with_skip(name, glue));
+            return Ok(Parameter::Skip(name, glue));
         }
         if let Some(name) = number_name(word) {
             let number = self.last_value::<IntParameter>()?;
-            return Ok(with_number(name, number));
+            return Ok(Parameter::Number(name, number));
         }
         if !names_first_lines(word) {
             return Err(Cause::Word);
@@ -261,7 +264,7 @@ impl<'a> Fields<'a> {
     }
 
     /// What follows `count`: the number of a count, and its value.
-    #[tactic(auto, unfolding(crate::specs::Reading::counting_of))]
+    #[tactic(auto, unfolding(crate::specs::Private::Reading::counting_of))]
     fn counting(&mut self) -> Result<Command, Cause>
         ensures { result ≡ counting_of (fields_of self.old.rest.now) }
     {
@@ -271,7 +274,7 @@ impl<'a> Fields<'a> {
     }
 
     /// What follows `rule`.
-    #[tactic(auto, unfolding(crate::specs::Reading::rule_of))]
+    #[tactic(auto, unfolding(crate::specs::Private::Reading::rule_of))]
     fn rule(&mut self) -> Result<Command, Cause>
         ensures { result ≡ rule_of (fields_of self.old.rest.now) }
     {
@@ -287,7 +290,7 @@ impl<'a> Fields<'a> {
     }
 
     /// The command of that name with the fields after it. The error is a refused growth, only where there is such a command.
-    #[tactic(auto, unfolding(crate::specs::Reading::command_named))]
+    #[tactic(auto, unfolding(crate::specs::Private::Reading::command_named))]
     fn command_named(
         &mut self,
         alloc: Global,

@@ -3,14 +3,14 @@
 //! All numbers have one form, an optional sign and digits; only their range differs.
 
 ghost use Rattle.boxglue_script.specs.Grammar.{register_count, slot_count, count_count, first_lines_count};
-ghost use Rattle.boxglue_script.specs.Reading.{number_field, count_field, penalty_field, dimension_field, size_of, amount_of};
+ghost use Rattle.boxglue_script.specs.Private.Reading.{number_field, count_field, penalty_field, dimension_field, size_of, amount_of};
 
 use crate::amounts::{Amount, amount_of};
 use crate::cause::Cause;
 use crate::values::{
     byte_of, count_number_of, count_of, first_lines_of, penalty_of, register_of, size_of,
 };
-use job_commands::{CountNumber, Register};
+use job_machine::{CountNumber, Register};
 use node_core::{FirstLines, IntParameter, RuleSize};
 use scaled_core::{Dimen, parse_dimen};
 

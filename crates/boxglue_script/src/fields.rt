@@ -1,15 +1,17 @@
-//! The fields of a line, read from the left: each as the kind of value that belongs there. A field that is missing has the cause Missing in all calls.
+//! The fields of a line, read from the left: each as the kind of value that belongs there. A field that is missing has the cause Missing in all
+//! calls.
 
 ghost use Rattle.std.specs.Prelude.{◌≡◌, Ok, Err, IfOk, IfErr};
 ghost use Rattle.tfm_core.specs.NamedBytes.{IsFontName};
 ghost use Rattle.boxglue_script.specs.ScriptLines.{fields_of};
-ghost use Rattle.boxglue_script.specs.Reading.{first_of, rest_of, value_first, last_value, size_of_font, size_of_font_first, is_name, name_first, no_field_left};
+ghost use Rattle.boxglue_script.specs.Private.Reading.{first_of, rest_of, value_first, last_value, size_of_font, size_of_font_first, is_name};
+ghost use Rattle.boxglue_script.specs.Private.Reading.{name_first, no_field_left};
 
 use crate::cause::Cause;
 use crate::field_value::FieldValue;
 use crate::lines::first_field;
 use crate::values::{is_name, size_of_font};
-use job_commands::FontSize;
+use job_machine::FontSize;
 use scaled_core::Dimen;
 
 /// The fields of a line that are not read yet.
@@ -52,7 +54,7 @@ impl<'a> Fields<'a> {
     }
 
     /// The next field as a value of its kind.
-    #[tactic(auto, unfolding(crate::specs::Reading::value_first))]
+    #[tactic(auto, unfolding(crate::specs::Private::Reading::value_first))]
     pub(crate) fn value<T: FieldValue>(&mut self) -> Result<T, Cause>
         ensures value { result ≡ value_first T.reading (fields_of self.old.rest.now) }
         ensures fields_left { fields_of self.new.rest.now ≡ rest_of (fields_of self.old.rest.now) }
@@ -61,7 +63,7 @@ impl<'a> Fields<'a> {
     }
 
     /// The next field, which is the last, as a value of its kind.
-    #[tactic(auto, unfolding(crate::specs::Reading::last_value))]
+    #[tactic(auto, unfolding(crate::specs::Private::Reading::last_value))]
     pub(crate) fn last_value<T: FieldValue>(&mut self) -> Result<T, Cause>
         ensures { result ≡ last_value T.reading (fields_of self.old.rest.now) }
     {
@@ -71,7 +73,7 @@ impl<'a> Fields<'a> {
     }
 
     /// The next field as the size of a font: a dimension in a range of its own.
-    #[tactic(auto, unfolding(crate::specs::Reading::size_of_font_first))]
+    #[tactic(auto, unfolding(crate::specs::Private::Reading::size_of_font_first))]
     pub(crate) fn size_of_font(&mut self) -> Result<FontSize, Cause>
         ensures value { result ≡ size_of_font_first (fields_of self.old.rest.now) }
         ensures fields_left { fields_of self.new.rest.now ≡ rest_of (fields_of self.old.rest.now) }
@@ -80,7 +82,7 @@ impl<'a> Fields<'a> {
     }
 
     /// The next field as the name of a font.
-    #[tactic(auto, unfolding(crate::specs::Reading::name_first))]
+    #[tactic(auto, unfolding(crate::specs::Private::Reading::name_first))]
     pub(crate) fn name(&mut self) -> Result<&'a [u8], Cause>
         ensures ok { IfOk result (λ name. name_first (fields_of self.old.rest.now) ≡ Ok name.now) }
         ensures name_valid { IfOk result (λ name. IsFontName name.now) }

@@ -9,7 +9,8 @@ ghost use Rattle.boxglue_script.specs.SaidLines.{SayEach, SayOne, IsWhole, lines
 ghost use Rattle.boxglue_script.specs.declared.cause.Cause.{Cause};
 ghost use Rattle.boxglue_script.specs.declared.cause.Cause.TheVariants as causes;
 ghost use Rattle.boxglue_script.specs.Causes.{IsFieldCause, IsCause};
-ghost use Rattle.boxglue_script.specs.Rows.{OneRuleScript, UnitlessRow, TextScript, SpecialScript, NoSuchRegisterRow, NoSizeRow, StrokeInNameRow, TallBoxScript, NoRegisterRow, LateStretchRow};
+ghost use Rattle.boxglue_script.specs.Rows.{OneRuleScript, UnitlessRow, TextScript, SpecialScript, NoSuchRegisterRow, NoSizeRow, StrokeInNameRow};
+ghost use Rattle.boxglue_script.specs.Rows.{TallBoxScript, NoRegisterRow, LateStretchRow};
 
 /// The script of the one-rule page gives its four commands.
 pub fn one_rule_script()

@@ -1,7 +1,7 @@
 //! The script: a text is read into lines that give commands.
 //!
-//! A text with a bad line is refused whole, with the number of its first bad line, from 1, and a cause that holds of it. A bad line is a mistake in writing;
-//! a command that a job refuses is another thing, and the other commands still run.
+//! A text with a bad line is refused whole, with the number of its first bad line, from 1, and a cause that holds of it. A bad line is a mistake in
+//! writing; a command that a job refuses is another thing, and the other commands still run.
 #![tactic(auto)]
 
 mod amounts;

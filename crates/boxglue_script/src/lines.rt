@@ -5,18 +5,19 @@ ghost use Rattle.std.specs.List.{list_all, prefix_len};
 ghost use Rattle.std.specs.Str.Lines.{lines, strip_carriage_return};
 ghost use Rattle.boxglue_script.specs.ScriptLines.{is_passed_over, is_printable, is_space};
 ghost use Rattle.boxglue_script.specs.SaidLines.{IsWhole};
-ghost use Rattle.boxglue_script.specs.Reading.{in_line, is_plain, in_field, front_field, after_field};
+ghost use Rattle.boxglue_script.specs.Private.Reading.{in_line, is_plain, in_field, front_field, after_field};
 
 use memchr::memchr;
 
-/// The first line of a text that is not empty, without its end, and the text after it. A line ends with a line feed, which the last one need not have.
-/// What follows begins right after that end.
+/// The first line of a text that is not empty, without its end, and the text after it. A line ends with a line feed, which the last one need not
+/// have. What follows begins right after that end.
 #[tactic(auto, using(crate::proofs::LineLemmas::splitting))]
 pub fn first_line(text: &[u8]) -> (&[u8], &[u8])
     requires { 0 < length text.now }
     ensures lines { lines text.now ≡ result.0.now ∷ lines result.1.now }
     ensures shorter { length result.1.now < length text.now }
-    ensures split { (front : List ℕ) × (text.now ≡ front ++ result.1.now) × (lines front ≡ result.0.now ∷ []) × (IsWhole front ⊎ (result.1.now ≡ [])) }
+    ensures split { (front : List ℕ) × (text.now ≡ front ++ result.1.now) × (lines front ≡ result.0.now ∷ [])
+        × (IsWhole front ⊎ (result.1.now ≡ [])) }
 {
     let (line, after) = text.split_at(line_size(text));
     match after {
@@ -33,8 +34,8 @@ fn line_size(text: &[u8]) -> usize
     memchr(b'\n', text).unwrap_or(text.len())
 }
 
-/// The line without the one carriage return at its end, if there is one. Only one directly before a line feed is part of the line's end; any other one
-/// is a byte that is not printable.
+/// The line without the one carriage return at its end, if there is one. Only one directly before a line feed is part of the line's end; any other
+/// one is a byte that is not printable.
 fn without_return(line: &[u8]) -> &[u8]
     ensures { result.now ≡ strip_carriage_return line.now }
 {
@@ -92,7 +93,7 @@ fn is_printable_byte(byte: u8) -> bool
 }
 
 /// The first field of a line, empty if there is none, and the rest after it.
-#[tactic(auto, unfolding(crate::specs::Reading::front_field, crate::specs::Reading::after_field))]
+#[tactic(auto, unfolding(crate::specs::Private::Reading::front_field, crate::specs::Private::Reading::after_field))]
 pub fn first_field(line: &[u8]) -> (&[u8], &[u8])
     ensures field { result.0.now ≡ front_field line.now }
     ensures text_left { result.1.now ≡ after_field line.now }

@@ -3,9 +3,9 @@
 //! Names are compared one by one: a `match` of byte strings tests each byte, which took 70 of the 267 seconds of the check.
 
 ghost use Rattle.std.specs.Prelude.{◌≡◌};
-ghost use Rattle.boxglue_script.specs.Names.{box_name, register_name, item_name, name_of};
+ghost use Rattle.boxglue_script.specs.Private.Names.{box_name, register_name, item_name, name_of};
 
-use job_commands::{BoxForm, Transfer};
+use job_machine::{BoxForm, Transfer};
 use node_core::Kind;
 
 /// The first word of a command.
@@ -37,7 +37,7 @@ pub enum Name {
 
 impl Name {
     /// The name that a word is; None if it is none.
-    #[tactic(auto, unfolding(crate::specs::Names::name_of))]
+    #[tactic(auto, unfolding(crate::specs::Private::Names::name_of))]
     pub fn of(word: &[u8]) -> Option<Name>
         ensures { result ≡ name_of word.now }
     {
@@ -52,7 +52,7 @@ impl Name {
 }
 
 /// The names of commands on lists and whole boxes.
-#[tactic(auto, unfolding(crate::specs::Names::box_name))]
+#[tactic(auto, unfolding(crate::specs::Private::Names::box_name))]
 fn box_name(word: &[u8]) -> Option<Name>
     ensures { result ≡ box_name word.now }
 {
@@ -84,7 +84,7 @@ fn box_name(word: &[u8]) -> Option<Name>
 }
 
 /// The names of commands that take the box of a register into a list, take the last box out of a list, or split a box.
-#[tactic(auto, unfolding(crate::specs::Names::register_name))]
+#[tactic(auto, unfolding(crate::specs::Private::Names::register_name))]
 fn register_name(word: &[u8]) -> Option<Name>
     ensures { result ≡ register_name word.now }
 {
@@ -116,7 +116,7 @@ fn register_name(word: &[u8]) -> Option<Name>
 }
 
 /// The names of commands on fonts, items, parameters and counts.
-#[tactic(auto, unfolding(crate::specs::Names::item_name))]
+#[tactic(auto, unfolding(crate::specs::Private::Names::item_name))]
 fn item_name(word: &[u8]) -> Option<Name>
     ensures { result ≡ item_name word.now }
 {

@@ -2,18 +2,18 @@
 
 ghost use Rattle.std.specs.Prelude.{◌≡◌, true, IfOk, OnErr, IsOk};
 ghost use Rattle.std.specs.List.{list_all};
-ghost use Rattle.job_commands.specs.declared.command.Command.{Command as ACommand};
+ghost use Rattle.job_machine.specs.declared.command.Command.{Command as ACommand};
 ghost use Rattle.boxglue_script.specs.declared.said.Said.{Said as ASaid};
 ghost use Rattle.boxglue_script.specs.ScriptLines.{is_printable};
 ghost use Rattle.boxglue_script.specs.Causes.{IsPrintable};
 ghost use Rattle.boxglue_script.specs.Script.{SaysLine};
 ghost use Rattle.boxglue_script.specs.SaidLines.{Says};
-ghost use Rattle.boxglue_script.specs.Reading.{line_of};
+ghost use Rattle.boxglue_script.specs.Private.Reading.{line_of};
 
 use crate::cause::Cause;
 use crate::fields::Fields;
 use crate::lines::{first_field, is_passed_over, is_printable, text_after};
-use job_commands::{Characters, Command};
+use job_machine::{Characters, Command};
 use std::alloc::{AllocError, Global};
 
 /// What a line of an input says.
@@ -60,10 +60,10 @@ fn has_printable_bytes(line: &[u8], plain: bool) -> bool
     plain || is_printable(line)
 }
 
-/// The command of a line, or the cause why it has none. Byte comes first, since a line with a byte that is not printable is not cut into fields. A text
-/// may have any length here: how long a special may be is a limit of the job, so the other commands run. The error is a refused growth, only where the line
-/// gives a command.
-#[tactic(auto, unfolding(crate::specs::Reading::line_of, crate::specs::Reading::given))]
+/// The command of a line, or the cause why it has none. Byte comes first, since a line with a byte that is not printable is not cut into fields. A
+/// text may have any length here: how long a special may be is a limit of the job, so the other commands run. The error is a refused growth, only
+/// where the line gives a command.
+#[tactic(auto, unfolding(crate::specs::Private::Reading::line_of, crate::specs::Private::Reading::given))]
 fn command_of(alloc: Global, line: &[u8], plain: bool) -> Result<Result<Command, Cause>, AllocError>
     requires { plain ≡ true → IsPrintable line.now }
     ensures read { IfOk result (λ read. read ≡ line_of line.now) }

@@ -5,14 +5,14 @@ ghost use Rattle.std.specs.Str.Lines.{lines};
 ghost use Rattle.boxglue_script.specs.Blocks.{lines_of};
 ghost use Rattle.boxglue_script.specs.Causes.{IsPrintable};
 ghost use Rattle.boxglue_script.specs.Script.{IsScript, Explains, IsOneFault, IsRightSoFar};
-ghost use Rattle.boxglue_script.specs.Reading.{GivesCommand, ReadsOn, StopsAtLine, reads};
+ghost use Rattle.boxglue_script.specs.Private.Reading.{GivesCommand, ReadsOn, StopsAtLine, reads};
 ghost use Rattle.boxglue_script.specs.declared.script.ScriptFault.TheVariants.{OutOfMemory};
 
 use crate::blocks::{BLOCK_SIZE, LineBlocks};
 use crate::cause::Cause;
 use crate::lines::{first_line, is_plain};
 use crate::said::{Said, read_line_of};
-use job_commands::Command;
+use job_machine::Command;
 use std::alloc::{AllocError, AllocFailed, Global};
 use thiserror::Error;
 
@@ -49,11 +49,11 @@ impl<T: Drop> From<AllocFailed<T>> for ScriptFault {
     }
 }
 
-/// Reads the text of a script into its commands, each with the number of its line. A line feed ends a line, and one carriage return directly before it belongs
-/// to this end. A line that is empty or begins with `%` gives no command, but is counted.
+/// Reads the text of a script into its commands, each with the number of its line. A line feed ends a line, and one carriage return directly before
+/// it belongs to this end. A line that is empty or begins with `%` gives no command, but is counted.
 ///
-/// Errors: BadScript with the first line that should give a command and does not, and the cause; OutOfMemory for a refused growth at a line that gives a
-/// command, so that it hides no bad line up to there.
+/// Errors: BadScript with the first line that should give a command and does not, and the cause; OutOfMemory for a refused growth at a line that
+/// gives a command, so that it hides no bad line up to there.
 #[tactic(auto, using(crate::proofs::ScriptLaws::reading))]
 pub fn read_script(alloc: Global, text: &[u8]) -> Result<Vec<Line>, ScriptFault>
     ensures lines { IfOk result (λ found. IsScript text.now found.items) }

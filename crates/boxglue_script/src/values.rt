@@ -5,10 +5,11 @@ ghost use Rattle.std.specs.Int.{w64};
 ghost use Rattle.std.specs.List.{list_all};
 ghost use Rattle.tfm_core.specs.NamedBytes.{IsFontName};
 ghost use Rattle.boxglue_script.specs.Grammar.{register_count, slot_count, count_count, first_lines_count, IsInteger, is_name_byte};
-ghost use Rattle.boxglue_script.specs.Reading.{number_among, number_of, count_value, count_of, size_of_font, is_short, is_name, size_of, penalty_of};
+ghost use Rattle.boxglue_script.specs.Private.Reading.{number_among, number_of, count_value, count_of, size_of_font, is_short, is_name, size_of};
+ghost use Rattle.boxglue_script.specs.Private.Reading.{penalty_of};
 
 use crate::cause::Cause;
-use job_commands::{CountNumber, FontSize, Register};
+use job_machine::{CountNumber, FontSize, Register};
 use node_core::{FirstLines, IntParameter, RuleSize};
 use scaled_core::{Dimen, parse_dimen};
 
@@ -51,7 +52,7 @@ pub(crate) fn size_of_font(dimen: Dimen) -> Option<FontSize>
 }
 
 /// The size of a rule that a field gives: `*` for a running one, or a dimension.
-#[tactic(auto, unfolding(crate::specs::Reading::size_of))]
+#[tactic(auto, unfolding(crate::specs::Private::Reading::size_of))]
 pub(crate) fn size_of(field: &[u8]) -> Result<RuleSize, Cause>
     ensures { result ≡ size_of field.now }
 {

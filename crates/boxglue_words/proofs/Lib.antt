@@ -1,3 +1,5 @@
 pub mod PairLemmas
 pub mod TaskLemmas
 pub mod VersionLemmas
+pub mod HostLemmas
+pub mod Walks

@@ -10,7 +10,7 @@ use Rattle.clap.specs.Walk.{Text}
 use Rattle.boxglue_words.specs.declared.fonts.NamedPath.{NamedPath}
 use Rattle.boxglue_words.specs.declared.fonts.WordFault.{WordFault}
 use Rattle.boxglue_words.specs.declared.fonts.WordFault.TheVariants.{Line, Memory, NotPair, NameTwice}
-use Rattle.boxglue_words.specs.Steps.{IsFaultAfter}
+use Rattle.boxglue_words.specs.Private.Steps.{IsFaultAfter}
 use Rattle.boxglue_words.specs.Pairs.{ArePairs, AreFonts, IsFaulty, IsPair, is_equals, name_of, path_part}
 
 -- If no byte of a word is `=`, none passes the test.

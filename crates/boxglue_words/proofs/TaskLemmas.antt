@@ -1,7 +1,6 @@
 -- The tasks that command lines ask for.
 use Rattle.std.proofs.Common.{◌≡◌, ◌==◌, ◌∙◌, ◌<◌, ◌≤◌, ◌^◌, [], ◌∷◌, List, ℕ, true, false, Option, Some, None, Result, Ok, Err, IfErr, refl, sym, ap, ap₂, subst, inl, inr, arith, codes, get_or}
-use Rattle.std.specs.Prelude.{option_map, is_some, unwrap_or}
-use Rattle.std.specs.Prelude.{Box}
+use Rattle.std.specs.Prelude.{option_map, is_some, unwrap_or, Box}
 use Rattle.std.specs.Box.{box_value}
 use Rattle.std.specs.Str.Parse.{IsNumeral, digits_value, without_leading_plus}
 use Rattle.clap.specs.Matches.{has_subcommand, matched_of, one_text, raw_values, subcommand_name_of}
@@ -26,7 +25,7 @@ use Rattle.raster_core.specs.Sheets.{Sheet}
 use Rattle.boxglue_words.specs.declared.task.Task.{Task}
 use Rattle.boxglue_words.specs.declared.task.Task.TheVariants.{Version}
 use Rattle.boxglue_words.proofs.VersionLemmas.{alone_fault, has_version, only_version}
-use Rattle.boxglue_words.specs.Steps.{IsFileFault, IsLine}
+use Rattle.boxglue_words.specs.Private.Steps.{IsFileFault, IsLine}
 use Rattle.boxglue_words.specs.Tasks.{Asks, AsksBy, IsNumber, IsRefused, IsRefusedBy, IsRequest, IsSheet, IsTask, IsTaskOf, Request, fonts_of, font_words, holds_session, lists, names_fonts, nothing, paints, typesets, version}
 
 -- A faulty word NAME=TFM of a subcommand whose file is given.

@@ -39,7 +39,8 @@ abbrev pub paint : App
 paint =
     with_rule (with_rule
     (with_rule (with_rule (with_rule (with_rule (new_app (codes "paint"))
-    (number_rule (codes "page") 4294967295)) (number_rule (codes "dpi") 10000)) (number_rule (codes "width") 10000)) (number_rule (codes "height") 10000))
+    (number_rule (codes "page") 4294967295)) (number_rule (codes "dpi") 10000)) (number_rule (codes "width") 10000))
+    (number_rule (codes "height") 10000))
     (path_rule (codes "DVI"))) fonts_rule
 
 -- The program without a subcommand. It has a version, and the words begin after its name.
@@ -51,4 +52,5 @@ alone =
 -- The program with these five as subcommands.
 abbrev pub boxglue : App
 boxglue =
-    with_subcommand (with_subcommand (with_subcommand (with_subcommand (with_subcommand alone typeset.top) session.top) lists.top) names_fonts.top) paint.top
+    with_subcommand (with_subcommand (with_subcommand (with_subcommand (with_subcommand alone typeset.top) session.top) lists.top)
+    names_fonts.top) paint.top

@@ -1,4 +1,7 @@
 pub mod CommandLine
 pub mod Pairs
 pub mod Tasks
-pub mod Steps
+pub mod Readings
+pub mod Hosts
+pub mod HostInMemory
+pub mod Private

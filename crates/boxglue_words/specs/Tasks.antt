@@ -93,7 +93,8 @@ IsTaskOf _ _ = ⊥
 abbrev pub IsTask : List Text → Task → Type 0
 IsTask words task = (request : Request) × IsRequest words request × IsTaskOf request task
 
--- Why the request of a subcommand is refused: there is no such request; or its words NAME=TFM are refused, for the first faulty one; or out of memory.
+-- Why the request of a subcommand is refused: there is no such request; or its words NAME=TFM are refused, for the first faulty one; or out of
+-- memory.
 abbrev pub IsRefusedBy : (Request → Type 0) → WordFault → Type 0
 IsRefusedBy asked WantsMemory = ⊤
 IsRefusedBy asked (Line text) = (request : Request) → asked request → ⊥

@@ -5,7 +5,7 @@ ghost use Rattle.std.specs.List.{list_any};
 ghost use Rattle.std.specs.Str.{bytes_eq};
 ghost use Rattle.clap.specs.Words.{Text};
 ghost use Rattle.boxglue_words.specs.Pairs.{AreFonts, IsFaulty, IsPair, name_of, path_part};
-ghost use Rattle.boxglue_words.specs.Steps.{IsFaultAfter};
+ghost use Rattle.boxglue_words.specs.Private.Steps.{IsFaultAfter};
 
 use crate::fonts::{NamedPath, WordFault};
 use std::alloc::Global;
@@ -20,7 +20,8 @@ struct PairParts<'a> {
 
 /// The name and the path of a word. NotPair if it has no `=`, or a name of no byte or over 255 bytes; Memory if a growth was refused.
 fn cut_word<'a>(alloc: Global, word: &'a str) -> Result<PairParts<'a>, WordFault<'a>>
-    ensures ok { IfOk result (λ parts. IsPair word.entry.now × (parts.name.now ≡ name_of word.entry.now) × (parts.font.name ≡ name_of word.entry.now) × (parts.font.path.now ≡ path_part word.entry.now)) }
+    ensures ok { IfOk result (λ parts. IsPair word.entry.now × (parts.name.now ≡ name_of word.entry.now) × (parts.font.name ≡ name_of word.entry.now)
+        × (parts.font.path.now ≡ path_part word.entry.now)) }
     ensures err { IfErr result (IsFaultAfter [] word.entry.now) }
 {
     let Some((name, path)) = word.split_once('=') else {
@@ -64,8 +65,8 @@ fn push_pair<'a>(
 
 /// The fonts of words NAME=TFM, each cut at its first `=`. The names have 1 to 255 bytes and differ.
 ///
-/// Errors: NotPair and NameTwice name the first faulty word from the left; Memory is a refused growth, which a word without `=` never meets. Each name is
-/// compared with all before it, so the time grows with the square of the number of words.
+/// Errors: NotPair and NameTwice name the first faulty word from the left; Memory is a refused growth, which a word without `=` never meets. Each
+/// name is compared with all before it, so the time grows with the square of the number of words.
 pub fn read_pairs<'a>(alloc: Global, words: &[&'a str]) -> Result<Vec<NamedPath<'a>>, WordFault<'a>>
     ensures ok { IfOk result (λ fonts. AreFonts (map (λ word. word.now) words.now) fonts.items) }
     ensures err { IfErr result (IsFaulty (map (λ word. word.now) words.now)) }

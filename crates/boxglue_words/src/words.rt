@@ -5,7 +5,7 @@ ghost use Rattle.clap.specs.Words.{first_of, found_of, kind_of, rows_of, subcomm
 ghost use Rattle.clap.specs.declared.error.kind.ErrorKind.TheVariants.{DisplayVersion, OutOfMemory};
 ghost use Rattle.raster_core.specs.Sheets.{Sheet};
 ghost use Rattle.boxglue_words.specs.Pairs.{AreFonts, IsFaulty};
-ghost use Rattle.boxglue_words.specs.Steps.{IsFileFault, IsLine, IsTaskBy};
+ghost use Rattle.boxglue_words.specs.Private.Steps.{IsFileFault, IsLine, IsTaskBy};
 ghost use Rattle.boxglue_words.specs.Tasks.{Asks, AsksBy, IsNumber, IsRefused, IsRefusedBy, IsSheet, IsTask, IsTaskOf, Request, font_words};
 
 use crate::command::command_line;
@@ -208,8 +208,8 @@ fn read_error<'a>(alloc: Global, error: &Error) -> Result<Task<'a>, WordFault<'a
 
 /// Reads a command line, and returns its task with the fonts of its words NAME=TFM.
 ///
-/// Errors: Line if the words are no command line, with the text for the user, which may be help; NotPair and NameTwice with the first faulty word NAME=TFM;
-/// Memory if a growth was refused.
+/// Errors: Line if the words are no command line, with the text for the user, which may be help; NotPair and NameTwice with the first faulty word
+/// NAME=TFM; Memory if a growth was refused.
 pub fn read_words<'a>(alloc: Global, words: &'a [String]) -> Result<Task<'a>, WordFault<'a>>
     ensures ok { IfOk result (IsTask (map string_bytes words.now)) }
     ensures err { IfErr result (IsRefused (map string_bytes words.now)) }

@@ -5,16 +5,16 @@ use Rattle.std.proofs.Math.Logic.{◌⊎◌, inl, inr}
 use Rattle.std.proofs.lemmas.Bool.{cases_Bool, cases_lt}
 use Rattle.std.proofs.lemmas.Option.{slice_get_within, get_or_from_slice_get}
 use Rattle.std.proofs.lemmas.List.{append-nil}
-use Rattle.break_table.specs.declared.group.ActiveGroup.{ActiveGroup}
-use Rattle.break_table.specs.Problems.{Problem}
-use Rattle.break_table.specs.Tables.{Entry, first_entry, slots, offer, IsTable, IsOffered, IsMet, IsRow, row_entries}
-use Rattle.break_table.specs.Live.{IsGroup, IsLive}
-use Rattle.break_table.proofs.Entries.{get_cases}
-use Rattle.break_table.proofs.Rows.{row_empty}
-use Rattle.break_table.proofs.Since.{since_free}
-use Rattle.break_table.proofs.Bellman.{first_table, next_table}
-use Rattle.break_table.proofs.Live.{live_forced, new_group, first_live}
-use Rattle.break_core.specs.Active.{with_group, IsQuiet, IsNext, IsActive, IsFilled}
+use Rattle.break_lines.specs.declared.group.ActiveGroup.{ActiveGroup}
+use Rattle.break_lines.specs.Problems.{Problem}
+use Rattle.break_lines.specs.Tables.{Entry, first_entry, slots, offer, IsTable, IsOffered, IsMet, IsRow, row_entries}
+use Rattle.break_lines.specs.Private.Live.{IsGroup, IsLive}
+use Rattle.break_lines.proofs.Entries.{get_cases}
+use Rattle.break_lines.proofs.Rows.{row_empty}
+use Rattle.break_lines.proofs.Since.{since_free}
+use Rattle.break_lines.proofs.Bellman.{first_table, next_table}
+use Rattle.break_lines.proofs.Live.{live_forced, new_group, first_live}
+use Rattle.break_core.specs.Private.Active.{with_group, IsQuiet, IsNext, IsActive, IsFilled}
 
 -- The next group, and those after it.
 pub next_active :

@@ -5,17 +5,17 @@ use Rattle.std.proofs.Math.Logic.{◌⊎◌, inl, inr}
 use Rattle.std.proofs.lemmas.Bool.{cases_Bool, cond-false}
 use Rattle.std.proofs.lemmas.Option.{same_Some}
 use Rattle.node_core.specs.declared.params.Params.{Params}
-use Rattle.break_table.specs.declared.group.ActiveGroup.{ActiveGroup}
-use Rattle.break_table.specs.declared.state.Fitness.{Fitness}
-use Rattle.break_table.specs.declared.state.LineCost.{LineCost}
-use Rattle.break_table.specs.declared.state.BreakState.{BreakState}
-use Rattle.break_table.specs.Orders.{NotAfter}
-use Rattle.break_table.specs.Problems.{Problem}
-use Rattle.break_table.specs.Ways.{since}
-use Rattle.break_table.specs.Tables.{Entry, extended, compared_numbers, offer, IsOffered, IsRow, IsKept, IsPut}
-use Rattle.break_table.proofs.Dictionary.{state_same, not_after_refl, not_after_trans}
-use Rattle.break_table.proofs.Reached.{offer_is}
-use Rattle.break_table.proofs.Rows.{row_best}
+use Rattle.break_lines.specs.declared.group.ActiveGroup.{ActiveGroup}
+use Rattle.break_lines.specs.declared.state.Fitness.{Fitness}
+use Rattle.break_lines.specs.declared.state.LineCost.{LineCost}
+use Rattle.break_lines.specs.declared.state.BreakState.{BreakState}
+use Rattle.break_lines.specs.Orders.{NotAfter}
+use Rattle.break_lines.specs.Problems.{Problem}
+use Rattle.break_lines.specs.Ways.{since}
+use Rattle.break_lines.specs.Tables.{Entry, extended, compared_numbers, offer, IsOffered, IsRow, IsKept, IsPut}
+use Rattle.break_lines.proofs.Dictionary.{state_same, not_after_refl, not_after_trans}
+use Rattle.break_lines.proofs.Reached.{offer_is}
+use Rattle.break_lines.proofs.Rows.{row_best}
 use Rattle.break_lines.specs.declared.sums.Sums.{Sums}
 use Rattle.break_lines.specs.declared.cost.LineFit.{LineFit}
 use Rattle.break_lines.specs.declared.cost.Bound.{Bound}
@@ -23,7 +23,7 @@ use Rattle.break_lines.specs.Costs.{line_fit, line_of, line_alone, line_after, a
 use Rattle.break_lines.specs.Sizes.{line_fits, fit_after}
 use Rattle.break_lines.proofs.Parts.{parts}
 use Rattle.break_lines.proofs.Widths.{both_overfull, greatest_none}
-use Rattle.break_core.specs.Filling.{IsOf, IsOfferingUnless, offer_from, IsBestOffer, IsOfferingBest}
+use Rattle.break_core.specs.Private.Filling.{IsOf, IsOfferingUnless, offer_from, IsBestOffer, IsOfferingBest}
 use Rattle.break_core.proofs.Active.{row_passed}
 use Rattle.break_core.proofs.Overfull.{no_offer}
 

@@ -4,20 +4,20 @@ use Rattle.std.specs.Prelude.{OnErr}
 use Rattle.std.proofs.Math.Logic.{inl, inr}
 use Rattle.std.proofs.Math.Bool.{or-true}
 use Rattle.node_core.specs.declared.params.Params.{Params}
-use Rattle.break_table.specs.Tables.{max_places}
+use Rattle.break_lines.specs.Problems.{max_places}
 use Rattle.break_core.specs.declared.broken.Pass.{Pass}
 use Rattle.break_core.specs.declared.broken.Pass.TheVariants.{First, Second, Third}
 use Rattle.break_lines.specs.Legal.{is_forced}
 use Rattle.break_lines.specs.Facts.{Facts}
 use Rattle.break_lines.specs.Steady.{IsSteady}
-use Rattle.break_table.specs.Chosen.{AdmitsNone}
+use Rattle.break_lines.specs.Chosen.{AdmitsNone}
 use Rattle.break_core.specs.Passes.{problem_of, bound_of}
-use Rattle.break_core.specs.Filling.{IsGrown}
+use Rattle.break_core.specs.Private.Filling.{IsGrown}
 use Rattle.break_core.specs.declared.pass_rules.StopRule.{StopRule}
 use Rattle.break_core.specs.declared.pass_rules.StopRule.TheVariants.{Overfull}
-use Rattle.break_core.specs.Leaving.{is_long}
+use Rattle.break_core.specs.Private.Leaving.{is_long}
 use Rattle.break_core.specs.Trials.{is_overfull, is_bounded, passes_run, places_up_to, AreBounded, AreBoundedByPasses, HasNoTrials}
-use Rattle.break_core.specs.Active.{deactivates, stops, IsCounted, IsWithin, AreAdded, AreAddedByPasses}
+use Rattle.break_core.specs.Private.Active.{deactivates, stops, IsCounted, IsWithin, AreAdded, AreAddedByPasses}
 use Rattle.break_core.proofs.Admitting.{before_first, before_second, before_third}
 
 -- The counted trials are within the bound of the definition of stops.

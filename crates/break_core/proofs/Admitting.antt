@@ -5,15 +5,15 @@ use Rattle.std.proofs.lemmas.Int.{ints}
 use Rattle.std.proofs.lemmas.Option.{same_Some, slice_get_within, slice_get-get_or, get_or_from_slice_get, MatchOption-at_none, MatchOption-at_some}
 use Rattle.std.proofs.lemmas.List.{get_or-reverse, length-reverse}
 use Rattle.node_core.specs.declared.params.Params.{Params}
-use Rattle.break_table.specs.declared.state.Fitness.{Fitness}
-use Rattle.break_table.specs.declared.state.BreakState.{BreakState}
-use Rattle.break_table.specs.declared.state.LineCost.{LineCost}
-use Rattle.break_table.specs.declared.answer.ChosenBreaks.{ChosenBreaks}
-use Rattle.break_table.specs.Problems.{Problem, Path, first_path, with_line, ends_of, places_of}
-use Rattle.break_table.specs.Chosen.{top, IsFalling, AdmitsNone, IsAnswer}
-use Rattle.break_table.specs.Ways.{Way, starts, goes}
-use Rattle.break_table.proofs.Since.{since_below}
-use Rattle.break_table.proofs.Lists.{way_of_break_list, break_list_of_way}
+use Rattle.break_lines.specs.declared.state.Fitness.{Fitness}
+use Rattle.break_lines.specs.declared.state.BreakState.{BreakState}
+use Rattle.break_lines.specs.declared.state.LineCost.{LineCost}
+use Rattle.break_lines.specs.declared.answer.ChosenBreaks.{ChosenBreaks}
+use Rattle.break_lines.specs.Problems.{Problem, Path, first_path, with_line, ends_of, places_of}
+use Rattle.break_lines.specs.Chosen.{top, IsFalling, AdmitsNone, IsAnswer}
+use Rattle.break_lines.specs.Ways.{Way, starts, goes}
+use Rattle.break_lines.proofs.Since.{since_below}
+use Rattle.break_lines.proofs.Lists.{way_of_break_list, break_list_of_way}
 use Rattle.break_lines.specs.declared.cost.LineFit.{LineFit}
 use Rattle.break_lines.specs.declared.cost.Bound.{Bound}
 use Rattle.break_lines.specs.declared.cost.Bound.TheVariants.{Any, AtMost}
@@ -23,10 +23,10 @@ use Rattle.break_core.specs.declared.broken.Pass.{Pass}
 use Rattle.break_core.specs.declared.broken.Pass.TheVariants.{First, Second, Third}
 use Rattle.break_lines.specs.Facts.{Facts}
 use Rattle.break_core.specs.Passes.{problem_of, bound_of, IsBefore}
-use Rattle.break_core.specs.Filling.{AreEndsInParagraph}
+use Rattle.break_core.specs.Private.Filling.{AreEndsInParagraph}
 use Rattle.break_core.specs.declared.pass_rules.StopRule.{StopRule}
 use Rattle.break_core.specs.declared.pass_rules.StopRule.TheVariants.{Never, Overfull, Long}
-use Rattle.break_core.specs.Active.{pruned, MayEnd}
+use Rattle.break_core.specs.Private.Active.{pruned, MayEnd}
 use Rattle.break_core.proofs.Detours.{answer_without, none_without}
 
 -- A bound below 0 admits no line.

@@ -6,19 +6,19 @@ use Rattle.std.proofs.lemmas.Int.{ints}
 use Rattle.std.proofs.lemmas.Bool.{cases_Bool, cases_lt, cond-true, cond-false}
 use Rattle.std.proofs.lemmas.Option.{same_Some, slice_get_within}
 use Rattle.node_core.specs.declared.params.Params.{Params}
-use Rattle.break_table.specs.declared.group.ActiveGroup.{ActiveGroup}
-use Rattle.break_table.specs.declared.state.Fitness.{Fitness}
-use Rattle.break_table.specs.declared.state.LineCost.{LineCost}
-use Rattle.break_table.specs.Orders.{NotAfter}
-use Rattle.break_table.specs.Problems.{rank}
-use Rattle.break_table.specs.Tables.{Entry, compared_numbers, slot, AreBelow, IsOffered, IsHeld, IsMet}
-use Rattle.break_table.proofs.Dictionary.{not_after_refl, not_after_trans}
-use Rattle.break_table.proofs.Entries.{get_left}
-use Rattle.break_table.proofs.Rows.{slot_apart, offered_at}
+use Rattle.break_lines.specs.declared.group.ActiveGroup.{ActiveGroup}
+use Rattle.break_lines.specs.declared.state.Fitness.{Fitness}
+use Rattle.break_lines.specs.declared.state.LineCost.{LineCost}
+use Rattle.break_lines.specs.Orders.{NotAfter}
+use Rattle.break_lines.specs.Problems.{rank}
+use Rattle.break_lines.specs.Tables.{Entry, compared_numbers, slot, AreBelow, IsOffered, IsHeld, IsMet}
+use Rattle.break_lines.proofs.Dictionary.{not_after_refl, not_after_trans}
+use Rattle.break_lines.proofs.Entries.{get_left}
+use Rattle.break_lines.proofs.Rows.{slot_apart, offered_at}
 use Rattle.break_lines.specs.Costs.{line_after, adjacent_demerits, is_apart}
 use Rattle.break_core.specs.declared.active_list.Live.{Live}
-use Rattle.break_core.specs.Active.{IsBestOf, HaveBest}
-use Rattle.break_core.specs.Filling.{IsOf, IsBeaten, IsOfferingBest, offer_from}
+use Rattle.break_core.specs.Private.Active.{IsBestOf, HaveBest}
+use Rattle.break_core.specs.Private.Filling.{IsOf, IsLeastLine, IsBeaten, IsOfferingBest, offer_from}
 use Rattle.break_core.proofs.Active.{shorter}
 use Rattle.break_core.proofs.ActiveNodes.{offers}
 
@@ -110,10 +110,10 @@ below_after h b e o line (inr less) (inr (same, inr rest)) overhang demerits =
 
 -- If the offer that is held for their state is better, the offers of a group change nothing.
 pub beaten_offered :
-    (table : List Entry) (params : Params) (group : ActiveGroup) (place : ℕ) (alone : LineCost) (k : ℕ) (b : Entry) (held : Option Entry) (row : List (Option Entry))
-    → IsOf 0 table group → IsBestOf table group.start group.end k → slice_get table k ≡ Some b → slice_get row (rank alone.class) ≡ Some held
-    → IsBeaten held b params alone → IsOfferingBest table params group place alone row row
-beaten_offered table params group place alone k b held row of best stands_b stands is p cut late follow before =
+    (table : List Entry) (params : Params) (group : ActiveGroup) (place : ℕ) (alone least : LineCost) (k : ℕ) (b : Entry) (held : Option Entry) (row : List (Option Entry))
+    → IsLeastLine params alone least → IsOf 0 table group → IsBestOf table group.start group.end k → slice_get table k ≡ Some b → slice_get row (rank alone.class) ≡ Some held
+    → IsBeaten held b least → IsOfferingBest table params group place alone row row
+beaten_offered table params group place alone fewest k b held row few of best stands_b stands is p cut late follow before =
     record {
       wide = before.wide;
       held = λ s o at. longer s o (before.held s o at);
@@ -139,15 +139,15 @@ beaten_offered table params group place alone k b held row of best stands_b stan
         let one : b ≡ best.entry = same_Some b best.entry (sym stands_b ∙ best.stands) in
         let least : NotAfter (compared_numbers b) (compared_numbers e) =
         subst (λ x. NotAfter (compared_numbers x) (compared_numbers e)) (sym one) (best.best j e low high offered.stands) in
-        let overhang : o.overhang ≡ e.overhang +ℤ is.line.overhang =
-        ap (λ x. x.overhang) (sym made) ∙ ap (λ x. e.overhang +ℤ x) (sym is.overhang) in
+        let overhang : o.overhang ≡ e.overhang +ℤ fewest.overhang =
+        ap (λ x. x.overhang) (sym made) ∙ ap (λ x. e.overhang +ℤ x) (sym few.overhang) in
         let demerits : o.demerits ≡ e.demerits +ℤ (line_after params e.end.class alone).demerits = ap (λ x. x.demerits) (sym made) in
-        let more : (e.demerits +ℤ is.line.demerits) ≤ℤ o.demerits = more_demerits e.demerits is.line.demerits (line_after params e.end.class alone).demerits o.demerits demerits (is.demerits e.end.class) in
+        let more : (e.demerits +ℤ fewest.demerits) ≤ℤ o.demerits = more_demerits e.demerits fewest.demerits (line_after params e.end.class alone).demerits o.demerits demerits (few.demerits e.end.class) in
         record {
           held = is.entry;
           stands = ap (slice_get row) here ∙ there;
           same = same;
-          before = below_after is.entry b e o is.line is.below least overhang more;
+          before = below_after is.entry b e o fewest is.below least overhang more;
         }
       where
         more_demerits : (d n m o : ℤ) → o ≡ d +ℤ m → n ≤ℤ m → (d +ℤ n) ≤ℤ o
@@ -156,3 +156,10 @@ beaten_offered table params group place alone k b held row of best stands_b stan
     met : (j : ℕ) (o : Entry) → j < group.end → IsOffered p table place j o → (j < group.start) ⊎ (group.start ≤ j) → IsMet row o
     met j o high offered (inl low) = before.met j o low offered
     met j o high offered (inr low) = after j o low high offered
+
+-- An offering by a line that is known by its parts.
+pub offered_by :
+    (table : List Entry) (params : Params) (group : ActiveGroup) (old new : List (Option Entry)) {place there : ℕ} {alone line : LineCost}
+    → there ≡ place → line ≡ alone → IsOfferingBest table params group there line old new → IsOfferingBest table params group place alone old new
+offered_by table params group old new {place} {there} {alone} {line} at is row =
+    subst (λ a. IsOfferingBest table params group place a old new) is (subst (λ n. IsOfferingBest table params group n line old new) at row)

@@ -2,10 +2,10 @@
 use Rattle.std.proofs.Common.{◌≡◌, ◌≢◌, ◌∙◌, ℕ, zero, suc, ◌+◌, ◌-◌, ◌<◌, ◌≤◌, Bool, true, List, [], ◌∷◌, Some, refl, ap, sym, subst, arith}
 use Rattle.std.specs.Prelude.{slice_get}
 use Rattle.std.proofs.lemmas.Option.{same_Some}
-use Rattle.break_table.specs.declared.group.ActiveGroup.{ActiveGroup}
+use Rattle.break_lines.specs.declared.group.ActiveGroup.{ActiveGroup}
 use Rattle.std.proofs.Math.Logic.{◌⊎◌, inl, inr}
 use Rattle.std.proofs.lemmas.Bool.{cases_lt, cases_eq}
-use Rattle.break_core.specs.Active.{IsTrying, IsSwept, IsCounted, TrialsOnlyGrow, WasTried}
+use Rattle.break_core.specs.Private.Active.{IsTrying, IsSwept, IsCounted, TrialsOnlyGrow, WasTried}
 
 -- A line was tried from one more place, which is after the others.
 pub swept_more :

@@ -6,14 +6,14 @@ use Rattle.std.proofs.lemmas.Int.{ints}
 use Rattle.std.proofs.lemmas.Bool.{cases_Bool, cond-true, cond-false}
 use Rattle.std.proofs.lemmas.Option.{same_Some}
 use Rattle.node_core.specs.declared.params.Params.{Params}
-use Rattle.break_table.specs.declared.answer.ChosenBreaks.{ChosenBreaks}
-use Rattle.break_table.specs.declared.state.Fitness.{Fitness}
-use Rattle.break_table.specs.declared.state.BreakState.{BreakState}
-use Rattle.break_table.specs.declared.state.LineCost.{LineCost}
-use Rattle.break_table.specs.Problems.{end_after}
-use Rattle.break_table.specs.Chosen.{IsAnswer, AdmitsNone}
-use Rattle.break_table.specs.Parts.{IsNoWorse, IsOrder, HasDetours}
-use Rattle.break_table.proofs.Parts.{answer_of_part, none_of_part}
+use Rattle.break_lines.specs.declared.answer.ChosenBreaks.{ChosenBreaks}
+use Rattle.break_lines.specs.declared.state.Fitness.{Fitness}
+use Rattle.break_lines.specs.declared.state.BreakState.{BreakState}
+use Rattle.break_lines.specs.declared.state.LineCost.{LineCost}
+use Rattle.break_lines.specs.Problems.{end_after}
+use Rattle.break_lines.specs.Chosen.{IsAnswer, AdmitsNone}
+use Rattle.break_lines.specs.Private.Parts.{IsNoWorse, IsOrder, HasDetours}
+use Rattle.break_lines.proofs.TableParts.{answer_of_part, none_of_part}
 use Rattle.break_lines.specs.declared.cost.LineFit.{LineFit}
 use Rattle.break_lines.specs.declared.cost.Bound.TheVariants.{Any}
 use Rattle.break_lines.specs.Costs.{line_fit, admits, line_of, demerits_of}
@@ -24,7 +24,7 @@ use Rattle.break_lines.specs.Facts.{Facts}
 use Rattle.break_lines.specs.Divided.{IsDivided}
 use Rattle.break_core.specs.Passes.{problem_of}
 use Rattle.break_core.specs.Trials.{is_overfull}
-use Rattle.break_core.specs.Leaving.{first_over, is_long, without_long, IsWidening, MayLeave}
+use Rattle.break_core.specs.Private.Leaving.{first_over, is_long, without_long, IsWidening, MayLeave}
 use Rattle.break_core.proofs.Overfull.{both_true, overfull_stays}
 
 -- The line in a pass that admits every line.

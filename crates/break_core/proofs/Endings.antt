@@ -3,10 +3,10 @@ use Rattle.std.proofs.Common.{◌≡◌, ◌∙◌, ℕ, ◌+◌, ◌<◌, ◌�
 use Rattle.std.specs.Prelude.{ℤ}
 use Rattle.std.proofs.lemmas.Bool.{cond-true, cond-false}
 use Rattle.node_core.specs.declared.params.Params.{Params}
-use Rattle.break_table.specs.declared.group.ActiveGroup.{ActiveGroup}
-use Rattle.break_table.specs.declared.state.BreakState.{BreakState}
-use Rattle.break_table.specs.Tables.{Entry}
-use Rattle.break_table.specs.Live.{IsGroup}
+use Rattle.break_lines.specs.declared.group.ActiveGroup.{ActiveGroup}
+use Rattle.break_lines.specs.declared.state.BreakState.{BreakState}
+use Rattle.break_lines.specs.Tables.{Entry}
+use Rattle.break_lines.specs.Private.Live.{IsGroup}
 use Rattle.break_lines.specs.declared.sums.Sums.{Sums}
 use Rattle.break_lines.specs.declared.cost.Bound.{Bound}
 use Rattle.break_lines.specs.declared.sizes.LineFits.{LineFits}
@@ -18,10 +18,10 @@ use Rattle.break_lines.specs.Steady.{IsSteady}
 use Rattle.break_core.specs.declared.pass_rules.StopRule.{StopRule}
 use Rattle.break_core.specs.declared.pass_rules.StopRule.TheVariants.{Never, Overfull, Long}
 use Rattle.break_core.specs.Passes.{problem_of}
-use Rattle.break_core.specs.Filling.{IsOf, IsOffering, IsOfferingUnless}
+use Rattle.break_core.specs.Private.Filling.{IsOf, IsOffering, IsOfferingUnless}
 use Rattle.break_core.specs.Trials.{is_overfull}
-use Rattle.break_core.specs.Leaving.{is_long, over_before, is_more, kept_over}
-use Rattle.break_core.specs.Active.{deactivates, leaves, stops, pruned, MayEnd, IsQuiet}
+use Rattle.break_core.specs.Private.Leaving.{is_long, over_before, is_more, kept_over}
+use Rattle.break_core.specs.Private.Active.{deactivates, leaves, stops, pruned, MayEnd, IsQuiet}
 use Rattle.break_core.proofs.Active.{row_passed}
 use Rattle.break_core.proofs.Filled.{fit_is}
 use Rattle.break_core.proofs.Overfull.{no_offer, overfull_quiet}

@@ -1,22 +1,22 @@
 -- The entries and the lines of a group.
 use Rattle.std.proofs.Common.{◌≡◌, ◌∙◌, ℕ, ◌≤◌, cond, List, Option, None, ap, sym}
 use Rattle.std.specs.Prelude.{ℤ, nat_lt, if◌then◌else◌}
-use Rattle.break_table.specs.declared.group.ActiveGroup.{ActiveGroup}
-use Rattle.break_table.specs.Problems.{Problem}
-use Rattle.break_table.specs.Tables.{Entry, IsTable}
-use Rattle.break_table.specs.Live.{IsGroup}
+use Rattle.break_lines.specs.declared.group.ActiveGroup.{ActiveGroup}
+use Rattle.break_lines.specs.Problems.{Problem}
+use Rattle.break_lines.specs.Tables.{Entry, IsTable}
+use Rattle.break_lines.specs.Private.Live.{IsGroup}
 use Rattle.node_core.specs.declared.params.Params.{Params}
 use Rattle.break_lines.specs.declared.sums.Sums.{Sums}
 use Rattle.break_lines.specs.declared.sizes.LineFits.{LineFits}
 use Rattle.break_lines.specs.declared.cost.Bound.{Bound}
-use Rattle.break_table.specs.declared.state.LineCost.{LineCost}
+use Rattle.break_lines.specs.declared.state.LineCost.{LineCost}
 use Rattle.break_lines.specs.Costs.{line_fit, line_of, line_alone, after_class}
 use Rattle.break_lines.proofs.Parts.{after_none, alone_is}
 use Rattle.break_lines.specs.Sizes.{line_size, line_fits, fit_after}
 use Rattle.break_lines.proofs.Widths.{after_is}
 use Rattle.break_lines.specs.Facts.{Facts}
 use Rattle.break_core.specs.Passes.{problem_of}
-use Rattle.break_core.specs.Filling.{IsOf, IsFitOf, IsOffering}
+use Rattle.break_core.specs.Private.Filling.{IsOf, IsFitOf, IsOffering}
 use Rattle.break_core.proofs.Overfull.{no_offer}
 use Rattle.break_core.proofs.Active.{row_passed}
 

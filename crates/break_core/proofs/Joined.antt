@@ -4,9 +4,9 @@ use Rattle.std.proofs.Math.Logic.{◌⊎◌, inl, inr}
 use Rattle.std.specs.Prelude.{if◌then◌else◌}
 use Rattle.std.proofs.lemmas.Bool.{cases_Bool}
 use Rattle.node_core.specs.declared.params.Params.{Params}
-use Rattle.break_table.specs.Problems.{Problem, Path, key, ends_of, places_of}
-use Rattle.break_table.specs.Chosen.{IsChosen}
-use Rattle.break_table.proofs.Dictionary.{not_after_antisym, key_apart}
+use Rattle.break_lines.specs.Problems.{Problem, Path, key, ends_of, places_of}
+use Rattle.break_lines.specs.Chosen.{IsChosen}
+use Rattle.break_lines.proofs.Dictionary.{not_after_antisym, key_apart}
 use Rattle.break_core.specs.declared.broken.Pass.{Pass}
 use Rattle.break_core.specs.declared.broken.Pass.TheVariants.{First, Second, Third}
 use Rattle.break_core.specs.declared.broken.Breaks.{Breaks}

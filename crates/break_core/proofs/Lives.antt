@@ -1,21 +1,22 @@
 -- Groups, and the values that are stored with them.
-use Rattle.std.proofs.Common.{◌≡◌, ◌∙◌, ℕ, zero, suc, ◌+◌, ◌<◌, ◌≤◌, drop, Bool, true, false, cond, List, [], ◌∷◌, ◌++◌, length, refl, ap, sym, subst, arith, Option, Some, None}
+use Rattle.std.proofs.Common.{◌≡◌, ◌∙◌, ℕ, zero, suc, ◌+◌, ◌<◌, ◌≤◌, take, drop, Bool, true, false, cond, List, [], ◌∷◌, ◌++◌, length, length-append, refl, ap, sym, subst, arith, Option, Some, None}
 use Rattle.std.specs.Prelude.{ℤ, slice_get, ◌==◌}
 use Rattle.std.specs.Option.{option_map}
 use Rattle.std.proofs.Math.Logic.{◌⊎◌, inl, inr}
 use Rattle.std.proofs.lemmas.Bool.{cases_Bool, cond-true, cond-false}
-use Rattle.std.proofs.lemmas.List.{map-append}
+use Rattle.std.proofs.lemmas.List.{map-append, length-take-le, length-drop, take_all}
+use Rattle.std.proofs.Math.Seq.{take-append_seam}
 use Rattle.std.proofs.lemmas.Option.{same_Some, slice_get-map}
 use Rattle.node_core.specs.declared.params.Params.{Params}
-use Rattle.break_table.specs.Problems.{Problem}
-use Rattle.break_table.specs.Tables.{Entry, first_entry}
-use Rattle.break_table.proofs.Entries.{get_cases}
+use Rattle.break_lines.specs.Problems.{Problem}
+use Rattle.break_lines.specs.Tables.{Entry, first_entry}
+use Rattle.break_lines.proofs.Entries.{get_cases}
 use Rattle.break_lines.specs.Facts.{Facts}
 use Rattle.break_core.specs.declared.pass_rules.StopRule.{StopRule}
 use Rattle.break_core.specs.declared.active_list.Live.{Live}
 use Rattle.break_lines.specs.declared.cost.Bound.{Bound}
-use Rattle.break_core.specs.Leaving.{over_before, kept_over}
-use Rattle.break_core.specs.Active.{stops, pruned, groups_of, with_group, with_live, AreOver, IsBestOf, HaveBest, IsNext, IsActive, IsFilled}
+use Rattle.break_core.specs.Private.Leaving.{over_before, kept_over}
+use Rattle.break_core.specs.Private.Active.{stops, pruned, groups_of, with_group, with_live, AreOver, IsBestOf, HaveBest, IsNext, IsActive, IsFilled}
 use Rattle.break_core.proofs.Active.{next_active, filled_first}
 use Rattle.break_core.proofs.Long.{over_start}
 
@@ -136,3 +137,17 @@ next_live f params bound ending table b at low lives i live here is =
 pub same_over : (over : Option ℤ) (overfull : Bool) (width : ℤ) → overfull ≡ false → kept_over over overfull width ≡ over
 same_over None overfull width is = cond-false overfull (Some width) None is
 same_over (Some over) overfull width is = refl
+
+-- What is left of a list whose elements from number `from` on were copied down to number `to`.
+pub copied_down :
+    (xs : List Live) (to from n left : ℕ) → to ≤ from → from ≤ length xs → length xs ≡ from + n → left ≡ to + n
+    → take left (take to xs ++ take n (drop from xs) ++ drop (to + n) xs) ≡ take to xs ++ drop from xs
+copied_down xs to from n left rises within is_n is_left =
+    let zs = drop from xs in
+    let copied = take to xs ++ take n zs in
+    let rest = drop (to + n) xs in
+    let size : length zs ≡ n = omega (arith, length-drop from xs) in
+    let all : take n zs ≡ zs = take_all n zs (omega (arith, size)) in
+    let front : length (take to xs) ≡ to = length-take-le to xs (omega arith) in
+    let is_length : left ≡ length copied = omega (arith, length-append (take to xs) (take n zs), front, size, ap length all, is_left) in
+    ap (λ k. take k (copied ++ rest)) is_length ∙ take-append_seam copied rest ∙ ap (λ ys. take to xs ++ ys) all

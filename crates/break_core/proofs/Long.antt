@@ -10,7 +10,7 @@ use Rattle.break_lines.specs.Facts.{Facts}
 use Rattle.break_lines.specs.Steady.{IsSteady}
 use Rattle.break_lines.proofs.Divided.{least_rises}
 use Rattle.break_core.specs.Trials.{is_overfull}
-use Rattle.break_core.specs.Leaving.{first_over, is_long, over_before, is_more, kept_over}
+use Rattle.break_core.specs.Private.Leaving.{first_over, is_long, over_before, is_more, kept_over}
 use Rattle.break_core.proofs.Detours.{long_means}
 
 -- The first place stays the first.

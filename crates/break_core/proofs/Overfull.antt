@@ -3,13 +3,13 @@ use Rattle.std.proofs.Common.{◌≡◌, ◌∙◌, ℕ, zero, suc, ◌+◌, ◌
 use Rattle.std.specs.Prelude.{ℤ, pos, int_le, nat_le}
 use Rattle.std.proofs.lemmas.Int.{ints}
 use Rattle.node_core.specs.declared.params.Params.{Params}
-use Rattle.break_table.specs.declared.state.Fitness.{Fitness}
-use Rattle.break_table.specs.declared.state.LineCost.{LineCost}
-use Rattle.break_table.specs.declared.group.ActiveGroup.{ActiveGroup}
-use Rattle.break_table.specs.Problems.{Problem}
-use Rattle.break_table.specs.Ways.{since}
-use Rattle.break_table.specs.Tables.{Entry, offer_of, offer}
-use Rattle.break_table.specs.Live.{IsGroup}
+use Rattle.break_lines.specs.declared.state.Fitness.{Fitness}
+use Rattle.break_lines.specs.declared.state.LineCost.{LineCost}
+use Rattle.break_lines.specs.declared.group.ActiveGroup.{ActiveGroup}
+use Rattle.break_lines.specs.Problems.{Problem}
+use Rattle.break_lines.specs.Ways.{since}
+use Rattle.break_lines.specs.Tables.{Entry, offer_of, offer}
+use Rattle.break_lines.specs.Private.Live.{IsGroup}
 use Rattle.break_lines.specs.declared.sums.Sums.{Sums}
 use Rattle.break_lines.specs.declared.cost.LineFit.{LineFit}
 use Rattle.break_lines.specs.declared.cost.Bound.{Bound}
@@ -22,7 +22,7 @@ use Rattle.break_lines.specs.Facts.{Facts}
 use Rattle.break_core.specs.Passes.{problem_of}
 use Rattle.break_lines.specs.Steady.{IsNoNarrower, IsSteady}
 use Rattle.break_core.specs.Trials.{is_overfull}
-use Rattle.break_core.specs.Active.{is_limit, MayDrop, IsQuiet}
+use Rattle.break_core.specs.Private.Active.{is_limit, MayDrop, IsQuiet}
 
 -- A line that is at least as wide as an overfull one is overfull.
 overfull_more : (s t : Sums) (size : ℤ) → IsNoNarrower t s → (line_fit s size).overfull ≡ true → (line_fit t size).overfull ≡ true

@@ -6,15 +6,16 @@ use Rattle.std.proofs.lemmas.Bool.{cases_Bool, cond-false}
 use Rattle.std.proofs.lemmas.List.{drop-map, map-append}
 use Rattle.std.proofs.lemmas.Option.{same_Some, slice_get_within}
 use Rattle.node_core.specs.declared.params.Params.{Params}
-use Rattle.break_table.specs.declared.group.ActiveGroup.{ActiveGroup}
-use Rattle.break_table.specs.declared.state.BreakState.{BreakState}
-use Rattle.break_table.specs.declared.state.LineCost.{LineCost}
-use Rattle.break_table.specs.Problems.{Problem}
-use Rattle.break_table.specs.Tables.{Entry, IsTable, IsRow}
-use Rattle.break_table.proofs.Entries.{get_cases}
+use Rattle.break_lines.specs.declared.group.ActiveGroup.{ActiveGroup}
+use Rattle.break_lines.specs.declared.state.BreakState.{BreakState}
+use Rattle.break_lines.specs.declared.state.LineCost.{LineCost}
+use Rattle.break_lines.specs.Problems.{Problem}
+use Rattle.break_lines.specs.Tables.{Entry, IsTable, IsRow}
+use Rattle.break_lines.proofs.Entries.{get_cases}
 use Rattle.break_lines.specs.declared.sums.Sums.{Sums}
 use Rattle.break_lines.specs.declared.cost.Bound.{Bound}
-use Rattle.break_lines.specs.Costs.{line_fit, line_of, line_alone, is_loosest, loosest_line, after_class}
+use Rattle.break_lines.specs.Costs.{line_fit, line_of, line_alone, is_loosest, after_class}
+use Rattle.break_lines.specs.Private.Costs.{loosest_line}
 use Rattle.break_lines.specs.Sizes.{least_width}
 use Rattle.break_lines.specs.Legal.{is_forced}
 use Rattle.break_lines.specs.Facts.{Facts}
@@ -27,9 +28,9 @@ use Rattle.break_core.specs.declared.pass_rules.StopRule.TheVariants.{Never, Ove
 use Rattle.break_core.specs.declared.active_list.Live.{Live}
 use Rattle.break_core.specs.Passes.{problem_of}
 use Rattle.break_core.specs.Trials.{is_overfull}
-use Rattle.break_core.specs.Leaving.{first_over, is_long, over_before}
-use Rattle.break_core.specs.Filling.{IsOfferingBest}
-use Rattle.break_core.specs.Active.{deactivates, leaves, stops, pruned, groups_of, AreOver, HaveBest, MayEnd, IsBestOf, IsActive, AreLoosest, AllWait, CostLoosest, CanWait, CanAllWait, IsOfferingFirst, IsOfferingWaiting, WasTried}
+use Rattle.break_core.specs.Private.Leaving.{first_over, is_long, over_before}
+use Rattle.break_core.specs.Private.Filling.{IsOfferingBest}
+use Rattle.break_core.specs.Private.Active.{deactivates, leaves, stops, pruned, groups_of, AreOver, HaveBest, MayEnd, IsBestOf, IsActive, AreLoosest, AllWait, CostLoosest, CanWait, CanAllWait, IsOfferingFirst, IsOfferingWaiting, WasTried}
 use Rattle.break_core.proofs.Active.{later_quiet, kept_active, row_quiet, row_passed, row_end, next_active, IsFront}
 use Rattle.break_core.proofs.Detours.{first_is, long_means}
 use Rattle.break_core.proofs.Filled.{group_of}
@@ -394,3 +395,8 @@ pub first_tried :
 first_tried index end [] before now last some tried = λ g there. absurd (cc)
 first_tried index end (live ∷ lives) before now last (inl all) tried = tried (omega (arith, last, all))
 first_tried index end (live ∷ lives) before now last (inr some) tried = tried (omega (arith, last, some))
+
+-- A group that waits for a place is before the place, also where that has another name.
+pub still_earlier :
+    (first_lines : ℕ) (table : List Entry) (place there : ℕ) (group : ActiveGroup) → CanWait first_lines table place group → there ≡ place → group.place < there
+still_earlier first_lines table place there group can same = omega (arith, can.earlier, same)

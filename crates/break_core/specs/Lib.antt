@@ -2,6 +2,4 @@
 pub mod Passes
 pub mod Trials
 pub mod Examples
-pub mod Filling
-pub mod Leaving
-pub mod Active
+pub mod Private

@@ -2,9 +2,9 @@
 -- least overhang counts first, and ties are decided).
 use Rattle.std.specs.Prelude.{◌≡◌, map, reverse}
 use Rattle.node_core.specs.declared.params.Params.{Params}
-use Rattle.break_table.specs.declared.state.BreakState.{BreakState}
-use Rattle.break_table.specs.Problems.{Problem, Path, ends_of, places_of}
-use Rattle.break_table.specs.Chosen.{IsChosen, AdmitsNone}
+use Rattle.break_lines.specs.declared.state.BreakState.{BreakState}
+use Rattle.break_lines.specs.Problems.{Problem, Path, ends_of, places_of}
+use Rattle.break_lines.specs.Chosen.{IsChosen, AdmitsNone}
 use Rattle.break_lines.specs.declared.cost.Bound.{Bound}
 use Rattle.break_lines.specs.declared.cost.Bound.TheVariants.{Any, AtMost}
 use Rattle.break_core.specs.declared.broken.Pass.{Pass}

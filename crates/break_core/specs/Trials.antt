@@ -1,7 +1,7 @@
 -- The greatest number of lines that are tried (own; the active list is after TeX: The Program, part 38, §819 and §860).
 use Rattle.std.specs.Prelude.{◌≡◌, ◌<◌, ◌≤◌, ◌+◌, ◌-◌, ◌⊎◌, ◌++◌, ℕ, pos, int_lt, Bool, true, false, List, [], ◌∷◌, if◌then◌else◌}
 use Rattle.node_core.specs.declared.params.Params.{Params}
-use Rattle.break_table.specs.Chosen.{AdmitsNone}
+use Rattle.break_lines.specs.Chosen.{AdmitsNone}
 use Rattle.break_lines.specs.Costs.{line_fit}
 use Rattle.break_lines.specs.Sizes.{greatest_size}
 use Rattle.break_core.specs.declared.broken.Pass.{Pass}

@@ -1,10 +1,10 @@
 //! The active list: the groups of entries from which lines are still tried.
 
 ghost use Rattle.std.specs.Prelude.{◌≡◌, ◌<◌, ◌≤◌, ◌+◌, ◌++◌, ◌&&◌, ℕ, [], ◌∷◌, length, take, drop, set, slice_get, Some, None, if◌then◌else◌, OnOk};
-ghost use Rattle.break_core.specs.Leaving.{is_more, kept_over};
-ghost use Rattle.break_core.specs.Active.{with_live, IsBestOf};
+ghost use Rattle.break_core.specs.Private.Leaving.{is_more, kept_over};
+ghost use Rattle.break_core.specs.Private.Active.{with_live, IsBestOf};
 
-use break_table::{ActiveGroup, ActiveNode};
+use break_lines::{ActiveGroup, ActiveNode};
 use std::alloc::AllocError;
 
 /// A group of entries from which lines are tried. `over` is the width, shrunk as far as possible, of the line to the first place to which it was
@@ -54,6 +54,7 @@ impl Live {
 }
 
 /// Whether a line of this width, shrunk as far as possible, has more overhang than the first overfull line.
+#[inline]
 pub(crate) fn is_more(over: Option<i64>, width: i64) -> bool
     ensures { result ≡ is_more over width }
 {
@@ -64,6 +65,7 @@ pub(crate) fn is_more(over: Option<i64>, width: i64) -> bool
 }
 
 /// The value of `over` after a line of this width, shrunk as far as possible.
+#[inline]
 pub(crate) fn kept_over(over: Option<i64>, overfull: bool, width: i64) -> Option<i64>
     ensures { result ≡ kept_over over overfull width }
 {
@@ -142,13 +144,17 @@ pub(crate) fn leave_out(lives: &mut Vec<Live>, kept: usize, next: usize)
     requires next_bounded { next ≤ length lives.old.items }
     ensures { lives.new.items ≡ take kept lives.old.items ++ drop next lives.old.items }
 {
-    if kept < next {
-        lives.drain(kept..next);
+    if kept == next {
+        return;
     }
+    let left = lives.len() - (next - kept);
+    lives.copy_within(next.., kept);
+    lives.truncate(left);
 }
 
 /// Appends the group of a place to those of earlier places, unless it has no entries. If a break at the place is forced, the earlier groups are
 /// removed first.
+#[inline]
 pub(crate) fn add_group(lives: &mut Vec<Live>, forced: bool, live: Live) -> Result<(), AllocError>
     ensures { OnOk result (lives.new.items ≡ with_live (if forced then [] else lives.old.items) live) }
 {

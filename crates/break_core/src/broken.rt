@@ -1,6 +1,6 @@
 //! The breaks of a paragraph.
 
-use break_table::Fitness;
+use break_lines::Fitness;
 
 /// A pass over a paragraph. The first pass that admits a list of breaks decides (TeX: The Program, part 39, §863).
 #[derive(Clone, Copy, Debug, PartialEq, Eq)]

@@ -1,19 +1,20 @@
 //! The table of a paragraph in a pass, which is filled place by place.
 
 ghost use Rattle.std.specs.Prelude.{◌≡◌, ◌+◌, ◌<◌, ◌≤◌, true, false, length, replicate, None, OnOk, IfOk};
-ghost use Rattle.break_table.specs.Tables.{max_places, slots, IsTable, IsRow};
+ghost use Rattle.break_lines.specs.Tables.{slots, IsTable, IsRow};
+ghost use Rattle.break_lines.specs.Problems.{max_places};
 ghost use Rattle.break_lines.specs.Even.{IsEven};
 ghost use Rattle.break_lines.specs.Legal.{is_forced};
-ghost use Rattle.break_core.specs.Filling.{CountsMayGrow};
-ghost use Rattle.break_core.specs.Active.{stops, pruned, groups_of, MayEnd, AreOver, HaveBest, IsActive, IsFilled, IsSwept, IsCounted, TrialsOnlyGrow, WasTried};
+ghost use Rattle.break_core.specs.Private.Filling.{CountsMayGrow};
+ghost use Rattle.break_core.specs.Private.Active.{stops, pruned, groups_of, MayEnd, AreOver, HaveBest, IsActive, IsFilled, IsSwept, IsCounted};
+ghost use Rattle.break_core.specs.Private.Active.{TrialsOnlyGrow, WasTried};
 
 use crate::active_list::{
     Live, add_group, end_of_trials, keep_group, keep_over, leave_out, rest_of,
 };
 use crate::offering::{Tried, offer_line, offer_waiting};
 use crate::pass_rules::Rules;
-use break_lines::Meter;
-use break_table::{ActiveGroup, ActiveNode, empty_row, flush_row};
+use break_lines::{ActiveGroup, ActiveNode, Meter, empty_row, flush_row};
 use std::alloc::{AllocError, Global};
 
 /// The table up to a place, and the groups of its entries from which lines to later places are tried.
@@ -24,8 +25,8 @@ struct Reached {
 }
 
 /// Tries the line to a place once from each live group, keeps those from which lines to later places are tried, and carries `over` on to the next
-/// place. If groups wait, it stops after a line that is stretched so much that the lines from all later groups cost the same as the loosest line: these
-/// groups stay untried. The groups stay in place, since most of them are kept. The function is not inlined, so that its loop has all registers.
+/// place. If groups wait, it stops after a line that is stretched so much that the lines from all later groups cost the same as the loosest line:
+/// these groups stay untried. The groups stay in place, since most of them are kept. The function is not inlined, so that its loop has all registers.
 #[inline(never)]
 fn try_lines<M: Meter>(
     meter: &mut M,
@@ -38,16 +39,19 @@ fn try_lines<M: Meter>(
     requires first { 0 < place }
     requires last { place ≤ (M.facts meter.old).places }
     requires places { place ≤ max_places }
-    requires filled { IsFilled (pruned (M.facts meter.old) rules.now.params.now rules.now.bound rules.now.ending) (stops (M.facts meter.old) rules.now.params.now rules.now.ending) place table.now (groups_of lives.old.items) }
+    requires filled { IsFilled (pruned (M.facts meter.old) rules.now.params.now rules.now.bound rules.now.ending)
+        (stops (M.facts meter.old) rules.now.params.now rules.now.ending) place table.now (groups_of lives.old.items) }
     requires over { AreOver (M.facts meter.old) rules.now.params.now place lives.old.items }
     requires best { HaveBest table.now lives.old.items }
     requires empty { row.old.items ≡ replicate (slots rules.now.params.now.first_lines) None }
     requires may { MayEnd rules.now.ending (M.facts meter.old) rules.now.params.now rules.now.bound }
     requires waits { rules.now.waits ≡ true → IsEven (M.facts meter.old) }
     requires trials_bounded { CountsMayGrow 1 (M.trials meter.old) }
-    ensures row { IsRow (pruned (M.facts meter.old) rules.now.params.now rules.now.bound rules.now.ending) table.now place (length table.now) row.new.items }
+    ensures row { IsRow (pruned (M.facts meter.old) rules.now.params.now rules.now.bound rules.now.ending) table.now place
+        (length table.now) row.new.items }
     ensures live { is_forced ((M.facts meter.old).penalty place) ≡ false →
-        IsActive (pruned (M.facts meter.old) rules.now.params.now rules.now.bound rules.now.ending) (stops (M.facts meter.old) rules.now.params.now rules.now.ending) table.now (place + 1) place 0 0 (groups_of lives.new.items) }
+        IsActive (pruned (M.facts meter.old) rules.now.params.now rules.now.bound rules.now.ending)
+        (stops (M.facts meter.old) rules.now.params.now rules.now.ending) table.now (place + 1) place 0 0 (groups_of lives.new.items) }
     ensures over { AreOver (M.facts meter.old) rules.now.params.now (place + 1) lives.new.items }
     ensures best { HaveBest table.now lives.new.items }
     ensures facts { M.facts meter.new ≡ M.facts meter.old }
@@ -91,7 +95,8 @@ fn add_place<M: Meter>(
     requires first { 0 < place }
     requires last { place ≤ (M.facts meter.old).places }
     requires places { place ≤ max_places }
-    requires filled { IsFilled (pruned (M.facts meter.old) rules.now.params.now rules.now.bound rules.now.ending) (stops (M.facts meter.old) rules.now.params.now rules.now.ending) place reached.old.table.items (groups_of reached.old.live.items) }
+    requires filled { IsFilled (pruned (M.facts meter.old) rules.now.params.now rules.now.bound rules.now.ending)
+        (stops (M.facts meter.old) rules.now.params.now rules.now.ending) place reached.old.table.items (groups_of reached.old.live.items) }
     requires over { AreOver (M.facts meter.old) rules.now.params.now place reached.old.live.items }
     requires best { HaveBest reached.old.table.items reached.old.live.items }
     requires empty { row.old.items ≡ replicate (slots rules.now.params.now.first_lines) None }
@@ -99,7 +104,8 @@ fn add_place<M: Meter>(
     requires waits { rules.now.waits ≡ true → IsEven (M.facts meter.old) }
     requires trials_bounded { CountsMayGrow 1 (M.trials meter.old) }
     ensures filled { OnOk result (
-        IsFilled (pruned (M.facts meter.old) rules.now.params.now rules.now.bound rules.now.ending) (stops (M.facts meter.old) rules.now.params.now rules.now.ending) (place + 1) reached.new.table.items (groups_of reached.new.live.items)) }
+        IsFilled (pruned (M.facts meter.old) rules.now.params.now rules.now.bound rules.now.ending)
+        (stops (M.facts meter.old) rules.now.params.now rules.now.ending) (place + 1) reached.new.table.items (groups_of reached.new.live.items)) }
     ensures over { OnOk result (AreOver (M.facts meter.old) rules.now.params.now (place + 1) reached.new.live.items) }
     ensures best { OnOk result (HaveBest reached.new.table.items reached.new.live.items) }
     ensures empty { OnOk result (row.new.items ≡ replicate (slots rules.now.params.now.first_lines) None) }
@@ -134,7 +140,8 @@ pub(crate) fn fill<M: Meter>(
     ensures table { IfOk result (λ table.
         IsTable (pruned (M.facts meter.old) rules.now.params.now rules.now.bound rules.now.ending) ((M.facts meter.old).places + 1) table.items) }
     ensures facts { M.facts meter.new ≡ M.facts meter.old }
-    ensures trials { IsCounted (stops (M.facts meter.old) rules.now.params.now rules.now.ending) (M.facts meter.old).places (M.trials meter.old) (M.trials meter.new) }
+    ensures trials { IsCounted (stops (M.facts meter.old) rules.now.params.now rules.now.ending) (M.facts meter.old).places
+        (M.trials meter.old) (M.trials meter.new) }
     ensures kept { TrialsOnlyGrow (M.trials meter.old) (M.trials meter.new) }
     ensures tried { OnOk result (M.trials meter.old 0 < M.trials meter.new 0) }
 {

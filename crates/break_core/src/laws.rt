@@ -6,8 +6,8 @@ ghost use Rattle.node_core.specs.declared.tree.Node.{Node};
 ghost use Rattle.node_core.specs.declared.tree.Node.TheVariants.{Kern, Penalty};
 ghost use Rattle.node_core.specs.declared.tree.Kind.TheVariants.{Horizontal};
 ghost use Rattle.pack_core.specs.ListTotals.{totals_of};
-ghost use Rattle.break_table.specs.declared.state.BreakState.{BreakState};
-ghost use Rattle.break_table.specs.Chosen.{AdmitsNone};
+ghost use Rattle.break_lines.specs.declared.state.BreakState.{BreakState};
+ghost use Rattle.break_lines.specs.Chosen.{AdmitsNone};
 ghost use Rattle.break_lines.specs.declared.cost.Bound.{Bound};
 ghost use Rattle.break_lines.specs.Costs.{line_fit, line_of};
 ghost use Rattle.break_lines.specs.Examples.{sums_of_points};
@@ -19,7 +19,8 @@ ghost use Rattle.break_core.specs.declared.broken.Pass.{Pass};
 ghost use Rattle.break_core.specs.declared.broken.Breaks.{Breaks};
 ghost use Rattle.break_core.specs.Passes.{problem_of, bound_of, IsBroken};
 ghost use Rattle.break_core.specs.Trials.{is_overfull, is_bounded, places_up_to, AreBounded, AreSame};
-ghost use Rattle.break_core.specs.Examples.{rule, space, special, five_rules, kern_and_glue, glue_among_penalties, special_between_glue, special_alone};
+ghost use Rattle.break_core.specs.Examples.{rule, space, special, five_rules, kern_and_glue, glue_among_penalties, special_between_glue};
+ghost use Rattle.break_core.specs.Examples.{special_alone};
 
 /// The sums over the items of a line are a difference of sums over the first items of the list: those before the end of the line, minus those before
 /// its first item that is not dropped.

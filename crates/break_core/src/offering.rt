@@ -1,20 +1,22 @@
 //! The offers of the entries of a group for a place, by a line that was tried from there.
 
 ghost use Rattle.std.specs.Prelude.{◌≡◌, ◌<◌, ◌≤◌, ◌<ℤ◌, ◌≤ℤ◌, pos, ◌&&◌, true, false, length, slice_get, Some};
-ghost use Rattle.break_table.specs.declared.state.Fitness.{Fitness};
-ghost use Rattle.break_table.specs.Tables.{Entry, max_places, slots, IsSmallLine};
+ghost use Rattle.break_lines.specs.declared.state.Fitness.{Fitness};
+ghost use Rattle.break_lines.specs.Tables.{Entry, slots, IsSmallLine};
+ghost use Rattle.break_lines.specs.Problems.{max_places};
 ghost use Rattle.break_lines.specs.Costs.{line_fit, is_loosest, line_after};
 ghost use Rattle.break_lines.specs.Sizes.{line_fits, IsSmallLineFits};
 ghost use Rattle.break_lines.specs.SmallCosts.{IsSmallAlone};
-ghost use Rattle.break_core.specs.Filling.{IsOf, CanOffer, IsOffering, IsOfferingUnless, offer_from, IsBestOffer, IsBeaten, IsOfferingBest};
-ghost use Rattle.break_core.specs.Active.{IsBestOf, HaveBest, CanAllWait, IsOfferingWaiting};
+ghost use Rattle.break_core.specs.Private.Filling.{IsOf, CanOffer, IsOffering, IsOfferingUnless, offer_from, IsBestOffer, IsLeastLine, IsBeaten};
+ghost use Rattle.break_core.specs.Private.Filling.{IsOfferingBest};
+ghost use Rattle.break_core.specs.Private.Active.{IsBestOf, HaveBest, CanAllWait, IsOfferingWaiting};
 
 use crate::active_list::Live;
 use crate::pass_rules::Rules;
 use break_lines::{
-    LineFit, LineFits, Sums, fit_both, fit_line, is_loosest, line_after, line_alone,
+    ActiveGroup, ActiveNode, LineCost, LineFit, LineFits, Sums, fit_both, fit_line, is_loosest,
+    line_after, line_alone, offer, put,
 };
-use break_table::{ActiveGroup, ActiveNode, LineCost, offer, put};
 use node_core::Params;
 
 /// A line that was tried: the place where it ends, the penalty of a break there, and the sums over its items.
@@ -23,6 +25,15 @@ pub(crate) struct Tried {
     pub(crate) place: usize,
     pub(crate) penalty: i32,
     pub(crate) sums: Sums,
+}
+
+/// A line by which entries are offered, if no lines are counted: the place where it ends, the line without the demerits for the class of the line
+/// before it, and a line that has no more demerits than it after a line of any class.
+#[derive(Clone, Copy, Debug, PartialEq, Eq)]
+struct OfferedLine {
+    place: usize,
+    alone: LineCost,
+    least: LineCost,
 }
 
 /// What is found of a line that was tried, besides its offers: whether it is overfull after any number of lines, and whether it is found so loose
@@ -45,7 +56,8 @@ fn offer_each(
 )
     requires can { CanOffer rules.now.params.now.first_lines row.old.items table.now group tried.now }
     requires fit_bounded { IsSmallLineFits line.now }
-    ensures row { IsOffering table.now rules.now.params.now rules.now.bound group tried.now.place tried.now.penalty line.now group.start group.end row.old.items row.new.items }
+    ensures row { IsOffering table.now rules.now.params.now rules.now.bound group tried.now.place tried.now.penalty line.now group.start group.end
+        row.old.items row.new.items }
     ensures wide { length row.new.items ≡ slots rules.now.params.now.first_lines }
 {
     let costs = line.alone(rules.params, &rules.bound, tried.penalty);
@@ -73,9 +85,11 @@ fn offer_counted(
     tried: &Tried,
 ) -> Judged
     requires can { CanOffer rules.now.params.now.first_lines row.old.items table.now group tried.now }
-    ensures row { IsOfferingUnless left table.now rules.now.params.now rules.now.bound group tried.now.place tried.now.penalty (line_fits rules.now.params.now tried.now.sums) row.old.items row.new.items }
+    ensures row { IsOfferingUnless left table.now rules.now.params.now rules.now.bound group tried.now.place tried.now.penalty
+        (line_fits rules.now.params.now tried.now.sums) row.old.items row.new.items }
     ensures wide { length row.new.items ≡ slots rules.now.params.now.first_lines }
-    ensures overfull { result.overfull ≡ ((line_fits rules.now.params.now tried.now.sums).first.overfull && (line_fits rules.now.params.now tried.now.sums).rest.overfull) }
+    ensures overfull { result.overfull
+        ≡ ((line_fits rules.now.params.now tried.now.sums).first.overfull && (line_fits rules.now.params.now tried.now.sums).rest.overfull) }
     ensures loosest { result.loosest ≡ false }
 {
     let line = fit_both(&tried.sums, rules.params);
@@ -91,6 +105,7 @@ fn offer_counted(
 }
 
 /// The offer of an entry of a table for a place by a line, if no lines are counted.
+#[inline]
 fn offer_from(
     table: &[ActiveNode],
     index: usize,
@@ -111,7 +126,7 @@ fn offer_from(
 }
 
 /// The best offer of the entries of a group for a place by a line, if no lines are counted.
-#[inline(never)]
+#[inline]
 fn best_offer(
     table: &[ActiveNode],
     group: ActiveGroup,
@@ -135,7 +150,36 @@ fn best_offer(
     best
 }
 
+/// Puts the best offer of the entries of a group into the row, if no lines are counted. All offers are for one state then, so this has the effect of
+/// all of them. The function is not inlined, so that the loop over the groups has more registers; and it takes the line by value, which then is in
+/// memory only for a call.
+#[inline(never)]
+fn put_best(
+    row: &mut Vec<Option<ActiveNode>>,
+    table: &[ActiveNode],
+    live: &Live,
+    params: &Params,
+    line: OfferedLine,
+)
+    requires wide { length row.old.items ≡ slots 0 }
+    requires has_entries { live.now.group.start < live.now.group.end }
+    requires group_bounded { live.now.group.end ≤ length table.now }
+    requires earlier { live.now.group.place < line.place }
+    requires entries { IsOf 0 table.now live.now.group }
+    requires places { line.place ≤ max_places }
+    requires costs_bounded { IsSmallAlone line.alone }
+    ensures row { IsOfferingBest table.now params.now live.now.group line.place line.alone row.old.items row.new.items }
+    ensures wide { length row.new.items ≡ slots 0 }
+{
+    put(
+        row,
+        best_offer(table, live.group, params, line.place, &line.alone),
+        0,
+    );
+}
+
 /// A line that has no more demerits than this one after a line of any class.
+#[inline]
 fn least_line(params: &Params, alone: &LineCost) -> LineCost
     requires costs_bounded { IsSmallAlone alone.now }
     ensures overhang { result.overhang ≡ alone.now.overhang }
@@ -152,43 +196,65 @@ fn least_line(params: &Params, alone: &LineCost) -> LineCost
     }
 }
 
-/// Whether each offer of a group by a line is known to be worse than an offer that is held: that of its best entry would be so even with the fewest
-/// demerits.
-fn is_beaten(held: &Option<ActiveNode>, best: ActiveNode, params: &Params, alone: &LineCost) -> bool
-    requires costs_bounded { IsSmallAlone alone.now }
-    ensures { result ≡ true → IsBeaten held.now best params.now alone.now }
+/// The line to a place by which entries are offered, given the line without the demerits for the class of the line before it.
+#[inline]
+fn offered_line(params: &Params, place: usize, alone: LineCost) -> OfferedLine
+    requires costs_bounded { IsSmallAlone alone }
+    ensures place { result.place ≡ place }
+    ensures alone { result.alone ≡ alone }
+    ensures costs_bounded { IsSmallAlone result.alone }
+    ensures least { IsLeastLine params.now result.alone result.least }
+    ensures line_bounded { IsSmallLine result.least }
+{
+    OfferedLine {
+        place,
+        alone,
+        least: least_line(params, &alone),
+    }
+}
+
+/// Whether an offer that is held is known to be better than each offer of a group: its costs are below those of the best entry of the group by the
+/// line with the fewest demerits.
+#[inline]
+fn is_beaten(held: &Option<ActiveNode>, best: &ActiveNode, least: &LineCost) -> bool
+    requires line_bounded { IsSmallLine least.now }
+    ensures { result ≡ true → IsBeaten held.now best.now least.now }
 {
     match held {
-        Some(held) => held.is_below(best, least_line(params, alone)),
+        Some(held) => held.is_below(*best, *least),
         None => false,
     }
 }
 
-/// Offers the entries of a group for a place by a line, if no lines are counted. All offers are for one state then, so only the best of them is put
-/// into the row, and the group is passed over if its offers are worse than the one that is held.
+/// Offers the entries of a group by a line, if no lines are counted. The group is passed over if its offers are worse than the one that is held.
 #[inline(always)]
 fn offer_best(
     row: &mut Vec<Option<ActiveNode>>,
     table: &[ActiveNode],
     live: &Live,
     params: &Params,
-    place: usize,
-    alone: &LineCost,
+    line: &OfferedLine,
 )
     requires wide { length row.old.items ≡ slots 0 }
     requires group_bounded { live.now.group.end ≤ length table.now }
-    requires earlier { live.now.group.place < place }
+    requires earlier { live.now.group.place < line.now.place }
     requires entries { IsOf 0 table.now live.now.group }
     requires best { IsBestOf table.now live.now.group.start live.now.group.end live.now.best }
-    requires places { place ≤ max_places }
-    requires costs_bounded { IsSmallAlone alone.now }
-    ensures row { IsOfferingBest table.now params.now live.now.group place alone.now row.old.items row.new.items }
+    requires places { line.now.place ≤ max_places }
+    requires costs_bounded { IsSmallAlone line.now.alone }
+    requires least { IsLeastLine params.now line.now.alone line.now.least }
+    requires line_bounded { IsSmallLine line.now.least }
+    ensures row { IsOfferingBest table.now params.now live.now.group line.now.place line.now.alone row.old.items row.new.items }
     ensures wide { length row.new.items ≡ slots 0 }
 {
-    if is_beaten(&row[alone.class.rank()], table[live.best], params, alone) {
+    if is_beaten(
+        &row[line.alone.class.rank()],
+        &table[live.best],
+        &line.least,
+    ) {
         return;
     }
-    put(row, best_offer(table, live.group, params, place, alone), 0);
+    put_best(row, table, live, params, *line);
 }
 
 /// Offers the entries of a group for a place, by a line that was tried from there, unless it is left out. Returns what is found of the line. If no
@@ -204,9 +270,11 @@ pub(crate) fn offer_line(
 ) -> Judged
     requires can { CanOffer rules.now.params.now.first_lines row.old.items table.now live.now.group tried }
     requires best { IsBestOf table.now live.now.group.start live.now.group.end live.now.best }
-    ensures row { IsOfferingUnless left table.now rules.now.params.now rules.now.bound live.now.group tried.place tried.penalty (line_fits rules.now.params.now tried.sums) row.old.items row.new.items }
+    ensures row { IsOfferingUnless left table.now rules.now.params.now rules.now.bound live.now.group tried.place tried.penalty
+        (line_fits rules.now.params.now tried.sums) row.old.items row.new.items }
     ensures wide { length row.new.items ≡ slots rules.now.params.now.first_lines }
-    ensures overfull { result.overfull ≡ ((line_fits rules.now.params.now tried.sums).first.overfull && (line_fits rules.now.params.now tried.sums).rest.overfull) }
+    ensures overfull { result.overfull
+        ≡ ((line_fits rules.now.params.now tried.sums).first.overfull && (line_fits rules.now.params.now tried.sums).rest.overfull) }
     ensures loosest { result.loosest ≡ true → is_loosest rules.now.bound (line_fit tried.sums rules.now.params.now.hsize) ≡ true }
     ensures uncounted { result.loosest ≡ true → rules.now.params.now.first_lines ≡ 0 }
 {
@@ -226,12 +294,15 @@ pub(crate) fn offer_line(
     let Some(alone) = line_alone(rules.params, &rules.bound, tried.penalty, &line) else {
         return judged;
     };
-    offer_best(row, table, live, rules.params, tried.place, &alone);
+    let line = offered_line(rules.params, tried.place, alone);
+    offer_best(row, table, live, rules.params, &line);
     judged
 }
 
-/// Offers the entries of groups that wait for a place, if no lines are counted. The lines from all of them cost what the loosest line costs.
-pub(crate) fn offer_waiting(
+/// Offers the entries of groups that wait for a place, one after the other, if no lines are counted. The function is not inlined, so that its loop
+/// has all registers.
+#[inline(never)]
+fn offer_each_waiting(
     row: &mut Vec<Option<ActiveNode>>,
     table: &[ActiveNode],
     lives: &[Live],
@@ -250,8 +321,35 @@ pub(crate) fn offer_waiting(
     let Some(alone) = line_alone(rules.params, &rules.bound, penalty, &LineFit::LOOSEST) else {
         return;
     };
+    let params = rules.params;
+    let line = offered_line(params, place, alone);
     for index in 0..lives.len() {
         let live = &lives[index];
-        offer_best(row, table, live, rules.params, place, &alone);
+        offer_best(row, table, live, params, &line);
     }
+}
+
+/// Offers the entries of groups that wait for a place, if no lines are counted. The lines from all of them cost what the loosest line costs; mostly
+/// the pass does not admit it, and then there is nothing to do.
+#[inline]
+pub(crate) fn offer_waiting(
+    row: &mut Vec<Option<ActiveNode>>,
+    table: &[ActiveNode],
+    lives: &[Live],
+    rules: &Rules,
+    place: usize,
+    penalty: i32,
+)
+    requires wide { length row.old.items ≡ slots rules.now.params.now.first_lines }
+    requires uncounted { 0 < length lives.now → rules.now.params.now.first_lines ≡ 0 }
+    requires can { CanAllWait 0 table.now place lives.now }
+    requires best { HaveBest table.now lives.now }
+    requires places { place ≤ max_places }
+    requires penalty { penalty <ℤ pos 10000 }
+    ensures row { IsOfferingWaiting table.now rules.now.params.now rules.now.bound lives.now place penalty row.old.items row.new.items }
+{
+    let Some(_) = line_alone(rules.params, &rules.bound, penalty, &LineFit::LOOSEST) else {
+        return;
+    };
+    offer_each_waiting(row, table, lives, rules, place, penalty);
 }

@@ -1,8 +1,8 @@
 //! The rules of a pass: the lines that it admits, and when to stop trying lines from a place.
 
 ghost use Rattle.std.specs.Prelude.{◌≡◌};
-ghost use Rattle.break_core.specs.Leaving.{is_more};
-ghost use Rattle.break_core.specs.Active.{deactivates, leaves};
+ghost use Rattle.break_core.specs.Private.Leaving.{is_more};
+ghost use Rattle.break_core.specs.Private.Active.{deactivates, leaves};
 
 use crate::active_list::is_more;
 use break_lines::Bound;
@@ -29,6 +29,7 @@ pub(crate) struct Rules<'a> {
 
 impl StopRule {
     /// Whether a line of this width, shrunk as far as possible, is left out.
+    #[inline]
     pub(crate) fn leaves(self, over: Option<i64>, width: i64) -> bool
         ensures { result ≡ leaves self (is_more over width) }
     {
@@ -39,6 +40,7 @@ impl StopRule {
     }
 
     /// Whether the place that a line begins at leaves the active list after it.
+    #[inline]
     pub(crate) fn deactivates(self, overfull: bool, long: bool) -> bool
         ensures { result ≡ deactivates self overfull long }
     {

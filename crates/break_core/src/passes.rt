@@ -1,22 +1,21 @@
 //! The passes over a paragraph.
 
 ghost use Rattle.std.specs.Prelude.{◌≡◌, ◌+◌, ◌<◌, ◌≤◌, ℕ, true, map, List, IfOk, IfSome, OnOk, OnErr, MatchOption};
-ghost use Rattle.break_table.specs.declared.state.BreakState.{BreakState};
-ghost use Rattle.break_table.specs.Chosen.{AdmitsNone, IsAnswer};
+ghost use Rattle.break_lines.specs.declared.state.BreakState.{BreakState};
+ghost use Rattle.break_lines.specs.Chosen.{AdmitsNone, IsAnswer};
 ghost use Rattle.break_lines.specs.Facts.{Facts};
 ghost use Rattle.break_core.specs.Passes.{problem_of, bound_of, line_end_at, IsBroken};
 ghost use Rattle.break_lines.specs.Steady.{IsSteady};
 ghost use Rattle.break_lines.specs.Even.{IsEven};
-ghost use Rattle.break_core.specs.Leaving.{IsWidening, MayLeave};
+ghost use Rattle.break_core.specs.Private.Leaving.{IsWidening, MayLeave};
 ghost use Rattle.break_core.specs.Trials.{is_bounded, first_run, passes_run, AreBounded, AreBoundedByPasses, HasNoTrials};
-ghost use Rattle.break_core.specs.Filling.{IsGrown, CountsMayGrow, AreEndsInParagraph, IsDecided};
-ghost use Rattle.break_core.specs.Active.{TrialsOnlyGrow, MayEnd, IsWithin, AreAdded, AreAddedByPasses};
+ghost use Rattle.break_core.specs.Private.Filling.{IsGrown, CountsMayGrow, AreEndsInParagraph, IsDecided};
+ghost use Rattle.break_core.specs.Private.Active.{TrialsOnlyGrow, MayEnd, IsWithin, AreAdded, AreAddedByPasses};
 
 use crate::broken::{Breaks, LineEnd, Pass};
 use crate::filling::fill;
 use crate::pass_rules::{Rules, StopRule};
-use break_lines::{Bound, Meter, line_size};
-use break_table::{BreakState, ChosenBreaks, chosen_list};
+use break_lines::{Bound, BreakState, ChosenBreaks, Meter, chosen_list, line_size};
 use node_core::Params;
 use std::alloc::{AllocError, Global};
 
@@ -199,7 +198,8 @@ pub(crate) fn breaks_of<M: Meter>(
     requires fresh { HasNoTrials (M.trials meter.old) }
     ensures broken { IfOk result (IsBroken (M.facts meter.old) params.now) }
     ensures facts { M.facts meter.new ≡ M.facts meter.old }
-    ensures run { drops ≡ true → IfOk result (λ breaks. AreBounded (M.facts meter.old) params.now (passes_run params.now breaks.pass) (M.trials meter.new)) }
+    ensures run { drops ≡ true
+        → IfOk result (λ breaks. AreBounded (M.facts meter.old) params.now (passes_run params.now breaks.pass) (M.trials meter.new)) }
     ensures refused { drops ≡ true → OnErr result (AreBoundedByPasses (M.facts meter.old) params.now (M.trials meter.new)) }
     ensures tried { OnOk result (0 < M.trials meter.new 0) }
 {

@@ -11,8 +11,8 @@ use Rattle.node_core.specs.declared.tree.Order.TheVariants.{Normal, Fil, Fill, F
 use Rattle.pack_core.specs.Items.{across, stretch_in, shrink_in, is_order}
 use Rattle.pack_core.proofs.Passing.{no_stretch, no_shrink}
 use Rattle.break_lines.specs.declared.sums.Sums.{Sums}
-use Rattle.break_lines.specs.Marks.{amounts_of, plus, no_sums, stretch_alone, shrink_alone}
-use Rattle.break_lines.specs.SmallMarks.{IsPrefix}
+use Rattle.break_lines.specs.Private.Marks.{amounts_of, plus, no_sums, stretch_alone, shrink_alone}
+use Rattle.break_lines.specs.Private.SmallMarks.{IsPrefix}
 
 -- Amounts that are added to one of the sums.
 pub wider : (s : Sums) (w : ℤ) → record s { width = s.width +ℤ w } ≡ plus s (record no_sums { width = w })

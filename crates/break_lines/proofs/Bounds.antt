@@ -7,8 +7,8 @@ use Rattle.std.proofs.lemmas.Int.{ints}
 use Rattle.std.proofs.lemmas.Bool.{cases_Bool, cases_lt, cond-true, cond-false}
 use Rattle.scaled_core.specs.Badness.{IsBadness, IsRatioBadness, badness_of, badness_ratio}
 use Rattle.scaled_core.proofs.BadnessLaws.{badness_of-is}
-use Rattle.break_table.specs.declared.state.Fitness.{Fitness}
-use Rattle.break_table.specs.declared.state.Fitness.TheVariants.{Decent, Tight}
+use Rattle.break_lines.specs.declared.state.Fitness.{Fitness}
+use Rattle.break_lines.specs.declared.state.Fitness.TheVariants.{Decent, Tight}
 use Rattle.break_lines.specs.declared.sums.Sums.{Sums}
 use Rattle.break_lines.specs.declared.cost.LineFit.{LineFit}
 use Rattle.break_lines.specs.Costs.{stretches_forever, stretched_class, shrunk_class, fit_short, fit_long, fit_by, line_fit}

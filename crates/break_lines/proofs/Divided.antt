@@ -13,7 +13,7 @@ use Rattle.break_lines.specs.Facts.{Facts, facts_of, position_of, begins_at}
 use Rattle.break_lines.specs.Steady.{IsSteady}
 use Rattle.break_lines.specs.Divided.{IsLess, AddsLess, IsDivided}
 use Rattle.break_lines.specs.declared.mark.MeasuredBreak.{MeasuredBreak}
-use Rattle.break_lines.specs.Marks.{marks_of, line_between}
+use Rattle.break_lines.specs.Private.Marks.{marks_of, line_between}
 use Rattle.break_lines.proofs.KeptSums.{kept_sums}
 use Rattle.break_lines.proofs.Places.{rising_places, begins_some, begins_before}
 use Rattle.break_lines.proofs.Marked.{line_at}

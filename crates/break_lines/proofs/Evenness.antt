@@ -11,7 +11,7 @@ use Rattle.break_lines.specs.declared.mark.MeasuredBreak.{MeasuredBreak}
 use Rattle.break_lines.specs.Legal.{legal_places}
 use Rattle.break_lines.specs.LineItems.{sums_of, first_item_kept, minus}
 use Rattle.break_lines.specs.Facts.{facts_of, position_of, begins_at}
-use Rattle.break_lines.specs.Marks.{measured_break, marks_of, no_sums, line_between, GoesOnEvenly}
+use Rattle.break_lines.specs.Private.Marks.{measured_break, marks_of, no_sums, line_between, GoesOnEvenly}
 use Rattle.break_lines.specs.Even.{Covers, HasNoNegativeFil, IsEven}
 use Rattle.break_lines.proofs.KeptSums.{kept_sums, kept_nothing, kept_some}
 use Rattle.break_lines.proofs.Places.{rising_places, begins_some, begins_before}

@@ -10,14 +10,15 @@ use Rattle.std.proofs.lemmas.Bool.Decides.{nat_tests}
 use Rattle.scaled_core.specs.Badness.{IsBadness, IsRatioBadness, badness_of, badness_ratio}
 use Rattle.scaled_core.proofs.BadnessLaws.{badness_of-is}
 use Rattle.node_core.specs.Classes.{is_zero}
-use Rattle.break_table.specs.declared.state.Fitness.{Fitness}
-use Rattle.break_table.specs.declared.state.Fitness.TheVariants.{VeryLoose, Loose, Decent, Tight}
+use Rattle.break_lines.specs.declared.state.Fitness.{Fitness}
+use Rattle.break_lines.specs.declared.state.Fitness.TheVariants.{VeryLoose, Loose, Decent, Tight}
 use Rattle.break_lines.specs.declared.sums.Sums.{Sums}
 use Rattle.break_lines.specs.declared.cost.LineFit.{LineFit}
 use Rattle.break_lines.specs.declared.cost.Bound.{Bound}
 use Rattle.break_lines.specs.declared.cost.Bound.TheVariants.{Any, AtMost}
 use Rattle.node_core.specs.declared.params.Params.{Params}
-use Rattle.break_lines.specs.Costs.{stretches_forever, stretched_class, shrunk_class, fit_short, fit_long, line_fit, is_loose, looseness_limit, is_loosest, loosest_line, line_of, admits}
+use Rattle.break_lines.specs.Costs.{stretches_forever, stretched_class, shrunk_class, fit_short, fit_long, line_fit, is_loose, looseness_limit, is_loosest, line_of, admits}
+use Rattle.break_lines.specs.Private.Costs.{loosest_line}
 use Rattle.break_lines.specs.Even.{Covers, HasNoNegativeFil}
 use Rattle.break_lines.proofs.Bounds.{ratio_most, badness_most}
 use Rattle.break_lines.proofs.Costs.{by_short, by_long}

@@ -10,12 +10,12 @@ use Rattle.node_core.specs.declared.tree.Node.{Node}
 use Rattle.node_core.specs.declared.tree.Order.TheVariants.{Normal, Fil, Fill, Filll}
 use Rattle.pack_core.specs.Items.{across, stretch_in, shrink_in}
 use Rattle.pack_core.specs.Totals.{total}
-use Rattle.break_table.proofs.Entries.{get_at}
+use Rattle.break_lines.proofs.Entries.{get_at}
 use Rattle.break_lines.specs.declared.mark.MeasuredBreak.{MeasuredBreak}
 use Rattle.break_lines.specs.Legal.{legal_places}
 use Rattle.break_lines.specs.LineItems.{sums_of, first_item_kept, minus}
 use Rattle.break_lines.specs.Facts.{facts_of, position_of, begins_at}
-use Rattle.break_lines.specs.Marks.{measured_break, start_mark, marks_of, no_sums, line_between}
+use Rattle.break_lines.specs.Private.Marks.{measured_break, start_mark, marks_of, no_sums, line_between}
 use Rattle.break_lines.proofs.KeptSums.{kept_nothing, kept_some}
 use Rattle.break_lines.proofs.Places.{place_at, begins_before}
 

@@ -4,8 +4,8 @@ use Rattle.std.specs.Prelude.{ℤ, ◌+ℤ◌, nat_lt, if◌then◌else◌}
 use Rattle.std.proofs.Math.Logic.{◌⊎◌, inl, inr}
 use Rattle.std.proofs.lemmas.Bool.{cases_Bool, cond-true, cond-false}
 use Rattle.node_core.specs.declared.params.Params.{Params}
-use Rattle.break_table.specs.declared.state.Fitness.{Fitness}
-use Rattle.break_table.specs.declared.state.LineCost.{LineCost}
+use Rattle.break_lines.specs.declared.state.Fitness.{Fitness}
+use Rattle.break_lines.specs.declared.state.LineCost.{LineCost}
 use Rattle.break_lines.specs.declared.cost.LineFit.{LineFit}
 use Rattle.break_lines.specs.declared.cost.Bound.{Bound}
 use Rattle.break_lines.specs.declared.sizes.LineFits.{LineFits}

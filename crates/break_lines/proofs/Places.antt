@@ -4,7 +4,7 @@ use Rattle.std.specs.Prelude.{ℤ, pos, int_lt, ◌<ℤ◌, slice_get}
 use Rattle.std.proofs.lemmas.Int.{ints}
 use Rattle.std.proofs.Math.Logic.{◌⊎◌, inl, inr}
 use Rattle.std.proofs.lemmas.Option.{same_Some, slice_get_within, get_or_from_slice_get}
-use Rattle.break_table.proofs.Entries.{get_at, get_cases}
+use Rattle.break_lines.proofs.Entries.{get_at, get_cases}
 use Rattle.std.specs.List.{filter}
 use Rattle.std.proofs.lemmas.List.Elements.{filter-append}
 use Rattle.std.proofs.lemmas.Bool.{cases_Bool, cond-true, cond-false}

@@ -4,7 +4,7 @@ use Rattle.std.specs.Prelude.{nat_lt}
 use Rattle.std.specs.List.{list_any}
 use Rattle.std.proofs.lemmas.Bool.Decides.{nat_tests}
 use Rattle.node_core.specs.declared.tree.Node.{Node}
-use Rattle.break_table.specs.Tables.{max_places}
+use Rattle.break_lines.specs.Problems.{max_places}
 use Rattle.node_core.specs.Classes.{shrinks_infinitely}
 use Rattle.break_lines.specs.Legal.{legal_places}
 use Rattle.break_lines.specs.Facts.{refusal}

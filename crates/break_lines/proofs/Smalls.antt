@@ -5,8 +5,9 @@ use Rattle.std.proofs.lemmas.Int.{ints}
 use Rattle.scaled_core.specs.Dimensions.{Within}
 use Rattle.node_core.specs.Nodes.{max_nodes}
 use Rattle.break_lines.specs.declared.sums.Sums.{Sums}
-use Rattle.break_lines.specs.Marks.{no_sums}
-use Rattle.break_lines.specs.SmallMarks.{IsPrefix, IsSmallSums}
+use Rattle.break_lines.specs.Private.Marks.{no_sums}
+use Rattle.break_lines.specs.LineItems.{IsSmallSums}
+use Rattle.break_lines.specs.Private.SmallMarks.{IsPrefix}
 
 -- Sums over few items are small enough for sums over the greatest number of items.
 pub wide : (n : ℕ) (s : Sums) → n ≤ max_nodes → IsPrefix n s → IsPrefix max_nodes s

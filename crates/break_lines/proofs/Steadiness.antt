@@ -11,7 +11,7 @@ use Rattle.break_lines.specs.declared.mark.MeasuredBreak.{MeasuredBreak}
 use Rattle.break_lines.specs.Legal.{legal_places}
 use Rattle.break_lines.specs.LineItems.{sums_of, first_item_kept, minus}
 use Rattle.break_lines.specs.Facts.{facts_of, position_of, begins_at}
-use Rattle.break_lines.specs.Marks.{measured_break, start_mark, marks_of, no_sums, line_between, RisesOn}
+use Rattle.break_lines.specs.Private.Marks.{measured_break, start_mark, marks_of, no_sums, line_between, RisesOn}
 use Rattle.break_lines.specs.Steady.{IsNoNarrower, IsRising, IsSteady}
 use Rattle.break_lines.proofs.Marked.{start_is, place_is, begin_is, line_at, count_is, got}
 use Rattle.break_lines.proofs.Places.{rising_places}

@@ -14,7 +14,7 @@ use Rattle.node_core.specs.declared.tree.Order.TheVariants.{Normal, Fil, Fill, F
 use Rattle.node_core.specs.Classes.{shrinks_infinitely}
 use Rattle.pack_core.specs.Items.{across, stretch_in, shrink_in}
 use Rattle.pack_core.specs.Totals.{total}
-use Rattle.break_table.specs.Tables.{max_places}
+use Rattle.break_lines.specs.Problems.{max_places}
 use Rattle.node_core.specs.Nodes.{max_nodes}
 use Rattle.break_lines.specs.declared.sums.Sums.{Sums}
 use Rattle.break_lines.specs.declared.mark.MeasuredBreak.{MeasuredBreak}
@@ -22,8 +22,8 @@ use Rattle.break_lines.specs.declared.walk.BreakWalk.{BreakWalk}
 use Rattle.break_lines.specs.Legal.{is_dropped, up_to, is_legal, is_break, node_before, legal_places, penalty_of}
 use Rattle.break_lines.specs.LineItems.{sums_of, next_kept}
 use Rattle.break_lines.specs.Facts.{refusal}
-use Rattle.break_lines.specs.Marks.{amounts_of, plus, no_sums, measured_break, width_in_run, HasMeasuredFrom}
-use Rattle.break_lines.specs.SmallMarks.{IsPrefix, IsSmallMark, AreSmallMarks}
+use Rattle.break_lines.specs.Private.Marks.{amounts_of, plus, no_sums, measured_break, width_in_run, HasMeasuredFrom}
+use Rattle.break_lines.specs.Private.SmallMarks.{IsPrefix, IsSmallMark, AreSmallMarks}
 use Rattle.break_lines.proofs.Amounts.{wider}
 use Rattle.break_lines.proofs.Places.{filter_passed, filter_refused, count_passed, lead_dropped, lead_kept, lead_end}
 

@@ -1,12 +1,13 @@
 -- The cost of a line: its badness, its class, its overhang and its demerits (TeX: The Program, part 38, §851 to §853 and §859).
-use Rattle.std.specs.Prelude.{◌+◌, ◌+ℤ◌, ◌-ℤ◌, ◌*ℤ◌, neg_ℤ, ℕ, zero, suc, ℤ, pos, negsuc, Bool, true, false, not, ◌&&◌, ◌||◌, nat_lt, nat_le, int_lt, int_le, unsigned_abs, Option, Some, None, if◌then◌else◌}
+use Rattle.std.specs.Prelude.{◌+◌, ◌+ℤ◌, ◌-ℤ◌, ◌*ℤ◌, neg_ℤ, ℕ, zero, suc, ℤ, pos, negsuc, Bool, true, false, not, ◌&&◌, ◌||◌, nat_lt, nat_le, int_lt}
+use Rattle.std.specs.Prelude.{int_le, unsigned_abs, Option, Some, None, if◌then◌else◌}
 use Rattle.scaled_core.specs.Badness.{badness_of}
 use Rattle.pack_core.specs.Glue.{is_zero}
 use Rattle.node_core.specs.declared.params.Params.{Params}
-use Rattle.break_table.specs.declared.state.Fitness.{Fitness}
-use Rattle.break_table.specs.declared.state.Fitness.TheVariants.{VeryLoose, Loose, Decent, Tight}
-use Rattle.break_table.specs.declared.state.LineCost.{LineCost}
-use Rattle.break_table.specs.Problems.{rank}
+use Rattle.break_lines.specs.declared.state.Fitness.{Fitness}
+use Rattle.break_lines.specs.declared.state.Fitness.TheVariants.{VeryLoose, Loose, Decent, Tight}
+use Rattle.break_lines.specs.declared.state.LineCost.{LineCost}
+use Rattle.break_lines.specs.Problems.{rank}
 use Rattle.break_lines.specs.declared.sums.Sums.{Sums}
 use Rattle.break_lines.specs.declared.cost.LineFit.{LineFit}
 use Rattle.break_lines.specs.declared.cost.Bound.{Bound}
@@ -104,10 +105,6 @@ looseness_limit (AtMost most) = if int_lt (pos 9999) most then pos 9999 else mos
 -- Whether a line is stretched, and its badness is above this limit (own: and above 12).
 unfoldable pub is_loosest : Bound → LineFit → Bool
 is_loosest bound line = is_loose line.class && int_lt (looseness_limit bound) (pos line.badness)
-
--- A line that is stretched as badly as can be (own).
-abbrev pub loosest_line : LineFit
-loosest_line = record { overfull = false; badness = 10000; class = VeryLoose; overhang = pos 0 }
 
 -- The line, if the bound admits it.
 unfoldable pub line_of : Params → Bound → (penalty : ℤ) → (before : Fitness) → LineFit → Option LineCost

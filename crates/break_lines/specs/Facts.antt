@@ -4,7 +4,7 @@ use Rattle.std.specs.Prelude.{◌-◌, ℕ, zero, suc, ℤ, List, length, get_or
 use Rattle.std.specs.List.{list_any}
 use Rattle.node_core.specs.declared.tree.Node.{Node}
 use Rattle.node_core.specs.Classes.{shrinks_infinitely}
-use Rattle.break_table.specs.Tables.{max_places}
+use Rattle.break_lines.specs.Problems.{max_places}
 use Rattle.break_lines.specs.declared.sums.Sums.{Sums}
 use Rattle.break_lines.specs.declared.fault.BreakFault.{BreakFault}
 use Rattle.break_lines.specs.declared.fault.BreakFault.TheVariants as faults

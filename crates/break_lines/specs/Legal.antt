@@ -1,5 +1,6 @@
 -- The legal places of a finished horizontal list (TeX: The Program, part 38, §816; part 39, §866 to §869).
-use Rattle.std.specs.Prelude.{◌+◌, ◌++◌, ℕ, zero, suc, ℤ, pos, negsuc, Bool, true, false, int_lt, int_le, List, [], ◌∷◌, length, slice_get, Option, Some, None, filter}
+use Rattle.std.specs.Prelude.{◌+◌, ◌++◌, ℕ, zero, suc, ℤ, pos, negsuc, Bool, true, false, int_lt, int_le, List, [], ◌∷◌, length, slice_get, Option}
+use Rattle.std.specs.Prelude.{Some, None, filter}
 use Rattle.node_core.specs.declared.tree.Node.{Node}
 use Rattle.node_core.specs.declared.tree.Node.TheVariants as nodes
 use Rattle.node_core.specs.declared.tree.Kind.TheVariants.{Horizontal}

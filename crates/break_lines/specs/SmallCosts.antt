@@ -1,8 +1,8 @@
--- The numbers of lines are small (own; no public clause of the crates that use this one speaks of them).
+-- The numbers of lines are small (own).
 use Rattle.std.specs.Prelude.{◌≤◌}
 use Rattle.scaled_core.specs.Dimensions.{Within}
-use Rattle.break_table.specs.Tables.{max_overhang}
-use Rattle.break_table.specs.declared.state.LineCost.{LineCost}
+use Rattle.break_lines.specs.Tables.{max_overhang}
+use Rattle.break_lines.specs.declared.state.LineCost.{LineCost}
 use Rattle.break_lines.specs.declared.cost.LineFit.{LineFit}
 pub use Rattle.break_lines.specs.LineItems.{IsSmallSums}
 

@@ -2,12 +2,14 @@
 
 ghost use Rattle.std.specs.Prelude.{◌≡◌, ◌≤◌, ◌<ℤ◌, ◌≤ℤ◌, ◌*ℤ◌, ◌+ℤ◌, ◌+◌, ◌^◌, pos, IfSome};
 ghost use Rattle.scaled_core.specs.Dimensions.{Within};
-ghost use Rattle.break_table.specs.Tables.{IsSmallLine};
-ghost use Rattle.break_lines.specs.Costs.{stretched_class, shrunk_class, stretches_forever, fit_short, fit_long, line_fit, is_loose, looseness_limit, is_loosest, base_demerits, penalty_demerits, is_apart, adjacent_demerits, admits, line_alone, line_after, after_class};
+ghost use Rattle.break_lines.specs.Tables.{IsSmallLine};
+ghost use Rattle.break_lines.specs.Costs.{stretched_class, shrunk_class, stretches_forever, fit_short, fit_long, line_fit, is_loose, looseness_limit};
+ghost use Rattle.break_lines.specs.Costs.{is_loosest, base_demerits, penalty_demerits, is_apart, adjacent_demerits, admits, line_alone, line_after};
+ghost use Rattle.break_lines.specs.Costs.{after_class};
 ghost use Rattle.break_lines.specs.SmallCosts.{IsSmallSums, IsSmallLineFit, IsSmallAlone};
 
 use crate::sums::Sums;
-use break_table::{Fitness, LineCost};
+use crate::{Fitness, LineCost};
 use node_core::{IntParameter, Params};
 use scaled_core::{Dimen, badness};
 
@@ -41,6 +43,7 @@ impl LineFit {
 
 /// The class of a stretched line, by its badness.
 #[tactic(auto, unfolding(crate::specs::Costs::stretched_class))]
+#[inline]
 fn stretched_class(badness: u32) -> Fitness
     ensures { result ≡ stretched_class badness }
 {
@@ -55,6 +58,7 @@ fn stretched_class(badness: u32) -> Fitness
 
 /// The class of a shrunk line, by its badness.
 #[tactic(auto, unfolding(crate::specs::Costs::shrunk_class))]
+#[inline]
 fn shrunk_class(badness: u32) -> Fitness
     ensures { result ≡ shrunk_class badness }
 {
@@ -66,6 +70,7 @@ fn shrunk_class(badness: u32) -> Fitness
 
 /// Whether the total stretch of an infinite order is not 0.
 #[tactic(auto, unfolding(crate::specs::Costs::stretches_forever))]
+#[inline]
 fn stretches_forever(sums: &Sums) -> bool
     ensures { result ≡ stretches_forever sums.now }
 {
@@ -80,6 +85,7 @@ fn stretches_forever(sums: &Sums) -> bool
 
 /// How a line is set that is too short by an amount.
 #[tactic(auto, unfolding(crate::specs::Costs::fit_short))]
+#[inline]
 fn fit_short(sums: &Sums, amount: i64) -> LineFit
     requires amount_positive { pos 0 <ℤ amount }
     requires amount_bounded { Within (2 ^ 50) amount }
@@ -106,6 +112,7 @@ fn fit_short(sums: &Sums, amount: i64) -> LineFit
 
 /// How a line is set that is too long by an amount, or fits.
 #[tactic(auto, unfolding(crate::specs::Costs::fit_long))]
+#[inline]
 fn fit_long(sums: &Sums, amount: i64) -> LineFit
     requires amount_not_negative { pos 0 ≤ℤ amount }
     requires amount_bounded { Within (2 ^ 49 + 2 ^ 31) amount }
@@ -147,6 +154,7 @@ pub fn fit_line(sums: &Sums, size: Dimen) -> LineFit
 
 /// The demerits of a line for its badness. They are at most 100,000,000, as for badness 10000 with linepenalty 0.
 #[tactic(auto, unfolding(crate::specs::Costs::base_demerits))]
+#[inline]
 fn base_demerits(params: &Params, badness: u32) -> i64
     requires { badness ≤ 10000 }
     ensures value { result ≡ base_demerits params.now badness }
@@ -164,6 +172,7 @@ fn base_demerits(params: &Params, badness: u32) -> i64
 
 /// The demerits of a break for its penalty, which is below 10000.
 #[tactic(auto, unfolding(crate::specs::Costs::penalty_demerits))]
+#[inline]
 fn penalty_demerits(penalty: i32) -> i64
     requires { penalty <ℤ pos 10000 }
     ensures value { result ≡ penalty_demerits penalty }
@@ -181,6 +190,7 @@ fn penalty_demerits(penalty: i32) -> i64
 
 /// Whether two classes are visually incompatible.
 #[tactic(auto, unfolding(crate::specs::Costs::is_apart))]
+#[inline]
 fn is_apart(before: Fitness, class: Fitness) -> bool
     ensures { result ≡ is_apart before class }
 {
@@ -192,6 +202,7 @@ fn is_apart(before: Fitness, class: Fitness) -> bool
 
 /// The demerits for a line whose class is visually incompatible with that of the line before.
 #[tactic(auto, unfolding(crate::specs::Costs::adjacent_demerits))]
+#[inline]
 fn adjacent_demerits(params: &Params, before: Fitness, class: Fitness) -> i64
     ensures value { result ≡ adjacent_demerits params.now before class }
     ensures value_bounded { Within 500000000 result }
@@ -204,6 +215,7 @@ fn adjacent_demerits(params: &Params, before: Fitness, class: Fitness) -> i64
 
 /// Whether a bound admits a line.
 #[tactic(auto, unfolding(crate::specs::Costs::admits))]
+#[inline]
 fn admits(bound: &Bound, line: &LineFit) -> bool
     requires { IsSmallLineFit line.now }
     ensures { result ≡ admits bound.now line.now }
@@ -221,6 +233,7 @@ fn admits(bound: &Bound, line: &LineFit) -> bool
 
 /// Whether lines of a class are stretched by more than a badness of 12.
 #[tactic(auto, unfolding(crate::specs::Costs::is_loose))]
+#[inline]
 fn is_loose(class: Fitness) -> bool
     ensures { result ≡ is_loose class }
 {
@@ -235,6 +248,7 @@ fn is_loose(class: Fitness) -> bool
 /// A badness above which all stretched lines cost the same in a pass with a bound: the bound, since none of them is admitted, and at most 9999, since
 /// all of them have badness 10000.
 #[tactic(auto, unfolding(crate::specs::Costs::looseness_limit))]
+#[inline]
 fn looseness_limit(bound: &Bound) -> i64
     ensures { result ≡ looseness_limit bound.now }
 {
@@ -263,6 +277,7 @@ pub fn is_loosest(bound: &Bound, line: &LineFit) -> bool
 }
 
 /// The demerits of a line that ends at a penalty, without those for the class of the line before it.
+#[inline]
 fn alone_demerits(params: &Params, penalty: i32, badness: u32) -> i64
     requires badness { badness ≤ 10000 }
     requires penalty { penalty <ℤ pos 10000 }
@@ -275,6 +290,7 @@ fn alone_demerits(params: &Params, penalty: i32, badness: u32) -> i64
 
 /// The line that ends at a penalty, if the bound admits it, without the demerits for the class of the line before it.
 #[tactic(auto, unfolding(crate::specs::Costs::line_alone))]
+#[inline]
 pub fn line_alone(params: &Params, bound: &Bound, penalty: i32, line: &LineFit) -> Option<LineCost>
     requires penalty { penalty <ℤ pos 10000 }
     requires fit_bounded { IsSmallLineFit line.now }
@@ -292,6 +308,7 @@ pub fn line_alone(params: &Params, bound: &Bound, penalty: i32, line: &LineFit) 
 }
 
 /// The line after a line of this class, given the line without the demerits for that class.
+#[inline]
 pub fn line_after(params: &Params, before: Fitness, alone: &LineCost) -> LineCost
     requires { IsSmallAlone alone.now }
     ensures value { result ≡ line_after params.now before alone.now }

@@ -3,8 +3,9 @@
 ghost use Rattle.std.specs.Prelude.{◌≡◌, ◌<ℤ◌, pos, true, List};
 ghost use Rattle.node_core.specs.declared.tree.Node.{Node};
 ghost use Rattle.break_lines.specs.Facts.{facts_of};
-ghost use Rattle.break_lines.specs.Marks.{marks_of, line_between};
-ghost use Rattle.break_lines.specs.SmallMarks.{AreSmallMarks, IsSmallMark, IsSmallSums};
+ghost use Rattle.break_lines.specs.Private.Marks.{marks_of, line_between};
+ghost use Rattle.break_lines.specs.LineItems.{IsSmallSums};
+ghost use Rattle.break_lines.specs.Private.SmallMarks.{AreSmallMarks, IsSmallMark};
 ghost use Rattle.break_lines.specs.Steady.{IsSteady};
 ghost use Rattle.break_lines.specs.Divided.{IsLess, IsDivided};
 

@@ -3,8 +3,8 @@
 ghost use Rattle.std.specs.Prelude.{◌≡◌, true, List};
 ghost use Rattle.node_core.specs.declared.tree.Node.{Node};
 ghost use Rattle.break_lines.specs.Facts.{facts_of};
-ghost use Rattle.break_lines.specs.Marks.{marks_of, GoesOnEvenly};
-ghost use Rattle.break_lines.specs.SmallMarks.{AreSmallMarks, IsPrefix, IsSmallMark};
+ghost use Rattle.break_lines.specs.Private.Marks.{marks_of, GoesOnEvenly};
+ghost use Rattle.break_lines.specs.Private.SmallMarks.{AreSmallMarks, IsPrefix, IsSmallMark};
 ghost use Rattle.node_core.specs.Nodes.{max_nodes};
 ghost use Rattle.break_lines.specs.Even.{Covers, IsEven};
 

@@ -7,16 +7,16 @@ ghost use Rattle.std.specs.Prelude.{◌≡◌, ◌+◌, ◌^◌, ℕ, IfSome};
 ghost use Rattle.scaled_core.specs.Dimensions.{Within};
 ghost use Rattle.node_core.specs.declared.tree.Node.TheVariants as nodes;
 ghost use Rattle.node_core.specs.Nodes.{max_nodes};
-ghost use Rattle.break_lines.specs.LineItems.{minus};
-ghost use Rattle.break_lines.specs.Marks.{amounts_of, plus, width_in_run, stretch_alone, shrink_alone};
-ghost use Rattle.break_lines.specs.SmallMarks.{IsPrefix, IsSmallSums};
+ghost use Rattle.break_lines.specs.LineItems.{minus, IsSmallSums};
+ghost use Rattle.break_lines.specs.Private.Marks.{amounts_of, plus, width_in_run, stretch_alone, shrink_alone};
+ghost use Rattle.break_lines.specs.Private.SmallMarks.{IsPrefix};
 
 pub use crate::sums::Sums;
 use node_core::{Glue, Kind, Node, Order};
 use pack_core::advance_of;
 
 /// The width of a glyph or a font kern, in scaled points: all that it adds to the sums. None for other items.
-#[tactic(auto, unfolding(crate::specs::Marks::width_in_run))]
+#[tactic(auto, unfolding(crate::specs::Private::Marks::width_in_run))]
 pub fn width_in_run(node: &Node) -> Option<i64>
     ensures value { result ≡ width_in_run node.now }
     ensures width_bounded { IfSome result (Within (2 ^ 31)) }
@@ -82,6 +82,7 @@ pub fn add_item(sums: &mut Sums, node: &Node)
 }
 
 /// The difference of two sums.
+#[inline]
 pub fn minus(all: &Sums, rest: &Sums) -> Sums
     requires all { IsPrefix max_nodes all.now }
     requires rest_bounded { IsPrefix max_nodes rest.now }

@@ -3,9 +3,9 @@
 ghost use Rattle.std.specs.Prelude.{◌≡◌, ◌≤◌, ◌<ℤ◌, ◌≤ℤ◌, ℕ, ℤ, pos, true, false, ◌&&◌};
 ghost use Rattle.node_core.specs.declared.params.Params.{Params};
 ghost use Rattle.node_core.specs.Parameters.{first_params};
-ghost use Rattle.break_table.specs.declared.state.Fitness.TheVariants.{VeryLoose, Decent, Tight};
+ghost use Rattle.break_lines.specs.declared.state.Fitness.TheVariants.{VeryLoose, Decent, Tight};
 ghost use Rattle.break_lines.specs.declared.sums.Sums.{Sums};
-ghost use Rattle.break_table.specs.declared.state.Fitness.{Fitness};
+ghost use Rattle.break_lines.specs.declared.state.Fitness.{Fitness};
 ghost use Rattle.break_lines.specs.declared.cost.LineFit.{LineFit};
 ghost use Rattle.break_lines.specs.declared.cost.Bound.{Bound};
 ghost use Rattle.break_lines.specs.Costs.{line_fit, demerits_of, line_of, line_alone, after_class};

@@ -7,10 +7,10 @@ ghost use Rattle.break_lines.specs.Facts.{facts_of, refusal};
 ghost use Rattle.break_lines.specs.Steady.{IsSteady};
 ghost use Rattle.break_lines.specs.Even.{IsEven};
 ghost use Rattle.node_core.specs.Nodes.{max_nodes};
-ghost use Rattle.break_table.specs.Problems.{max_places};
+ghost use Rattle.break_lines.specs.Problems.{max_places};
 ghost use Rattle.break_lines.specs.Legal.{legal_places};
-ghost use Rattle.break_lines.specs.Marks.{marks_of};
-ghost use Rattle.break_lines.specs.SmallMarks.{AreSmallMarks};
+ghost use Rattle.break_lines.specs.Private.Marks.{marks_of};
+ghost use Rattle.break_lines.specs.Private.SmallMarks.{AreSmallMarks};
 
 use crate::dividing::is_divided;
 use crate::even::is_even;
@@ -113,10 +113,12 @@ impl<'a> Meter for ListMeter<'a> {
 
     ghost trials = { λ m from. get_or m.trials.items from 0 };
 
+    #[inline]
     fn places(&self) -> usize {
         self.marks.len() - 1
     }
 
+    #[inline]
     fn place(&self, number: usize) -> Breakpoint {
         let mark = &self.marks[number];
         Breakpoint {
@@ -129,6 +131,7 @@ impl<'a> Meter for ListMeter<'a> {
         self.steady
     }
 
+    #[inline]
     fn try_line(&mut self, from: usize, to: usize) -> Sums {
         self.trials[from] += 1;
         self.marks[from].line_to(&self.marks[to])

@@ -1,8 +1,9 @@
 //! The places of a list, as its meter stores them.
 
 ghost use Rattle.std.specs.Prelude.{◌≡◌};
-ghost use Rattle.break_lines.specs.SmallMarks.{IsSmallMark, IsSmallSums};
-ghost use Rattle.break_lines.specs.Marks.{line_between};
+ghost use Rattle.break_lines.specs.LineItems.{IsSmallSums};
+ghost use Rattle.break_lines.specs.Private.SmallMarks.{IsSmallMark};
+ghost use Rattle.break_lines.specs.Private.Marks.{line_between};
 
 use crate::item_sums::{Sums, minus};
 
@@ -19,6 +20,7 @@ pub struct MeasuredBreak {
 
 impl MeasuredBreak {
     /// The sums over the items of the line to a later place. A line to a place among the items that are dropped at its beginning is empty.
+    #[inline]
     pub fn line_to(&self, end: &MeasuredBreak) -> Sums
         requires here { IsSmallMark self.now }
         requires there { IsSmallMark end.now }

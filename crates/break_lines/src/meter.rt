@@ -1,7 +1,7 @@
 //! Meters: what the breaker knows about a paragraph.
 
 ghost use Rattle.std.specs.Prelude.{◌≡◌, ◌≢◌, ◌+◌, ◌<◌, ◌≤◌, ◌^◌, ◌<ℤ◌, pos, ℕ, true};
-ghost use Rattle.break_table.specs.Problems.{max_places};
+ghost use Rattle.break_lines.specs.Problems.{max_places};
 ghost use Rattle.break_lines.specs.Legal.{is_forced};
 ghost use Rattle.break_lines.specs.Facts.{Facts};
 ghost use Rattle.break_lines.specs.LineItems.{IsSmallSums};
@@ -21,6 +21,7 @@ pub struct Breakpoint {
 
 impl Breakpoint {
     /// Whether a break at the place is forced.
+    #[inline]
     pub fn is_forced(self) -> bool
         ensures { result ≡ is_forced self.penalty }
     {

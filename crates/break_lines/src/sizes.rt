@@ -1,14 +1,14 @@
 //! The widths of lines.
 
 ghost use Rattle.std.specs.Prelude.{◌≡◌, ◌<ℤ◌, ◌&&◌, true, pos, nat_lt, IfSome, None, if◌then◌else◌};
-ghost use Rattle.break_table.specs.Tables.{IsSmallLine};
+ghost use Rattle.break_lines.specs.Tables.{IsSmallLine};
 ghost use Rattle.break_lines.specs.Costs.{line_fit, line_alone, after_class};
 ghost use Rattle.break_lines.specs.SmallCosts.{IsSmallSums, IsSmallAlone};
 ghost use Rattle.break_lines.specs.Sizes.{line_size, greatest_size, line_fits, IsSmallLineFits, IsSmallCosts};
 
 use crate::cost::{Bound, LineFit, after_class, fit_line, line_alone};
 use crate::sums::Sums;
-use break_table::{BreakState, LineCost};
+use crate::{BreakState, LineCost};
 use node_core::Params;
 use scaled_core::Dimen;
 
@@ -53,7 +53,8 @@ impl LineFits {
     pub fn alone(&self, params: &Params, bound: &Bound, penalty: i32) -> Alone
         requires penalty { penalty <ℤ pos 10000 }
         requires fit_bounded { IsSmallLineFits self.now }
-        ensures first { result.first ≡ line_alone params.now bound.now penalty (if nat_lt 0 params.now.first_lines then self.now.first else self.now.rest) }
+        ensures first { result.first ≡ line_alone params.now bound.now penalty (if nat_lt 0 params.now.first_lines then self.now.first
+            else self.now.rest) }
         ensures later_lines { result.rest ≡ line_alone params.now bound.now penalty self.now.rest }
         ensures costs_bounded { IsSmallCosts result }
     {
@@ -95,7 +96,8 @@ impl Alone {
     /// The line after another one, if it is admitted.
     pub fn after(&self, params: &Params, before: BreakState) -> Option<LineCost>
         requires { IsSmallCosts self.now }
-        ensures value { result ≡ after_class params.now before.class (if nat_lt before.lines params.now.first_lines then self.now.first else self.now.rest) }
+        ensures value { result ≡ after_class params.now before.class (if nat_lt before.lines params.now.first_lines then self.now.first
+            else self.now.rest) }
         ensures line_bounded { IfSome result IsSmallLine }
     {
         if usize::from(before.lines) < params.first_lines.get() {

@@ -3,8 +3,9 @@
 ghost use Rattle.std.specs.Prelude.{◌≡◌, true, List};
 ghost use Rattle.node_core.specs.declared.tree.Node.{Node};
 ghost use Rattle.break_lines.specs.Facts.{facts_of};
-ghost use Rattle.break_lines.specs.Marks.{marks_of, RisesOn};
-ghost use Rattle.break_lines.specs.SmallMarks.{AreSmallMarks, IsSmallMark, IsSmallSums};
+ghost use Rattle.break_lines.specs.Private.Marks.{marks_of, RisesOn};
+ghost use Rattle.break_lines.specs.LineItems.{IsSmallSums};
+ghost use Rattle.break_lines.specs.Private.SmallMarks.{AreSmallMarks, IsSmallMark};
 ghost use Rattle.break_lines.specs.Steady.{IsNoNarrower, IsSteady};
 
 use crate::item_sums::Sums;

@@ -27,6 +27,7 @@ impl Sums {
     };
 
     /// The width of the line when it shrinks as far as it can.
+    #[inline]
     pub fn least_width(&self) -> i64
         requires sums_bounded { IsSmallSums self.now }
         ensures { result ≡ least_width self.now }

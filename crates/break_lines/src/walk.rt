@@ -3,7 +3,7 @@
 ghost use Rattle.std.specs.Prelude.{◌≡◌, ◌≢◌, ◌+◌, ◌<◌, ◌≤◌, true, false, length, get_or, vec_capacity, vec_len, IsSome, IfOk, OnOk, MatchOption};
 ghost use Rattle.node_core.specs.Nodes.{max_nodes};
 ghost use Rattle.break_lines.specs.Facts.{refusal};
-ghost use Rattle.break_lines.specs.Marks.{HasMeasuredFrom, IsMarked};
+ghost use Rattle.break_lines.specs.Private.Marks.{HasMeasuredFrom, IsMarked};
 
 use crate::item_sums::{Sums, add_item, width_in_run};
 use crate::list::{MAX_PLACES, is_dropped, is_legal, penalty_at};

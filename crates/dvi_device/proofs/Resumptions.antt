@@ -6,7 +6,8 @@ use Rattle.std.proofs.lemmas.Bool.{eqb-true, eq-eqb}
 use Rattle.std.proofs.Math.Seq.{take-add, take-length, drop-append_seam, drop-length}
 use Rattle.std.proofs.lemmas.List.{drop-append-le, append-nil, length-take, length-take-le, take_min, take-append-drop}
 use Rattle.dvi_device.specs.Written.{written_then, IsFrontOf}
-use Rattle.dvi_device.specs.Resumed.{written_since, IsResumed, GoesOnAs, PassesOn}
+use Rattle.dvi_device.specs.Resumed.{written_since, GoesOnAs, PassesOn}
+use Rattle.dvi_device.specs.Private.Resumed.{IsResumed}
 use Rattle.dvi_device.proofs.Tellings.{grown-grown}
 
 grown_none : (bytes_written : Option (List ℕ)) → written_then bytes_written [] ≡ bytes_written

@@ -5,3 +5,4 @@ pub mod Resumed
 pub mod Beginnings
 pub mod Pasts
 pub mod Seen
+pub mod Private

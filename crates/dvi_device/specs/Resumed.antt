@@ -1,5 +1,5 @@
 -- A device around another one, for a file whose beginning was sent before (own).
-use Rattle.std.specs.Prelude.{◌≡◌, ◌≤◌, ◌<◌, ◌⊎◌, ◌++◌, [], ℕ, List, length, take, drop, Option, Some, None}
+use Rattle.std.specs.Prelude.{◌≡◌, ◌⊎◌, ◌++◌, ℕ, List, length, take, drop, Option, Some, None}
 use Rattle.dvi_device.specs.Written.{written_then, IsFrontOf}
 use Rattle.dvi_device.specs.Beginnings.{Beginning}
 use Rattle.dvi_device.specs.Pasts.{Past}
@@ -31,20 +31,13 @@ began_by bytes_written failed r = record { sent = r.sent; bytes_written = bytes_
 abbrev pub past_by : {D : Type 0} → (D → Option (List ℕ)) → (D → ℕ) → Resumed D → Past
 past_by bytes_written failed r = record { made = began_by bytes_written failed r; left = drop r.met r.sent; differing = r.failures }
 
--- The inner device got bytes since the start, and none before all of `sent` was met.
-pub record IsResumed (before now : Option (List ℕ)) (sent : List ℕ) (met : ℕ) : Type 0 where
-  pub within : met ≤ length sent
-  pub since : List ℕ
-  pub got : now ≡ written_then before since
-  pub none : met < length sent → since ≡ []
-
 -- The bytes are a beginning of `sent` and nothing was sent on; or they begin with `sent`, and the inner device got those after it.
 abbrev pub GoesOnAs : List ℕ → Option (List ℕ) → Option (List ℕ) → List ℕ → Type 0
 GoesOnAs sent before now bytes =
     (IsFrontOf bytes sent × (now ≡ before)) ⊎ ((since : List ℕ) × (bytes ≡ sent ++ since) × (now ≡ written_then before since))
 
--- What is reported around a device that reported `before` and now reports `now`: nothing, and that device still reports nothing; or bytes, with which it
--- goes on.
+-- What is reported around a device that reported `before` and now reports `now`: nothing, and that device still reports nothing; or bytes, with which
+-- it goes on.
 abbrev pub PassesOn : List ℕ → (before now reported : Option (List ℕ)) → Type 0
 PassesOn sent None now None = now ≡ None
 PassesOn sent None now (Some bytes) = ⊥

@@ -11,4 +11,9 @@ pub record DeviceView (D : Type 0) : Type 0 where
 
 -- A device as contracts see it, by what they know of each device of its kind.
 abbrev pub device_view : {D : Type 0} → (bytes_written : D → Option (List ℕ)) → (failed : D → ℕ) → (past : D → Past) → D → DeviceView D
-device_view bytes_written failed past device = record { itself = device; bytes_written = bytes_written device; failed = failed device; past = past device }
+device_view bytes_written failed past device = record {
+  itself = device;
+  bytes_written = bytes_written device;
+  failed = failed device;
+  past = past device;
+}

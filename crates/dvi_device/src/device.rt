@@ -26,8 +26,8 @@ pub trait Device {
     /// The number of writes that have failed.
     ghost failed: { Self → ℕ };
 
-    /// What the device was made with, which no write changes; the bytes sent before that it has still to meet; and the number of its own failures. A device
-    /// that passes its bytes to no other has no past.
+    /// What the device was made with, which no write changes; the bytes sent before that it has still to meet; and the number of its own failures. A
+    /// device that passes its bytes to no other has no past.
     ghost past: { Self → Past } = { λ _. no_past };
 
     /// What is known of a call of `write` beyond its clauses: of the device before it, the piece, the result and the device after it.

@@ -22,7 +22,8 @@ impl Model for Fuse {
 
     ghost Value = { Fused };
 
-    ghost view = { λ fuse. record { bytes = fuse.bytes.items; capacity = vec_capacity fuse.bytes; most = fuse.most; left = fuse.left; failures = fuse.failures } };
+    ghost view = { λ fuse.
+        record { bytes = fuse.bytes.items; capacity = vec_capacity fuse.bytes; most = fuse.most; left = fuse.left; failures = fuse.failures } };
 
     ghost invariant = { λ fuse. 1 ≤ fuse.most };
 }

@@ -19,13 +19,15 @@ pub struct Rest<D: Device> {
 
 impl<D: Device> Model for Rest<D> {
     ghost use Rattle.std.specs.Prelude.{◌<◌, ◌+◌, ◌^◌};
-    ghost use Rattle.dvi_device.specs.Resumed.{Resumed, IsResumed};
+    ghost use Rattle.dvi_device.specs.Resumed.{Resumed};
+    ghost use Rattle.dvi_device.specs.Private.Resumed.{IsResumed};
 
     ghost Value = { Resumed D };
 
     ghost view = { λ r. record { device = r.device; start = r.start.seen; sent = r.sent.items; met = r.met; failures = r.failures } };
 
-    ghost invariant = { λ r. IsResumed (D.bytes_written r.start.seen) (D.bytes_written r.device) r.sent.items r.met × (D.failed r.device + r.failures < 2 ^ 64) };
+    ghost invariant = { λ r. IsResumed (D.bytes_written r.start.seen) (D.bytes_written r.device) r.sent.items r.met
+        × (D.failed r.device + r.failures < 2 ^ 64) };
 }
 
 /// The number of bytes in which two texts agree, from their start.
@@ -70,7 +72,8 @@ impl<D: Device> Rest<D> {
         ensures passes_on { PassesOn self.sent (D.bytes_written self.start) (D.bytes_written result) (written_by D.bytes_written self) }
         ensures rest_sent { (whole : List ℕ) → IfSome (written_by D.bytes_written self) (λ bytes. bytes ≡ whole) → IsFrontOf self.sent whole
             → D.bytes_written result ≡ written_then (D.bytes_written self.start) (drop (length self.sent) whole) }
-        ensures whole { (whole : List ℕ) → IfSome (written_by D.bytes_written self) (λ bytes. bytes ≡ whole) → IsFrontOf self.sent whole → D.bytes_written self.start ≡ Some self.sent
+        ensures whole { (whole : List ℕ) → IfSome (written_by D.bytes_written self) (λ bytes. bytes ≡ whole) → IsFrontOf self.sent whole
+            → D.bytes_written self.start ≡ Some self.sent
             → D.bytes_written result ≡ Some whole }
     {
         let Rest {
@@ -102,22 +105,26 @@ impl<D: Device> Device for Rest<D> {
         requires piece_not_empty { 0 < length piece.now }
         requires countable { D.failed self.old.device + self.old.failures + 1 < 2 ^ 64 }
         ensures count_bounded { IfOk result (λ n. (1 ≤ n) × (n ≤ length piece.now)) }
-        ensures taken { IfOk result (λ n. written_by D.bytes_written self.new ≡ written_then (written_by D.bytes_written self.old) (take n piece.now)) }
+        ensures taken { IfOk result (λ n. written_by D.bytes_written self.new
+            ≡ written_then (written_by D.bytes_written self.old) (take n piece.now)) }
         ensures stands { OnOk result (D.failed self.new.device + self.new.failures ≡ D.failed self.old.device + self.old.failures) }
         ensures none_taken { OnErr result (written_by D.bytes_written self.new ≡ written_by D.bytes_written self.old) }
         ensures counted { OnErr result (D.failed self.new.device + self.new.failures ≡ D.failed self.old.device + self.old.failures + 1) }
 
-        // Until all of `sent` was met, the inner device is unchanged, each byte that is taken is the next one of `sent`, and only a byte that differs is a
-        // failure. After that, only failures of the inner device are. This holds too where the inner device does not report what it took.
+        // Until all of `sent` was met, the inner device is unchanged, each byte that is taken is the next one of `sent`, and only a byte that differs
+        // is a failure. After that, only failures of the inner device are. This holds too where the inner device does not report what it took.
         ensures sent { (self.new.sent ≡ self.old.sent) × (self.new.start ≡ self.old.start) }
-        ensures past { Compares (drop self.old.met self.old.sent) piece.now result (past_by D.bytes_written D.failed self.old) (past_by D.bytes_written D.failed self.new) }
+        ensures past { Compares (drop self.old.met self.old.sent) piece.now result (past_by D.bytes_written D.failed self.old)
+            (past_by D.bytes_written D.failed self.new) }
 
         // Once all of `sent` was met, a call is one call of the inner device with the whole piece.
         ensures gives { self.old.met ≡ length self.old.sent → D.write_gives self.old.device piece.now result self.new.device }
         ensures apart { self.old.met < length self.old.sent → self.new.device ≡ self.old.device }
         ensures own { self.old.met ≡ length self.old.sent → self.new.failures ≡ self.old.failures }
-        ensures met { IfOk result (λ n. self.old.met < length self.old.sent → (self.new.met ≡ self.old.met + n) × (take n piece.now ≡ take n (drop self.old.met self.old.sent))) }
-        ensures longest { IfOk result (λ n. self.old.met < length self.old.sent → n < length piece.now → self.old.met + n < length self.old.sent → slice_index self.old.sent (self.old.met + n) ≢ slice_index piece.now n) }
+        ensures met { IfOk result (λ n. self.old.met < length self.old.sent
+            → (self.new.met ≡ self.old.met + n) × (take n piece.now ≡ take n (drop self.old.met self.old.sent))) }
+        ensures longest { IfOk result (λ n. self.old.met < length self.old.sent → n < length piece.now → self.old.met + n < length self.old.sent
+            → slice_index self.old.sent (self.old.met + n) ≢ slice_index piece.now n) }
         ensures refused { self.old.met < length self.old.sent → slice_index self.old.sent self.old.met ≢ slice_index piece.now 0 → IsErr result }
         ensures passed { self.old.met ≡ length self.old.sent → self.new.met ≡ self.old.met }
         ensures unmet { OnErr result (self.new.met ≡ self.old.met) }

@@ -4,7 +4,7 @@ use Rattle.std.proofs.Math.Seq.{take-append_seam}
 use Rattle.std.proofs.lemmas.Bool.{le-ltb}
 use Rattle.std.proofs.lemmas.List.{append_cancel_right, length-append, take-append-drop}
 use Rattle.dvi_ops.specs.Instruction.{Instruction}
-use Rattle.dvi_ops.specs.Reading.{frame_at, read}
+use Rattle.dvi_ops.specs.Private.Reading.{frame_at, read}
 use Rattle.dvi_ops.specs.Table.{Spells}
 use Rattle.dvi_ops.proofs.Fronts.{got, same_first, same_rest}
 use Rattle.dvi_ops.proofs.ReadSpells.{read_spells}

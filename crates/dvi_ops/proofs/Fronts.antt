@@ -5,7 +5,7 @@ use Rattle.std.proofs.lemmas.Bool.{cases_lt, le-leb, lt-ltb, le-ltb, leb-true}
 use Rattle.std.proofs.lemmas.List.{length-append, length-drop, length-take-le, take-append-drop}
 use Rattle.byteorder.specs.Endian.{big_number, twos_complement}
 use Rattle.byteorder.specs.Numbers.{big_from-append, big_from-take}
-use Rattle.dvi_ops.specs.Reading.{Front, made, followed, cut, signed_at, half_at, byte_at, two_at, three_at, halves_at, words}
+use Rattle.dvi_ops.specs.Private.Reading.{Front, made, followed, cut, signed_at, half_at, byte_at, two_at, three_at, halves_at, words}
 use Rattle.dvi_ops.specs.Table.{signed, SpellsSigned, SaysEach, SaysShort}
 
 -- The two cases of a test.

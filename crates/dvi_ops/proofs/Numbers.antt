@@ -7,7 +7,7 @@ use Rattle.std.specs.Int.{w32, cast_signed}
 use Rattle.std.specs.Int.RustNames.{FitsSigned}
 use Rattle.byteorder.specs.Endian.{IsReadBy, big_number, twos_complement}
 use Rattle.byteorder.specs.Numbers.{big_from-lt}
-use Rattle.dvi_ops.specs.Reading.{words}
+use Rattle.dvi_ops.specs.Private.Reading.{words}
 use Rattle.dvi_ops.specs.Table.{signed}
 
 -- Proof by cases on a number from 1 to 4.

@@ -2,7 +2,7 @@
 use Rattle.std.proofs.Common.{ℕ, ℤ, pos, ◌≡◌, ◌≤◌, ◌<◌, ◌+◌, ◌-◌, List, [], ◌∷◌, ◌++◌, length, None, arith, inl, inr, refl, sym, ap, subst, ◌∙◌, append_assoc}
 use Rattle.byteorder.specs.Endian.{big_number}
 use Rattle.dvi_ops.specs.Instruction.{Axis, Across, Downward, First, Second, By, Set, Again, Definition, Units, Postamble, SetChar, PutChar, SetRule, PutRule, Nop, Move, FontNum, FontDef, Xxx, Instruction, Do, Push, Pop, Bop, Eop, Pre, Post, PostPost}
-use Rattle.dvi_ops.specs.Reading.{Front, made, followed, cut, signed_at, code_at, byte_at, two_at, three_at, halves_at, words, char_at, bop_at, plain_at, movement_at, font_at, text_at, names_at, definition_at, long_at, comment_at, pre_at, post_at, post_post_at, frame_at, read}
+use Rattle.dvi_ops.specs.Private.Reading.{Front, made, followed, cut, signed_at, code_at, byte_at, two_at, three_at, halves_at, words, char_at, bop_at, plain_at, movement_at, font_at, text_at, names_at, definition_at, long_at, comment_at, pre_at, post_at, post_post_at, frame_at, read}
 use Rattle.dvi_ops.specs.Table.{signed, code, IsCoded, IsRule, SaysUnits, SaysDefinition, Spells, plain_code, register_code}
 use Rattle.dvi_ops.proofs.Fronts.{got, split, same_first, same_rest, made_is, followed_is, cut_is, byte_is, number_is, word_is, two_is, three_is, halves_is, words_stand}
 

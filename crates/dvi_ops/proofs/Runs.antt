@@ -4,10 +4,10 @@ use Rattle.std.specs.Prelude.{pos, Result, Ok, Err, OnOk, OnErr}
 use Rattle.std.specs.List.{AllByRecursion, flat_map}
 use Rattle.std.proofs.lemmas.Grind.{flat_map-append}
 use Rattle.scaled_core.proofs.EachOf.{all_back}
-use Rattle.std.proofs.lemmas.List.{map-append, take_all, drop_all, take-append-le, drop-append-le, length-drop, length-append, drop_more, get_or_read}
+use Rattle.std.proofs.lemmas.List.{map-append, take_all, drop_all, take-append-le, drop-append-le, length-drop, length-append, drop_more, get_or_read, take-append-drop}
 use Rattle.dvi_ops.specs.Instruction.{SetChar, Instruction, Do}
 use Rattle.dvi_ops.specs.Layout.{bytes_of}
-use Rattle.dvi_ops.specs.Rising.{IsRising}
+use Rattle.dvi_ops.specs.Private.Rising.{IsRising}
 use Rattle.dvi_ops.specs.Runs.{characters, woven}
 use Rattle.dvi_ops.specs.Spelling.{HasSpelling, spelling}
 use Rattle.dvi_ops.specs.View.{body_view}
@@ -103,6 +103,20 @@ pub no_fewer :
     {A E : Type 0} (r : Result A E) (before after : List ℕ) (n : ℕ) → OnOk r (after ≡ before ++ n ∷ []) → OnErr r (after ≡ before) → length before ≤ length after
 no_fewer (Ok x) before after n ok err = omega (arith, ap length ok, length-append before (n ∷ []))
 no_fewer (Err e) before after n ok err = omega (arith, ap length err)
+
+-- The bytes of characters, of the first ones and of the others.
+pub characters_apart :
+    (n : ℕ) (codes before between after : List ℕ) → between ≡ before ++ bytes_of (characters (take n codes))
+    → after ≡ between ++ bytes_of (characters (take (length codes - n) (drop n codes))) → after ≡ before ++ bytes_of (characters codes)
+characters_apart n codes before between after first second =
+    let front = characters (take n codes) in
+    let back = characters (drop n codes) in
+    let all : take (length codes - n) (drop n codes) ≡ drop n codes = take_all (length codes - n) (drop n codes) (omega (arith, length-drop n codes)) in
+    let last : after ≡ between ++ bytes_of back = second ∙ ap (λ (cs : List ℕ). between ++ bytes_of (characters cs)) all in
+    let whole : front ++ back ≡ characters codes =
+    sym (map-append (λ (c : ℕ). Do (SetChar (pos c))) (take n codes) (drop n codes)) ∙ ap characters (take-append-drop n codes) in
+    let bytes : bytes_of front ++ bytes_of back ≡ bytes_of (characters codes) = sym (flat_map-append spelling front back) ∙ ap bytes_of whole in
+    last ∙ (ap (λ (bs : List ℕ). bs ++ bytes_of back) first ∙ (append_assoc before (bytes_of front) (bytes_of back) ∙ ap (λ (bs : List ℕ). before ++ bs) bytes))
 
 -- The same, where the codes are split at a count.
 pub woven_split :

@@ -3,7 +3,7 @@ use Rattle.std.proofs.Common.{ℕ, ℤ, pos, ◌≡◌, ◌≤◌, ◌<◌, ◌+
 use Rattle.std.proofs.lemmas.Bool.{lt-ltb, le-ltb}
 use Rattle.byteorder.specs.Endian.{big_number}
 use Rattle.dvi_ops.specs.Instruction.{Across, Downward, First, Second, By, Set, Again, Definition, Units, Postamble, BodyLeaf, SetChar, PutChar, SetRule, PutRule, Nop, Move, FontNum, FontDef, Xxx, Instruction, Do, Push, Pop, Bop, Eop, Pre, Post, PostPost}
-use Rattle.dvi_ops.specs.Reading.{made, cut, signed_at, code_at, two_at, char_at, bop_at, plain_at, movement_at, font_at, text_at, names_at, definition_at, long_at, comment_at, pre_at, post_at, post_post_at, frame_at, read}
+use Rattle.dvi_ops.specs.Private.Reading.{made, cut, signed_at, code_at, two_at, char_at, bop_at, plain_at, movement_at, font_at, text_at, names_at, definition_at, long_at, comment_at, pre_at, post_at, post_post_at, frame_at, read}
 use Rattle.dvi_ops.specs.Table.{signed, code, IsCoded, IsRule, SpellsSigned, SaysShort, SaysEach, SaysUnits, SaysDefinition, SpellsLeaf, Spells}
 use Rattle.dvi_ops.proofs.Fronts.{got, cut_at, number_reads, word_reads, two_reads, three_reads, halves_reads, words_read}
 use Rattle.dvi_ops.proofs.Numbers.{four}

@@ -1,6 +1,7 @@
 -- What an instruction in the body of a page does: the marks that it makes, and the place and the font after it (DVItype, 14 and 15).
 use Rattle.std.specs.Prelude.{◌+ℤ◌, ◌^◌, ◌&&◌, if◌then◌else◌, [], ◌∷◌, List, ℤ, pos, negsuc, Bool, nat_lt, int_lt, Option, Some, None}
-use Rattle.dvi_ops.specs.Instruction.{Axis, Across, Downward, MoveRegister, First, Second, Movement, By, Set, Again, BodyLeaf, SetChar, PutChar, SetRule, PutRule, Nop, Move, FontNum, FontDef, Xxx}
+use Rattle.dvi_ops.specs.Instruction.{Axis, Across, Downward, MoveRegister, First, Second, Movement, By, Set, Again, BodyLeaf, SetChar, PutChar}
+use Rattle.dvi_ops.specs.Instruction.{SetRule, PutRule, Nop, Move, FontNum, FontDef, Xxx}
 use Rattle.scaled_core.specs.Mark.{Mark, Glyph, Rule, Special}
 
 -- The values of the two registers of a direction: w and x, or y and z (DVItype, 14).

@@ -84,7 +84,8 @@ ending_of s stop closing padding = bytes_of (Post stop ∷ (define closing ++ Po
 -- The whole file, with these greatest sizes, and these definitions in the postamble.
 abbrev pub whole_of : List Sheet → (tall wide : ℤ) → List Definition → (padding : ℕ) → List ℕ
 whole_of sheets tall wide closing padding =
-    front_of sheets ++ ending_of (after_all after_preamble sheets) (stop_of (after_all after_preamble sheets) tall wide (length sheets)) closing padding
+    front_of sheets ++ ending_of (after_all after_preamble sheets)
+    (stop_of (after_all after_preamble sheets) tall wide (length sheets)) closing padding
 
 -- How many bytes 223 follow `size` bytes: 4 to 7, so that the length is a multiple of 4 (TeX: The Program, part 32, §642).
 abbrev pub padding_after : ℕ → ℕ

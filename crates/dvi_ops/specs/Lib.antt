@@ -2,11 +2,9 @@ pub mod Instruction
 pub mod Table
 pub mod View
 pub mod Spelling
-pub mod Reading
 pub mod Body
 pub mod Forest
 pub mod Plain
-pub mod Rising
 pub mod Runs
 pub mod Walk
 pub mod Tokens
@@ -14,3 +12,4 @@ pub mod Fonts
 pub mod File
 pub mod Layout
 pub mod Examples
+pub mod Private

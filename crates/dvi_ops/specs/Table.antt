@@ -2,7 +2,9 @@
 -- Numbers have their highest byte first. A byte is a number below 256.
 use Rattle.std.specs.Prelude.{◌≡◌, ◌⊎◌, ◌≤◌, ◌<◌, ◌+◌, ◌++◌, ◌∷◌, [], List, length, ℕ, ℤ, pos, ◌==◌, if◌then◌else◌}
 use Rattle.byteorder.specs.Endian.{big_number, twos_complement}
-use Rattle.dvi_ops.specs.Instruction.{Axis, Across, Downward, MoveRegister, First, Second, By, Set, Again, Definition, Units, BodyLeaf, SetChar, PutChar, SetRule, PutRule, Nop, Move, FontNum, FontDef, Xxx, Instruction, Do, Push, Pop, Bop, Eop, Pre, Post, PostPost}
+use Rattle.dvi_ops.specs.Instruction.{Axis, Across, Downward, MoveRegister, First, Second, By, Set, Again, Definition, Units, BodyLeaf, SetChar}
+use Rattle.dvi_ops.specs.Instruction.{PutChar, SetRule, PutRule, Nop, Move, FontNum, FontDef, Xxx, Instruction, Do, Push, Pop, Bop, Eop, Pre, Post}
+use Rattle.dvi_ops.specs.Instruction.{PostPost}
 
 -- The value of n bytes as a signed number (DVItype, 27).
 abbrev pub signed : ℕ → List ℕ → ℤ
@@ -33,7 +35,8 @@ SaysEach (z ∷ zs) bytes = (a : List ℕ) × (rest : List ℕ) × (bytes ≡ a 
 -- Twelve bytes with the values num, den and mag.
 abbrev pub SaysUnits : Units → List ℕ → Type 0
 SaysUnits units bytes =
-    (a : List ℕ) × (b : List ℕ) × (c : List ℕ) × (bytes ≡ a ++ (b ++ c)) × SpellsSigned units.num a × SpellsSigned units.den b × SpellsSigned units.mag c
+    (a : List ℕ) × (b : List ℕ) × (c : List ℕ) × (bytes ≡ a ++ (b ++ c)) × SpellsSigned units.num a × SpellsSigned units.den b
+    × SpellsSigned units.mag c
 
 -- A rule: its code, its height and its width.
 abbrev pub IsRule : ℕ → ℤ → ℤ → List ℕ → Type 0

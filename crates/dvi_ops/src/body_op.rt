@@ -1,12 +1,12 @@
-//! A small instruction for the bodies of pages that are drawn and written. An `Op` has room for every instruction of a file, and is larger.
+//! The instructions of the bodies of pages. A body that is drawn is a list of these: an `Op` has room for every instruction of a file, and is larger.
 
-/// An instruction of a page body, without font definitions; characters and fonts have numbers of one byte (DVItype, 15 and 16).
+/// An instruction of a page body that defines no font, without the length of its operand (DVItype, 15 and 16).
 #[derive(Clone, Copy, Debug, PartialEq)]
 pub enum BodyOp<'a> {
     /// Sets the character with this number in the current font and moves right by its width.
-    SetChar(u8),
+    SetChar(i32),
     /// Sets the character with this number in the current font, without moving.
-    PutChar(u8),
+    PutChar(i32),
     /// Sets a rule with its bottom left corner at (h, v) and moves right by its width.
     SetRule { height: i32, width: i32 },
     /// Sets a rule with its bottom left corner at (h, v), without moving.
@@ -38,7 +38,7 @@ pub enum BodyOp<'a> {
     /// Sets z and moves down by it.
     Z(i32),
     /// Selects the font with this number.
-    FontNum(u8),
+    FontNum(i32),
     /// A special: a text for another program, of fewer than 2^32 bytes.
     Xxx(&'a [u8]),
 }

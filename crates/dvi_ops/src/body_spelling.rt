@@ -25,12 +25,12 @@ pub fn spell_body(op: &BodyOp<'_>, out: &mut Vec<u8>) -> Result<(), AllocError>
     ensures err { OnErr result (out.new.items ≡ out.old.items) }
 {
     match op {
-        BodyOp::SetChar(character) => append_char(out, i32::from(*character)),
+        BodyOp::SetChar(character) => append_char(out, *character),
         BodyOp::PutChar(character) => append_coded(
             out,
             opcodes::PUT1,
-            size_of_code(i32::from(*character)),
-            i32::from(*character),
+            size_of_code(*character),
+            *character,
         ),
         BodyOp::SetRule { height, width } => append_rule(out, opcodes::SET_RULE, *height, *width),
         BodyOp::PutRule { height, width } => append_rule(out, opcodes::PUT_RULE, *height, *width),
@@ -47,7 +47,7 @@ pub fn spell_body(op: &BodyOp<'_>, out: &mut Vec<u8>) -> Result<(), AllocError>
         BodyOp::Y(amount) => append_signed(out, opcodes::Y1, *amount),
         BodyOp::Z0 => append_byte(out, opcodes::Z0),
         BodyOp::Z(amount) => append_signed(out, opcodes::Z1, *amount),
-        BodyOp::FontNum(font) => append_font(out, i32::from(*font)),
+        BodyOp::FontNum(font) => append_font(out, *font),
         BodyOp::Xxx(text) => append_text(out, text),
     }
 }

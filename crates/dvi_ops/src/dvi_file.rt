@@ -1,11 +1,14 @@
 //! Laws about DVI files, for the definition that the writer and the reader share (DVItype, 13 to 20).
 
 ghost use Rattle.std.specs.Prelude.{◌≡◌, ◌++◌, ◌<◌, ◌≤◌, ◌+◌, ◌%◌, ◌^◌, [], ◌∷◌, List, length, ℕ, ℤ};
-ghost use Rattle.dvi_ops.specs.Examples.{one_rule_file, one_rule_pages, two_page_file, two_pages, fonts_in_nested_boxes_file, fonts_in_nested_boxes_pages, self_naming_file, stray_pop_file, short_file, miscounted_file, undefined_font_file, shallow_file, GivesTiny};
+ghost use Rattle.dvi_ops.specs.Examples.{one_rule_file, one_rule_pages, two_page_file, two_pages, fonts_in_nested_boxes_file};
+ghost use Rattle.dvi_ops.specs.Examples.{fonts_in_nested_boxes_pages, self_naming_file, stray_pop_file, short_file, miscounted_file};
+ghost use Rattle.dvi_ops.specs.Examples.{undefined_font_file, shallow_file, GivesTiny};
 ghost use Rattle.dvi_ops.specs.File.{IsFile, MarkedPage};
 ghost use Rattle.dvi_ops.specs.Fonts.{WidthsByName};
 ghost use Rattle.dvi_ops.specs.Instruction.{Definition};
-ghost use Rattle.dvi_ops.specs.Layout.{AreGood, IsClosing, IsGood, Sheet, Table, WriterKnowledge, after, after_all, after_preamble, bytes_of, front_of, padding_after, sheet_from, whole_of};
+ghost use Rattle.dvi_ops.specs.Layout.{AreGood, IsClosing, IsGood, Sheet, Table, WriterKnowledge, after, after_all, after_preamble, bytes_of};
+ghost use Rattle.dvi_ops.specs.Layout.{front_of, padding_after, sheet_from, whole_of};
 ghost use Rattle.dvi_ops.specs.Spelling.{NumberFits};
 
 /// Bytes are a file of at most one list of pages.
@@ -31,7 +34,8 @@ pub fn pages_are_added()
         → front_of (sheets ++ p ∷ []) ≡ front_of sheets ++ bytes_of (sheet_from (after_all after_preamble sheets).last p) }
     ensures state { (s : WriterKnowledge) (sheets : List Sheet) (p : Sheet) → after_all s (sheets ++ p ∷ []) ≡ after (after_all s sheets) p }
     ensures size { (sheets : List Sheet) → (after_all after_preamble sheets).size ≡ length (front_of sheets) }
-    ensures good { (metrics : WidthsByName) (table : Table) (s : WriterKnowledge) (sheets : List Sheet) (pages : List MarkedPage) (p : Sheet) (page : MarkedPage)
+    ensures good { (metrics : WidthsByName) (table : Table) (s : WriterKnowledge) (sheets : List Sheet) (pages : List MarkedPage)
+        (p : Sheet) (page : MarkedPage)
         → AreGood metrics table s sheets pages → page.counts ≡ p.counts
         → IsGood metrics table (after_all s sheets).known p page.marks
         → AreGood metrics table s (sheets ++ p ∷ []) (pages ++ page ∷ []) }

@@ -1,7 +1,8 @@
 //! Laws of the table of instructions and of the spellings that are written.
 
 ghost use Rattle.std.specs.Prelude.{◌≡◌, ◌≤◌, ◌<◌, ◌+◌, ◌++◌, List, length, slice_index, ℕ, ℤ};
-ghost use Rattle.dvi_ops.specs.Instruction.{Axis, Bop, Definition, Do, Eop, FontDef, Instruction, BodyLeaf, Move, Pop, Post, PostPost, Postamble, Pre, Push, Movement, Units, Xxx};
+ghost use Rattle.dvi_ops.specs.Instruction.{Axis, Bop, Definition, Do, Eop, FontDef, Instruction, BodyLeaf, Move, Pop, Post, PostPost, Postamble};
+ghost use Rattle.dvi_ops.specs.Instruction.{Pre, Push, Movement, Units, Xxx};
 ghost use Rattle.dvi_ops.specs.Spelling.{HasShortText, HasSpelling, IsBrief, NumbersFit, spelling};
 ghost use Rattle.dvi_ops.specs.Table.{Spells};
 

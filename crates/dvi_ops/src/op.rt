@@ -3,6 +3,8 @@
 //! All distances and sizes are in DVI units. Names and texts are slices of the file. Each field admits every value of its type; a file restricts some
 //! of them.
 
+use crate::body_op::BodyOp;
+
 /// A font definition (DVItype, 18).
 #[derive(Clone, Copy, Debug, PartialEq)]
 pub struct FontDefinition<'a> {
@@ -48,22 +50,10 @@ pub struct Postamble {
 /// An instruction, without the length of its operands (DVItype, 15 to 20).
 #[derive(Clone, Copy, Debug, PartialEq)]
 pub enum Op<'a> {
-    /// Sets the character with this number in the current font and moves right by its width.
-    SetChar(i32),
-    /// Sets the character with this number in the current font, without moving.
-    PutChar(i32),
-    /// Sets a rule with its bottom left corner at (h, v) and moves right by its width.
-    SetRule {
-        height: i32,
-        width: i32,
-    },
-    /// Sets a rule with its bottom left corner at (h, v), without moving.
-    PutRule {
-        height: i32,
-        width: i32,
-    },
-    /// Does nothing.
-    Nop,
+    /// An instruction of a page body that defines no font.
+    Body(BodyOp<'a>),
+    /// Defines a font. It may stand in a page body, between pages and after post.
+    FontDef(FontDefinition<'a>),
     /// Begins a page, with its ten counts and the place of the previous bop, or -1.
     Bop {
         counts: [i32; 10],
@@ -71,36 +61,6 @@ pub enum Op<'a> {
     },
     /// Ends a page.
     Eop,
-    /// Saves h, v, w, x, y and z.
-    Push,
-    /// Restores h, v, w, x, y and z, as the matching push saved them.
-    Pop,
-    /// Moves right.
-    Right(i32),
-    /// Moves right by w.
-    W0,
-    /// Sets w and moves right by it.
-    W(i32),
-    /// Moves right by x.
-    X0,
-    /// Sets x and moves right by it.
-    X(i32),
-    /// Moves down.
-    Down(i32),
-    /// Moves down by y.
-    Y0,
-    /// Sets y and moves down by it.
-    Y(i32),
-    /// Moves down by z.
-    Z0,
-    /// Sets z and moves down by it.
-    Z(i32),
-    /// Selects the font with this number.
-    FontNum(i32),
-    /// A special: a text for another program, of fewer than 2^32 bytes.
-    Xxx(&'a [u8]),
-    /// Defines a font.
-    FontDef(FontDefinition<'a>),
     /// Begins the file, with a comment of up to 255 bytes.
     Pre {
         id: u8,

@@ -1,7 +1,7 @@
 //! The operands of instructions, read from the start of some bytes.
 
 ghost use Rattle.std.specs.Prelude.{◌≡◌, ◌≤◌, ◌-◌, ◌+◌, length, option_map};
-ghost use Rattle.dvi_ops.specs.Reading.{code_at, comment_at, half_at, halves_at, names_at, signed_at, three_at, two_at, words};
+ghost use Rattle.dvi_ops.specs.Private.Reading.{code_at, comment_at, half_at, halves_at, names_at, signed_at, three_at, two_at, words};
 ghost use Rattle.dvi_ops.specs.Table.{code, signed};
 
 use byteorder::{BigEndian, ByteOrder};
@@ -28,7 +28,7 @@ fn code_of(operand: &[u8]) -> i32
 }
 
 /// A signed number of `size` bytes, and the rest of the bytes.
-#[tactic(auto, unfolding(crate::specs::Reading::signed_at))]
+#[tactic(auto, unfolding(crate::specs::Private::Reading::signed_at))]
 pub fn signed_number(bytes: &[u8], size: usize) -> Option<(i32, &[u8])>
     requires low { 1 ≤ size }
     requires high { size ≤ 4 }
@@ -39,7 +39,7 @@ pub fn signed_number(bytes: &[u8], size: usize) -> Option<(i32, &[u8])>
 }
 
 /// The number of a character or of a font in `size` bytes, and the rest of the bytes.
-#[tactic(auto, unfolding(crate::specs::Reading::code_at))]
+#[tactic(auto, unfolding(crate::specs::Private::Reading::code_at))]
 pub fn code_number(bytes: &[u8], size: usize) -> Option<(i32, &[u8])>
     requires low { 1 ≤ size }
     requires high { size ≤ 4 }
@@ -50,7 +50,7 @@ pub fn code_number(bytes: &[u8], size: usize) -> Option<(i32, &[u8])>
 }
 
 /// A number of two bytes, and the rest of the bytes.
-#[tactic(auto, unfolding(crate::specs::Reading::half_at))]
+#[tactic(auto, unfolding(crate::specs::Private::Reading::half_at))]
 pub fn half(bytes: &[u8]) -> Option<(u16, &[u8])>
     ensures { option_map (λ found. (found.0, found.1.now)) result ≡ half_at bytes.now }
 {
@@ -71,7 +71,7 @@ pub fn operand_size(operation: u8, first: u8) -> usize
 }
 
 /// Two numbers of four bytes, and the rest of the bytes.
-#[tactic(auto, unfolding(crate::specs::Reading::two_at))]
+#[tactic(auto, unfolding(crate::specs::Private::Reading::two_at))]
 pub fn two(bytes: &[u8]) -> Option<((i32, i32), &[u8])>
     ensures { option_map (λ found. ((found.0.0, found.0.1), found.1.now)) result ≡ two_at bytes.now }
 {
@@ -81,7 +81,7 @@ pub fn two(bytes: &[u8]) -> Option<((i32, i32), &[u8])>
 }
 
 /// Three numbers of four bytes, and the rest of the bytes.
-#[tactic(auto, unfolding(crate::specs::Reading::three_at))]
+#[tactic(auto, unfolding(crate::specs::Private::Reading::three_at))]
 pub fn three(bytes: &[u8]) -> Option<((i32, i32, i32), &[u8])>
     ensures { option_map (λ found. ((found.0.0, found.0.1, found.0.2), found.1.now)) result ≡ three_at bytes.now }
 {
@@ -91,7 +91,7 @@ pub fn three(bytes: &[u8]) -> Option<((i32, i32, i32), &[u8])>
 }
 
 /// Two numbers of two bytes, and the rest of the bytes.
-#[tactic(auto, unfolding(crate::specs::Reading::halves_at))]
+#[tactic(auto, unfolding(crate::specs::Private::Reading::halves_at))]
 pub fn halves(bytes: &[u8]) -> Option<((u16, u16), &[u8])>
     ensures { option_map (λ found. ((found.0.0, found.0.1), found.1.now)) result ≡ halves_at bytes.now }
 {
@@ -111,7 +111,7 @@ pub fn counts_of(operand: &[u8]) -> [i32; 10]
 }
 
 /// The two lengths of a font's name, and then its two parts.
-#[tactic(auto, unfolding(crate::specs::Reading::names_at))]
+#[tactic(auto, unfolding(crate::specs::Private::Reading::names_at))]
 pub fn names(bytes: &[u8]) -> Option<((&[u8], &[u8]), &[u8])>
     ensures { option_map (λ found. ((found.0.0.now, found.0.1.now), found.1.now)) result ≡ names_at bytes.now }
 {
@@ -123,7 +123,7 @@ pub fn names(bytes: &[u8]) -> Option<((&[u8], &[u8]), &[u8])>
 }
 
 /// A length of one byte, and a text of that length.
-#[tactic(auto, unfolding(crate::specs::Reading::comment_at))]
+#[tactic(auto, unfolding(crate::specs::Private::Reading::comment_at))]
 pub fn comment(bytes: &[u8]) -> Option<(&[u8], &[u8])>
     ensures { option_map (λ found. (found.0.now, found.1.now)) result ≡ comment_at bytes.now }
 {

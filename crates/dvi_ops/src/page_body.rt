@@ -7,7 +7,8 @@ ghost use Rattle.std.specs.List.{AllByRecursion};
 ghost use Rattle.dvi_ops.specs.Instruction.{Instruction};
 ghost use Rattle.dvi_ops.specs.Body.{Acts, DviState, Widths, acts, kept, start};
 ghost use Rattle.scaled_core.specs.Mark.{Mark};
-ghost use Rattle.dvi_ops.specs.Examples.{one_rule_body, one_rule_marks, saved_register_body, saved_register_marks, empty_rule_body, empty_rule_marks, special_body, special_marks, too_far_body};
+ghost use Rattle.dvi_ops.specs.Examples.{one_rule_body, one_rule_marks, saved_register_body, saved_register_marks, empty_rule_body, empty_rule_marks};
+ghost use Rattle.dvi_ops.specs.Examples.{special_body, special_marks, too_far_body};
 ghost use Rattle.dvi_ops.specs.Forest.{Forest, IsPoint, and_then, beside, flat, marks_of, meaning, nests, points};
 ghost use Rattle.dvi_ops.specs.Walk.{walk};
 

@@ -1,7 +1,7 @@
 //! The body of a page with its characters apart from its other instructions.
 
-ghost use Rattle.std.specs.Prelude.{◌≡◌, ◌<◌, ◌++◌, [], ◌∷◌, pos, length, map, vec_len, vec_capacity, IfOk, OnOk};
-ghost use Rattle.dvi_ops.specs.Rising.{IsRising, IsRising-prop};
+ghost use Rattle.std.specs.Prelude.{◌≡◌, ◌<◌, ◌++◌, [], ◌∷◌, true, false, pos, length, map, vec_len, vec_capacity, IfOk, OnOk};
+ghost use Rattle.dvi_ops.specs.Private.Rising.{IsRising, IsRising-prop};
 
 use crate::body_op::BodyOp;
 use crate::spelling::append_byte;
@@ -18,6 +18,15 @@ pub struct PageRuns<'a> {
     ghost rising: { IsRising 0 places.items (length codes.items) } by { IsRising-prop 0 places.items (length codes.items) },
 }
 
+/// Makes room for one more item where there is none. This is rare, and apart it does not fill the loops that append.
+#[inline(never)]
+fn grow<T>(list: &mut Vec<T>) -> Result<(), AllocError>
+    ensures items { list.new.items ≡ list.old.items }
+    ensures room { OnOk result (vec_len list.new < vec_capacity list.new) }
+{
+    list.reserve(1)
+}
+
 /// Makes room for one more item. Mostly it is there.
 #[inline(always)]
 fn make_room<T>(list: &mut Vec<T>) -> Result<(), AllocError>
@@ -27,7 +36,7 @@ fn make_room<T>(list: &mut Vec<T>) -> Result<(), AllocError>
     if list.len() < list.capacity() {
         return Ok(());
     }
-    list.reserve(1)
+    grow(list)
 }
 
 impl<'a> PageRuns<'a> {
@@ -63,7 +72,7 @@ impl<'a> PageRuns<'a> {
         ensures { OnOk result (instructions_of self.new ≡ instructions_of self.old ++ body_view op.entry ∷ []) }
     {
         match op {
-            BodyOp::SetChar(code) => self.push_character(code),
+            BodyOp::SetChar(code @ 0..=255) => self.push_character(code as u8),
             other => self.push(other),
         }
     }
@@ -78,8 +87,23 @@ impl<'a> PageRuns<'a> {
         Ok(())
     }
 
+    /// Appends a character where there is room for it, and returns whether it did. It takes no memory.
+    #[tactic(auto, unfolding(crate::specs::Runs::instructions_of))]
+    #[inline(always)]
+    pub fn push_in_room(&mut self, code: u8) -> bool
+        ensures pushed { result ≡ true → instructions_of self.new ≡ instructions_of self.old ++ Do (SetChar (pos code)) ∷ [] }
+        ensures full { result ≡ false → self.new ≡ self.old }
+    {
+        if self.codes.len() >= self.codes.capacity() {
+            return false;
+        }
+        self.codes.push_reserved(code);
+        true
+    }
+
     /// Appends an instruction that is no character. A character may be appended too, but takes more memory than by `push_character`.
     #[tactic(auto, unfolding(crate::specs::Runs::instructions_of))]
+    #[inline(always)]
     pub fn push(&mut self, op: BodyOp<'a>) -> Result<(), AllocError>
         ensures { OnOk result (instructions_of self.new ≡ instructions_of self.old ++ body_view op.entry ∷ []) }
     {

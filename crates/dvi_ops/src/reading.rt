@@ -2,10 +2,12 @@
 
 ghost use Rattle.std.specs.Prelude.{◌≡◌, ◌≤◌, ◌-◌, length, option_map, slice_index, take, IfOk, OnErr, ◌↔◌, ℕ};
 ghost use Rattle.dvi_ops.specs.Instruction.{Across, Downward, Instruction};
-ghost use Rattle.dvi_ops.specs.Reading.{bop_at, char_at, definition_at, font_at, frame_at, long_at, movement_at, plain_at, post_at, post_post_at, pre_at, read, text_at};
+ghost use Rattle.dvi_ops.specs.Private.Reading.{bop_at, char_at, definition_at, font_at, frame_at, long_at, movement_at, plain_at, post_at};
+ghost use Rattle.dvi_ops.specs.Private.Reading.{post_post_at, pre_at, read, text_at};
 ghost use Rattle.dvi_ops.specs.Table.{Spells};
 ghost use Rattle.dvi_ops.specs.View.{definition as view_definition, view};
 
+use crate::body_op::BodyOp;
 use crate::fault::OpFault;
 use crate::op::{FontDefinition, Op, Postamble, Units};
 use crate::opcodes;
@@ -15,20 +17,20 @@ use crate::operand::{
 use byteorder::{BigEndian, ByteOrder};
 
 /// A character, with a code from 0 to 131.
-#[tactic(auto, unfolding(crate::specs::Reading::char_at))]
+#[tactic(auto, unfolding(crate::specs::Private::Reading::char_at))]
 fn character(operation: u8, rest: &[u8]) -> Option<(Op<'_>, &[u8])>
     requires { operation ≤ 131 }
     ensures { option_map (λ found. (view found.0, found.1.now)) result ≡ char_at operation rest.now }
 {
     if operation < opcodes::SET1 {
-        return Some((Op::SetChar(i32::from(operation)), rest));
+        return Some((Op::Body(BodyOp::SetChar(i32::from(operation))), rest));
     }
     let (number, rest) = code_number(rest, operand_size(operation, opcodes::SET1))?;
-    Some((Op::SetChar(number), rest))
+    Some((Op::Body(BodyOp::SetChar(number)), rest))
 }
 
 /// The operands of bop.
-#[tactic(auto, unfolding(crate::specs::Reading::bop_at))]
+#[tactic(auto, unfolding(crate::specs::Private::Reading::bop_at))]
 fn bop(bytes: &[u8]) -> Option<(Op<'_>, &[u8])>
     ensures { option_map (λ found. (view found.0, found.1.now)) result ≡ bop_at bytes.now }
 {
@@ -39,7 +41,7 @@ fn bop(bytes: &[u8]) -> Option<(Op<'_>, &[u8])>
 }
 
 /// Rules, put, nop, bop, eop, push and pop, with a code from 132 to 142.
-#[tactic(auto, unfolding(crate::specs::Reading::plain_at))]
+#[tactic(auto, unfolding(crate::specs::Private::Reading::plain_at))]
 fn plain(operation: u8, rest: &[u8]) -> Option<(Op<'_>, &[u8])>
     requires low { 132 ≤ operation }
     requires high { operation ≤ 142 }
@@ -48,26 +50,26 @@ fn plain(operation: u8, rest: &[u8]) -> Option<(Op<'_>, &[u8])>
     match operation {
         opcodes::SET_RULE => {
             let ((height, width), rest) = two(rest)?;
-            Some((Op::SetRule { height, width }, rest))
+            Some((Op::Body(BodyOp::SetRule { height, width }), rest))
         }
         opcodes::PUT1..=opcodes::PUT4 => {
             let (number, rest) = code_number(rest, operand_size(operation, opcodes::PUT1))?;
-            Some((Op::PutChar(number), rest))
+            Some((Op::Body(BodyOp::PutChar(number)), rest))
         }
         opcodes::PUT_RULE => {
             let ((height, width), rest) = two(rest)?;
-            Some((Op::PutRule { height, width }, rest))
+            Some((Op::Body(BodyOp::PutRule { height, width }), rest))
         }
-        opcodes::NOP => Some((Op::Nop, rest)),
+        opcodes::NOP => Some((Op::Body(BodyOp::Nop), rest)),
         opcodes::BOP => bop(rest),
         opcodes::EOP => Some((Op::Eop, rest)),
-        opcodes::PUSH => Some((Op::Push, rest)),
-        _ => Some((Op::Pop, rest)),
+        opcodes::PUSH => Some((Op::Body(BodyOp::Push), rest)),
+        _ => Some((Op::Body(BodyOp::Pop), rest)),
     }
 }
 
 /// Movements to the right, with a code from 143 to 156.
-#[tactic(auto, unfolding(crate::specs::Reading::movement_at))]
+#[tactic(auto, unfolding(crate::specs::Private::Reading::movement_at))]
 fn across(operation: u8, rest: &[u8]) -> Option<(Op<'_>, &[u8])>
     requires low { 143 ≤ operation }
     requires high { operation ≤ 156 }
@@ -76,23 +78,23 @@ fn across(operation: u8, rest: &[u8]) -> Option<(Op<'_>, &[u8])>
     match operation {
         opcodes::RIGHT1..=opcodes::RIGHT4 => {
             let (amount, rest) = signed_number(rest, operand_size(operation, opcodes::RIGHT1))?;
-            Some((Op::Right(amount), rest))
+            Some((Op::Body(BodyOp::Right(amount)), rest))
         }
-        opcodes::W0 => Some((Op::W0, rest)),
+        opcodes::W0 => Some((Op::Body(BodyOp::W0), rest)),
         opcodes::W1..=opcodes::W4 => {
             let (amount, rest) = signed_number(rest, operand_size(operation, opcodes::W1))?;
-            Some((Op::W(amount), rest))
+            Some((Op::Body(BodyOp::W(amount)), rest))
         }
-        opcodes::X0 => Some((Op::X0, rest)),
+        opcodes::X0 => Some((Op::Body(BodyOp::X0), rest)),
         _ => {
             let (amount, rest) = signed_number(rest, operand_size(operation, opcodes::X1))?;
-            Some((Op::X(amount), rest))
+            Some((Op::Body(BodyOp::X(amount)), rest))
         }
     }
 }
 
 /// Movements down, with a code from 157 to 170.
-#[tactic(auto, unfolding(crate::specs::Reading::movement_at))]
+#[tactic(auto, unfolding(crate::specs::Private::Reading::movement_at))]
 fn down(operation: u8, rest: &[u8]) -> Option<(Op<'_>, &[u8])>
     requires low { 157 ≤ operation }
     requires high { operation ≤ 170 }
@@ -101,37 +103,40 @@ fn down(operation: u8, rest: &[u8]) -> Option<(Op<'_>, &[u8])>
     match operation {
         opcodes::DOWN1..=opcodes::DOWN4 => {
             let (amount, rest) = signed_number(rest, operand_size(operation, opcodes::DOWN1))?;
-            Some((Op::Down(amount), rest))
+            Some((Op::Body(BodyOp::Down(amount)), rest))
         }
-        opcodes::Y0 => Some((Op::Y0, rest)),
+        opcodes::Y0 => Some((Op::Body(BodyOp::Y0), rest)),
         opcodes::Y1..=opcodes::Y4 => {
             let (amount, rest) = signed_number(rest, operand_size(operation, opcodes::Y1))?;
-            Some((Op::Y(amount), rest))
+            Some((Op::Body(BodyOp::Y(amount)), rest))
         }
-        opcodes::Z0 => Some((Op::Z0, rest)),
+        opcodes::Z0 => Some((Op::Body(BodyOp::Z0), rest)),
         _ => {
             let (amount, rest) = signed_number(rest, operand_size(operation, opcodes::Z1))?;
-            Some((Op::Z(amount), rest))
+            Some((Op::Body(BodyOp::Z(amount)), rest))
         }
     }
 }
 
 /// The selection of a font, with a code from 171 to 238.
-#[tactic(auto, unfolding(crate::specs::Reading::font_at))]
+#[tactic(auto, unfolding(crate::specs::Private::Reading::font_at))]
 fn font(operation: u8, rest: &[u8]) -> Option<(Op<'_>, &[u8])>
     requires low { 171 ≤ operation }
     requires high { operation ≤ 238 }
     ensures { option_map (λ found. (view found.0, found.1.now)) result ≡ font_at operation rest.now }
 {
     if operation < opcodes::FNT1 {
-        return Some((Op::FontNum(i32::from(operation - opcodes::FNT_NUM_0)), rest));
+        return Some((
+            Op::Body(BodyOp::FontNum(i32::from(operation - opcodes::FNT_NUM_0))),
+            rest,
+        ));
     }
     let (number, rest) = code_number(rest, operand_size(operation, opcodes::FNT1))?;
-    Some((Op::FontNum(number), rest))
+    Some((Op::Body(BodyOp::FontNum(number)), rest))
 }
 
 /// A special whose length has `size` bytes.
-#[tactic(auto, unfolding(crate::specs::Reading::text_at))]
+#[tactic(auto, unfolding(crate::specs::Private::Reading::text_at))]
 fn text(bytes: &[u8], size: usize) -> Option<(Op<'_>, &[u8])>
     requires low { 1 ≤ size }
     requires high { size ≤ 4 }
@@ -140,11 +145,11 @@ fn text(bytes: &[u8], size: usize) -> Option<(Op<'_>, &[u8])>
     let (count, rest) = bytes.split_at_checked(size)?;
     let count = BigEndian::read_uint(count, size) as usize;
     let (text, rest) = rest.split_at_checked(count)?;
-    Some((Op::Xxx(text), rest))
+    Some((Op::Body(BodyOp::Xxx(text)), rest))
 }
 
 /// A font definition whose number has `size` bytes.
-#[tactic(auto, unfolding(crate::specs::Reading::definition_at))]
+#[tactic(auto, unfolding(crate::specs::Private::Reading::definition_at))]
 fn definition(bytes: &[u8], size: usize) -> Option<(FontDefinition<'_>, &[u8])>
     requires low { 1 ≤ size }
     requires high { size ≤ 4 }
@@ -165,7 +170,7 @@ fn definition(bytes: &[u8], size: usize) -> Option<(FontDefinition<'_>, &[u8])>
 }
 
 /// A special or a font definition, with a code from 239 to 246.
-#[tactic(auto, unfolding(crate::specs::Reading::long_at))]
+#[tactic(auto, unfolding(crate::specs::Private::Reading::long_at))]
 fn long(operation: u8, rest: &[u8]) -> Option<(Op<'_>, &[u8])>
     requires low { 239 ≤ operation }
     requires high { operation ≤ 246 }
@@ -179,7 +184,7 @@ fn long(operation: u8, rest: &[u8]) -> Option<(Op<'_>, &[u8])>
 }
 
 /// The operands of pre.
-#[tactic(auto, unfolding(crate::specs::Reading::pre_at))]
+#[tactic(auto, unfolding(crate::specs::Private::Reading::pre_at))]
 fn pre(bytes: &[u8]) -> Option<(Op<'_>, &[u8])>
     ensures { option_map (λ found. (view found.0, found.1.now)) result ≡ pre_at bytes.now }
 {
@@ -197,7 +202,7 @@ fn pre(bytes: &[u8]) -> Option<(Op<'_>, &[u8])>
 }
 
 /// The operands of post.
-#[tactic(auto, unfolding(crate::specs::Reading::post_at))]
+#[tactic(auto, unfolding(crate::specs::Private::Reading::post_at))]
 fn post(bytes: &[u8]) -> Option<(Op<'_>, &[u8])>
     ensures { option_map (λ found. (view found.0, found.1.now)) result ≡ post_at bytes.now }
 {
@@ -220,7 +225,7 @@ fn post(bytes: &[u8]) -> Option<(Op<'_>, &[u8])>
 }
 
 /// The operands of post_post.
-#[tactic(auto, unfolding(crate::specs::Reading::post_post_at))]
+#[tactic(auto, unfolding(crate::specs::Private::Reading::post_post_at))]
 fn post_post(bytes: &[u8]) -> Option<(Op<'_>, &[u8])>
     ensures { option_map (λ found. (view found.0, found.1.now)) result ≡ post_post_at bytes.now }
 {
@@ -230,7 +235,7 @@ fn post_post(bytes: &[u8]) -> Option<(Op<'_>, &[u8])>
 }
 
 /// The preamble and the instructions of the postamble, with a code from 247; the codes from 250 begin no instruction.
-#[tactic(auto, unfolding(crate::specs::Reading::frame_at))]
+#[tactic(auto, unfolding(crate::specs::Private::Reading::frame_at))]
 fn frame(operation: u8, rest: &[u8]) -> Option<(Op<'_>, &[u8])>
     requires { 247 ≤ operation }
     ensures { option_map (λ found. (view found.0, found.1.now)) result ≡ frame_at operation rest.now }
@@ -244,7 +249,7 @@ fn frame(operation: u8, rest: &[u8]) -> Option<(Op<'_>, &[u8])>
 }
 
 /// The instruction at the start of some bytes, and the rest of the bytes.
-#[tactic(auto, unfolding(crate::specs::Reading::read))]
+#[tactic(auto, unfolding(crate::specs::Private::Reading::read))]
 fn front(bytes: &[u8]) -> Option<(Op<'_>, &[u8])>
     ensures { option_map (λ found. (view found.0, found.1.now)) result ≡ read bytes.now }
 {

@@ -1,10 +1,11 @@
 //! The instructions of a body whose characters stand apart, as a list and as bytes.
 
-ghost use Rattle.std.specs.Prelude.{◌≡◌, ◌++◌, ◌-◌, map, take, drop, IfOk, OnOk};
+ghost use Rattle.std.specs.Prelude.{◌≡◌, ◌<◌, ◌≤◌, ◌+◌, ◌++◌, ◌-◌, pos, length, map, take, drop, vec_len, vec_capacity, IfOk, OnOk};
 ghost use Rattle.std.specs.List.{AllByRecursion};
+ghost use Rattle.dvi_ops.specs.Instruction.{SetChar, Do};
 ghost use Rattle.dvi_ops.specs.Layout.{bytes_of};
 ghost use Rattle.dvi_ops.specs.Runs.{characters, instructions_of};
-ghost use Rattle.dvi_ops.specs.Spelling.{HasSpelling};
+ghost use Rattle.dvi_ops.specs.Spelling.{HasSpelling, spelling};
 ghost use Rattle.dvi_ops.specs.View.{body_view};
 
 use crate::body_op::BodyOp;
@@ -25,10 +26,42 @@ fn split_codes(codes: &[u8], count: usize) -> (&[u8], &[u8])
     }
 }
 
-/// Appends the spellings of characters.
-#[tactic(auto, unfolding(crate::specs::Spelling::spelling, crate::specs::Spelling::leaf_spelling))]
+/// Appends a character whose code is its spelling, where there is room.
+#[tactic(auto, unfolding(crate::specs::Spelling::spelling, crate::specs::Spelling::leaf_spelling, crate::specs::Spelling::char_spelling))]
 #[inline(always)]
-fn append_characters(out: &mut Vec<u8>, codes: &[u8]) -> Result<(), AllocError>
+fn append_plain_character(out: &mut Vec<u8>, code: u8)
+    requires room { vec_len out.old < vec_capacity out.old }
+    requires plain { code < 128 }
+    ensures items { out.new.items ≡ out.old.items ++ spelling (Do (SetChar (pos code))) }
+    ensures len { vec_len out.new ≡ vec_len out.old + 1 }
+    ensures capacity { vec_capacity out.new ≡ vec_capacity out.old }
+{
+    out.push_reserved(code);
+}
+
+/// Appends the spellings of the first characters, as far as their codes are their spellings, where there is room for as many bytes as there are
+/// characters; and returns the number of these. Nearly all characters are such, and each is a store without another test.
+#[inline(always)]
+fn append_plain(out: &mut Vec<u8>, codes: &[u8]) -> usize
+    ensures count { result ≤ length codes.now }
+    ensures bytes { out.new.items ≡ out.old.items ++ bytes_of (characters (take result codes.now)) }
+{
+    if codes.len() > out.capacity() - out.len() {
+        return 0;
+    }
+    for index in 0..codes.len() {
+        let code = codes[index];
+        if code >= 128 {
+            return index;
+        }
+        append_plain_character(out, code);
+    }
+    codes.len()
+}
+
+/// Appends the spellings of characters one by one.
+#[tactic(auto, unfolding(crate::specs::Spelling::spelling, crate::specs::Spelling::leaf_spelling))]
+fn append_each(out: &mut Vec<u8>, codes: &[u8]) -> Result<(), AllocError>
     ensures { OnOk result (out.new.items ≡ out.old.items ++ bytes_of (characters codes.now)) }
 {
     for code in codes {
@@ -37,12 +70,25 @@ fn append_characters(out: &mut Vec<u8>, codes: &[u8]) -> Result<(), AllocError>
     Ok(())
 }
 
+/// Appends the spellings of characters.
+#[inline(always)]
+fn append_characters(out: &mut Vec<u8>, codes: &[u8]) -> Result<(), AllocError>
+    ensures { OnOk result (out.new.items ≡ out.old.items ++ bytes_of (characters codes.now)) }
+{
+    let plain = append_plain(out, codes);
+    if plain == codes.len() {
+        return Ok(());
+    }
+    append_each(out, &codes[plain..])?;
+    Ok(())
+}
+
 /// Appends characters.
 fn push_characters(out: &mut Vec<BodyOp<'_>>, codes: &[u8]) -> Result<(), AllocError>
     ensures { OnOk result (map body_view out.new.items ≡ map body_view out.old.items ++ characters codes.now) }
 {
     for code in codes {
-        out.push(BodyOp::SetChar(*code))?;
+        out.push(BodyOp::SetChar(i32::from(*code)))?;
     }
     Ok(())
 }

@@ -3,10 +3,13 @@
 ghost use Rattle.std.specs.Prelude.{◌≡◌, ◌≤◌, ◌<◌, ◌+◌, ◌-◌, ◌++◌, ◌^◌, [], ◌∷◌, length, pos, OnOk, OnErr};
 ghost use Rattle.std.specs.List.{AllByRecursion, flat_map};
 ghost use Rattle.dvi_ops.specs.Instruction.{FontDef, Post};
-ghost use Rattle.dvi_ops.specs.Spelling.{HasSpelling, LeafFits, NumberFits, NumbersFit, UnitsFit, char_spelling, code_size, coded, coded_signed, definition_spelling, font_spelling, leaf_spelling, operand, post_bytes, signed_size, spelling, text_spelling, units_bytes};
+ghost use Rattle.dvi_ops.specs.Spelling.{HasSpelling, LeafFits, NumberFits, NumbersFit, UnitsFit, char_spelling, code_size, coded, coded_signed};
+ghost use Rattle.dvi_ops.specs.Spelling.{definition_spelling, font_spelling, leaf_spelling, operand, post_bytes, signed_size, spelling};
+ghost use Rattle.dvi_ops.specs.Spelling.{text_spelling, units_bytes};
 ghost use Rattle.dvi_ops.specs.Table.{Spells};
 ghost use Rattle.dvi_ops.specs.View.{definition, postamble, units as view_units, view};
 
+use crate::body_spelling::spell_body;
 use crate::op::{FontDefinition, Op, Postamble, Units};
 use crate::opcodes;
 use byteorder::{BigEndian, ByteOrder};
@@ -81,8 +84,8 @@ pub fn size_of_code(value: i32) -> usize
     }
 }
 
-/// Appends the code for an operand of `size` bytes, and the `size` lowest bytes of a number. `first` is the code for an operand of one byte. Room is made
-/// first, so each byte is a store without a call.
+/// Appends the code for an operand of `size` bytes, and the `size` lowest bytes of a number. `first` is the code for an operand of one byte. Room is
+/// made first, so each byte is a store without a call.
 #[tactic(auto, using(crate::proofs::Operands::operands))]
 pub fn append_coded(out: &mut Vec<u8>, first: u8, size: usize, value: i32) -> Result<(), AllocError>
     requires low { 1 ≤ size }
@@ -180,8 +183,8 @@ fn units_of(units: &Units) -> [u8; 12]
     bytes
 }
 
-/// The counts of a page fit their fields, since a field has signed 32 bits. This is a fact for the proofs, and the call does nothing: the pattern names
-/// the ten numbers, because a number behind a reference has the range of its type in a proof only once it is named.
+/// The counts of a page fit their fields, since a field has signed 32 bits. This is a fact for the proofs, and the call does nothing: the pattern
+/// names the ten numbers, because a number behind a reference has the range of its type in a proof only once it is named.
 pub fn counts_fit(counts: &[i32; 10])
     ensures ten { length counts.now ≡ 10 }
     ensures fits { AllByRecursion NumberFits counts.now }
@@ -232,7 +235,8 @@ fn append_definition(out: &mut Vec<u8>, font: &FontDefinition<'_>) -> Result<(),
 /// Appends the preamble.
 fn append_pre(out: &mut Vec<u8>, id: u8, units: &Units, comment: &[u8]) -> Result<(), AllocError>
     requires { length comment.now < 256 }
-    ensures ok { OnOk result (out.new.items ≡ out.old.items ++ 247 ∷ id ∷ (units_bytes (view_units units.now) ++ (length comment.now ∷ comment.now))) }
+    ensures ok { OnOk result
+        (out.new.items ≡ out.old.items ++ 247 ∷ id ∷ (units_bytes (view_units units.now) ++ (length comment.now ∷ comment.now))) }
     ensures fits { UnitsFit (view_units units.now) }
     ensures err { OnErr result (out.new.items ≡ out.old.items) }
 {
@@ -290,33 +294,10 @@ pub fn spell(op: &Op<'_>, out: &mut Vec<u8>) -> Result<(), AllocError>
     ensures err { OnErr result (out.new.items ≡ out.old.items) }
 {
     match op {
-        Op::SetChar(character) => append_char(out, *character),
-        Op::PutChar(character) => append_coded(
-            out,
-            opcodes::PUT1,
-            size_of_code(*character),
-            *character,
-        ),
-        Op::SetRule { height, width } => append_rule(out, opcodes::SET_RULE, *height, *width),
-        Op::PutRule { height, width } => append_rule(out, opcodes::PUT_RULE, *height, *width),
-        Op::Nop => append_byte(out, opcodes::NOP),
+        Op::Body(op) => spell_body(op, out),
+        Op::FontDef(font) => append_definition(out, font),
         Op::Bop { counts, pointer } => append_bop(out, counts, *pointer),
         Op::Eop => append_byte(out, opcodes::EOP),
-        Op::Push => append_byte(out, opcodes::PUSH),
-        Op::Pop => append_byte(out, opcodes::POP),
-        Op::Right(amount) => append_signed(out, opcodes::RIGHT1, *amount),
-        Op::W0 => append_byte(out, opcodes::W0),
-        Op::W(amount) => append_signed(out, opcodes::W1, *amount),
-        Op::X0 => append_byte(out, opcodes::X0),
-        Op::X(amount) => append_signed(out, opcodes::X1, *amount),
-        Op::Down(amount) => append_signed(out, opcodes::DOWN1, *amount),
-        Op::Y0 => append_byte(out, opcodes::Y0),
-        Op::Y(amount) => append_signed(out, opcodes::Y1, *amount),
-        Op::Z0 => append_byte(out, opcodes::Z0),
-        Op::Z(amount) => append_signed(out, opcodes::Z1, *amount),
-        Op::FontNum(font) => append_font(out, *font),
-        Op::Xxx(text) => append_text(out, text),
-        Op::FontDef(font) => append_definition(out, font),
         Op::Pre { id, units, comment } => append_pre(out, *id, units, comment),
         Op::Post(post) => append_post(out, post),
         Op::PostPost { place, id } => append(out, &[&[opcodes::POST_POST], &word(*place), &[*id]]),

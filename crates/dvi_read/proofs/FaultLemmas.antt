@@ -2,10 +2,10 @@
 use Rattle.std.proofs.Common.{◌≡◌, ◌≢◌, ◌≤◌, ◌-◌, ◌%◌, [], ◌∷◌, List, length, take, ℕ, ℤ, refl, sym, ◌∙◌, ap, subst, subst₂, inl, inr, arith}
 use Rattle.std.specs.Prelude.{◌⊎◌}
 use Rattle.std.specs.List.{AllByRecursion}
-use Rattle.dvi_fonts.specs.Ahead.{IsLookedAhead}
-use Rattle.dvi_fonts.specs.Closing.{Closes, IsClosingFault}
-use Rattle.dvi_fonts.proofs.AheadLemmas.{looked}
-use Rattle.dvi_fonts.proofs.ClosingLemmas.{broken_closing, first_stands}
+use Rattle.dvi_scan.specs.Ahead.{IsLookedAhead}
+use Rattle.dvi_scan.specs.Closing.{Closes, IsClosingFault}
+use Rattle.dvi_scan.proofs.AheadLemmas.{looked}
+use Rattle.dvi_scan.proofs.ClosingLemmas.{broken_closing, first_stands}
 use Rattle.dvi_scan.specs.Chain.{Links}
 use Rattle.dvi_scan.specs.Ends.{StandsAt}
 use Rattle.dvi_scan.specs.Preamble.{IsPreambleFault}

@@ -2,9 +2,9 @@
 use Rattle.std.proofs.Common.{◌≡◌, ◌≤◌, ◌<◌, ◌+◌, ◌-◌, ◌++◌, ℕ, ℤ, SFits, w32, List, [], ◌∷◌, codes, length, take, ap, sym, refl, ◌∙◌, append_assoc, arith, length-append}
 use Rattle.std.proofs.lemmas.List.{take_at}
 use Rattle.std.specs.Fmt.{signed_decimal}
-use Rattle.dvi_read.specs.GlyphHeads.{head_text}
+use Rattle.dvi_read.specs.Private.GlyphHeads.{head_text}
 use Rattle.dvi_read.specs.Listing.{line}
-use Rattle.dvi_read.specs.ListingParts.{decimal_line_end}
+use Rattle.dvi_read.specs.Private.ListingParts.{decimal_line_end}
 use Rattle.dvi_read.proofs.MarkLines.{passed, one_more, written_line}
 
 -- Its parts, which were written one before the other.

@@ -2,6 +2,12 @@ pub mod SelectLemmas
 pub mod StepLemmas
 pub mod PointerLemmas
 pub mod WalkLemmas
+mod HeldLemmas
+mod SeenLemmas
+mod SightLemmas
+mod CheckedLemmas
+mod CharacterLemmas
+mod CheckedLinesLemmas
 mod MarkLines
 mod HeadLemmas
 pub mod MarkLemmas

@@ -6,7 +6,7 @@ use Rattle.std.proofs.lemmas.Grind.{flat_map-append}
 use Rattle.std.proofs.lemmas.List.{drop-drop, drop-take, drop_at, get_or-drop, length-drop, length-take-le, take-append-drop}
 use Rattle.byteorder.specs.Endian.{big_number}
 use Rattle.byteorder.specs.Numbers.{big_from-lt}
-use Rattle.dvi_fonts.specs.Closing.{ClosesTo}
+use Rattle.dvi_scan.specs.Closing.{ClosesTo}
 use Rattle.dvi_ops.specs.Body.{Position, DviState, Meaning, Widths, Acts, acts, glyph, glyph_of, kept, kept_in, place_after, put_glyph, right, rule_at, set_glyph, start}
 use Rattle.dvi_ops.specs.File.{MarkedPage}
 use Rattle.dvi_ops.specs.Fonts.{WidthsByName, definitions, font, selection_of, selections, width_in as width_of_font, widths_of}
@@ -27,12 +27,14 @@ use Rattle.dvi_scan.specs.View.{marked_page}
 use Rattle.dvi_scan.specs.declared.executing.PassState.{PassState}
 use Rattle.dvi_scan.specs.declared.page.Page.{Page}
 use Rattle.dvi_read.specs.Opened.{Opened}
-use Rattle.dvi_read.specs.PageMarks.{HasGlyphWidths, HasPlaces, HasRoomFor, IsGlyphWidth, OfGlyph, PutsSpecial, TextStandsAt, TextsStandAt, marks_of, marks_so_far, text_in, text_place, text_put, texts_in}
+use Rattle.dvi_read.specs.PageMarks.{HasGlyphWidths, HasPlaces, HasRoomFor, IsGlyphWidth, OfGlyph, TextStandsAt, TextsStandAt, marks_of, marks_so_far, text_in, texts_in}
+use Rattle.dvi_read.specs.Private.PageMarks.{PutsSpecial, text_place, text_put}
 use Rattle.dvi_read.proofs.SelectLemmas.{some_is}
 use Rattle.dvi_read.specs.ReadFonts.{AreSound, FontIsRead, font_place, read_font_at, width_in}
 use Rattle.dvi_read.specs.Steps.{IsWalkStep, known_of, stand_of}
 use Rattle.dvi_read.specs.Stops.{PagesHaveEnded, page_bytes}
-use Rattle.dvi_read.specs.Walks.{IsBegun, IsWalked, StopsReading}
+use Rattle.dvi_read.specs.Walks.{IsWalked}
+use Rattle.dvi_read.specs.Private.Walks.{IsBegun, StopsReading}
 use Rattle.dvi_read.specs.declared.fault.DviFault.TheVariants.{OutOfMemory}
 use Rattle.dvi_read.specs.declared.read_fonts.ReadFonts.{ReadFonts}
 use Rattle.dvi_read.specs.declared.walk.Walk.{Walk}

@@ -3,7 +3,7 @@ use Rattle.std.proofs.Common.{◌≡◌, ℕ, ℤ, SFits, to_z, of_z, to_z-of_z,
 use Rattle.std.proofs.lemmas.List.{append-nil}
 use Rattle.std.specs.Fmt.{signed_decimal}
 use Rattle.dvi_read.specs.Listing.{line}
-use Rattle.dvi_read.specs.ListingParts.{decimal_line_end}
+use Rattle.dvi_read.specs.Private.ListingParts.{decimal_line_end}
 
 four_texts : (a b c d end : List ℕ) → (a ++ (b ++ (c ++ (d ++ [])))) ++ end ≡ a ++ (b ++ (c ++ (d ++ end)))
 four_texts a b c d end =

@@ -2,8 +2,8 @@
 use Rattle.std.proofs.Common.{◌≡◌, ◌≢◌, ◌-◌, ◌++◌, List, length, ℕ, ℤ, Result, Ok, Err, refl, sym, ◌∙◌, ap, ap₂, subst, inl, inr, arith}
 use Rattle.std.specs.Prelude.{IfOk, IfErr, IsErrAnd}
 use Rattle.std.proofs.lemmas.Grind.{flat_map-append}
-use Rattle.dvi_fonts.specs.Closing.{ClosesTo, IsClosingFault}
-use Rattle.dvi_fonts.proofs.AheadLemmas.{looked}
+use Rattle.dvi_scan.specs.Closing.{ClosesTo, IsClosingFault}
+use Rattle.dvi_scan.proofs.AheadLemmas.{looked}
 use Rattle.dvi_scan.specs.Chain.{IsChainRefusal}
 use Rattle.dvi_scan.specs.Ends.{HasPostamble}
 use Rattle.dvi_scan.specs.declared.fault.FrameFault.{FrameFault}
@@ -21,7 +21,7 @@ use Rattle.dvi_scan.proofs.PassedLemmas.{frame_parts, passed_file}
 use Rattle.dvi_scan.proofs.ReachedLemmas.{reached_end, reached_first}
 use Rattle.dvi_read.specs.Opened.{Opened, GivesPages, HasFontsOf, HasUnitsOf, IsExact, IsNoFile, IsReadFrom}
 use Rattle.dvi_read.specs.Opening.{HasPages, IsDviFault, IsFrontFault, IsStray, StartsAt, ForPlaces, InTheChain, AtPost, AfterPost, ForDefinitions}
-use Rattle.dvi_read.specs.OpeningParts.{IsFinishFault}
+use Rattle.dvi_read.specs.Private.OpeningParts.{IsFinishFault}
 use Rattle.dvi_read.proofs.FaultLemmas.{after_within, no_fault, post_within}
 use Rattle.dvi_read.specs.Faults.{of_frame}
 use Rattle.dvi_read.specs.Stops.{PagesHaveEnded, IsWalkFault}

@@ -15,9 +15,9 @@ use Rattle.dvi_read.specs.Faults.{of_font}
 use Rattle.dvi_read.specs.ReadFonts.{AreSound, HasWidthsAt, FontIsRead, read_font_at, font_place}
 use Rattle.dvi_read.specs.declared.read_fonts.ReadFonts.{ReadFonts}
 use Rattle.dvi_read.specs.Steps.{IsSelectFault, Selects}
-use Rattle.dvi_fonts.specs.Widths.{HasBytes, IsFontRefusal}
-use Rattle.dvi_fonts.specs.declared.widths.FontRefusal.{FontRefusal}
-use Rattle.dvi_fonts.specs.declared.widths.FontRefusal.TheVariants as refusals
+use Rattle.dvi_scan.specs.Widths.{HasBytes, IsFontRefusal}
+use Rattle.dvi_scan.specs.declared.widths.FontRefusal.{FontRefusal}
+use Rattle.dvi_scan.specs.declared.widths.FontRefusal.TheVariants as refusals
 use Rattle.tfm_core.specs.FileWidths.{file_widths, width_at}
 use Rattle.tfm_core.specs.Fonts.{SizedFont}
 use Rattle.tfm_core.specs.NamedBytes.{NamedBytes}

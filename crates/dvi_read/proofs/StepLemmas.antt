@@ -19,9 +19,11 @@ use Rattle.dvi_scan.specs.declared.executing.PassState.{PassState}
 use Rattle.dvi_scan.specs.declared.executing.PassState.TheVariants as stands
 use Rattle.dvi_scan.proofs.FontLemmas.{current_of, turn_font}
 use Rattle.dvi_scan.proofs.WidthLemmas.{one_width}
-use Rattle.dvi_read.specs.ReadFonts.{AreSound, Chooses, HasCurrent, IsCurrent, FontIsRead, asked_width, code_in, selected_in, width_in}
+use Rattle.dvi_read.specs.ReadFonts.{AreSound, HasCurrent, IsCurrent, FontIsRead, asked_width, code_in, selected_in, width_in}
+use Rattle.dvi_read.specs.Private.ReadFonts.{Chooses}
 use Rattle.dvi_read.specs.declared.read_fonts.ReadFonts.{ReadFonts}
-use Rattle.dvi_read.specs.Steps.{FontsAreRead, BreaksNote, BreaksPass, LacksFont, LacksNote, Notes, PassesOn, IsWalkStep, StopsStep, known_of, so_far, stand_of}
+use Rattle.dvi_read.specs.Steps.{FontsAreRead, LacksFont, IsWalkStep, StopsStep, known_of, so_far, stand_of}
+use Rattle.dvi_read.specs.Private.Steps.{BreaksNote, BreaksPass, LacksNote, Notes, PassesOn}
 use Rattle.dvi_read.specs.Stops.{BreaksRest, PassContinues, FontIsUnread, LacksRoom, LacksMemoryForFont}
 use Rattle.dvi_read.specs.declared.fault.StepFault.{StepFault}
 use Rattle.dvi_read.specs.declared.fault.StepFault.TheVariants.{OutOfMemory, Broken, Refused}
@@ -32,7 +34,7 @@ use Rattle.tfm_core.specs.Fonts.{SizedFont}
 use Rattle.tfm_core.specs.NamedBytes.{NamedBytes}
 
 -- The width of a character in the font that was selected last is that of the file's font.
-width_of_read : (metrics : WidthsByName) (table : List Definition) (fonts : ReadFonts) (c f : ℤ) → AreSound metrics table fonts → HasCurrent f fonts → asked_width fonts (Some c) ≡ widths_of metrics table f c
+pub width_of_read : (metrics : WidthsByName) (table : List Definition) (fonts : ReadFonts) (c f : ℤ) → AreSound metrics table fonts → HasCurrent f fonts → asked_width fonts (Some c) ≡ widths_of metrics table f c
 width_of_read metrics table fonts c f sound current =
     let (read, there, widths) = sound.widths f fonts.current current in
     ap (λ (o : Option SizedFont). width_in o c) there ∙ sym (ap (λ (o : Option (ℤ → Option ℤ)). width_of_font o c) widths)
@@ -87,7 +89,7 @@ selected_now widths most g (Inside pages counts marks stack s) q f e at = go (in
     go false e = absurd cc
 
 -- The font that is selected after an instruction was read, and no other was selected since.
-current_next : (widths : Widths) (most : ℕ) (i : Instruction) (p q : PassStateView) (f : ℤ) (old new : ReadFonts) → execute (kept (acts widths)) most i p ≡ Some q → current_of q ≡ Some f
+pub current_next : (widths : Widths) (most : ℕ) (i : Instruction) (p q : PassStateView) (f : ℤ) (old new : ReadFonts) → execute (kept (acts widths)) most i p ≡ Some q → current_of q ≡ Some f
     → ((g : ℤ) → current_of p ≡ Some g → HasCurrent g old) → Chooses i old new → HasCurrent f new
 current_next widths most i p q f old new e at before chosen = by (by_choice i old new chosen)
   where

@@ -6,10 +6,10 @@ use Rattle.std.specs.BTreeMap.{is_at}
 use Rattle.std.specs.List.{AllByRecursion}
 use Rattle.std.specs.Map.{lookup}
 use Rattle.std.specs.Ordering.{int_cmp}
-use Rattle.dvi_fonts.proofs.ClosingLemmas.{sized_all}
-use Rattle.dvi_fonts.specs.declared.widths.FontRefusal.{FontRefusal}
-use Rattle.dvi_fonts.specs.declared.widths.FontRefusal.TheVariants as refusals
-use Rattle.dvi_fonts.proofs.RefusalLemmas.{no_widths}
+use Rattle.dvi_scan.proofs.ClosingLemmas.{sized_all}
+use Rattle.dvi_scan.specs.declared.widths.FontRefusal.{FontRefusal}
+use Rattle.dvi_scan.specs.declared.widths.FontRefusal.TheVariants as refusals
+use Rattle.dvi_scan.proofs.RefusalLemmas.{no_widths}
 use Rattle.dvi_scan.specs.Ends.{StandsAt}
 use Rattle.dvi_scan.specs.declared.fault.DviCause.{DviCause}
 use Rattle.dvi_scan.specs.declared.fault.DviCause.TheVariants.{Opcode, Truncated, Pointer, Font}
@@ -34,7 +34,8 @@ use Rattle.dvi_read.specs.ReadFonts.{IsCurrent, FontIsRead}
 use Rattle.dvi_read.specs.Faults.{fault_in}
 use Rattle.dvi_read.specs.Steps.{BreaksStep, StopsStep, known_of, places_left, so_far, stand_of}
 use Rattle.dvi_read.specs.Stops.{page_bytes, BreaksPages, BreaksRest, BreaksRule, IsPagesFault, IsUnended, IsWalkFault, LacksWidths}
-use Rattle.dvi_read.specs.Walks.{IsBegun, IsWalked, Reads, StopsReading}
+use Rattle.dvi_read.specs.Walks.{IsWalked}
+use Rattle.dvi_read.specs.Private.Walks.{IsBegun, Reads, StopsReading}
 use Rattle.dvi_read.specs.declared.fault.DviFault.{DviFault}
 use Rattle.dvi_read.specs.declared.fault.DviFault.TheVariants as faults
 use Rattle.dvi_read.specs.declared.fault.StepFault.{StepFault}
@@ -95,11 +96,11 @@ walked_more metrics ahead bytes stop chain at post next old new high walked read
       current = steps.current;
     }
 
--- The known definitions of a walk have sizes.
-pub known_sizes : (metrics : WidthsByName) (ahead : List ℤ) (bytes : List ℕ) (stop : Postamble) (chain : List ℕ) (at : ℕ) (walk : Walk) → IsWalked metrics ahead bytes stop chain at walk
-    → AllByRecursion (λ d. IsFontSize d.size) (known_of walk)
-known_sizes metrics ahead bytes stop chain at walk walked =
-    let r = walked.reached in subst (λ (ds : List Definition). AllByRecursion (λ d. IsFontSize d.size) ds) r.known_is (sized_all [] (says r.before) r.fonts)
+-- The known definitions have sizes.
+pub known_sizes : (metrics : WidthsByName) (ahead : List ℤ) (bytes : List ℕ) (stop : Postamble) (chain : List ℕ) (at : ℕ) (s : ReadSoFar) → IsReached metrics ahead bytes stop chain at s
+    → AllByRecursion (λ d. IsFontSize d.size) s.known
+known_sizes metrics ahead bytes stop chain at s r =
+    subst (λ (ds : List Definition). AllByRecursion (λ d. IsFontSize d.size) ds) r.known_is (sized_all [] (says r.before) r.fonts)
 
 -- A right instruction breaks no rule.
 selected_has : (P : ℤ → Type 0) (f : ℤ) (i : Instruction) → i ≡ Do (FontNum f) → AllByRecursion P (selection_of i) → P f

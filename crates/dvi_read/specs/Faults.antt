@@ -1,7 +1,7 @@
 -- The faults of one call as those of its caller (own).
 use Rattle.std.specs.Prelude.{ℕ}
-use Rattle.dvi_fonts.specs.declared.widths.FontRefusal.{FontRefusal}
-use Rattle.dvi_fonts.specs.declared.widths.FontRefusal.TheVariants as refusals
+use Rattle.dvi_scan.specs.declared.widths.FontRefusal.{FontRefusal}
+use Rattle.dvi_scan.specs.declared.widths.FontRefusal.TheVariants as refusals
 use Rattle.dvi_scan.specs.declared.fault.FrameFault.{FrameFault}
 use Rattle.dvi_scan.specs.declared.fault.FrameFault.TheVariants as frames
 use Rattle.dvi_scan.specs.declared.executing.PassFault.{PassFault}

@@ -1,5 +1,6 @@
 -- The text of a listing (own; the pages and the marks are DVItype's, 15 and 16).
-use Rattle.std.specs.Prelude.{[], ◌∷◌, ◌++◌, ◌+◌, ◌/◌, ◌%◌, ◌==◌, ◌&&◌, not, nat_le, nat_lt, if◌then◌else◌, Bool, List, ℕ, ℤ, Option, Some, None, codes, decimal, map}
+use Rattle.std.specs.Prelude.{[], ◌∷◌, ◌++◌, ◌+◌, ◌/◌, ◌%◌, ◌==◌, ◌&&◌, not, nat_le, nat_lt, if◌then◌else◌, Bool, List, ℕ, ℤ, Option, Some, None}
+use Rattle.std.specs.Prelude.{codes, decimal, map}
 use Rattle.std.specs.Borrow.{Bor}
 use Rattle.std.specs.Fmt.{signed_decimal}
 use Rattle.std.specs.List.{flat_map, enumerate_from}

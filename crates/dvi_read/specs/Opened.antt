@@ -36,7 +36,7 @@ IsExact files bytes result = (pages : List MarkedPage) → IsFile (file_widths f
 abbrev pub IsNoFile : List NamedBytes → List ℕ → Type 0
 IsNoFile files bytes = (pages : List MarkedPage) → IsFile (file_widths files) bytes pages → ⊥
 
--- The result of reading a file: these are its pages, its units and its fonts (own; private calls alone).
+-- The result of reading a file: these are its pages, its units and its fonts (own).
 pub record IsReadFrom (files : List NamedBytes) (bytes : List ℕ) (dvi : Opened) : Type 0 where
   pub pages : IsFile (file_widths files) bytes dvi.pages
   pub units : HasUnitsOf bytes dvi

@@ -1,7 +1,7 @@
 -- The parts of a file before its pages, and the rules that a refusal names, in the order of the checks (DVItype, 15 to 20; the order is own).
 use Rattle.std.specs.Prelude.{◌≡◌, ◌≢◌, ◌-◌, ◌%◌, List, length, reverse, ℕ, ℤ}
-use Rattle.dvi_fonts.specs.Ahead.{IsLookedAhead, IsUnlooked}
-use Rattle.dvi_fonts.specs.Closing.{IsClosingFault}
+use Rattle.dvi_scan.specs.Ahead.{IsLookedAhead, IsUnlooked}
+use Rattle.dvi_scan.specs.Closing.{IsClosingFault}
 use Rattle.dvi_scan.specs.Chain.{BreaksChain, IsPageAt, NamesPage}
 use Rattle.dvi_scan.specs.Ends.{BreaksEnd, HasPostamble}
 use Rattle.dvi_scan.specs.Preamble.{HasPreamble, IsPreambleFault}
@@ -37,36 +37,44 @@ pub record HasPages (files : List NamedBytes) (bytes : List ℕ) (parts : Framin
 
 -- Where a fault in the pages is Pointer, a bop is at its place, and this place is not in the chain.
 abbrev pub IsStray : List ℕ → (post : ℕ) → (chain : List ℕ) → DviFault → Type 0
-IsStray bytes post chain fault = (bad : BadDvi) → fault ≡ Bad bad → bad.cause ≡ Pointer → IsPageAt bytes bad.place post × (IsIn bad.place (reverse chain) → ⊥)
+IsStray bytes post chain fault = (bad : BadDvi) → fault ≡ Bad bad → bad.cause ≡ Pointer
+    → IsPageAt bytes bad.place post × (IsIn bad.place (reverse chain) → ⊥)
 
 -- Where a fault at the place of post is Pointer, the bops of the instructions before it are not at the places of the chain.
 abbrev pub IsUnmet : (before : List Token) → (chain : List ℕ) → BadDvi → Type 0
 IsUnmet before chain bad = bad.cause ≡ Pointer → places 0 before ≢ reverse chain
 
--- Why a file is refused before its pages are read. In each case the rules of the earlier checks hold, and a rule is broken at the place that the fault
--- names: of the end, of the chain of pages, or of the preamble. Memory may be refused for the places of the chain, where post names a page.
+-- Why a file is refused before its pages are read. In each case the rules of the earlier checks hold, and a rule is broken at the place that the
+-- fault names: of the end, of the chain of pages, or of the preamble. Memory may be refused for the places of the chain, where post names a page.
 pub data IsFrontFault (bytes : List ℕ) (fault : DviFault) : Type 0 where
-  ForPlaces : (post e : ℕ) (stop : Postamble) → fault ≡ OutOfMemory → HasPostamble bytes post e stop → NamesPage bytes post stop.last_bop → IsFrontFault bytes fault
+  ForPlaces : (post e : ℕ) (stop : Postamble) → fault ≡ OutOfMemory → HasPostamble bytes post e stop → NamesPage bytes post stop.last_bop
+      → IsFrontFault bytes fault
   AtTheEnd : (bad : BadDvi) → fault ≡ Bad bad → BreaksEnd bytes bad.place bad.cause → IsFrontFault bytes fault
-  InTheChain : (bad : BadDvi) (post e : ℕ) (stop : Postamble) → fault ≡ Bad bad → HasPostamble bytes post e stop → BreaksChain bytes post stop bad.place bad.cause → IsFrontFault bytes fault
-  InThePreamble : (bad : BadDvi) (post after last : ℕ) (stop : Postamble) (chain : List ℕ) → fault ≡ Bad bad → HasChain bytes post after last stop chain
+  InTheChain : (bad : BadDvi) (post e : ℕ) (stop : Postamble) → fault ≡ Bad bad → HasPostamble bytes post e stop
+      → BreaksChain bytes post stop bad.place bad.cause → IsFrontFault bytes fault
+  InThePreamble : (bad : BadDvi) (post after last : ℕ) (stop : Postamble) (chain : List ℕ) → fault ≡ Bad bad
+      → HasChain bytes post after last stop chain
       → IsPreambleFault bytes post stop bad → IsFrontFault bytes fault
 
--- Why a file is refused: before its pages are read; or the rules of the earlier checks hold, and a rule is broken at the place that the fault names: of
--- the pages; of the place of post, where no page is open and each place of the chain was a bop; or of the part after post. Memory may be refused for a
--- number that is defined after post; for an instruction of the pages; or for a right definition after post.
+-- Why a file is refused: before its pages are read; or the rules of the earlier checks hold, and a rule is broken at the place that the fault names:
+-- of the pages; of the place of post, where no page is open and each place of the chain was a bop; or of the part after post. Memory may be refused
+-- for a number that is defined after post; for an instruction of the pages; or for a right definition after post.
 pub data IsDviFault (files : List NamedBytes) (bytes : List ℕ) (fault : DviFault) : Type 0 where
   BeforeThePages : IsFrontFault bytes fault → IsDviFault files bytes fault
-  LookingAhead : (post after last : ℕ) (stop : Postamble) (chain : List ℕ) (from : ℕ) → fault ≡ OutOfMemory → StartsAt bytes post after last stop chain from
+  LookingAhead : (post after last : ℕ) (stop : Postamble) (chain : List ℕ) (from : ℕ) → fault ≡ OutOfMemory
+      → StartsAt bytes post after last stop chain from
       → IsUnlooked bytes after (last - 5) → IsDviFault files bytes fault
   InThePages : (post after last : ℕ) (stop : Postamble) (chain : List ℕ) (from : ℕ) (ahead : List ℤ) → StartsAt bytes post after last stop chain from
       → IsLookedAhead bytes after (last - 5) ahead → IsWalkFault files ahead bytes stop chain post fault → IsStray bytes post chain fault
       → IsDviFault files bytes fault
   AtPost : (bad : BadDvi) (post after last : ℕ) (stop : Postamble) (chain : List ℕ) (from : ℕ) (ahead : List ℤ) (seen : ReadSoFar) → fault ≡ Bad bad
-      → (has : HasPages files bytes (framing post after last stop chain) from ahead seen) → IsUnended seen.pass seen.left post bad → IsUnmet has.reached.before chain bad → IsDviFault files bytes fault
-  AfterPost : (bad : BadDvi) (post after last : ℕ) (stop : Postamble) (chain : List ℕ) (from : ℕ) (ahead : List ℤ) (seen : ReadSoFar) (pages : List MarkedPage) (new : List Definition)
+      → (has : HasPages files bytes (framing post after last stop chain) from ahead seen) → IsUnended seen.pass seen.left post bad
+      → IsUnmet has.reached.before chain bad → IsDviFault files bytes fault
+  AfterPost : (bad : BadDvi) (post after last : ℕ) (stop : Postamble) (chain : List ℕ) (from : ℕ) (ahead : List ℤ) (seen : ReadSoFar)
+      (pages : List MarkedPage) (new : List Definition)
       → fault ≡ Bad bad → HasPages files bytes (framing post after last stop chain) from ahead seen → PagesHaveEnded seen.pass seen.left pages
       → IsClosingFault bytes after (last - 5) seen.known new (frames.Bad bad) → IsDviFault files bytes fault
-  ForDefinitions : (post after last : ℕ) (stop : Postamble) (chain : List ℕ) (from : ℕ) (ahead : List ℤ) (seen : ReadSoFar) (pages : List MarkedPage) (new : List Definition)
+  ForDefinitions : (post after last : ℕ) (stop : Postamble) (chain : List ℕ) (from : ℕ) (ahead : List ℤ) (seen : ReadSoFar)
+      (pages : List MarkedPage) (new : List Definition)
       → fault ≡ OutOfMemory → HasPages files bytes (framing post after last stop chain) from ahead seen → PagesHaveEnded seen.pass seen.left pages
       → IsClosingFault bytes after (last - 5) seen.known new frames.OutOfMemory → IsDviFault files bytes fault

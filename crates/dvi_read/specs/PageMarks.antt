@@ -1,11 +1,10 @@
 -- What a reader of a file knows of the marks of its pages: the places of the texts of specials, and the widths of glyphs (own; the marks are
 -- DVItype's, 15 and 16).
-use Rattle.std.specs.Prelude.{◌≡◌, ◌≤◌, ◌<◌, ◌+◌, ◌*◌, ◌-◌, ◌^◌, ◌++◌, [], ◌∷◌, ℕ, ℤ}
-use Rattle.std.specs.Prelude.{List, Option, Some, drop, length, option_and_then, slice_index, take}
+use Rattle.std.specs.Prelude.{◌≡◌, ◌≤◌, ◌<◌, ◌+◌, ◌*◌, ◌^◌, ◌++◌, [], ◌∷◌, ℕ, ℤ, List, Option, Some, drop, length, option_and_then, slice_index, take}
 use Rattle.std.specs.List.{AllByRecursion, flat_map}
 use Rattle.dvi_ops.specs.File.{MarkedPage}
 use Rattle.dvi_ops.specs.Fonts.{WidthsByName, widths_of}
-use Rattle.dvi_ops.specs.Instruction.{Definition, Xxx, Instruction, Do}
+use Rattle.dvi_ops.specs.Instruction.{Definition}
 use Rattle.dvi_scan.specs.Pass.{PassStateView, Between, Inside}
 use Rattle.dvi_read.specs.ReadFonts.{HaveByteCodes, font_place, read_font_at, width_in}
 use Rattle.dvi_read.specs.declared.read_fonts.ReadFonts.{ReadFonts}
@@ -64,20 +63,6 @@ pub record HasRoomFor (bytes : List ℕ) (pages : List MarkedPage) : Type 0 wher
 abbrev pub marks_so_far : PassStateView → List Mark
 marks_so_far (Between pages) = marks_of pages
 marks_so_far (Inside pages counts marks stack s) = marks_of pages ++ marks
-
--- The text of an instruction that puts a special, as a list of one or none.
-abbrev pub text_put : Instruction → List (List ℕ)
-text_put (Do (Xxx text)) = text ∷ []
-text_put i = []
-
--- The place of that text, where the instruction ends at `next`, as a list of one or none.
-abbrev pub text_place : (next : ℕ) → Instruction → List ℕ
-text_place next (Do (Xxx text)) = (next - length text) ∷ []
-text_place next i = []
-
--- An instruction puts a special.
-abbrev pub PutsSpecial : Instruction → Type 0
-PutsSpecial i = (text : List ℕ) × (i ≡ Do (Xxx text))
 
 -- Each text so far stands in the bytes at its place, where these are bytes.
 abbrev pub HasPlaces : List ℕ → (places : List ℕ) → PassStateView → Type 0

@@ -3,9 +3,9 @@
 use Rattle.std.specs.Prelude.{◌≡◌, List, slice_get, ℕ, ℤ, Option, Some, None, IsSome}
 use Rattle.std.specs.BTreeMap.{IsUnchanged, get}
 use Rattle.std.specs.Ordering.{int_cmp}
-use Rattle.dvi_fonts.specs.Widths.{HasBytes}
+use Rattle.dvi_scan.specs.Widths.{HasBytes}
 use Rattle.dvi_ops.specs.Fonts.{WidthsByName, font}
-use Rattle.dvi_ops.specs.Instruction.{Definition, SetChar, PutChar, FontNum, Instruction, Do}
+use Rattle.dvi_ops.specs.Instruction.{Definition, SetChar, PutChar, Instruction, Do}
 use Rattle.dvi_scan.specs.declared.executing.PassState.{PassState}
 use Rattle.dvi_scan.specs.declared.executing.PassState.TheVariants.{Between, Inside}
 use Rattle.dvi_read.specs.declared.read_fonts.ReadFonts.{ReadFonts}
@@ -59,11 +59,6 @@ selected_in (Inside page) = page.state.font
 -- The selected font was read, and no other was selected since.
 abbrev pub IsCurrent : ReadFonts → PassState → Type 0
 IsCurrent fonts stand = (f : ℤ) → selected_in stand ≡ Some f → HasCurrent f fonts
-
--- A selection selects its font. Any other instruction leaves the fonts unchanged.
-abbrev pub Chooses : Instruction → (old new : ReadFonts) → Type 0
-Chooses (Do (FontNum f)) old new = HasCurrent f new
-Chooses i old new = new ≡ old
 
 -- The character that an instruction sets or puts, if it does one of both.
 abbrev pub code_in : Instruction → Option ℤ

@@ -1,22 +1,21 @@
 -- One instruction of the pages, as the code processes it (own). No clause of a call that other crates use to read a file reaches these definitions:
 -- they are about the values of the code.
-use Rattle.std.specs.Prelude.{◌≡◌, ◌++◌, ◌⊎◌, false, true, List, map, reverse, ℕ, ℤ, Option, Some, None}
+use Rattle.std.specs.Prelude.{◌≡◌, ◌++◌, ◌⊎◌, false, true, List, map, reverse, ℕ, ℤ, Some, None}
 use Rattle.std.specs.List.{AllByRecursion}
-use Rattle.dvi_fonts.specs.Widths.{IsFontRefusal}
-use Rattle.dvi_fonts.specs.declared.widths.FontRefusal.TheVariants as refusals
+use Rattle.dvi_scan.specs.Widths.{IsFontRefusal}
+use Rattle.dvi_scan.specs.declared.widths.FontRefusal.TheVariants as refusals
 use Rattle.dvi_scan.specs.declared.fault.DviCause.TheVariants.{Font}
 use Rattle.dvi_ops.specs.Body.{acts, kept}
 use Rattle.dvi_ops.specs.Fonts.{WidthsByName, IsRightAfter, defined, definitions_in, selection_of, widths_of}
-use Rattle.dvi_ops.specs.Instruction.{Definition, FontDef, FontNum, Instruction, Do}
+use Rattle.dvi_ops.specs.Instruction.{Definition, FontNum, Instruction, Do}
 use Rattle.dvi_ops.specs.Tokens.{bop_place}
-use Rattle.dvi_scan.specs.Drawing.{always}
 use Rattle.dvi_scan.specs.Pass.{PassStateView, execute}
 use Rattle.dvi_scan.specs.Reached.{HasWidths, Left, ReadSoFar, after_bops, has_number}
-use Rattle.dvi_scan.specs.Execution.{BreaksTurn, TakesRoom, pass_at}
+use Rattle.dvi_scan.specs.Execution.{pass_at}
 use Rattle.dvi_scan.specs.View.{marked_page}
-use Rattle.dvi_read.specs.ReadFonts.{AreSound, Chooses, HasCurrent, IsCurrent, FontIsRead, asked_width, code_in, font_place}
+use Rattle.dvi_read.specs.ReadFonts.{AreSound, HasCurrent, IsCurrent, FontIsRead, font_place}
 use Rattle.dvi_read.specs.declared.read_fonts.ReadFonts.{ReadFonts}
-use Rattle.dvi_read.specs.Stops.{BreaksRest, BreaksRule, FontIsUnread, SelectsUnread, InstructionAllocates}
+use Rattle.dvi_read.specs.Stops.{BreaksRule, FontIsUnread, SelectsUnread, InstructionAllocates}
 use Rattle.dvi_read.specs.declared.fault.StepFault.{StepFault}
 use Rattle.dvi_read.specs.declared.fault.StepFault.TheVariants.{OutOfMemory, Broken, Refused}
 use Rattle.dvi_read.specs.declared.walk.Walk.{Walk}
@@ -69,50 +68,6 @@ so_far selected walk = record { pass = stand_of walk; known = known_of walk; sel
 abbrev pub FontsAreRead : ReadFonts → List ℤ → Type 0
 FontsAreRead fonts selected = AllByRecursion (λ f. FontIsRead f fonts) selected
 
--- The effect of an instruction on pages and fonts is right and was recorded: a bop is among the places left of the chain, a definition was added, a
--- selected font was read.
-pub record Notes (metrics : WidthsByName) (ahead : List ℤ) (at : ℕ) (i : Instruction) (old new : Walk) : Type 0 where
-  pub bop : after_bops (bop_place at i) (places_left old) ≡ Some (places_left new)
-  pub right : IsRightAfter (known_of old) i
-  pub known_is : known_of new ≡ known_of old ++ definitions_in i
-  pub widths : AllByRecursion (HasWidths metrics (known_of old)) (selection_of i)
-  pub named : AllByRecursion (λ f. has_number ahead f ≡ true) (selection_of i)
-  pub read : AllByRecursion (λ f. FontIsRead f new.fonts) (selection_of i)
-  pub chosen : Chooses i old.fonts new.fonts
-  pub kept : (g : ℤ) → FontIsRead g old.fonts → FontIsRead g new.fonts
-  pub sound : AreSound metrics (known_of old) new.fonts
-  pub pages : map marked_page new.done.items ≡ map marked_page old.done.items
-  pub stand : new.stand ≡ old.stand
-
--- Memory is refused for the effect of an instruction on fonts.
-abbrev pub LacksNote : List NamedBytes → (ahead : List ℤ) → Instruction → Walk → Type 0
-LacksNote files ahead (Do (FontDef d)) walk = IsRightAfter (known_of walk) (Do (FontDef d))
-LacksNote files ahead (Do (FontNum f)) walk = LacksFont files ahead (known_of walk) f walk.fonts
-LacksNote files ahead i walk = ⊥
-
--- Why the effect of an instruction is not recorded.
-abbrev pub BreaksNote : List NamedBytes → (ahead : List ℤ) → (at : ℕ) → Instruction → Walk → StepFault → Type 0
-BreaksNote files ahead at i walk OutOfMemory = LacksNote files ahead i walk
-BreaksNote files ahead at i walk (Broken cause) = BreaksRest ahead (known_of walk) at (places_left walk) i cause
-BreaksNote files ahead at i walk (Refused refusal) = (f : ℤ) × (i ≡ Do (FontNum f)) × FontIsUnread files ahead (known_of walk) f refusal
-
--- The width of the character that an instruction sets or puts, in the font that was selected last.
-abbrev pub asked_of : Walk → Instruction → Option ℤ
-asked_of walk i = asked_width walk.fonts (code_in i)
-
--- The pass goes on, and the rest of the walk is unchanged.
-pub record PassesOn (most : ℕ) (i : Instruction) (old new : Walk) : Type 0 where
-  pub goes_on : execute (kept (acts (always (asked_of old i)))) most i (stand_of old) ≡ Some (stand_of new)
-  pub known : known_of new ≡ known_of old
-  pub fonts : new.fonts ≡ old.fonts
-  pub left : places_left new ≡ places_left old
-
--- The pass does not go on, or memory is refused for it.
-abbrev pub BreaksPass : (most : ℕ) → Instruction → Walk → StepFault → Type 0
-BreaksPass most i walk OutOfMemory = TakesRoom (acts (always (asked_of walk i))) most i (stand_of walk)
-BreaksPass most i walk (Broken cause) = BreaksTurn (acts (always (asked_of walk i))) most i (stand_of walk) cause
-BreaksPass most i walk (Refused refusal) = ⊥
-
 -- One more instruction: the pass goes on, and the effect on pages and fonts is right and was recorded.
 pub record IsWalkStep (metrics : WidthsByName) (ahead : List ℤ) (most at : ℕ) (i : Instruction) (old new : Walk) : Type 0 where
   pub goes_on : execute (kept (acts (widths_of metrics (known_of old)))) most i (stand_of old) ≡ Some (stand_of new)
@@ -134,4 +89,5 @@ BreaksStep files ahead most at s i (Refused refusal) = (f : ℤ) × (i ≡ Do (F
 
 -- The same for a walk, for any fonts that may have been selected so far and were all read.
 abbrev pub StopsStep : List NamedBytes → (ahead : List ℤ) → (most at : ℕ) → Instruction → Walk → StepFault → Type 0
-StopsStep files ahead most at i walk fault = (selected : List ℤ) → FontsAreRead walk.fonts selected → BreaksStep files ahead most at (so_far selected walk) i fault
+StopsStep files ahead most at i walk fault = (selected : List ℤ) → FontsAreRead walk.fonts selected
+    → BreaksStep files ahead most at (so_far selected walk) i fault

@@ -1,9 +1,9 @@
 -- Why the reading of the pages of a file stops (own): the rule that is broken at a place, where all instructions before it are right. The definitions
 -- are about the file and what was read of it so far.
 use Rattle.std.specs.Prelude.{◌≡◌, ◌≢◌, ◌≤◌, ◌<◌, ◌⊎◌, min, [], false, true, List, slice_index, ℕ, ℤ, Some, None, IsSome}
-use Rattle.dvi_fonts.specs.Widths.{IsFontRefusal}
-use Rattle.dvi_fonts.specs.declared.widths.FontRefusal.{FontRefusal}
-use Rattle.dvi_fonts.specs.declared.widths.FontRefusal.TheVariants as refusals
+use Rattle.dvi_scan.specs.Widths.{IsFontRefusal}
+use Rattle.dvi_scan.specs.declared.widths.FontRefusal.{FontRefusal}
+use Rattle.dvi_scan.specs.declared.widths.FontRefusal.TheVariants as refusals
 use Rattle.dvi_scan.specs.Ends.{StandsAt}
 use Rattle.dvi_scan.specs.declared.fault.BadDvi.{BadDvi}
 use Rattle.dvi_scan.specs.declared.fault.DviCause.{DviCause}
@@ -95,11 +95,13 @@ BreaksPages metrics part at s cause = BreaksAt metrics part at s cause
 
 -- A font is selected at a place in a page, is defined before it and after post, and has no widths for this reason.
 abbrev pub LacksWidths : List NamedBytes → PageBytes → (at : ℕ) → ReadSoFar → FontRefusal → Type 0
-LacksWidths files part at s refusal = (f : ℤ) × StandsAt part.bytes at part.post (Do (FontNum f)) × SelectsUnread files part.ahead part.most s f refusal
+LacksWidths files part at s refusal =
+    (f : ℤ) × StandsAt part.bytes at part.post (Do (FontNum f)) × SelectsUnread files part.ahead part.most s f refusal
 
 -- A fault at a place. Memory is refused only for an instruction that is there.
 abbrev pub IsPagesFault : List NamedBytes → PageBytes → (at : ℕ) → ReadSoFar → DviFault → Type 0
-IsPagesFault files part at s faults.OutOfMemory = (i : Instruction) × StandsAt part.bytes at part.post i × InstructionAllocates files part.ahead part.most s i
+IsPagesFault files part at s faults.OutOfMemory =
+    (i : Instruction) × StandsAt part.bytes at part.post i × InstructionAllocates files part.ahead part.most s i
 IsPagesFault files part at s (faults.Bad fault) = (fault.place ≡ at) × BreaksPages (file_widths files) part at s fault.cause
 IsPagesFault files part at s faults.NoFont = LacksWidths files part at s refusals.NoFont
 IsPagesFault files part at s (faults.BadTfm cause) = LacksWidths files part at s (refusals.BadTfm cause)
@@ -114,7 +116,8 @@ pub record StopsAt (files : List NamedBytes) (part : PageBytes) (stop : Postambl
 
 -- The same for a fault at some place.
 abbrev pub IsWalkFault : List NamedBytes → (ahead : List ℤ) → (bytes : List ℕ) → Postamble → (chain : List ℕ) → (post : ℕ) → DviFault → Type 0
-IsWalkFault files ahead bytes stop chain post fault = (at : ℕ) × StopsAt files (page_bytes ahead bytes (min 1024 stop.stack_depth) post) stop chain at fault
+IsWalkFault files ahead bytes stop chain post fault =
+    (at : ℕ) × StopsAt files (page_bytes ahead bytes (min 1024 stop.stack_depth) post) stop chain at fault
 
 -- At the place of post no page is open, no place of the chain is still to come, and none was missed.
 pub record PagesHaveEnded (p : PassStateView) (left : Left) (pages : List MarkedPage) : Type 0 where
@@ -125,4 +128,5 @@ pub record PagesHaveEnded (p : PassStateView) (left : Left) (pages : List Marked
 abbrev pub IsUnended : PassStateView → Left → (post : ℕ) → BadDvi → Type 0
 IsUnended p left post fault =
     (fault.place ≡ post)
-    × ((fault.cause ≡ Opcode) × ((pages : List MarkedPage) → p ≡ Between pages → ⊥) ⊎ (fault.cause ≡ Pointer) × ((pages : List MarkedPage) × (p ≡ Between pages)) × (left ≢ all_left []))
+    × ((fault.cause ≡ Opcode) × ((pages : List MarkedPage) → p ≡ Between pages → ⊥) ⊎ (fault.cause ≡ Pointer)
+    × ((pages : List MarkedPage) × (p ≡ Between pages)) × (left ≢ all_left []))

@@ -3,8 +3,7 @@
 ghost use Rattle.std.specs.Prelude.{◌≡◌};
 ghost use Rattle.dvi_read.specs.Faults.{fault_in, of_font, of_frame, of_pass};
 
-use dvi_fonts::FontRefusal;
-use dvi_scan::{BadDvi, DviCause, FrameFault, PassFault};
+use dvi_scan::{BadDvi, DviCause, FontRefusal, FrameFault, PassFault};
 use std::alloc::AllocError;
 use tfm_core::TfmCause;
 use thiserror::Error;

@@ -10,6 +10,7 @@ ghost use Rattle.tfm_core.specs.NamedBytes.{NamedBytes};
 
 /// Where the rule that a fault names is broken, the bytes are no file with these font files, whatever the pages.
 pub fn no_fault_is_in_a_file()
-    ensures { (files : List NamedBytes) (bytes : List ℕ) (fault : DviFault) (pages : List MarkedPage) → fault ≢ OutOfMemory → IsDviFault files bytes fault
+    ensures { (files : List NamedBytes) (bytes : List ℕ) (fault : DviFault) (pages : List MarkedPage) → fault ≢ OutOfMemory
+        → IsDviFault files bytes fault
         → IsFile (file_widths files) bytes pages → ⊥ }
 {}

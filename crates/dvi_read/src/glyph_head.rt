@@ -1,7 +1,7 @@
 //! The beginning of the line of a glyph.
 
 ghost use Rattle.std.specs.Prelude.{◌≡◌, ◌≤◌, take};
-ghost use Rattle.dvi_read.specs.GlyphHeads.{head_text};
+ghost use Rattle.dvi_read.specs.Private.GlyphHeads.{head_text};
 
 /// The greatest size of the beginning of a line in bytes.
 pub(crate) const HEAD: usize = 56;

@@ -1,6 +1,6 @@
 //! The lines of a listing, each written into a part.
 
-ghost use Rattle.std.specs.Prelude.{◌≡◌, ◌++◌, ◌+◌, ◌*◌, ◌<◌, ◌≤◌, [], ◌∷◌, codes, decimal, length};
+ghost use Rattle.std.specs.Prelude.{◌≡◌, ◌++◌, ◌+◌, ◌*◌, ◌^◌, ◌<◌, ◌≤◌, [], ◌∷◌, codes, decimal, length, IfSome};
 ghost use Rattle.std.specs.Fmt.{signed_decimal};
 ghost use Rattle.std.specs.List.{flat_map};
 ghost use Rattle.dvi_read.specs.Listing.{hexadecimal_digit, is_shown_plainly, line, mark_line, shown_byte, text_ahead, text_line};
@@ -21,8 +21,8 @@ fn put_numbers(numbers: &[i32], part: &mut ListingPart)
     }
 }
 
-/// The digit of a number below 16.
-fn hexadecimal_digit(number: u8) -> u8
+/// The lower case hexadecimal digit of a number below 16.
+pub fn hexadecimal_digit(number: u8) -> u8
     requires { number < 16 }
     ensures { result ≡ hexadecimal_digit number }
 {
@@ -61,6 +61,8 @@ fn put_shown(byte: u8, part: &mut ListingPart)
 pub(crate) fn put_text<'f>(text: &'f [u8], part: &mut ListingPart) -> Option<&'f [u8]>
     ensures all { text_line text.now ≡ part.new ++ text_ahead result }
     ensures filled { 0 < length part.new }
+    ensures shorter { IfSome result (λ rest. length rest.now < length text.now) }
+    ensures short { length text.now < 2 ^ 64 }
 {
     part.clear();
     let [byte, rest @ ..] = text else {

@@ -2,8 +2,8 @@
 
 ghost use Rattle.std.specs.Prelude.{◌≡◌, ◌++◌, ◌+◌, ◌<◌, ◌≤◌, [], ◌∷◌, codes, decimal, length, take};
 ghost use Rattle.std.specs.Fmt.{signed_decimal};
-ghost use Rattle.dvi_read.specs.GlyphHeads.{head_text};
-ghost use Rattle.dvi_read.specs.ListingParts.{decimal_line_end};
+ghost use Rattle.dvi_read.specs.Private.GlyphHeads.{head_text};
+ghost use Rattle.dvi_read.specs.Private.ListingParts.{decimal_line_end};
 ghost use Rattle.dvi_read.specs.declared.glyph_head.TheConstants.{HEAD};
 ghost use Rattle.dvi_read.specs.declared.part.TheConstants.{PART};
 
@@ -37,7 +37,7 @@ impl Model for ListingPart {
 
     ghost Value = { List ℕ };
 
-    ghost use Rattle.dvi_read.specs.ListingParts.{IsListingPart};
+    ghost use Rattle.dvi_read.specs.Private.ListingParts.{IsListingPart};
 
     ghost view = { λ part. drop part.begin part.bytes };
 
@@ -166,8 +166,8 @@ impl ListingPart {
         });
     }
 
-    /// Writes the beginning of the line of a glyph before the others. It is made once for each character of a font, since most lines of a listing begin
-    /// so.
+    /// Writes the beginning of the line of a glyph before the others. It is made once for each character of a font, since most lines of a listing
+    /// begin so.
     pub(crate) fn put_glyph(&mut self, font: i32, code: i32)
         requires { length self.old + HEAD ≤ PART }
         ensures text { self.new ≡ head_text font code ++ self.old }

@@ -3,14 +3,14 @@
 ghost use Rattle.std.specs.Prelude.{◌≡◌, ◌++◌, ◌∷◌, [], false, length, option_map, true, ℕ, None, OnErr, OnOk, Some};
 ghost use Rattle.std.specs.BTreeMap.{IsEmpty, Updates};
 ghost use Rattle.std.specs.Ordering.{int_cmp};
-ghost use Rattle.dvi_fonts.specs.Widths.{HasBytes};
+ghost use Rattle.dvi_scan.specs.Widths.{HasBytes};
 ghost use Rattle.dvi_ops.specs.View.{view};
 ghost use Rattle.dvi_read.specs.PageMarks.{read_width};
 ghost use Rattle.dvi_read.specs.ReadFonts.{AreUnchanged, HaveByteCodes, asked_width, code_in, selected_font, font_place, width_in};
 ghost use Rattle.tfm_core.specs.FileWidths.{width_at};
 
-use dvi_fonts::FontNumber;
-use dvi_ops::Op;
+use dvi_ops::{BodyOp, Op};
+use dvi_scan::FontNumber;
 use std::alloc::{AllocError, Global};
 use std::collections::BTreeMap;
 use tfm_core::Font;
@@ -58,7 +58,8 @@ impl ReadFonts {
 
     /// Selects the font of a number, if it was read before, and returns whether it was. It takes no memory.
     pub(crate) fn choose(&mut self, number: FontNumber) -> bool
-        ensures yes { result ≡ true → (place : ℕ) × (font_place number.value self.old ≡ Some place) × (self.new ≡ record self.old { current = place }) }
+        ensures yes { result ≡ true → (place : ℕ) × (font_place number.value self.old ≡ Some place)
+            × (self.new ≡ record self.old { current = place }) }
         ensures no { result ≡ false → (font_place number.value self.old ≡ None) × (self.new ≡ self.old) }
     {
         match self.places.get(&number.value) {
@@ -97,7 +98,7 @@ impl ReadFonts {
     }
 
     /// The width of a character in the font that was selected last; None where there is no font or no such character. It takes no memory.
-    fn width(&self, code: CharCode) -> Option<i32>
+    pub(crate) fn width(&self, code: CharCode) -> Option<i32>
         requires { HaveByteCodes self.now }
         ensures { result ≡ width_in (selected_font self.now) code.value }
     {
@@ -111,8 +112,8 @@ fn code_of(op: &Op<'_>) -> Option<CharCode>
     ensures { option_map (λ code. code.value) result ≡ code_in (view op.now) }
 {
     match *op {
-        Op::SetChar(value) => Some(CharCode { value }),
-        Op::PutChar(value) => Some(CharCode { value }),
+        Op::Body(BodyOp::SetChar(value)) => Some(CharCode { value }),
+        Op::Body(BodyOp::PutChar(value)) => Some(CharCode { value }),
         _ => None,
     }
 }

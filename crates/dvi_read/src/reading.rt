@@ -1,11 +1,11 @@
 //! The pages of a file, and the part after them (DVItype, 15 to 19).
 
 ghost use Rattle.std.specs.Prelude.{◌≡◌, ◌≤◌, ◌+◌, ◌-◌, length, map, IfErr, IfOk, OnOk};
-ghost use Rattle.dvi_fonts.specs.Closing.{ClosesTo};
+ghost use Rattle.dvi_scan.specs.Closing.{ClosesTo};
 ghost use Rattle.dvi_ops.specs.View.{postamble};
 ghost use Rattle.dvi_scan.specs.View.{marked_page};
 ghost use Rattle.dvi_read.specs.Opening.{IsDviFault, StartsAt};
-ghost use Rattle.dvi_read.specs.OpeningParts.{HoldsPages, IsFinishFault};
+ghost use Rattle.dvi_read.specs.Private.OpeningParts.{HasPassed, HoldsPages, IsFinishFault};
 ghost use Rattle.dvi_read.specs.PageMarks.{HasGlyphWidths, HasPlaces, marks_so_far};
 ghost use Rattle.dvi_read.specs.Steps.{known_of, places_left, stand_of};
 ghost use Rattle.dvi_read.specs.Stops.{PagesHaveEnded};
@@ -14,9 +14,8 @@ ghost use Rattle.tfm_core.specs.FileWidths.{file_widths};
 
 use crate::fault::DviFault;
 use crate::walk::{Source, Walk};
-use crate::walking::{pages_end, walk_pages};
-use dvi_fonts::{prescan_definitions, read_trailing_definitions};
-use dvi_scan::FileEnd;
+use crate::walking::{pages_end, walk_over, walk_pages};
+use dvi_scan::{FileEnd, prescan_definitions, read_trailing_definitions};
 use std::alloc::Global;
 use tfm_core::FontFile;
 
@@ -49,6 +48,33 @@ pub(crate) fn read_pages<'a>(
     walk_pages(alloc, &source, from, chain)
 }
 
+/// Reads the pages of a file, as `read_pages`, and drops their marks as they come.
+pub(crate) fn check_pages<'a>(
+    alloc: Global,
+    bytes: &'a [u8],
+    files: &[FontFile],
+    ending: &FileEnd,
+    from: usize,
+    chain: Vec<usize>,
+) -> Result<Walk<'a>, DviFault>
+    requires low { ending.now.after + 5 ≤ ending.now.last }
+    requires high { ending.now.last ≤ length bytes.now }
+    requires starts { StartsAt bytes.now ending.now.post ending.now.after ending.now.last (postamble ending.now.stop) chain.items from }
+    ensures ok { IfOk result (HasPassed files.now bytes.now
+        (framing ending.now.post ending.now.after ending.now.last (postamble ending.now.stop) chain.items) from) }
+    ensures bad { IfErr result (IsDviFault files.now bytes.now) }
+{
+    let numbers = prescan_definitions(alloc, bytes, ending.after, ending.last - 5)?;
+    let source = Source {
+        bytes,
+        files,
+        ahead: &numbers,
+        ending,
+    };
+    let (walk, _) = walk_over(alloc, &source, from, chain, false)?;
+    Ok(walk)
+}
+
 /// Ends a walk at the place of post, and reads the part after post.
 pub(crate) fn finish<'a>(
     bytes: &'a [u8],
@@ -61,7 +87,8 @@ pub(crate) fn finish<'a>(
     ensures closed { OnOk result (ClosesTo bytes.now ending.now.after (ending.now.last - 5) (known_of walk.old) (known_of walk.new)) }
     ensures done { walk.new.done.items ≡ walk.old.done.items }
     ensures fonts { walk.new.fonts ≡ walk.old.fonts }
-    ensures bad { IfErr result (IsFinishFault bytes.now ending.now.post ending.now.after ending.now.last (stand_of walk.old) (places_left walk.old) (known_of walk.old)) }
+    ensures bad { IfErr result (IsFinishFault bytes.now ending.now.post ending.now.after ending.now.last (stand_of walk.old)
+        (places_left walk.old) (known_of walk.old)) }
 {
     pages_end(walk, ending.post)?;
     read_trailing_definitions(bytes, ending.after, ending.last - 5, &mut walk.known)?;

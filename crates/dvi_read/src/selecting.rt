@@ -12,9 +12,8 @@ ghost use Rattle.tfm_core.specs.FileWidths.{file_widths};
 use crate::fault::StepFault;
 use crate::read_fonts::ReadFonts;
 use crate::walk::Source;
-use dvi_fonts::{FontNumber, KnownFonts, NumbersAhead, is_ahead, read_font};
 use dvi_ops::FontDefinition;
-use dvi_scan::DviCause;
+use dvi_scan::{DviCause, FontNumber, KnownFonts, NumbersAhead, is_ahead, read_font};
 use std::alloc::Global;
 
 /// The first definition of a number, where the number is also defined after post.
@@ -23,7 +22,8 @@ fn definition_in<'f, 'a>(
     known: &'f KnownFonts<'a>,
     number: FontNumber,
 ) -> Option<&'f FontDefinition<'a>>
-    ensures font_defined { IfSome result (λ font. (has_number ahead.now.keys number.value ≡ true) × (defined number.value known.now ≡ Some (definition font.now))) }
+    ensures font_defined { IfSome result (λ font. (has_number ahead.now.keys number.value ≡ true)
+        × (defined number.value known.now ≡ Some (definition font.now))) }
     ensures none { result ≡ None → (defined number.value known.now ≡ None) ⊎ (has_number ahead.now.keys number.value ≡ false) }
 {
     if !is_ahead(ahead, number) {

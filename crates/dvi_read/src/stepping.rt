@@ -6,16 +6,16 @@ ghost use Rattle.dvi_ops.specs.Fonts.{IsFontSize};
 ghost use Rattle.dvi_ops.specs.View.{view};
 ghost use Rattle.dvi_scan.specs.Reached.{after_bop};
 ghost use Rattle.dvi_read.specs.ReadFonts.{AreSound, HaveByteCodes, IsCurrent};
-ghost use Rattle.dvi_read.specs.Steps.{BreaksNote, BreaksPass, Notes, PassesOn, IsWalkStep, StopsStep, known_of};
+ghost use Rattle.dvi_read.specs.Steps.{IsWalkStep, StopsStep, known_of};
+ghost use Rattle.dvi_read.specs.Private.Steps.{BreaksNote, BreaksPass, Notes, PassesOn};
 ghost use Rattle.tfm_core.specs.FileWidths.{file_widths};
 
 use crate::fault::StepFault;
 use crate::read_fonts::width_asked;
 use crate::selecting::select;
 use crate::walk::{Source, Walk};
-use dvi_fonts::{FontNumber, define};
-use dvi_ops::Op;
-use dvi_scan::{DviCause, FileEnd, execute};
+use dvi_ops::{BodyOp, Op};
+use dvi_scan::{DviCause, FileEnd, FontNumber, define, execute};
 use std::alloc::Global;
 
 /// The greatest number of pushes that may be open at once, whatever post allows (own).
@@ -25,7 +25,8 @@ const MAX_PUSHES: usize = 1024;
 /// have the last one first. A bop that is not in the chain is refused at its own place; a missed place is refused only at post, since no bop is at it
 /// (it may be inside a special).
 fn is_named(left: &mut Vec<usize>, missed: &mut bool, at: usize) -> bool
-    ensures yes { result ≡ true → after_bop at missed.old (reverse left.old.items) ≡ Some (record { missed = missed.new; places = reverse left.new.items }) }
+    ensures yes { result ≡ true
+        → after_bop at missed.old (reverse left.old.items) ≡ Some (record { missed = missed.new; places = reverse left.new.items }) }
     ensures no { result ≡ false → after_bop at missed.old (reverse left.old.items) ≡ None }
 {
     while let Some(place) = left.pop() {
@@ -62,7 +63,7 @@ fn note<'a>(
             define(&mut walk.known, &font)?;
             Ok(())
         }
-        Op::FontNum(value) => {
+        Op::Body(BodyOp::FontNum(value)) => {
             let number = FontNumber { value };
             select(alloc, source, &walk.known, &mut walk.fonts, number)
         }
@@ -87,7 +88,7 @@ fn pass_on<'a>(
 }
 
 /// The greatest number of pushes that may be open at once: the depth in post, but at most `MAX_PUSHES`.
-fn max_pushes(ending: &FileEnd) -> usize
+pub(crate) fn max_pushes(ending: &FileEnd) -> usize
     ensures { result ≡ min 1024 ending.now.stop.stack_depth }
 {
     MAX_PUSHES.min(usize::from(ending.stop.stack_depth))
@@ -106,9 +107,11 @@ pub fn step<'a>(
     requires sizes { AllByRecursion (λ d. IsFontSize d.size) (known_of walk.old) }
     requires sound { AreSound (file_widths source.now.files.now) (known_of walk.old) walk.old.fonts }
     requires current { IsCurrent walk.old.fonts walk.old.stand }
-    ensures ok { OnOk result (IsWalkStep (file_widths source.now.files.now) source.now.ahead.now.keys (min 1024 source.now.ending.now.stop.stack_depth) at (view op.now) walk.old walk.new) }
+    ensures ok { OnOk result (IsWalkStep (file_widths source.now.files.now) source.now.ahead.now.keys
+        (min 1024 source.now.ending.now.stop.stack_depth) at (view op.now) walk.old walk.new) }
     // The rule that a fault names is broken.
-    ensures bad { IfErr result (StopsStep source.now.files.now source.now.ahead.now.keys (min 1024 source.now.ending.now.stop.stack_depth) at (view op.now) walk.old) }
+    ensures bad { IfErr result (StopsStep source.now.files.now source.now.ahead.now.keys (min 1024 source.now.ending.now.stop.stack_depth) at
+        (view op.now) walk.old) }
 {
     pass_on(alloc, max_pushes(source.ending), op, walk)?;
     note(alloc, source, walk, at, op)

@@ -1,8 +1,7 @@
 //! The state of a walk over the pages of a file.
 
 use crate::read_fonts::ReadFonts;
-use dvi_fonts::{KnownFonts, NumbersAhead};
-use dvi_scan::{FileEnd, Page, PassState};
+use dvi_scan::{FileEnd, KnownFonts, NumbersAhead, Page, PassState};
 use tfm_core::FontFile;
 
 /// The input of a walk.

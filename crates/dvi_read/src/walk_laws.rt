@@ -18,7 +18,8 @@ ghost use Rattle.tfm_core.specs.NamedBytes.{NamedBytes};
 
 /// Where a walk stops for another reason than memory, the bytes are no file with these font files.
 pub fn no_walk_stops_in_a_file()
-    ensures { (files : List NamedBytes) (ahead : List ℤ) (bytes : List ℕ) (post after last : ℕ) (stop : Postamble) (chain : List ℕ) (pages : List MarkedPage) (fault : DviFault)
+    ensures { (files : List NamedBytes) (ahead : List ℤ) (bytes : List ℕ) (post after last : ℕ) (stop : Postamble) (chain : List ℕ)
+        (pages : List MarkedPage) (fault : DviFault)
         → post ≤ length bytes → fault ≢ OutOfMemory → IsWalkFault files ahead bytes stop chain post fault
         → (f : IsPassed (file_widths files) bytes (framing post after last stop chain) pages) → AreNumbersOf ahead (definitions (says f.tail)) → ⊥ }
 {}
@@ -28,9 +29,12 @@ pub fn no_walk_stops_in_a_file()
 pub fn pointers_are_wrong()
     ensures bop { (files : List NamedBytes) (ahead : List ℤ) (bytes : List ℕ) (stop : Postamble) (chain : List ℕ) (post : ℕ) (bad : BadDvi)
         → bad.cause ≡ Pointer → IsWalkFault files ahead bytes stop chain post (Bad bad) → IsPageAt bytes bad.place post }
-    ensures stray { (files : List NamedBytes) (ahead : List ℤ) (bytes : List ℕ) (stop : Postamble) (chain : List ℕ) (post bound : ℕ) (pointer : ℤ) (bad : BadDvi)
+    ensures stray { (files : List NamedBytes) (ahead : List ℤ) (bytes : List ℕ) (stop : Postamble) (chain : List ℕ) (post bound : ℕ)
+        (pointer : ℤ) (bad : BadDvi)
         → post ≤ length bytes → Links bytes bound pointer chain → bad.cause ≡ Pointer → IsWalkFault files ahead bytes stop chain post (Bad bad)
         → IsIn bad.place (reverse chain) → ⊥ }
-    ensures unmet { (metrics : WidthsByName) (ahead : List ℤ) (bytes : List ℕ) (stop : Postamble) (chain : List ℕ) (post : ℕ) (s : ReadSoFar) (bad : BadDvi)
-        (r : IsReached metrics ahead bytes stop chain post s) → bad.cause ≡ Pointer → IsUnended s.pass s.left post bad → places 0 r.before ≢ reverse chain }
+    ensures unmet { (metrics : WidthsByName) (ahead : List ℤ) (bytes : List ℕ) (stop : Postamble) (chain : List ℕ) (post : ℕ)
+        (s : ReadSoFar) (bad : BadDvi)
+        (r : IsReached metrics ahead bytes stop chain post s) → bad.cause ≡ Pointer → IsUnended s.pass s.left post bad
+        → places 0 r.before ≢ reverse chain }
 {}

@@ -5,7 +5,8 @@ use Rattle.std.proofs.lemmas.List.{take-append-drop, drop_at, drop-drop, length-
 use Rattle.dvi_ops.specs.Instruction.{Bop, Post, Postamble}
 use Rattle.dvi_ops.specs.Table.{SpellsSigned, SaysEach, signed}
 use Rattle.dvi_scan.specs.Ends.{StandsAt}
-use Rattle.dvi_scan.specs.Chain.{Links, Names, NamesPage, IsBrokenAt, IsPageAt}
+use Rattle.dvi_scan.specs.Chain.{Links, NamesPage, IsBrokenAt, IsPageAt}
+use Rattle.dvi_scan.specs.Private.Chain.{Names}
 use Rattle.dvi_scan.specs.declared.page_chain.Named.{Named}
 use Rattle.dvi_scan.specs.declared.page_chain.Named.TheVariants.{Start, Page, Nothing}
 

@@ -14,3 +14,8 @@ pub mod LeftLemmas
 pub mod ReachedLemmas
 pub mod StrayLemmas
 pub mod WidthLemmas
+pub mod MetricFileLemmas
+pub mod FirstDefinitionLemmas
+pub mod RefusalLemmas
+pub mod ClosingLemmas
+pub mod AheadLemmas

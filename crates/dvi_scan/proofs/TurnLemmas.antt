@@ -8,14 +8,17 @@ use Rattle.dvi_ops.specs.Body.{Position, DviState, Meaning, Acts, acts, in_range
 use Rattle.scaled_core.specs.Mark.{Mark}
 use Rattle.dvi_ops.specs.File.{MarkedPage}
 use Rattle.dvi_ops.specs.View.{definition, view}
+use Rattle.dvi_ops.specs.declared.body_op.BodyOp.TheVariants as bodies
 use Rattle.dvi_ops.specs.declared.op.Op.{Op}
 use Rattle.dvi_ops.specs.declared.op.Op.TheVariants as ops
 use Rattle.dvi_scan.specs.declared.fault.DviCause.{DviCause}
 use Rattle.dvi_scan.specs.declared.fault.DviCause.TheVariants.{Opcode, Stack, Glyph, Range}
-use Rattle.dvi_scan.specs.Drawing.{Draws, always, leads, reached}
+use Rattle.dvi_scan.specs.Drawing.{always, reached}
+use Rattle.dvi_scan.specs.Private.Drawing.{Draws, leads}
 use Rattle.dvi_scan.specs.Pass.{PassStateView, Between, Inside, execute, popped, with_page_ended}
 use Rattle.dvi_scan.specs.Execution.{BreaksTurn, Executes, TurnsPage, inside_of, pass_at}
-use Rattle.dvi_scan.specs.View.{mark_of, marks_in, placed, stated}
+use Rattle.dvi_scan.specs.View.{mark_of, placed, stated}
+use Rattle.dvi_scan.specs.Private.View.{marks_in}
 use Rattle.dvi_scan.specs.declared.executing.OpenPage.{OpenPage}
 use Rattle.dvi_scan.specs.declared.executing.PassFault.{PassFault}
 use Rattle.dvi_scan.specs.declared.executing.PassFault.TheVariants.{OutOfMemory, Broken}
@@ -76,9 +79,9 @@ leaf_turns width most op known leaf pages old new r is does d = subst (λ (i : I
 
 -- A nop and a font definition change nothing.
 pub idle_turns : (width : Option ℤ) (most : ℕ) (op : Op) (pages : List MarkedPage) (old new : OpenPage) (r : Result Unit PassFault)
-    → (op ≡ ops.Nop) ⊎ ((d : _) × (op ≡ ops.FontDef d))
+    → (op ≡ ops.Body bodies.Nop) ⊎ ((d : _) × (op ≡ ops.FontDef d))
     → Draws (only (stated old.state)) pages old new r → TurnsPage (acts (always width)) most (view op) pages old new r
-idle_turns width most op pages old new r (inl is) d = leaf_turns width most op ops.Nop Nop pages old new r is refl d
+idle_turns width most op pages old new r (inl is) d = leaf_turns width most op (ops.Body bodies.Nop) Nop pages old new r is refl d
 idle_turns width most op pages old new r (inr (font, is)) d = leaf_turns width most op (ops.FontDef font) (FontDef (definition font)) pages old new r is refl d
 
 -- A fault is the same whatever state the pass is left in.

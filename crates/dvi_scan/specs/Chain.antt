@@ -1,14 +1,12 @@
 -- The pages from the last one back: post names the last, each bop the one before it, and the first -1 (DVItype, 15 and 19); and how the chain may be
 -- broken (own).
-use Rattle.std.specs.Prelude.{◌≡◌, ◌≢◌, ◌<◌, ◌+◌, ◌%◌, [], ◌∷◌, List, length, ℕ, ℤ, pos, negsuc}
+use Rattle.std.specs.Prelude.{◌≡◌, ◌≢◌, ◌+◌, ◌%◌, [], ◌∷◌, List, length, ℕ, ℤ, pos, negsuc}
 use Rattle.dvi_ops.specs.Instruction.{Postamble, Bop}
 use Rattle.dvi_scan.specs.Ends.{StandsAt}
 use Rattle.dvi_scan.specs.declared.fault.DviCause.{DviCause}
 use Rattle.dvi_scan.specs.declared.fault.DviCause.TheVariants.{Pointer, Count}
 use Rattle.dvi_scan.specs.declared.fault.FrameFault.{FrameFault}
 use Rattle.dvi_scan.specs.declared.fault.FrameFault.TheVariants.{OutOfMemory, Bad}
-use Rattle.dvi_scan.specs.declared.page_chain.Named.{Named}
-use Rattle.dvi_scan.specs.declared.page_chain.Named.TheVariants.{Start, Page, Nothing}
 
 -- The places of the bops that a pointer leads to, the last page first. The pointer -1 leads to none. Another pointer names a bop that ends at or
 -- before `bound`, and its own pointer names the one before it.
@@ -49,14 +47,3 @@ NamesPage bytes bound pointer = (place : ℕ) × (pointer ≡ pos place) × IsPa
 abbrev pub IsChainRefusal : List ℕ → (post : ℕ) → Postamble → FrameFault → Type 0
 IsChainRefusal bytes post stop OutOfMemory = NamesPage bytes post stop.last_bop
 IsChainRefusal bytes post stop (Bad fault) = BreaksChain bytes post stop fault.place fault.cause
-
--- What a pointer was found to name (own; private calls alone).
-abbrev pub Names : List ℕ → (at bound : ℕ) → (pointer : ℤ) → Named → Type 0
-Names bytes at bound pointer Start = pointer ≡ negsuc 0
-Names bytes at bound pointer (Page place) = (pointer ≡ pos place) × (place < bound) × (IsPageAt bytes place bound)
-Names bytes at bound pointer (Nothing p) = (p ≡ at) × IsLost bytes bound pointer
-
--- A fault of the walk: a lost pointer, or memory refused where the first pointer names a page (own; private calls alone).
-abbrev pub IsBrokenFrom : List ℕ → (at bound : ℕ) → (pointer : ℤ) → FrameFault → Type 0
-IsBrokenFrom bytes at bound pointer OutOfMemory = NamesPage bytes bound pointer
-IsBrokenFrom bytes at bound pointer (Bad fault) = (fault.cause ≡ Pointer) × IsBrokenAt bytes at bound pointer fault.place

@@ -37,7 +37,8 @@ BreaksEnd bytes place Trailer = (place ≡ length bytes) × ((e : ℕ) → IsTra
 BreaksEnd bytes place Version = IsTrailed bytes place × (slice_index bytes place ≢ 2)
 BreaksEnd bytes place Opcode = IsTrailed bytes (place + 5) × (slice_index bytes (place + 5) ≡ 2) × (slice_index bytes place ≢ 249)
 BreaksEnd bytes place Pointer =
-    IsClosed bytes (place + 4) × ((post : ℕ) (stop : Postamble) → signed 4 (drop place bytes) ≡ pos post → StandsAt bytes post (place - 1) (Post stop) → ⊥)
+    IsClosed bytes (place + 4) × ((post : ℕ) (stop : Postamble) → signed 4 (drop place bytes) ≡ pos post → StandsAt bytes post (place - 1) (Post stop)
+    → ⊥)
 BreaksEnd bytes place cause = ⊥
 
 -- The same for a fault.

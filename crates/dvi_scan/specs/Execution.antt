@@ -1,5 +1,6 @@
 -- One instruction in the state of the pass (DVItype, 15), and the rule that it breaks (own).
-use Rattle.std.specs.Prelude.{◌≡◌, ◌≢◌, ◌<◌, ◌≤◌, [], ◌∷◌, List, length, map, reverse, ℕ, ℤ, Option, Some, None, Result, Ok, Err, IsSome}
+use Rattle.std.specs.Prelude.{◌≡◌, ◌≢◌, ◌<◌, ◌≤◌, [], ◌∷◌, List, length, map, reverse, vec_capacity, vec_len, ℕ, ℤ, Option, Some, None, Result, Ok}
+use Rattle.std.specs.Prelude.{Err, IsSome}
 use Rattle.dvi_ops.specs.Instruction.{SetChar, PutChar, Nop, FontDef, Instruction, Do, Push, Pop, Bop, Eop}
 use Rattle.dvi_ops.specs.Body.{Acts, DviState, Widths, kept, kept_in}
 use Rattle.scaled_core.specs.Mark.{Mark}
@@ -71,10 +72,21 @@ abbrev pub Executes : {A : Type 0} → Acts → (most : ℕ) → Instruction →
 Executes does most i old new (Ok done) = execute (kept does) most i old ≡ Some new
 Executes does most i old new (Err fault) = IsTurnFault does most i old fault
 
--- The result for an instruction in an open page that stays open. A refusal leaves the page as it was (own; private calls alone).
+-- The result for an instruction in an open page that stays open. A refusal leaves the page as it was (own).
 abbrev pub TurnsPage : {A : Type 0} → Acts → (most : ℕ) → Instruction → List MarkedPage → (old new : OpenPage) → Result A PassFault → Type 0
 TurnsPage does most i pages old new (Ok done) = execute (kept does) most i (inside_of pages old) ≡ Some (inside_of pages new)
 TurnsPage does most i pages old new (Err fault) = IsTurnFault does most i (inside_of pages old) fault × (inside_of pages new ≡ inside_of pages old)
+
+-- An open page has room for one more mark, and for as many saved places as pushes may be open.
+pub record HasRoom (most : ℕ) (page : OpenPage) : Type 0 where
+  pub mark : vec_len page.marks < vec_capacity page.marks
+  pub places : most ≤ page.stack.capacity
+
+-- Where an open page has room, memory is not refused. The room for marks and for saved places does not shrink.
+pub record KeepsRoom {A : Type 0} (most : ℕ) (old new : OpenPage) (result : Result A PassFault) : Type 0 where
+  pub taken : HasRoom most old → result ≢ Err OutOfMemory
+  pub marks : vec_capacity old.marks ≤ vec_capacity new.marks
+  pub places : old.stack.capacity ≤ new.stack.capacity
 
 -- The width that is needed in the state of the pass: that of the character that an instruction sets or puts, in the current font, if one is selected.
 abbrev pub IsAsked : Widths → Instruction → PassStateView → Option ℤ → Type 0

@@ -8,3 +8,7 @@ pub mod Drawing
 pub mod Execution
 pub mod Passed
 pub mod Reached
+pub mod Widths
+pub mod Closing
+pub mod Ahead
+pub mod Private

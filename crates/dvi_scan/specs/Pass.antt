@@ -34,7 +34,8 @@ execute does most (Do (FontDef d)) (Between pages) = Some (Between pages)
 execute does most (Bop counts pointer) (Between pages) = Some (Inside pages counts [] [] start)
 execute does most i (Between pages) = None
 execute does most (Do leaf) (Inside pages counts marks stack s) = with_marks pages counts marks stack (does leaf s)
-execute does most Push (Inside pages counts marks stack s) = if nat_lt (length stack) most then Some (Inside pages counts marks (s.place ∷ stack) s) else None
+execute does most Push (Inside pages counts marks stack s) =
+    if nat_lt (length stack) most then Some (Inside pages counts marks (s.place ∷ stack) s) else None
 execute does most Pop (Inside pages counts marks stack s) = popped pages counts marks stack s
 execute does most Eop (Inside pages counts marks stack s) = with_page_ended pages counts marks stack
 execute does most i (Inside pages counts marks stack s) = None

@@ -1,5 +1,6 @@
 -- How far the pass over a file has come, and what is known there (own).
-use Rattle.std.specs.Prelude.{◌≡◌, ◌≤◌, ◌<◌, ◌-◌, ◌++◌, ◌⊎◌, min, [], ◌∷◌, Bool, false, if◌then◌else◌, List, drop, nat_eq, option_and_then, reverse, take, true, ℕ, ℤ, Option, Some, None, IsSome}
+use Rattle.std.specs.Prelude.{◌≡◌, ◌≤◌, ◌<◌, ◌-◌, ◌++◌, ◌⊎◌, min, [], ◌∷◌, Bool, false, if◌then◌else◌, List, drop, nat_eq, option_and_then, reverse}
+use Rattle.std.specs.Prelude.{take, true, ℕ, ℤ, Option, Some, None, IsSome}
 use Rattle.std.specs.List.{AllByRecursion, list_any}
 use Rattle.std.specs.Option.{is_some}
 use Rattle.std.specs.Ordering.{int_eq}
@@ -8,7 +9,8 @@ use Rattle.dvi_ops.specs.File.{IsIdle}
 use Rattle.dvi_ops.specs.Table.{Spells}
 use Rattle.dvi_ops.specs.Body.{acts, kept}
 use Rattle.dvi_ops.specs.Tokens.{Token, IsSpelled, says, written, bop_place, places}
-use Rattle.dvi_ops.specs.Fonts.{WidthsByName, FontsAreRight, IsRightAfter, defined, definitions_in, definitions, selection_of, selections, font, widths_of}
+use Rattle.dvi_ops.specs.Fonts.{WidthsByName, FontsAreRight, IsRightAfter, defined, definitions_in, definitions, selection_of, selections, font}
+use Rattle.dvi_ops.specs.Fonts.{widths_of}
 use Rattle.dvi_scan.specs.Pass.{PassStateView, Between, passes, execute}
 
 -- The font of a number is among these definitions and has widths.
@@ -66,7 +68,8 @@ before_pages chain = record { pass = Between []; known = []; selected = []; left
 -- The instructions before a place are right. The pass takes the width of a character from the first definition of its font; each selected font is
 -- defined before it, so a later definition changes no width. Each bop is in the chain. Each selected font has widths, and its number is among
 -- `ahead`, the numbers that are defined after post.
-pub record IsReached (metrics : WidthsByName) (ahead : List ℤ) (bytes : List ℕ) (stop : Postamble) (chain : List ℕ) (at : ℕ) (s : ReadSoFar) : Type 0 where
+pub record IsReached (metrics : WidthsByName) (ahead : List ℤ) (bytes : List ℕ) (stop : Postamble) (chain : List ℕ) (at : ℕ)
+    (s : ReadSoFar) : Type 0 where
   pub before : List Token
   pub spelled : AllByRecursion IsSpelled before
   pub whole : written before ≡ take at bytes
@@ -83,7 +86,8 @@ pub record IsReached (metrics : WidthsByName) (ahead : List ℤ) (bytes : List �
 
 -- An instruction is right at a place, and `new` is the state after it: the pass goes on; a bop is among the places left of the chain; the fonts are
 -- right; a selected font has widths, and its number is defined after post.
-pub record IsRightAt (metrics : WidthsByName) (ahead : List ℤ) (stop : Postamble) (at : ℕ) (old : ReadSoFar) (i : Instruction) (new : ReadSoFar) : Type 0 where
+pub record IsRightAt (metrics : WidthsByName) (ahead : List ℤ) (stop : Postamble) (at : ℕ) (old : ReadSoFar) (i : Instruction)
+    (new : ReadSoFar) : Type 0 where
   pub goes_on : execute (kept (acts (widths_of metrics old.known))) (min 1024 stop.stack_depth) i old.pass ≡ Some new.pass
   pub bop : after_bops (bop_place at i) old.left ≡ Some new.left
   pub fonts : IsRightAfter old.known i

@@ -1,5 +1,5 @@
 -- What the values of the code represent (own).
-use Rattle.std.specs.Prelude.{[], ◌∷◌, List, map, Option, Some, None}
+use Rattle.std.specs.Prelude.{map}
 use Rattle.dvi_ops.specs.Body.{Position, DviState}
 use Rattle.scaled_core.specs.Mark.{Mark, Glyph, Rule, Special}
 use Rattle.dvi_ops.specs.File.{MarkedPage}
@@ -27,8 +27,3 @@ placed p =
 -- The state that a value of the code represents.
 abbrev pub stated : Standing → DviState
 stated s = record { place = placed s.place; font = s.font }
-
--- The mark of a value that is a mark or none (own; private calls alone).
-abbrev pub marks_in : Option PassMark → List Mark
-marks_in None = []
-marks_in (Some m) = mark_of m ∷ []

@@ -6,10 +6,11 @@ ghost use Rattle.dvi_ops.specs.Table.{Spells};
 ghost use Rattle.dvi_ops.specs.View.{view};
 ghost use Rattle.dvi_scan.specs.Ends.{StandsAt};
 
-use dvi_ops::{Op, OpFault, next};
+use dvi_ops::{BodyOp, Op, OpFault, next};
 
 /// Reads the instruction at a place, where it ends at or before `bound`, and returns it with the place after it (DVItype, 15 to 20). The fault is
 /// Opcode where the first byte is 250 to 255, and Truncated where the instruction is cut off or there is no byte. It takes no memory.
+#[inline(always)]
 pub fn read_at(bytes: &[u8], place: usize, bound: usize) -> Result<(Op<'_>, usize), OpFault>
     requires low { place ≤ bound }
     requires high { bound ≤ length bytes.now }
@@ -28,7 +29,10 @@ pub fn read_at(bytes: &[u8], place: usize, bound: usize) -> Result<(Op<'_>, usiz
 {
     // Most instructions are characters of one byte, which is their code. They need no table.
     if place < bound && bytes[place] < 128 {
-        return Ok((Op::SetChar(i32::from(bytes[place])), place + 1));
+        return Ok((
+            Op::Body(BodyOp::SetChar(i32::from(bytes[place]))),
+            place + 1,
+        ));
     }
     match next(&bytes[place..bound]) {
         Ok((op, size)) => Ok((op, place + size)),

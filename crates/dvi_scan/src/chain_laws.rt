@@ -25,11 +25,13 @@ pub fn files_have_ends()
 /// A pointer leads to at most one list of places. It leads to the places of all bops exactly where each bop names the one before it and the pointer
 /// names the last.
 pub fn chain_is_linked()
-    ensures one { (bytes : List ℕ) (bound other : ℕ) (pointer : ℤ) (c d : List ℕ) → Links bytes bound pointer c → Links bytes other pointer d → c ≡ d }
+    ensures one { (bytes : List ℕ) (bound other : ℕ) (pointer : ℤ) (c d : List ℕ) → Links bytes bound pointer c → Links bytes other pointer d
+        → c ≡ d }
     ensures linked { (bytes : List ℕ) (front : List Token) (rest : List ℕ) (last : ℤ) → bytes ≡ written front ++ rest → AllByRecursion IsSpelled front
         → pointers (says front) ++ last ∷ [] ≡ negsuc 0 ∷ map pos (places 0 front)
         → Links bytes (length (written front)) last (reverse (places 0 front)) }
-    ensures chained { (bytes : List ℕ) (front : List Token) (rest : List ℕ) (bound : ℕ) (last : ℤ) → bytes ≡ written front ++ rest → AllByRecursion IsSpelled front
+    ensures chained { (bytes : List ℕ) (front : List Token) (rest : List ℕ) (bound : ℕ) (last : ℤ) → bytes ≡ written front ++ rest
+        → AllByRecursion IsSpelled front
         → Links bytes bound last (reverse (places 0 front))
         → pointers (says front) ++ last ∷ [] ≡ negsuc 0 ∷ map pos (places 0 front) }
 {}

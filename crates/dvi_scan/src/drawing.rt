@@ -1,12 +1,15 @@
 //! The effect of an instruction of a body in an open page: the place and the font after it, and the mark that it makes (DVItype, 14 and 15).
 
-ghost use Rattle.std.specs.Prelude.{◌≡◌, [], List, Some, option_map};
+ghost use Rattle.std.specs.Prelude.{◌≡◌, [], List, Some, option_map, ℕ};
 ghost use Rattle.dvi_ops.specs.Body.{Position as Spot, Widths, acts, glyph as seen_glyph, kept_in, only, place_after, rule_at};
 ghost use Rattle.scaled_core.specs.Mark.{Special};
 ghost use Rattle.dvi_ops.specs.File.{MarkedPage};
 ghost use Rattle.dvi_ops.specs.Instruction.{Across, Downward, By, PutChar, PutRule, SetChar, SetRule, Xxx};
-ghost use Rattle.dvi_scan.specs.Drawing.{Draws, leads, always, reached};
-ghost use Rattle.dvi_scan.specs.View.{mark_of, marks_in, placed, stated};
+ghost use Rattle.dvi_scan.specs.Execution.{KeepsRoom};
+ghost use Rattle.dvi_scan.specs.Drawing.{always, reached};
+ghost use Rattle.dvi_scan.specs.Private.Drawing.{Draws, leads};
+ghost use Rattle.dvi_scan.specs.View.{mark_of, placed, stated};
+ghost use Rattle.dvi_scan.specs.Private.View.{marks_in};
 
 use crate::executing::{OpenPage, PassFault};
 use crate::fault::DviCause;
@@ -21,7 +24,7 @@ pub(crate) struct Size {
 
 impl Position {
     /// The place moved to the right by an amount; None where h leaves signed 32 bits.
-    pub(crate) fn right(self, by: i32) -> Option<Position>
+    pub fn right(self, by: i32) -> Option<Position>
         ensures { option_map placed result ≡ reached (place_after Across (By by) (placed self)) }
     {
         let h = self.h.checked_add(by)?;
@@ -84,12 +87,15 @@ impl DviState {
 
 impl<'a> OpenPage<'a> {
     /// Makes a mark, if there is one, and moves to a place; the fault is Range where there is no place.
+    #[inline(always)]
     fn mark_and_go(
         &mut self,
         mark: Option<Mark<'a>>,
         place: Option<Position>,
     ) -> Result<(), PassFault>
-        ensures { (pages : List MarkedPage) (to : Spot) → option_map placed place ≡ reached to → Draws (leads (marks_in mark.entry) to self.old) pages self.old self.new result }
+        ensures turns { (pages : List MarkedPage) (to : Spot) → option_map placed place ≡ reached to
+            → Draws (leads (marks_in mark.entry) to self.old) pages self.old self.new result }
+        ensures room { (most : ℕ) → KeepsRoom most self.old self.new result }
     {
         let place = place.ok_or(DviCause::Range)?;
         if let Some(mark) = mark {
@@ -103,15 +109,19 @@ impl<'a> OpenPage<'a> {
     }
 
     /// Moves to a place; the fault is Range where there is none.
+    #[inline(always)]
     pub(crate) fn go(&mut self, place: Option<Position>) -> Result<(), PassFault>
-        ensures { (pages : List MarkedPage) (to : Spot) → option_map placed place ≡ reached to → Draws (leads [] to self.old) pages self.old self.new result }
+        ensures turns { (pages : List MarkedPage) (to : Spot) → option_map placed place ≡ reached to
+            → Draws (leads [] to self.old) pages self.old self.new result }
+        ensures room { (most : ℕ) → KeepsRoom most self.old self.new result }
     {
         self.mark_and_go(None, place)
     }
 
     /// A glyph of the current font at the place, and its width; None without a font or a width.
     fn glyph(&self, code: i32, width: Option<i32>) -> Option<(Mark<'a>, i32)>
-        ensures { option_map (λ found. (mark_of found.0, found.1)) result ≡ seen_glyph (always width) code (placed self.now.state.place) self.now.state.font }
+        ensures { option_map (λ found. (mark_of found.0, found.1)) result
+            ≡ seen_glyph (always width) code (placed self.now.state.place) self.now.state.font }
     {
         let mark = Mark::Glyph {
             font: self.state.font?,
@@ -123,8 +133,11 @@ impl<'a> OpenPage<'a> {
     }
 
     /// Sets a character: makes a mark, and moves right by its width.
+    #[inline(always)]
     pub(crate) fn set_char(&mut self, code: i32, width: Option<i32>) -> Result<(), PassFault>
-        ensures { (pages : List MarkedPage) → Draws (acts (always width) (SetChar code) (stated self.old.state)) pages self.old self.new result }
+        ensures turns { (pages : List MarkedPage)
+            → Draws (acts (always width) (SetChar code) (stated self.old.state)) pages self.old self.new result }
+        ensures room { (most : ℕ) → KeepsRoom most self.old self.new result }
     {
         let (mark, width) = self.glyph(code, width).ok_or(DviCause::Glyph)?;
         let place = self.state.place;
@@ -133,7 +146,9 @@ impl<'a> OpenPage<'a> {
 
     /// Puts a character: makes a mark, without moving.
     pub(crate) fn put_char(&mut self, code: i32, width: Option<i32>) -> Result<(), PassFault>
-        ensures { (pages : List MarkedPage) → Draws (acts (always width) (PutChar code) (stated self.old.state)) pages self.old self.new result }
+        ensures turns { (pages : List MarkedPage)
+            → Draws (acts (always width) (PutChar code) (stated self.old.state)) pages self.old self.new result }
+        ensures room { (most : ℕ) → KeepsRoom most self.old self.new result }
     {
         let (mark, _) = self.glyph(code, width).ok_or(DviCause::Glyph)?;
         let place = self.state.place;
@@ -142,7 +157,9 @@ impl<'a> OpenPage<'a> {
 
     /// Sets a rule: makes a mark, if it shows something, and moves right by its width in any case.
     pub(crate) fn set_rule(&mut self, size: Size) -> Result<(), PassFault>
-        ensures { (widths : Widths) (pages : List MarkedPage) → Draws (acts widths (SetRule size.height size.width) (stated self.old.state)) pages self.old self.new result }
+        ensures turns { (widths : Widths) (pages : List MarkedPage)
+            → Draws (acts widths (SetRule size.height size.width) (stated self.old.state)) pages self.old self.new result }
+        ensures room { (most : ℕ) → KeepsRoom most self.old self.new result }
     {
         let place = self.state.place;
         self.mark_and_go(place.rule(size), place.right(size.width))
@@ -150,7 +167,9 @@ impl<'a> OpenPage<'a> {
 
     /// Puts a rule, without moving.
     pub(crate) fn put_rule(&mut self, size: Size) -> Result<(), PassFault>
-        ensures { (widths : Widths) (pages : List MarkedPage) → Draws (acts widths (PutRule size.height size.width) (stated self.old.state)) pages self.old self.new result }
+        ensures turns { (widths : Widths) (pages : List MarkedPage)
+            → Draws (acts widths (PutRule size.height size.width) (stated self.old.state)) pages self.old self.new result }
+        ensures room { (most : ℕ) → KeepsRoom most self.old self.new result }
     {
         let place = self.state.place;
         self.mark_and_go(place.rule(size), place.here())
@@ -158,7 +177,9 @@ impl<'a> OpenPage<'a> {
 
     /// Puts a special, which is a text at the place, without moving.
     pub(crate) fn put_special(&mut self, text: &'a [u8]) -> Result<(), PassFault>
-        ensures { (widths : Widths) (pages : List MarkedPage) → Draws (acts widths (Xxx text.now) (stated self.old.state)) pages self.old self.new result }
+        ensures turns { (widths : Widths) (pages : List MarkedPage)
+            → Draws (acts widths (Xxx text.now) (stated self.old.state)) pages self.old self.new result }
+        ensures room { (most : ℕ) → KeepsRoom most self.old self.new result }
     {
         let place = self.state.place;
         self.mark_and_go(Some(place.special(text)), place.here())

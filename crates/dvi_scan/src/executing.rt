@@ -7,14 +7,14 @@ ghost use Rattle.dvi_ops.specs.Instruction.{Eop, Pop, Push};
 ghost use Rattle.dvi_ops.specs.View.{view};
 ghost use Rattle.dvi_scan.specs.Drawing.{always};
 ghost use Rattle.dvi_scan.specs.Pass.{Between};
-ghost use Rattle.dvi_scan.specs.Execution.{Executes, TurnsPage, fault_at, inside_of, pass_at};
+ghost use Rattle.dvi_scan.specs.Execution.{Executes, KeepsRoom, TurnsPage, fault_at, inside_of, pass_at};
 ghost use Rattle.dvi_scan.specs.View.{marked_page};
 ghost use Rattle.dvi_scan.specs.declared.executing.PassFault.TheVariants.{OutOfMemory, Broken};
 
 use crate::drawing::Size;
 use crate::fault::{BadDvi, DviCause, FrameFault};
 use crate::page::{DviState, Mark, Page, Position};
-use dvi_ops::Op;
+use dvi_ops::{BodyOp, Op};
 use smallvec::SmallVec;
 use std::alloc::{AllocError, AllocFailed, Global};
 use std::mem;
@@ -86,7 +86,8 @@ impl PassFault {
 impl<'a> OpenPage<'a> {
     /// Saves the place, if fewer than `most` pushes are open.
     fn push(&mut self, most: usize) -> Result<(), PassFault>
-        ensures { (does : Acts) (pages : List MarkedPage) → TurnsPage does most Push pages self.old self.new result }
+        ensures turns { (does : Acts) (pages : List MarkedPage) → TurnsPage does most Push pages self.old self.new result }
+        ensures room { KeepsRoom most self.old self.new result }
     {
         if most <= self.stack.len() {
             return Err(PassFault::Broken(DviCause::Stack));
@@ -98,7 +99,8 @@ impl<'a> OpenPage<'a> {
 
     /// Restores the place that was saved last. The font stays.
     fn pop(&mut self) -> Result<(), PassFault>
-        ensures { (does : Acts) (most : ℕ) (pages : List MarkedPage) → TurnsPage does most Pop pages self.old self.new result }
+        ensures turns { (does : Acts) (most : ℕ) (pages : List MarkedPage) → TurnsPage does most Pop pages self.old self.new result }
+        ensures room { (most : ℕ) → KeepsRoom most self.old self.new result }
     {
         let place = self.stack.pop().ok_or(DviCause::Stack)?;
         self.state = DviState {
@@ -108,35 +110,42 @@ impl<'a> OpenPage<'a> {
         Ok(())
     }
 
-    /// Processes an instruction that does not end the page.
-    fn take(&mut self, most: usize, op: &Op<'a>, width: Option<i32>) -> Result<(), PassFault>
+    /// Processes an instruction that does not end the page. `width` is as for `execute`. It takes memory for a mark or a saved place alone, and none
+    /// where the page has room for it.
+    #[inline(always)]
+    pub fn take(&mut self, most: usize, op: &Op<'a>, width: Option<i32>) -> Result<(), PassFault>
         requires { view op.now ≢ Eop }
-        ensures { (pages : List MarkedPage) → TurnsPage (acts (always width)) most (view op.now) pages self.old self.new result }
+        ensures turns { (pages : List MarkedPage) → TurnsPage (acts (always width)) most (view op.now) pages self.old self.new result }
+        // Memory is not refused where the page has room, and the room does not shrink.
+        ensures room { KeepsRoom most self.old self.new result }
     {
         let place = self.state.place;
         match *op {
-            Op::SetChar(code) => self.set_char(code, width),
-            Op::PutChar(code) => self.put_char(code, width),
-            Op::SetRule { height, width } => self.set_rule(Size { height, width }),
-            Op::PutRule { height, width } => self.put_rule(Size { height, width }),
-            Op::Push => self.push(most),
-            Op::Pop => self.pop(),
-            Op::Right(by) => self.go(place.right(by)),
-            Op::W0 => self.go(place.right(place.w)),
-            Op::W(w) => self.go(Position { w, ..place }.right(w)),
-            Op::X0 => self.go(place.right(place.x)),
-            Op::X(x) => self.go(Position { x, ..place }.right(x)),
-            Op::Down(by) => self.go(place.down(by)),
-            Op::Y0 => self.go(place.down(place.y)),
-            Op::Y(y) => self.go(Position { y, ..place }.down(y)),
-            Op::Z0 => self.go(place.down(place.z)),
-            Op::Z(z) => self.go(Position { z, ..place }.down(z)),
-            Op::FontNum(font) => {
-                self.state = self.state.with_font(font);
-                Ok(())
-            }
-            Op::Nop | Op::FontDef(_) => self.go(place.here()),
-            Op::Xxx(text) => self.put_special(text),
+            Op::Body(body) => match body {
+                BodyOp::SetChar(code) => self.set_char(code, width),
+                BodyOp::PutChar(code) => self.put_char(code, width),
+                BodyOp::SetRule { height, width } => self.set_rule(Size { height, width }),
+                BodyOp::PutRule { height, width } => self.put_rule(Size { height, width }),
+                BodyOp::Push => self.push(most),
+                BodyOp::Pop => self.pop(),
+                BodyOp::Right(by) => self.go(place.right(by)),
+                BodyOp::W0 => self.go(place.right(place.w)),
+                BodyOp::W(w) => self.go(Position { w, ..place }.right(w)),
+                BodyOp::X0 => self.go(place.right(place.x)),
+                BodyOp::X(x) => self.go(Position { x, ..place }.right(x)),
+                BodyOp::Down(by) => self.go(place.down(by)),
+                BodyOp::Y0 => self.go(place.down(place.y)),
+                BodyOp::Y(y) => self.go(Position { y, ..place }.down(y)),
+                BodyOp::Z0 => self.go(place.down(place.z)),
+                BodyOp::Z(z) => self.go(Position { z, ..place }.down(z)),
+                BodyOp::FontNum(font) => {
+                    self.state = self.state.with_font(font);
+                    Ok(())
+                }
+                BodyOp::Nop => self.go(place.here()),
+                BodyOp::Xxx(text) => self.put_special(text),
+            },
+            Op::FontDef(_) => self.go(place.here()),
             Op::Bop { .. } | Op::Eop | Op::Pre { .. } | Op::Post(_) | Op::PostPost { .. } => {
                 Err(PassFault::Broken(DviCause::Opcode))
             }
@@ -145,7 +154,8 @@ impl<'a> OpenPage<'a> {
 
     /// Ends the page, and adds it to the other pages.
     fn end(&mut self, alloc: Global, done: &mut Vec<Page<'a>>) -> Result<(), PassFault>
-        ensures turns { (does : Acts) (most : ℕ) → Executes does most Eop (inside_of (map marked_page done.old.items) self.old) (Between (map marked_page done.new.items)) result }
+        ensures turns { (does : Acts) (most : ℕ)
+            → Executes does most Eop (inside_of (map marked_page done.old.items) self.old) (Between (map marked_page done.new.items)) result }
         ensures err { OnErr result ((self.new ≡ self.old) × (done.new.items ≡ done.old.items)) }
     {
         if !self.stack.is_empty() {
@@ -164,11 +174,12 @@ impl<'a> OpenPage<'a> {
 /// Processes an instruction between two pages.
 fn begin<'a>(alloc: Global, stand: &mut PassState<'a>, op: &Op<'a>) -> Result<(), PassFault>
     requires { stand.old ≡ PassState.Between }
-    ensures turns { (does : Acts) (most : ℕ) (pages : List MarkedPage) → Executes does most (view op.now) (Between pages) (pass_at pages stand.new) result }
+    ensures turns { (does : Acts) (most : ℕ) (pages : List MarkedPage)
+        → Executes does most (view op.now) (Between pages) (pass_at pages stand.new) result }
     ensures err { OnErr result (stand.new ≡ stand.old) }
 {
     match *op {
-        Op::Nop | Op::FontDef(_) => Ok(()),
+        Op::Body(BodyOp::Nop) | Op::FontDef(_) => Ok(()),
         Op::Bop { counts, .. } => {
             *stand = PassState::Inside(OpenPage {
                 counts,
@@ -200,7 +211,8 @@ pub fn execute<'a>(
     width: Option<i32>,
 ) -> Result<(), PassFault>
     // The pass goes on as it is defined, or the rule that a fault names is broken.
-    ensures turns { Executes (acts (always width)) most (view op.now) (pass_at (map marked_page done.old.items) stand.old) (pass_at (map marked_page done.new.items) stand.new) result }
+    ensures turns { Executes (acts (always width)) most (view op.now) (pass_at (map marked_page done.old.items) stand.old)
+        (pass_at (map marked_page done.new.items) stand.new) result }
     // A fault changes nothing: the state of the pass and the pages are as before.
     ensures err { OnErr result ((done.new.items ≡ done.old.items) × ((pages : List MarkedPage) → pass_at pages stand.new ≡ pass_at pages stand.old)) }
 {

@@ -26,5 +26,6 @@ pub fn file_is_passed()
 /// post. So the widths may be taken from either.
 pub fn selected_fonts_have_one_definition()
     ensures { (metrics : WidthsByName) (bytes : List ℕ) (pages : List MarkedPage) (f : IsFile metrics bytes pages)
-        → AllByRecursion (λ n. defined n (definitions (says f.frame.front)) ≡ defined n (definitions (says f.frame.tail))) (selections (says f.frame.front)) }
+        → AllByRecursion (λ n. defined n (definitions (says f.frame.front)) ≡ defined n (definitions (says f.frame.tail)))
+        (selections (says f.frame.front)) }
 {}

@@ -4,7 +4,8 @@ ghost use Rattle.std.specs.Prelude.{◌≡◌, ◌≢◌, ◌≤◌, ◌<◌, �
 ghost use Rattle.dvi_ops.specs.Instruction.{Bop};
 ghost use Rattle.dvi_ops.specs.Table.{signed};
 ghost use Rattle.dvi_ops.specs.View.{postamble};
-ghost use Rattle.dvi_scan.specs.Chain.{IsBrokenFrom, IsChainRefusal, Links, Names};
+ghost use Rattle.dvi_scan.specs.Chain.{IsChainRefusal, Links};
+ghost use Rattle.dvi_scan.specs.Private.Chain.{IsBrokenFrom, Names};
 ghost use Rattle.dvi_scan.specs.Ends.{HasPostamble, StandsAt};
 
 use crate::at_place::read_at;

@@ -21,7 +21,8 @@ pub fn parts_are_passed()
 pub fn passed_are_parts()
     ensures { (does : Acts) (most : ℕ) (is : List Instruction) (pages : List MarkedPage)
         → passes does most is (Between []) ≡ Some (Between pages)
-        → (parts : List FilePart) × (is ≡ flat_map instructions parts) × (pages_of does parts ≡ Some pages) × AllByRecursion (λ part. push_depth_of part ≤ most) parts }
+        → (parts : List FilePart) × (is ≡ flat_map instructions parts) × (pages_of does parts ≡ Some pages)
+        × AllByRecursion (λ part. push_depth_of part ≤ most) parts }
 {}
 
 /// The pass over two lists is the pass over the first and then over the second.
@@ -34,7 +35,8 @@ pub fn one_after_the_other()
 
 /// Where an instruction breaks a rule, the pass stops.
 pub fn broken_rules_stop_the_pass()
-    ensures { (does : Acts) (most : ℕ) (i : Instruction) (p : PassStateView) (cause : DviCause) → BreaksTurn does most i p cause → execute (kept does) most i p ≡ None }
+    ensures { (does : Acts) (most : ℕ) (i : Instruction) (p : PassStateView) (cause : DviCause) → BreaksTurn does most i p cause
+        → execute (kept does) most i p ≡ None }
 {}
 
 /// The pass needs at most one width at each instruction: that of the character in the current font.

@@ -9,11 +9,13 @@ ghost use Rattle.dvi_ops.specs.Tokens.{Token, places, says};
 ghost use Rattle.dvi_scan.specs.Chain.{Links};
 ghost use Rattle.dvi_scan.specs.Passed.{framing, IsPassed};
 ghost use Rattle.dvi_scan.specs.Pass.{Between};
-ghost use Rattle.dvi_scan.specs.Reached.{AreNumbersOf, HasRight, IsIn, IsReached, IsRightAt, IsTail, Left, ReadSoFar, all_left, before_pages, after_bops};
+ghost use Rattle.dvi_scan.specs.Reached.{AreNumbersOf, HasRight, IsIn, IsReached, IsRightAt, IsTail, Left, ReadSoFar, all_left, before_pages};
+ghost use Rattle.dvi_scan.specs.Reached.{after_bops};
 
 /// A right instruction takes the pass forward.
 pub fn right_goes_on()
-    ensures { (metrics : WidthsByName) (ahead : List ℤ) (bytes : List ℕ) (stop : Postamble) (chain : List ℕ) (at next : ℕ) (old new : ReadSoFar) (i : Instruction)
+    ensures { (metrics : WidthsByName) (ahead : List ℤ) (bytes : List ℕ) (stop : Postamble) (chain : List ℕ) (at next : ℕ)
+        (old new : ReadSoFar) (i : Instruction)
         → at ≤ next → next ≤ length bytes → IsReached metrics ahead bytes stop chain at old
         → Spells i (take (next - at) (drop at bytes)) → IsRightAt metrics ahead stop at old i new
         → IsReached metrics ahead bytes stop chain next new }
@@ -39,8 +41,10 @@ pub fn later_places_are_left()
 
 /// The pass ends at the place of post: between pages, with no page still to come, and with a right tail.
 pub fn pass_ends()
-    ensures { (metrics : WidthsByName) (bytes : List ℕ) (post after last : ℕ) (stop : Postamble) (chain : List ℕ) (pages : List MarkedPage) (ahead : List ℤ) (s : ReadSoFar) (tail : List Token)
-        → AreUnits stop.units → AreNumbersOf ahead (definitions (says tail)) → IsReached metrics ahead bytes stop chain post s → s.pass ≡ Between pages → s.left ≡ all_left []
+    ensures { (metrics : WidthsByName) (bytes : List ℕ) (post after last : ℕ) (stop : Postamble) (chain : List ℕ) (pages : List MarkedPage)
+        (ahead : List ℤ) (s : ReadSoFar) (tail : List Token)
+        → AreUnits stop.units → AreNumbersOf ahead (definitions (says tail)) → IsReached metrics ahead bytes stop chain post s
+        → s.pass ≡ Between pages → s.left ≡ all_left []
         → IsTail bytes after last s.known tail → IsPassed metrics bytes (framing post after last stop chain) pages }
 {}
 
@@ -49,11 +53,13 @@ pub fn pass_ends()
 pub fn files_are_right()
     ensures next { (metrics : WidthsByName) (bytes : List ℕ) (post after last : ℕ) (stop : Postamble) (chain : List ℕ) (pages : List MarkedPage)
         (f : IsPassed metrics bytes (framing post after last stop chain) pages) (small : post ≤ length bytes)
-        (ahead : List ℤ) (numbers : AreNumbersOf ahead (definitions (says f.tail))) (at : ℕ) (s : ReadSoFar) (low : at ≤ post) (r : IsReached metrics ahead bytes stop chain at s)
+        (ahead : List ℤ) (numbers : AreNumbersOf ahead (definitions (says f.tail))) (at : ℕ) (s : ReadSoFar) (low : at ≤ post)
+        (r : IsReached metrics ahead bytes stop chain at s)
         → at < post → HasRight metrics ahead bytes stop at post s }
     ensures end { (metrics : WidthsByName) (bytes : List ℕ) (post after last : ℕ) (stop : Postamble) (chain : List ℕ) (pages : List MarkedPage)
         (f : IsPassed metrics bytes (framing post after last stop chain) pages) (small : post ≤ length bytes)
-        (ahead : List ℤ) (numbers : AreNumbersOf ahead (definitions (says f.tail))) (at : ℕ) (s : ReadSoFar) (low : at ≤ post) (r : IsReached metrics ahead bytes stop chain at s)
+        (ahead : List ℤ) (numbers : AreNumbersOf ahead (definitions (says f.tail))) (at : ℕ) (s : ReadSoFar) (low : at ≤ post)
+        (r : IsReached metrics ahead bytes stop chain at s)
         → at ≡ post → (s.pass ≡ Between pages) × (s.left ≡ all_left []) }
     ensures tail { (metrics : WidthsByName) (bytes : List ℕ) (post after last : ℕ) (stop : Postamble) (chain : List ℕ) (pages : List MarkedPage)
         (f : IsPassed metrics bytes (framing post after last stop chain) pages) → post ≤ length bytes → (ahead : List ℤ) (s : ReadSoFar)

@@ -1,1 +1,11 @@
 pub mod Writings
+pub mod Spelled
+pub mod WrittenBodies
+pub mod PageBytes
+pub mod FreshFonts
+pub mod DefinedFonts
+pub mod NextPages
+pub mod Rooms
+pub mod Files
+pub mod MoreFonts
+pub mod ClosedFiles

@@ -9,18 +9,18 @@ use Rattle.dvi_device.specs.Pasts.{Past, past_after, KeepsPast}
 use Rattle.dvi_device.proofs.Tellings.{grown-grown}
 use Rattle.dvi_device.proofs.PastLaws.{keeps_both, past_after_both}
 use Rattle.page_core.specs.Marks.{ShippedPage, is_huge}
-use Rattle.dvi_layout.specs.declared.fault.WriteFault.{WriteFault}
-use Rattle.dvi_layout.specs.declared.fault.WriteFault.TheVariants.{Device, HugePage, JobOver, OutOfMemory}
+use Rattle.dvi_write.specs.declared.fault.WriteFault.{WriteFault}
+use Rattle.dvi_write.specs.declared.fault.WriteFault.TheVariants.{Device, HugePage, JobOver, OutOfMemory}
 use Rattle.tfm_core.specs.Slots.{Slots}
-use Rattle.dvi_layout.specs.MoreFonts.{Extends}
-use Rattle.dvi_layout.specs.Layout.{front, whole}
-use Rattle.dvi_layout.specs.Shippable.{IsRightPage}
-use Rattle.dvi_layout.specs.SoFar.{ProgressView, nothing_so_far, next_bytes, with_next, last_bytes}
-use Rattle.dvi_layout.specs.Limits.{HasRoom, limit_of}
+use Rattle.dvi_write.specs.MoreFonts.{Extends}
+use Rattle.dvi_write.specs.Layout.{front, whole}
+use Rattle.dvi_write.specs.Shippable.{IsRightPage}
+use Rattle.dvi_write.specs.SoFar.{ProgressView, nothing_so_far, next_bytes, with_next, last_bytes}
+use Rattle.dvi_write.specs.Limits.{HasRoom, limit_of}
 use Rattle.dvi_write.specs.Writing.{GoesOn, HasWritten, RefusesPage, Writing, refusal_of}
-use Rattle.dvi_layout.proofs.Rooms.{small}
-use Rattle.dvi_layout.proofs.NextPages.{front-append, so_far-append, whole-is}
-use Rattle.dvi_layout.proofs.MoreFonts.{front_more, so_far_more, pages_more}
+use Rattle.dvi_write.proofs.Rooms.{small}
+use Rattle.dvi_write.proofs.NextPages.{front-append, so_far-append, whole-is}
+use Rattle.dvi_write.proofs.MoreFonts.{front_more, so_far_more, pages_more}
 
 grown-none : (bytes_written : Option (List ℕ)) → bytes_written ≡ written_then bytes_written []
 grown-none None = refl

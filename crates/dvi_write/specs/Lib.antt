@@ -1,2 +1,10 @@
 pub mod Writing
-pub mod WritingCode
+pub mod MoreFonts
+pub mod Sheets
+pub mod Layout
+pub mod Shippable
+pub mod SoFar
+pub mod Admitted
+pub mod Limits
+pub mod Closing
+pub mod Private

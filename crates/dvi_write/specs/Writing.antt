@@ -5,16 +5,16 @@ use Rattle.page_core.specs.Marks.{ShippedPage}
 use Rattle.dvi_device.specs.Written.{written_then}
 use Rattle.dvi_device.specs.Pasts.{Past, past_after}
 use Rattle.dvi_device.specs.Seen.{DeviceView}
-use Rattle.dvi_layout.specs.declared.fault.WriteFault.{WriteFault}
-use Rattle.dvi_layout.specs.declared.fault.WriteFault.TheVariants.{JobOver, OutOfMemory, Device}
+use Rattle.dvi_write.specs.declared.fault.WriteFault.{WriteFault}
+use Rattle.dvi_write.specs.declared.fault.WriteFault.TheVariants.{JobOver, OutOfMemory, Device}
 use Rattle.tfm_core.specs.Slots.{Slots}
-use Rattle.dvi_layout.specs.Limits.{limit_of}
-use Rattle.dvi_layout.specs.Layout.{front}
-use Rattle.dvi_layout.specs.SoFar.{ProgressView, so_far_of}
-use Rattle.dvi_layout.specs.Shippable.{IsRightPage}
+use Rattle.dvi_write.specs.Limits.{limit_of}
+use Rattle.dvi_write.specs.Layout.{front}
+use Rattle.dvi_write.specs.SoFar.{ProgressView, so_far_of}
+use Rattle.dvi_write.specs.Shippable.{IsRightPage}
 
--- The state of a writer: the numbers that it keeps of the pages so far; of its device, the bytes that it reports, the number of its failures, its past, and
--- its past when the writer was made; and whether the file is over.
+-- The state of a writer: the numbers that it keeps of the pages so far; of its device, the bytes that it reports, the number of its failures, its
+-- past, and its past when the writer was made; and whether the file is over.
 pub record Writing : Type 0 where
   pub so_far : ProgressView
   pub bytes_written : Option (List ℕ)

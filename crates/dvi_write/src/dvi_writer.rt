@@ -1,7 +1,7 @@
 //! The writer of a DVI file: each page goes to a device as it comes, and the end after the last (DVItype, 13 to 20).
 
+use crate::{AdmittedPage, Fonts, NextPage, Offsets, Progress, WriteFault};
 use dvi_device::{Device, Snapshot, write_all};
-use dvi_layout::{AdmittedPage, Fonts, NextPage, Offsets, Progress, WriteFault};
 use dvi_ops::counts_fit;
 use node_core::BoxNode;
 use std::alloc::Global;
@@ -25,33 +25,42 @@ pub struct DviWriter<D: Device> {
 
 impl<D: Device> Model for DviWriter<D> {
     ghost use Rattle.std.specs.Prelude.{◌≡◌, ◌<◌, ◌+◌, ◌^◌, false};
-    ghost use Rattle.dvi_layout.specs.Limits.{HasRoom};
+    ghost use Rattle.dvi_write.specs.Limits.{HasRoom};
     ghost use Rattle.dvi_write.specs.Writing.{Writing};
-    ghost use Rattle.dvi_write.specs.WritingCode.{coded_writing};
+    ghost use Rattle.dvi_write.specs.Private.WritingCode.{coded_writing};
 
     ghost Value = { Writing };
 
     ghost coded = { coded_writing };
 
-    ghost view = { λ w. record { so_far = w.progress; bytes_written = D.bytes_written w.device; failed = D.failed w.device; past = D.past w.device; began = D.past w.start.seen; over = w.over } };
+    ghost view = { λ w. record {
+      so_far = w.progress;
+      bytes_written = D.bytes_written w.device;
+      failed = D.failed w.device;
+      past = D.past w.device;
+      began = D.past w.start.seen;
+      over = w.over;
+    } };
 
-    ghost invariant = { λ w. HasRoom w.progress × (w.over ≡ false → D.failed w.device + 1 < 2 ^ 64) × ((D.past w.device).made ≡ (D.past w.start.seen).made) };
+    ghost invariant = { λ w. HasRoom w.progress × (w.over ≡ false → D.failed w.device + 1 < 2 ^ 64)
+        × ((D.past w.device).made ≡ (D.past w.start.seen).made) };
 }
 
 impl<D: Device> DviWriter<D> {
-    ghost use Rattle.std.specs.Prelude.{◌≡◌, ◌≢◌, ◌<◌, ◌+◌, ◌^◌, ◌++◌, ◌⊎◌, ◌∷◌, [], true, false, ℕ, List, Option, Some, None, length, IfOk, IfErr, OnOk, OnErr, Err, Result, nat_eq};
+    ghost use Rattle.std.specs.Prelude.{◌≡◌, ◌≢◌, ◌<◌, ◌+◌, ◌^◌, ◌++◌, ◌⊎◌, ◌∷◌, [], true, false, ℕ, List, Option, Some, None, length, IfOk, IfErr};
+    ghost use Rattle.std.specs.Prelude.{OnOk, OnErr, Err, Result, nat_eq};
     ghost use Rattle.dvi_device.specs.Written.{written_then, GrowsByFront};
     ghost use Rattle.dvi_device.specs.Pasts.{KeepsPast, Passes, past_after};
     ghost use Rattle.dvi_device.specs.Seen.{device_view};
     ghost use Rattle.dvi_ops.specs.Fonts.{WidthsByName};
     ghost use Rattle.page_core.specs.Marks.{ShippedPage};
-    ghost use Rattle.dvi_layout.specs.declared.fault.WriteFault.{WriteFault};
+    ghost use Rattle.dvi_write.specs.declared.fault.WriteFault.{WriteFault};
     ghost use Rattle.tfm_core.specs.Slots.{Slots};
-    ghost use Rattle.dvi_layout.specs.SoFar.{next_bytes, last_bytes, with_next};
-    ghost use Rattle.dvi_layout.specs.Layout.{front, whole};
-    ghost use Rattle.dvi_layout.specs.Limits.{HasRoom};
-    ghost use Rattle.dvi_layout.specs.Closing.{IsClosedFor};
-    ghost use Rattle.dvi_layout.specs.Shippable.{GivesFonts, IsFileOfPages, IsRightPage, IsShippable};
+    ghost use Rattle.dvi_write.specs.SoFar.{next_bytes, last_bytes, with_next};
+    ghost use Rattle.dvi_write.specs.Layout.{front, whole};
+    ghost use Rattle.dvi_write.specs.Limits.{HasRoom};
+    ghost use Rattle.dvi_write.specs.Closing.{IsClosedFor};
+    ghost use Rattle.dvi_write.specs.Shippable.{GivesFonts, IsFileOfPages, IsRightPage, IsShippable};
     ghost use Rattle.page_core.specs.Pages.{page_with};
     ghost use Rattle.dvi_write.specs.Writing.{EndsWith, GoesOn, HasWritten, IsDeviceOf, IsMadeOver, MayFail, RefusesPage, refusal_of};
 
@@ -176,12 +185,16 @@ impl<D: Device> DviWriter<D> {
         requires { IsShippable fonts.now box_node.now }
         ensures written { OnOk result ((before : Option (List ℕ)) (pages : List ShippedPage) → HasWritten fonts.now before self.old pages
             → HasWritten fonts.now before self.new (pages ++ page_with counts.now offsets box_node.now ∷ [])) }
-        ensures part { result ≡ Err WriteFault.Device → (before : Option (List ℕ)) (pages : List ShippedPage) → HasWritten fonts.now before self.old pages
+        ensures part { result ≡ Err WriteFault.Device → (before : Option (List ℕ)) (pages : List ShippedPage)
+            → HasWritten fonts.now before self.old pages
             → GrowsByFront before self.new.bytes_written (front fonts.now (pages ++ page_with counts.now offsets box_node.now ∷ [])) }
-        ensures past { result ≡ Err WriteFault.Device → (before : Option (List ℕ)) (pages : List ShippedPage) → HasWritten fonts.now before self.old pages
+        ensures past { result ≡ Err WriteFault.Device → (before : Option (List ℕ)) (pages : List ShippedPage)
+            → HasWritten fonts.now before self.old pages
             → KeepsPast self.old.began (front fonts.now (pages ++ page_with counts.now offsets box_node.now ∷ [])) self.new.past }
-        ensures sent { OnOk result (self.new.bytes_written ≡ written_then self.old.bytes_written (next_bytes fonts.now self.old.so_far (page_with counts.now offsets box_node.now))) }
-        ensures since { result ≡ Err WriteFault.Device → GrowsByFront self.old.bytes_written self.new.bytes_written (next_bytes fonts.now self.old.so_far (page_with counts.now offsets box_node.now)) }
+        ensures sent { OnOk result (self.new.bytes_written
+            ≡ written_then self.old.bytes_written (next_bytes fonts.now self.old.so_far (page_with counts.now offsets box_node.now))) }
+        ensures since { result ≡ Err WriteFault.Device → GrowsByFront self.old.bytes_written self.new.bytes_written
+            (next_bytes fonts.now self.old.so_far (page_with counts.now offsets box_node.now)) }
         ensures kept { OnOk result (self.new.so_far ≡ with_next fonts.now self.old.so_far (page_with counts.now offsets box_node.now)) }
         ensures running { OnOk result (self.new.over ≡ false) }
         ensures may { OnOk result (refusal_of self.old (page_with counts.now offsets box_node.now) ≡ None) }
@@ -207,19 +220,25 @@ impl<D: Device> DviWriter<D> {
     pub fn finish(&mut self, alloc: Global, fonts: &Fonts) -> Result<WrittenFile, WriteFault>
         ensures whole { OnOk result ((before : Option (List ℕ)) (pages : List ShippedPage) → HasWritten fonts.now before self.old pages
             → self.new.bytes_written ≡ written_then before (whole fonts.now pages)) }
-        ensures part { result ≡ Err WriteFault.Device → (before : Option (List ℕ)) (pages : List ShippedPage) → HasWritten fonts.now before self.old pages
+        ensures part { result ≡ Err WriteFault.Device → (before : Option (List ℕ)) (pages : List ShippedPage)
+            → HasWritten fonts.now before self.old pages
             → GrowsByFront before self.new.bytes_written (whole fonts.now pages) }
         ensures past { OnOk result ((before : Option (List ℕ)) (pages : List ShippedPage) → HasWritten fonts.now before self.old pages
             → self.new.past ≡ past_after self.old.began (whole fonts.now pages)) }
-        ensures past_lost { result ≡ Err WriteFault.Device → (before : Option (List ℕ)) (pages : List ShippedPage) → HasWritten fonts.now before self.old pages
+        ensures past_lost { result ≡ Err WriteFault.Device → (before : Option (List ℕ)) (pages : List ShippedPage)
+            → HasWritten fonts.now before self.old pages
             → KeepsPast self.old.began (whole fonts.now pages) self.new.past }
-        ensures since { result ≡ Err WriteFault.Device → GrowsByFront self.old.bytes_written self.new.bytes_written (last_bytes fonts.now self.old.so_far) }
-        ensures file { OnOk result ((before : Option (List ℕ)) (pages : List ShippedPage) (metrics : WidthsByName) → HasWritten fonts.now before self.old pages
+        ensures since { result ≡ Err WriteFault.Device
+            → GrowsByFront self.old.bytes_written self.new.bytes_written (last_bytes fonts.now self.old.so_far) }
+        ensures file { OnOk result ((before : Option (List ℕ)) (pages : List ShippedPage) (metrics : WidthsByName)
+            → HasWritten fonts.now before self.old pages
             → GivesFonts metrics fonts.now → IsFileOfPages metrics (whole fonts.now pages) pages) }
         ensures closed { OnOk result ((before : Option (List ℕ)) (pages : List ShippedPage) → HasWritten fonts.now before self.old pages → pages ≢ []
             → IsClosedFor fonts.now (whole fonts.now pages) pages) }
-        ensures pages { IfOk result (λ file. (before : Option (List ℕ)) (pages : List ShippedPage) → HasWritten fonts.now before self.old pages → file.pages ≡ length pages) }
-        ensures size { IfOk result (λ file. (before : Option (List ℕ)) (pages : List ShippedPage) → HasWritten fonts.now before self.old pages → file.bytes ≡ length (whole fonts.now pages)) }
+        ensures pages { IfOk result (λ file. (before : Option (List ℕ)) (pages : List ShippedPage) → HasWritten fonts.now before self.old pages
+            → file.pages ≡ length pages) }
+        ensures size { IfOk result (λ file. (before : Option (List ℕ)) (pages : List ShippedPage) → HasWritten fonts.now before self.old pages
+            → file.bytes ≡ length (whole fonts.now pages)) }
         ensures so_far { self.new.so_far ≡ self.old.so_far }
         ensures may { OnOk result (self.old.over ≡ false) }
         ensures refused { IfErr result (MayFail self.old) }

@@ -3,7 +3,7 @@
 ghost use Rattle.std.specs.Prelude.{ℕ, List, Option};
 ghost use Rattle.page_core.specs.Marks.{ShippedPage};
 ghost use Rattle.tfm_core.specs.Slots.{Slots};
-ghost use Rattle.dvi_layout.specs.MoreFonts.{Extends};
+ghost use Rattle.dvi_write.specs.MoreFonts.{Extends};
 ghost use Rattle.dvi_write.specs.Writing.{HasWritten, Writing};
 
 /// Fonts may be loaded between two pages: what was written is the same with more fonts.

@@ -1,12 +1,17 @@
 //! Each example is run and its output printed.
 
 use crate::pages::one_rule_page;
-use crate::printing::print_page;
+use crate::paragraphs::counted;
+use crate::printing::{print_breaks, print_listing, print_page};
+use crate::reading::shown;
 use crate::resuming::completed;
 use crate::texts::{text_commands, text_page};
-use crate::values::{one_rule, tiny, tiny_name};
+use crate::values::{box_of_a_rule, one_rule, tiny, tiny_name, two_rules};
+use crate::writing::same_pages;
 use anyhow::{Context, Result};
+use dvi_write::{Fonts, Memory, Offsets};
 use job_core::FontFile;
+use node_core::Params;
 use scaled_core::Dimen;
 use std::alloc::Global;
 use std::io::Write;
@@ -44,4 +49,40 @@ pub fn run_completed<W: Write>(alloc: Global, output: &mut W) -> Result<()> {
     complete(alloc, output, 0)?;
     complete(alloc, output, 1)?;
     complete(alloc, output, 2)
+}
+
+/// The file of pages with one rule, one for each of these counts.
+fn rule_pages(alloc: Global, counts: &[[i32; 10]]) -> Result<Memory> {
+    let shown = box_of_a_rule(alloc)?;
+    let fonts = Fonts::new(alloc)?;
+    let at = Offsets {
+        h: Dimen::ZERO,
+        v: Dimen::ZERO,
+    };
+    Ok(same_pages(alloc, &shown, &at, counts, &fonts)?)
+}
+
+/// Writes two pages with one rule.
+pub fn run_same_pages<W: Write>(alloc: Global, output: &mut W) -> Result<()> {
+    let memory = rule_pages(alloc, &[[0; 10], [7; 10]])?;
+    writeln!(output, "== same_pages\n{} bytes", memory.bytes().len())?;
+    Ok(())
+}
+
+/// Lists and paints a page with one rule.
+pub fn run_shown<W: Write>(alloc: Global, output: &mut W) -> Result<()> {
+    let memory = rule_pages(alloc, &[[0; 10]])?;
+    let (listing, picture) = shown(alloc, memory.bytes(), &[])?;
+    print_listing(output, &listing, &picture)?;
+    Ok(())
+}
+
+/// Breaks two rules as wide as a line.
+pub fn run_counted<W: Write>(alloc: Global, output: &mut W) -> Result<()> {
+    let params = Params::first();
+    let nodes = two_rules(alloc, &params)?;
+    let done = counted(alloc, &nodes, &params);
+    let (breaks, tried) = done.context("the list was not broken")?;
+    print_breaks(output, &breaks, tried)?;
+    Ok(())
 }

@@ -12,8 +12,8 @@ fn owned_words(alloc: Global, words: &[&str]) -> Result<Vec<String>, AllocError>
     Ok(owned)
 }
 
-/// Runs the program with words, such as `typeset`, `out.dvi`, `tiny=tiny.tfm`, on a script and with this one file. Returns its status, its output, its
-/// errors, and the files, whose `written()` is the DVI file.
+/// Runs the program with words, such as `typeset`, `out.dvi`, `tiny=tiny.tfm`, on a script and with this one file. Returns its status, its output,
+/// its errors, and the files, whose `written()` is the DVI file.
 pub fn run(
     alloc: Global,
     words: &[&str],

@@ -13,22 +13,22 @@ use Rattle.node_core.specs.Nodes.{box_count, box_text}
 use Rattle.node_core.specs.declared.limits.TheConstants.{MAX_PAGES, MAX_SHIPPED_NODES, MAX_SHIPPED_TEXT}
 use Rattle.page_core.specs.Marks.{ShippedPage, is_huge}
 use Rattle.tfm_core.specs.NamedBytes.{NamedBytes}
-use Rattle.dvi_layout.specs.declared.fault.WriteFault.{WriteFault}
-use Rattle.dvi_layout.specs.declared.fault.WriteFault.TheVariants.{JobOver, TooManyPages, TooMuchShipped, TooMuchSpecial, HugePage}
+use Rattle.dvi_write.specs.declared.fault.WriteFault.{WriteFault}
+use Rattle.dvi_write.specs.declared.fault.WriteFault.TheVariants.{JobOver, TooManyPages, TooMuchShipped, TooMuchSpecial, HugePage}
 use Rattle.tfm_core.specs.declared.slots.LoadedFont.{LoadedFont}
 use Rattle.tfm_core.specs.Slots.{Slots, IsDefinable, AreDefinable}
-use Rattle.dvi_layout.specs.Sheets.{definitions_of, in_rising_order}
-use Rattle.dvi_layout.specs.Layout.{front, whole}
-use Rattle.dvi_layout.specs.Shippable.{IsRightPage}
-use Rattle.dvi_layout.specs.SoFar.{ProgressView, nothing_so_far, so_far_of, with_next, stop_so_far, closing_so_far, last_bytes}
-use Rattle.dvi_layout.specs.Limits.{HasRoom, limit_of}
-use Rattle.dvi_layout.proofs.DefinedFonts.{few_defined}
-use Rattle.dvi_layout.proofs.PageBytes.{HasShortNames, definition_bytes}
-use Rattle.dvi_layout.proofs.Rooms.{first_room, room_next, short_names}
+use Rattle.dvi_write.specs.Sheets.{definitions_of, in_rising_order}
+use Rattle.dvi_write.specs.Layout.{front, whole}
+use Rattle.dvi_write.specs.Shippable.{IsRightPage}
+use Rattle.dvi_write.specs.SoFar.{ProgressView, nothing_so_far, so_far_of, with_next, stop_so_far, closing_so_far, last_bytes}
+use Rattle.dvi_write.specs.Limits.{HasRoom, limit_of}
+use Rattle.dvi_write.proofs.DefinedFonts.{few_defined}
+use Rattle.dvi_write.proofs.PageBytes.{HasShortNames, definition_bytes}
+use Rattle.dvi_write.proofs.Rooms.{first_room, room_next, short_names}
 use Rattle.dvi_write.specs.Writing.{Writing, HasWritten, refusal_of}
 use Rattle.dvi_write.proofs.Writings.{ended_size, none_ended}
-use Rattle.job_state.specs.Loaded.{IsLoaded, AreLoaded}
-use Rattle.job_core.specs.Sound.{IsBoundedFile}
+use Rattle.job_state.specs.Private.Loaded.{IsLoaded, AreLoaded}
+use Rattle.job_core.specs.Private.Sound.{IsBoundedFile}
 
 -- Fonts that were loaded can be defined.
 definable_each : (files : List NamedBytes) (fonts : Slots) → AllByRecursion (λ slot. IfSome slot (IsLoaded files)) fonts → AllByRecursion (λ slot. IfSome slot IsDefinable) fonts

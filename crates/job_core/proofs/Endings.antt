@@ -1,27 +1,27 @@
 -- The end of a job and of its machine.
-use Rattle.std.proofs.Common.{◌+◌, ◌≡◌, ◌≢◌, inl, inr, ℕ, Bool, true, false, List, [], length, take, Option, Some, None, Ok, Err, refl, ap, subst, sym, ◌∙◌}
+use Rattle.std.proofs.Common.{◌+◌, ◌≡◌, ◌≢◌, inl, inr, ℕ, Bool, true, false, List, [], length, Option, Some, None, Ok, Err, refl, ap, subst, sym, ◌∙◌}
 use Rattle.std.specs.Prelude.{◌==◌, not, IfSome}
-use Rattle.job_commands.specs.declared.replies.Refusal.TheVariants.{OutOfMemory, Device, JobOver, ListsOpen}
-use Rattle.job_commands.specs.declared.replies.Summary.{Summary}
-use Rattle.dvi_device.specs.Written.{written_then, GrowsByFront, IsFrontOf}
+use Rattle.job_machine.specs.declared.replies.Refusal.TheVariants.{OutOfMemory, Device, JobOver, ListsOpen}
+use Rattle.job_machine.specs.declared.replies.Summary.{Summary}
+use Rattle.dvi_device.specs.Written.{written_then, GrowsByFront}
 use Rattle.dvi_device.specs.Pasts.{Past, KeepsPast}
 use Rattle.dvi_ops.specs.Fonts.{WidthsByName}
 use Rattle.tfm_core.specs.Slots.{Slots}
-use Rattle.dvi_layout.specs.Layout.{whole}
-use Rattle.dvi_layout.specs.SoFar.{ProgressView}
-use Rattle.dvi_layout.specs.Shippable.{GivesFonts, IsFileOfPages}
-use Rattle.dvi_layout.specs.declared.fault.WriteFault.{WriteFault}
+use Rattle.dvi_write.specs.Layout.{whole}
+use Rattle.dvi_write.specs.SoFar.{ProgressView}
+use Rattle.dvi_write.specs.Shippable.{GivesFonts, IsFileOfPages}
+use Rattle.dvi_write.specs.declared.fault.WriteFault.{WriteFault}
 use Rattle.dvi_write.specs.Writing.{Writing, HasWritten, MayFail}
 use Rattle.job_machine.specs.State.{State}
 use Rattle.job_machine.specs.Checks.{first_refusal}
 use Rattle.job_machine.specs.Machine.{Machine, stopped_machine}
 use Rattle.job_machine.specs.Runs.{finish_checks, Finished, Refuses, WantsMemory, LostDevice}
 use Rattle.job_state.specs.JobStateView.{JobStateView, state_of}
-use Rattle.job_state.specs.Loaded.{AreLoaded}
+use Rattle.job_state.specs.Private.Loaded.{AreLoaded}
 use Rattle.job_state.proofs.LoadedFonts.{loaded_in, widths-loaded}
 use Rattle.tfm_core.specs.NamedBytes.{NamedBytes}
 use Rattle.job_core.specs.Jobs.{JobView, writing_of, before_writing, due, Represents, FinishesTo}
-use Rattle.job_core.specs.Sound.{view_of}
+use Rattle.job_core.specs.Private.Sound.{view_of}
 use Rattle.job_core.specs.Shown.{GivesFiles}
 use Rattle.job_core.proofs.Moves.{stops, due_landed, written_on, grows_on}
 
@@ -145,9 +145,6 @@ stopped kept w now same over =
 pub said : (bytes_written new : Option (List ℕ)) (bytes : List ℕ) (P : List ℕ → Type 0) → new ≡ written_then (before_writing bytes_written) bytes → P bytes → IfSome new P
 said None new bytes P is holds = rw is tt
 said (Some bytes_written) new bytes P is holds = rw is holds
-
-pub said_front : (bytes_written new : Option (List ℕ)) (bytes : List ℕ) → GrowsByFront (before_writing bytes_written) new bytes → IfSome new (λ bytes'. IsFrontOf bytes' bytes)
-said_front bytes_written new bytes grows = said bytes_written new (take grows.0 bytes) (λ bytes'. IsFrontOf bytes' bytes) grows.2 (grows.0, refl)
 
 -- Metrics that give what the font files give also give the fonts of the job.
 gives_fonts : (metrics : WidthsByName) (files : List NamedBytes) (fonts : Slots) → AreLoaded files fonts → GivesFiles metrics files → GivesFonts metrics fonts

@@ -12,13 +12,14 @@ use Rattle.node_core.specs.declared.tree.BoxNode.{BoxNode}
 use Rattle.node_core.specs.Items.{Leaf, glyph, font_kern, kern, glue, penalty, rule, special}
 use Rattle.scaled_core.proofs.EachOf.{all_append, all_weaker, each_set, each_copy, each_held}
 use Rattle.tfm_core.specs.declared.slots.LoadedFont.{LoadedFont}
-use Rattle.job_commands.specs.declared.command.Command.{Command}
-use Rattle.job_commands.specs.declared.command.Command.TheVariants.{LoadFont, UseFont, Open, Paragraph, End, Text, Character, Rule, Kern, Glue, Penalty, Append, Unbox, LastBox, Split, Measure, Void, Set, Count, Special, Ship}
-use Rattle.job_commands.specs.declared.replies.Refusal.{Refusal}
-use Rattle.job_commands.specs.Reply.{Reply}
+use Rattle.job_machine.specs.declared.command.Command.{Command}
+use Rattle.job_machine.specs.declared.command.Command.TheVariants.{LoadFont, UseFont, Open, Paragraph, End, Text, Character, Rule, Kern, Glue, Penalty, Append, Unbox, LastBox, Split, Measure, Void, Set, Count, Special, Ship}
+use Rattle.job_machine.specs.declared.replies.Refusal.{Refusal}
+use Rattle.job_machine.specs.Reply.{Reply}
 use Rattle.tfm_core.specs.Slots.{Slots, font_in}
-use Rattle.job_machine.specs.FontSlots.{font_of_slot, with_font, glyph_by}
-use Rattle.job_state.specs.Sized.{IsSizedLeaf, IsSoundBox, HasSizedGlyphs}
+use Rattle.job_machine.specs.FontSlots.{font_of_slot, with_font}
+use Rattle.job_machine.specs.Private.FontSlots.{glyph_by}
+use Rattle.job_state.specs.Private.Sized.{IsSizedLeaf, IsSoundBox, HasSizedGlyphs}
 use Rattle.node_core.proofs.Leaves.{each_leaf}
 use Rattle.job_machine.proofs.KeptRest.{KeepsRest, end_keeps, append_keeps, unbox_keeps}
 use Rattle.page_core.specs.Marks.{ShippedPage}

@@ -2,19 +2,19 @@
 use Rattle.std.proofs.Common.{◌≡◌, ℕ, ◌+◌, Bool, true, false, List, [], ◌∷◌, ◌++◌, take, Option, Some, None, Err, refl, ap, sym, ◌∙◌, subst, inr, arith, append-nil, append_assoc}
 use Rattle.std.specs.Prelude.{◌≢◌, Ok, is_none, if◌then◌else◌, IfOk, IfErr}
 use Rattle.node_core.specs.declared.tree.BoxNode.{BoxNode}
-use Rattle.job_commands.specs.declared.command.Command.{Command}
-use Rattle.job_commands.specs.declared.command.Command.TheVariants.{Ship}
-use Rattle.job_commands.specs.declared.replies.Answer.{Answer}
-use Rattle.job_commands.specs.declared.replies.Refusal.{Refusal}
-use Rattle.job_commands.specs.declared.replies.Refusal.TheVariants.{OutOfMemory, Device, JobOver}
-use Rattle.job_commands.specs.Reply.{Reply}
+use Rattle.job_machine.specs.declared.command.Command.{Command}
+use Rattle.job_machine.specs.declared.command.Command.TheVariants.{Ship}
+use Rattle.job_machine.specs.declared.replies.Answer.{Answer}
+use Rattle.job_machine.specs.declared.replies.Refusal.{Refusal}
+use Rattle.job_machine.specs.declared.replies.Refusal.TheVariants.{OutOfMemory, Device, JobOver}
+use Rattle.job_machine.specs.Reply.{Reply}
 use Rattle.page_core.specs.Marks.{ShippedPage}
 use Rattle.tfm_core.specs.Slots.{Slots}
 use Rattle.dvi_device.specs.Written.{written_then, GrowsByFront}
 use Rattle.dvi_device.specs.Pasts.{Past, past_after, KeepsPast}
 use Rattle.dvi_device.proofs.Tellings.{grown-grown}
 use Rattle.dvi_device.proofs.PastLaws.{keeps_taken}
-use Rattle.dvi_layout.specs.Layout.{front, whole}
+use Rattle.dvi_write.specs.Layout.{front, whole}
 use Rattle.dvi_write.specs.Writing.{Writing, HasWritten}
 use Rattle.dvi_write.proofs.Writings.{written_with_more}
 use Rattle.job_machine.specs.State.{State, held_in}
@@ -24,8 +24,9 @@ use Rattle.job_machine.specs.Answers.{answer_of}
 use Rattle.job_machine.specs.Effects.{after, new_pages}
 use Rattle.job_machine.specs.Machine.{Machine, reply_by, reply_to, state_by, state_after, step, stopped_machine, lost_machine}
 use Rattle.job_machine.specs.Runs.{IsShip, MayRunOutOfMemory, early_checks, StepsTo, Replies, LacksMemory, LosesDevice, Run}
-use Rattle.job_core.specs.Jobs.{AppendsPagesOf, JobView, writing_of, before_writing, pages_after, HasPages, HasSent, due, Represents, KeepsTo, RunsTo}
-use Rattle.job_core.specs.Sound.{IsSound, IsBoundedFile, view_of}
+use Rattle.job_core.specs.Jobs.{JobView, writing_of, before_writing, HasPages, HasSent, due, Represents, KeepsTo, RunsTo}
+use Rattle.job_core.specs.Private.Jobs.{AppendsPagesOf, pages_after}
+use Rattle.job_core.specs.Private.Sound.{IsSound, IsBoundedFile, view_of}
 use Rattle.job_state.specs.Loaded.{GivesNumbersFor}
 use Rattle.job_state.specs.JobStateView.{JobStateView, state_of, before_shipping}
 use Rattle.job_machine.proofs.Refusals.{counted_fault}
@@ -153,11 +154,6 @@ never_device s command reply says is =
     let m : Machine = record { state = s; pages = []; flight = [] } in
     let less : 0 ≡ 0 + 1 = counted_fault m (step m command) 0 0 command (Replies (sym is ∙ says) refl refl) in
     omega (arith, less)
-
--- A device that was not called reports what it reported before.
-pub written_stays : (reply : Reply) (bytes_written : Option (List ℕ)) → IfErr reply (λ refusal. refusal ≢ Device → bytes_written ≡ bytes_written)
-written_stays (Ok answer) bytes_written = tt
-written_stays (Err refusal) bytes_written = λ other. refl
 
 -- A job that refuses a command as the machine does stays as it is.
 pub refuses : (old : JobView) (command : Command) (refusal : Refusal) → first_refusal (checks old.state command) ≡ Some refusal → KeepsTo old command (Err refusal) old

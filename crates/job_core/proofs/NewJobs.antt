@@ -5,8 +5,8 @@ use Rattle.tfm_core.specs.NamedBytes.{NamedBytes}
 use Rattle.dvi_device.specs.Written.{written_then}
 use Rattle.dvi_device.proofs.PastLaws.{keeps_taken}
 use Rattle.tfm_core.specs.Slots.{Slots}
-use Rattle.dvi_layout.specs.Layout.{front}
-use Rattle.dvi_layout.specs.SoFar.{ProgressView}
+use Rattle.dvi_write.specs.Layout.{front}
+use Rattle.dvi_write.specs.SoFar.{ProgressView}
 use Rattle.dvi_write.specs.Writing.{Writing, HasWritten}
 use Rattle.job_machine.specs.State.{first_state}
 use Rattle.job_machine.specs.Machine.{first_machine}
@@ -14,7 +14,7 @@ use Rattle.job_state.specs.JobStateView.{JobStateView, state_of, before_shipping
 use Rattle.job_state.proofs.SizedGlyphs.{sized_first}
 use Rattle.job_state.proofs.LoadedFonts.{loaded_first}
 use Rattle.job_core.specs.Jobs.{before_writing, due, Represents}
-use Rattle.job_core.specs.Sound.{IsSound, view_of}
+use Rattle.job_core.specs.Private.Sound.{IsSound, view_of}
 use Rattle.job_core.proofs.Moves.{true_or_false, has_pages}
 
 grown_by_none : (bytes_written : Option (List ℕ)) → written_then bytes_written [] ≡ bytes_written

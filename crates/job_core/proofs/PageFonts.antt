@@ -9,11 +9,11 @@ use Rattle.node_core.specs.Items.{Leaf, glyph, font_kern, kern, glue, penalty, r
 use Rattle.ship_core.specs.Shown.{HasWidth}
 use Rattle.tfm_core.specs.declared.slots.LoadedFont.{LoadedFont}
 use Rattle.tfm_core.specs.Slots.{Slots, font_in}
-use Rattle.dvi_layout.specs.Shippable.{slot_widths, IsShippable}
+use Rattle.dvi_write.specs.Shippable.{slot_widths, IsShippable}
 use Rattle.node_core.proofs.Leaves.{each_leaf}
-use Rattle.job_machine.specs.FontSlots.{glyph_by}
-use Rattle.job_state.specs.Loaded.{AreLoaded}
-use Rattle.job_state.specs.Sized.{IsSizedLeaf, IsSoundBox}
+use Rattle.job_machine.specs.Private.FontSlots.{glyph_by}
+use Rattle.job_state.specs.Private.Loaded.{AreLoaded}
+use Rattle.job_state.specs.Private.Sized.{IsSizedLeaf, IsSoundBox}
 use Rattle.job_state.proofs.LoadedFonts.{loaded_in, code_small}
 
 module _ (files : List NamedBytes) (fonts : Slots) (loaded : AreLoaded files fonts) where

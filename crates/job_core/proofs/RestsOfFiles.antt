@@ -2,15 +2,15 @@
 use Rattle.std.proofs.Common.{◌≡◌, ◌≤◌, ◌+◌, ◌⊎◌, inl, inr, List, ℕ, length, drop, Option, Some, Result, Ok, Err, refl, ap, sym, ◌∙◌, subst, arith}
 use Rattle.std.specs.Prelude.{IfSome, OnOk}
 use Rattle.std.proofs.Math.Seq.{take-length}
-use Rattle.job_commands.specs.declared.replies.Refusal.{Refusal}
-use Rattle.job_commands.specs.declared.replies.Refusal.TheVariants.{Device}
-use Rattle.job_commands.specs.declared.replies.Summary.{Summary}
+use Rattle.job_machine.specs.declared.replies.Refusal.{Refusal}
+use Rattle.job_machine.specs.declared.replies.Refusal.TheVariants.{Device}
+use Rattle.job_machine.specs.declared.replies.Summary.{Summary}
 use Rattle.dvi_device.specs.Written.{written_then, IsFrontOf}
 use Rattle.dvi_device.specs.Beginnings.{Beginning}
 use Rattle.dvi_device.specs.Pasts.{Past, Differs, KeepsPast}
 use Rattle.dvi_device.specs.Resumed.{PassesOn}
 use Rattle.dvi_device.proofs.PastLaws.{no_difference}
-use Rattle.dvi_layout.specs.Layout.{whole}
+use Rattle.dvi_write.specs.Layout.{whole}
 use Rattle.job_machine.specs.Machine.{Machine, stopped_machine}
 use Rattle.job_machine.specs.Runs.{Finishes, Finished, Refuses, WantsMemory, LostDevice}
 use Rattle.job_machine.proofs.Refusals.{device_counted}

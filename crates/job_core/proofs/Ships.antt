@@ -5,22 +5,22 @@ use Rattle.std.specs.Option.{option_map}
 use Rattle.node_core.specs.declared.tree.BoxNode.{BoxNode}
 use Rattle.node_core.specs.Loads.{Load, heavier}
 use Rattle.node_core.specs.Nodes.{box_count, box_text}
-use Rattle.job_commands.specs.declared.replies.Answer.TheVariants.{Shipped}
-use Rattle.job_commands.specs.declared.command.Command.TheVariants.{Ship}
-use Rattle.job_commands.specs.declared.replies.Refusal.{Refusal}
-use Rattle.job_commands.specs.declared.replies.Refusal.TheVariants.{JobOver, VoidBox, TooManyPages, TooMuchShipped, TooMuchSpecial, HugePage, Device}
+use Rattle.job_machine.specs.declared.replies.Answer.TheVariants.{Shipped}
+use Rattle.job_machine.specs.declared.command.Command.TheVariants.{Ship}
+use Rattle.job_machine.specs.declared.replies.Refusal.{Refusal}
+use Rattle.job_machine.specs.declared.replies.Refusal.TheVariants.{JobOver, VoidBox, TooManyPages, TooMuchShipped, TooMuchSpecial, HugePage, Device}
 use Rattle.node_core.specs.declared.limits.TheConstants.{MAX_PAGES, MAX_SHIPPED_NODES, MAX_SHIPPED_TEXT}
-use Rattle.job_commands.specs.Reply.{Reply}
+use Rattle.job_machine.specs.Reply.{Reply}
 use Rattle.dvi_device.specs.Written.{GrowsByFront}
 use Rattle.dvi_device.specs.Pasts.{Past, KeepsPast}
 use Rattle.page_core.specs.Marks.{ShippedPage, is_huge}
 use Rattle.page_core.specs.declared.offsets.Offsets.{Offsets}
-use Rattle.dvi_layout.specs.declared.fault.WriteFault.{WriteFault}
-use Rattle.dvi_layout.specs.declared.fault.WriteFault.TheVariants as faults
+use Rattle.dvi_write.specs.declared.fault.WriteFault.{WriteFault}
+use Rattle.dvi_write.specs.declared.fault.WriteFault.TheVariants as faults
 use Rattle.tfm_core.specs.Slots.{Slots}
-use Rattle.dvi_layout.specs.Layout.{front}
-use Rattle.dvi_layout.specs.SoFar.{ProgressView, with_next}
-use Rattle.dvi_layout.specs.Shippable.{IsShippable}
+use Rattle.dvi_write.specs.Layout.{front}
+use Rattle.dvi_write.specs.SoFar.{ProgressView, with_next}
+use Rattle.dvi_write.specs.Shippable.{IsShippable}
 use Rattle.page_core.specs.Pages.{page_with}
 use Rattle.dvi_write.specs.Writing.{Writing, HasWritten, EndsWith, GoesOn, refusal_of}
 use Rattle.job_machine.specs.State.{State, held_in, shipped_with}
@@ -30,8 +30,9 @@ use Rattle.job_machine.specs.Effects.{after, new_pages}
 use Rattle.job_machine.specs.Machine.{Machine, reply_by, state_by}
 use Rattle.job_state.specs.JobStateView.{JobStateView, state_of, before_shipping}
 use Rattle.job_state.proofs.SizedGlyphs.{sized_held}
-use Rattle.job_core.specs.Jobs.{AppendsPagesOf, Represents, KeepsTo, before_writing}
-use Rattle.job_core.specs.Sound.{IsSound, IsBoundedFile, refusal_for, view_of}
+use Rattle.job_core.specs.Jobs.{Represents, KeepsTo, before_writing}
+use Rattle.job_core.specs.Private.Jobs.{AppendsPagesOf}
+use Rattle.job_core.specs.Private.Sound.{IsSound, IsBoundedFile, refusal_for, view_of}
 use Rattle.job_core.proofs.Moves.{replied, refuses, lacking, losing_page, true_or_false}
 use Rattle.job_core.proofs.Endings.{has_written, stopped}
 use Rattle.job_core.proofs.PageFonts.{shippable}

@@ -1,23 +1,21 @@
 -- A job, and the machine that it represents (own).
 use Rattle.std.specs.Prelude.{◌≡◌, ◌≢◌, ◌⊎◌, ◌++◌, [], ◌∷◌, ℕ, false, true, List, length, Option, Some, None, Result}
-use Rattle.job_commands.specs.declared.command.Command.{Command}
-use Rattle.job_commands.specs.declared.replies.Refusal.{Refusal}
-use Rattle.job_commands.specs.declared.replies.Summary.{Summary}
-use Rattle.job_commands.specs.Reply.{Reply}
+use Rattle.job_machine.specs.declared.command.Command.{Command}
+use Rattle.job_machine.specs.declared.replies.Refusal.{Refusal}
+use Rattle.job_machine.specs.declared.replies.Summary.{Summary}
+use Rattle.job_machine.specs.Reply.{Reply}
 use Rattle.page_core.specs.Marks.{ShippedPage}
 use Rattle.dvi_device.specs.Written.{written_then, GrowsByFront}
 use Rattle.dvi_device.specs.Pasts.{Past, KeepsPast}
-use Rattle.dvi_layout.specs.Layout.{front, whole}
-use Rattle.dvi_layout.specs.SoFar.{ProgressView}
+use Rattle.dvi_write.specs.Layout.{front, whole}
+use Rattle.dvi_write.specs.SoFar.{ProgressView}
 use Rattle.dvi_write.specs.Writing.{Writing, HasWritten}
 use Rattle.job_machine.specs.State.{State}
-use Rattle.job_machine.specs.Checks.{checks, first_refusal}
-use Rattle.job_machine.specs.Effects.{new_pages}
-use Rattle.job_machine.specs.Machine.{Machine, state_by}
+use Rattle.job_machine.specs.Machine.{Machine}
 use Rattle.job_machine.specs.Runs.{StepsTo, Run, Finishes}
 
--- The view of a job: its state; what its writer keeps of the pages that were sent; and of its device the bytes that it has reported, the number of its
--- failures, its past, and its past when the job was made.
+-- The view of a job: its state; what its writer keeps of the pages that were sent; and of its device the bytes that it has reported, the number of
+-- its failures, its past, and its past when the job was made.
 pub record JobView : Type 0 where
   pub state : State
   pub so_far : ProgressView
@@ -28,27 +26,26 @@ pub record JobView : Type 0 where
 
 -- The writer of a job. Its file is over if and only if the job is.
 abbrev pub writing_of : JobView → Writing
-writing_of job = record { so_far = job.so_far; bytes_written = job.bytes_written; failed = job.failed; past = job.past; began = job.began; over = job.state.over }
+writing_of job = record {
+  so_far = job.so_far;
+  bytes_written = job.bytes_written;
+  failed = job.failed;
+  past = job.past;
+  began = job.began;
+  over = job.state.over;
+}
 
 -- What a device had reported before it took a byte, if it reports these bytes now.
 abbrev pub before_writing : Option (List ℕ) → Option (List ℕ)
 before_writing None = None
 before_writing (Some bytes) = Some []
 
--- The pages after a command.
-abbrev pub pages_after : State → List ShippedPage → Command → List ShippedPage
-pages_after s pages command = state_by (first_refusal (checks s command)) pages (pages ++ new_pages s command)
-
--- What a writer has written continues with the pages that a command adds.
-abbrev pub AppendsPagesOf : State → Command → Writing → Writing → Type 0
-AppendsPagesOf s command old new =
-    (before : Option (List ℕ)) (pages : List ShippedPage) → HasWritten s.fonts before old pages → HasWritten s.fonts before new (pages_after s pages command)
-
 -- What the device of a job that is over has reported after what it reported before. If no page was being sent: the file of the machine's pages or a
 -- beginning of it. If one was: a beginning of the file up to the eop of that page.
 abbrev pub HasSent : Machine → Option (List ℕ) → Type 0
 HasSent m bytes_written =
-    ((m.flight ≡ []) × ((bytes_written ≡ written_then (before_writing bytes_written) (whole m.state.fonts m.pages)) ⊎ GrowsByFront (before_writing bytes_written) bytes_written (whole m.state.fonts m.pages)))
+    ((m.flight ≡ []) × ((bytes_written ≡ written_then (before_writing bytes_written) (whole m.state.fonts m.pages))
+    ⊎ GrowsByFront (before_writing bytes_written) bytes_written (whole m.state.fonts m.pages)))
     ⊎ ((m.flight ≢ []) × GrowsByFront (before_writing bytes_written) bytes_written (front m.state.fonts (m.pages ++ m.flight)))
 
 -- After what it had reported before, the device has reported all bytes of the machine's pages up to the last eop, and then perhaps more.
@@ -65,9 +62,9 @@ abbrev pub due : Machine → List ℕ
 due m = due_with m m.flight
 
 -- A job represents a machine: it has the machine's state, and until it is over it has written the machine's pages: its device reports all bytes of
--- them up to the last eop, and no others. Once the job is over, it reports the file of the pages or a beginning of it, or a beginning of the file with
--- the page that was being sent. Whatever failed, it has all bytes of the machine's pages. In the job the device has no failure of its own; or one, and the
--- machine's bytes differ from those that it was to meet.
+-- them up to the last eop, and no others. Once the job is over, it reports the file of the pages or a beginning of it, or a beginning of the file
+-- with the page that was being sent. Whatever failed, it has all bytes of the machine's pages. In the job the device has no failure of its own; or
+-- one, and the machine's bytes differ from those that it was to meet.
 pub record Represents (job : JobView) (m : Machine) : Type 0 where
   pub state : job.state ≡ m.state
   pub count : m.state.pages ≡ length m.pages
@@ -79,11 +76,13 @@ pub record Represents (job : JobView) (m : Machine) : Type 0 where
 
 -- Each machine that the job represented has stepped to one that it represents.
 abbrev pub KeepsTo : JobView → Command → Reply → JobView → Type 0
-KeepsTo old command reply new = (m : Machine) → Represents old m → (next : Machine) × StepsTo m old.failed command reply next new.failed × Represents new next
+KeepsTo old command reply new = (m : Machine) → Represents old m → (next : Machine) × StepsTo m old.failed command reply next new.failed
+    × Represents new next
 
 -- Each machine that the job represented has run to one that it represents.
 abbrev pub RunsTo : JobView → List Command → List Reply → JobView → Type 0
-RunsTo old commands replies new = (m : Machine) → Represents old m → (next : Machine) × Run m old.failed commands replies next new.failed × Represents new next
+RunsTo old commands replies new = (m : Machine) → Represents old m → (next : Machine) × Run m old.failed commands replies next new.failed
+    × Represents new next
 
 -- Each machine that the job represented is finished as one that it represents.
 abbrev pub FinishesTo : JobView → Result Summary Refusal → JobView → Type 0

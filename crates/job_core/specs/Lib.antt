@@ -1,7 +1,6 @@
 pub mod Jobs
-pub mod JobViewCode
-pub mod Sound
 pub mod Shown
 pub mod Closing
 pub mod Headline
 pub mod GlyphWidths
+pub mod Private

@@ -3,18 +3,20 @@ use Rattle.std.specs.Prelude.{◌≡◌, ℕ, ℤ, List, Option, Some, Result, O
 use Rattle.tfm_core.specs.NamedBytes.{NamedBytes}
 use Rattle.tfm_core.specs.FileWidths.{file_widths}
 use Rattle.dvi_ops.specs.Fonts.{WidthsByName}
-use Rattle.job_commands.specs.declared.replies.Refusal.{Refusal}
-use Rattle.job_commands.specs.declared.replies.Summary.{Summary}
-use Rattle.dvi_layout.specs.Shippable.{IsFileOfPages}
+use Rattle.job_machine.specs.declared.replies.Refusal.{Refusal}
+use Rattle.job_machine.specs.declared.replies.Summary.{Summary}
+use Rattle.dvi_write.specs.Shippable.{IsFileOfPages}
 use Rattle.job_machine.specs.Machine.{Machine}
 use Rattle.job_core.specs.Jobs.{JobView, Represents}
 
 -- The metrics give at least what the font files give, each font by the first file of its name.
 abbrev pub GivesFiles : WidthsByName → List NamedBytes → Type 0
-GivesFiles metrics files = (name : List ℕ) (size : ℤ) (widths : ℤ → Option ℤ) → file_widths files name size ≡ Some widths → metrics name size ≡ Some widths
+GivesFiles metrics files = (name : List ℕ) (size : ℤ) (widths : ℤ → Option ℤ) → file_widths files name size ≡ Some widths
+    → metrics name size ≡ Some widths
 
 -- If the end succeeds, the device has taken a DVI file of exactly the pages of each machine that the job represented, with the widths that
 -- the job's own font files give.
 abbrev pub FilesPages : JobView → Result Summary Refusal → JobView → Type 0
 FilesPages old result new =
-    (m : Machine) (metrics : WidthsByName) → Represents old m → GivesFiles metrics m.state.files → OnOk result (IfSome new.bytes_written (λ bytes. IsFileOfPages metrics bytes m.pages))
+    (m : Machine) (metrics : WidthsByName) → Represents old m → GivesFiles metrics m.state.files
+    → OnOk result (IfSome new.bytes_written (λ bytes. IsFileOfPages metrics bytes m.pages))

@@ -1,29 +1,24 @@
 //! The job: commands are run, and each page goes to a device when it is shipped.
 
-ghost use Rattle.std.specs.Prelude.{◌≡◌, ◌≢◌, ◌<◌, ◌+◌, ◌^◌, ◌++◌, [], true, false, None, Err, ℕ, List, length, IfOk, IfErr, OnOk, OnErr, IfSome};
-ghost use Rattle.job_commands.specs.declared.command.Command.TheVariants as commands;
-ghost use Rattle.job_commands.specs.declared.replies.Refusal.{Refusal};
-ghost use Rattle.job_commands.specs.Reply.{Reply as AReply};
-ghost use Rattle.dvi_device.specs.Written.{written_then, GrowsByFront, IsFrontOf};
-ghost use Rattle.dvi_layout.specs.Layout.{front, whole};
+ghost use Rattle.std.specs.Prelude.{◌≡◌, ◌≢◌, ◌<◌, ◌+◌, ◌^◌, ◌++◌, [], true, false, Err, List, length, IfOk, IfErr, OnOk, OnErr, IfSome};
+ghost use Rattle.job_machine.specs.declared.command.Command.TheVariants as commands;
+ghost use Rattle.job_machine.specs.declared.replies.Refusal.{Refusal};
+ghost use Rattle.job_machine.specs.Reply.{Reply as AReply};
+ghost use Rattle.dvi_device.specs.Written.{GrowsByFront};
+ghost use Rattle.dvi_write.specs.Layout.{front, whole};
 ghost use Rattle.job_state.specs.JobStateView.{before_shipping};
-ghost use Rattle.job_state.specs.Loaded.{GivesNumbersFor};
-ghost use Rattle.job_machine.specs.Checks.{first_refusal};
 ghost use Rattle.job_machine.specs.Effects.{new_pages};
-ghost use Rattle.job_machine.specs.Machine.{Machine, first_machine, reply_to, state_after};
-ghost use Rattle.job_machine.specs.Runs.{IsShip, MayRunOutOfMemory, early_checks};
+ghost use Rattle.job_machine.specs.Machine.{Machine, first_machine};
 ghost use Rattle.dvi_write.specs.Writing.{GoesOn};
 ghost use Rattle.job_core.specs.Jobs.{Represents, KeepsTo, RunsTo, FinishesTo, before_writing};
-ghost use Rattle.job_core.specs.Sound.{IsSound, IsBoundedFile, refusal_for, view_of};
+ghost use Rattle.job_core.specs.Private.Sound.{IsSound, IsBoundedFile, refusal_for, view_of};
 ghost use Rattle.job_core.specs.Shown.{FilesPages};
 ghost use Rattle.job_core.specs.Closing.{ClosesFile};
 
 use dvi_device::Device;
-use dvi_layout::WriteFault;
-use dvi_write::DviWriter;
-use job_commands::{Answer, Command, Refusal, Register, Reply, Summary};
+use dvi_write::{DviWriter, WriteFault};
+use job_machine::{Answer, Command, Refusal, Register, Reply, Summary};
 use job_state::job_state::JobState;
-use node_core::Node;
 use std::alloc::{AllocError, Global};
 use std::marker::Model;
 use tfm_core::FontFile;
@@ -43,8 +38,8 @@ fn refusal_for(fault: WriteFault) -> Refusal
     }
 }
 
-/// Ships the box in a register: its page goes to the device, and then the register is void. After a refusal the register keeps its box. The writer decides why
-/// a page is refused, in the order of the machine's checks.
+/// Ships the box in a register: its page goes to the device, and then the register is void. After a refusal the register keeps its box. The writer
+/// decides why a page is refused, in the order of the machine's checks.
 fn ship_page<D: Device>(
     kept: &mut JobState,
     writer: &mut DviWriter<D>,
@@ -58,9 +53,9 @@ fn ship_page<D: Device>(
     ensures same { IfErr result (λ refusal. refusal ≢ Refusal.Device → view_of kept.new writer.new ≡ view_of kept.old writer.old) }
     ensures sound { IsSound (before_shipping kept.new) }
     ensures bounded { writer.new.over ≡ false → IsBoundedFile kept.new.fonts writer.new }
-    ensures unsent { IfErr result (λ refusal. refusal ≢ Refusal.Device → writer.new.bytes_written ≡ writer.old.bytes_written) }
     ensures part { result ≡ Err Refusal.Device → (m : Machine) → Represents (view_of kept.old writer.old) m
-        → GrowsByFront (before_writing writer.old.bytes_written) writer.new.bytes_written (front m.state.fonts (m.pages ++ new_pages m.state (commands.Ship register))) }
+        → GrowsByFront (before_writing writer.old.bytes_written) writer.new.bytes_written
+        (front m.state.fonts (m.pages ++ new_pages m.state (commands.Ship register))) }
     ensures goes_on { GoesOn writer.old writer.new }
 {
     let Some(box_node) = kept.held(register) else {
@@ -72,41 +67,6 @@ fn ship_page<D: Device>(
             Ok(Answer::Shipped(writer.pages()))
         }
         Err(fault) => Err(refusal_for(fault)),
-    }
-}
-
-/// Runs a command that ships nothing.
-fn obey(kept: &mut JobState, command: &Command) -> Result<Reply, AllocError>
-    requires { IsShip command.now → ⊥ }
-    ensures reply { IfOk result (λ reply. reply ≡ reply_to (before_shipping kept.old) command.now) }
-    ensures state { OnOk result (before_shipping kept.new ≡ state_after (before_shipping kept.old) command.now) }
-    ensures numbers { IfOk result (λ reply. IfOk reply (λ answer. GivesNumbersFor (before_shipping kept.old) command.now)) }
-    ensures takes { OnErr result (MayRunOutOfMemory (before_shipping kept.old) command.now) }
-    ensures early { OnErr result (first_refusal (early_checks (before_shipping kept.old) command.now) ≡ None) }
-    ensures err { OnErr result (kept.new ≡ kept.old) }
-{
-    match command {
-        Command::LoadFont(load) => kept.load_font(load),
-        Command::UseFont(slot) => Ok(kept.use_font(*slot)),
-        Command::Open(opening) => kept.open_list(*opening),
-        Command::Paragraph => kept.open_paragraph(),
-        Command::End => kept.end(),
-        Command::Text(text) => kept.append_text(text),
-        Command::Character(code) => kept.append_character(*code),
-        Command::Rule(rule) => kept.append_rule(*rule),
-        Command::Kern(width) => kept.append_item(Node::Kern(*width)),
-        Command::Glue(glue) => kept.append_item(Node::Glue(*glue)),
-        Command::Penalty(number) => kept.append_item(Node::Penalty(number.get())),
-        Command::Append(taken) => kept.append_register_box(taken),
-        Command::Unbox(taken) => kept.unbox(taken),
-        Command::LastBox(register) => Ok(kept.last_box(*register)),
-        Command::Split(splitting) => kept.split(splitting),
-        Command::Measure(register) => Ok(kept.measure(*register)),
-        Command::Void(register) => Ok(kept.void(*register)),
-        Command::Set(parameter) => Ok(kept.set(*parameter)),
-        Command::Count(counting) => Ok(kept.count(*counting)),
-        Command::Special(text) => kept.append_special(text),
-        Command::Ship(_) => unreachable!(),
     }
 }
 
@@ -124,8 +84,8 @@ impl<D: Device> Model for Job<D> {
     ghost use Rattle.std.specs.Prelude.{◌≡◌, false};
     ghost use Rattle.job_state.specs.JobStateView.{before_shipping};
     ghost use Rattle.job_core.specs.Jobs.{JobView};
-    ghost use Rattle.job_core.specs.Sound.{IsSound, IsBoundedFile, view_of};
-    ghost use Rattle.job_core.specs.JobViewCode.{coded_job_view};
+    ghost use Rattle.job_core.specs.Private.Sound.{IsSound, IsBoundedFile, view_of};
+    ghost use Rattle.job_core.specs.Private.JobViewCode.{coded_job_view};
 
     ghost Value = { JobView };
 
@@ -137,14 +97,14 @@ impl<D: Device> Model for Job<D> {
 }
 
 impl<D: Device> Job<D> {
-    ghost use Rattle.std.specs.Prelude.{◌≡◌, ◌≢◌, ◌<◌, ◌+◌, ◌^◌, ◌++◌, [], true, ℕ, List, IfOk, IfErr, OnOk, OnErr, IfSome, Err, length};
+    ghost use Rattle.std.specs.Prelude.{◌≡◌, ◌≢◌, ◌<◌, ◌+◌, ◌^◌, ◌++◌, [], true, List, IfOk, IfErr, OnOk, OnErr, IfSome, Err, length};
     ghost use Rattle.job_machine.specs.Effects.{new_pages};
     ghost use Rattle.job_machine.specs.Machine.{Machine, first_machine};
-    ghost use Rattle.dvi_layout.specs.Layout.{front, whole};
-    ghost use Rattle.dvi_device.specs.Written.{written_then, GrowsByFront, IsFrontOf};
-    ghost use Rattle.job_commands.specs.declared.command.Command.TheVariants as commands;
-    ghost use Rattle.job_commands.specs.declared.replies.Refusal.{Refusal};
-    ghost use Rattle.job_commands.specs.Reply.{Reply as AReply};
+    ghost use Rattle.dvi_write.specs.Layout.{front, whole};
+    ghost use Rattle.dvi_device.specs.Written.{GrowsByFront};
+    ghost use Rattle.job_machine.specs.declared.command.Command.TheVariants as commands;
+    ghost use Rattle.job_machine.specs.declared.replies.Refusal.{Refusal};
+    ghost use Rattle.job_machine.specs.Reply.{Reply as AReply};
     ghost use Rattle.dvi_device.specs.Seen.{device_view};
     ghost use Rattle.dvi_write.specs.Writing.{GoesOn, IsDeviceOf, IsMadeOver};
     ghost use Rattle.job_core.specs.Jobs.{Represents, KeepsTo, RunsTo, FinishesTo, before_writing, writing_of};
@@ -173,15 +133,15 @@ impl<D: Device> Job<D> {
 
     /// Runs one command. A page goes to the device when it is shipped, and it is whole in memory before.
     ///
-    /// A refusal has the cause that its text gives, and leaves the job as it was. Only Device differs: the device has then got a beginning of the file
-    /// up to this page, and the job is over. A job that is over refuses every command with JobOver.
+    /// A refusal has the cause that its text gives, and leaves the job as it was. Only Device differs: the device has then got a beginning of the
+    /// file up to this page, and the job is over. A job that is over refuses every command with JobOver.
     pub fn step(&mut self, command: &Command) -> Result<Answer, Refusal>
         ensures keeps { KeepsTo self.old command.now result self.new }
         ensures same { IfErr result (λ refusal. refusal ≢ Refusal.Device → self.new ≡ self.old) }
         ensures idle { self.old.state.over ≡ true → self.new ≡ self.old }
-        ensures unsent { IfErr result (λ refusal. refusal ≢ Refusal.Device → self.new.bytes_written ≡ self.old.bytes_written) }
         ensures part { result ≡ Err Refusal.Device → (m : Machine) → Represents self.old m
-            → GrowsByFront (before_writing self.old.bytes_written) self.new.bytes_written (front m.state.fonts (m.pages ++ new_pages m.state command.now)) }
+            → GrowsByFront (before_writing self.old.bytes_written) self.new.bytes_written
+            (front m.state.fonts (m.pages ++ new_pages m.state command.now)) }
         ensures goes_on { GoesOn (writing_of self.old) (writing_of self.new) }
     {
         if self.writer.is_over() {
@@ -190,14 +150,15 @@ impl<D: Device> Job<D> {
         if let Command::Ship(register) = command {
             return ship_page(&mut self.kept, &mut self.writer, self.alloc, *register);
         }
-        obey(&mut self.kept, command)?
+        self.kept.obey(command)?
     }
 
     /// Runs the commands in order, and appends one reply for each. A refused command does not stop the run.
     ///
     /// The error is a refused growth: room for all replies is made first, so no command was run then, and `replies` is as before.
     pub fn run(&mut self, commands: &[Command], replies: &mut Vec<Reply>) -> Result<(), AllocError>
-        ensures ran { OnOk result ((added : List AReply) × (replies.new.items ≡ replies.old.items ++ added) × RunsTo self.old commands.now added self.new) }
+        ensures ran { OnOk result ((added : List AReply) × (replies.new.items ≡ replies.old.items ++ added)
+            × RunsTo self.old commands.now added self.new) }
         ensures none { OnErr result (self.new ≡ self.old) }
         ensures cut { OnErr result (replies.new.items ≡ replies.old.items) }
         ensures idle { self.old.state.over ≡ true → self.new ≡ self.old }
@@ -216,25 +177,23 @@ impl<D: Device> Job<D> {
     /// Ends the job: if there are pages, the end of their file goes to the device, and all memory is taken before that. The summary reports
     /// the pages and the bytes of the file. The job is over then.
     ///
-    /// Refusals: JobOver if the job is over already, ListsOpen while a list is open, OutOfMemory for a refused growth: nothing has changed after these
-    /// three, so all shipped pages were sent, and no end of the file. Device if the device failed: the job is over, and the device has got a beginning
-    /// of the file.
+    /// Refusals: JobOver if the job is over already, ListsOpen while a list is open, OutOfMemory for a refused growth: nothing has changed after
+    /// these three, so all shipped pages were sent, and no end of the file. Device if the device failed: the job is over, and the device has got a
+    /// beginning of the file.
     pub fn finish(&mut self) -> Result<Summary, Refusal>
         ensures finished { FinishesTo self.old result self.new }
         ensures same { IfErr result (λ refusal. refusal ≢ Refusal.Device → self.new ≡ self.old) }
         ensures idle { self.old.state.over ≡ true → self.new ≡ self.old }
-        ensures file { (m : Machine) → Represents self.old m → OnOk result (IfSome self.new.bytes_written (λ bytes. bytes ≡ whole m.state.fonts m.pages)) }
+        ensures file { (m : Machine) → Represents self.old m
+            → OnOk result (IfSome self.new.bytes_written (λ bytes. bytes ≡ whole m.state.fonts m.pages)) }
         ensures dvi { FilesPages self.old result self.new }
         ensures end { ClosesFile self.old result self.new }
-        ensures size { IfOk result (λ summary. (m : Machine) → Represents self.old m → IfSome self.new.bytes_written (λ bytes. summary.bytes ≡ length bytes)) }
+        ensures size { IfOk result (λ summary. (m : Machine) → Represents self.old m
+            → IfSome self.new.bytes_written (λ bytes. summary.bytes ≡ length bytes)) }
         ensures count { IfOk result (λ summary. (m : Machine) → Represents self.old m → summary.bytes ≡ length (whole m.state.fonts m.pages)) }
         ensures small { IfOk result (λ summary. summary.bytes < 2 ^ 31) }
-        ensures front { result ≡ Err Refusal.Device → (m : Machine) → Represents self.old m → IfSome self.new.bytes_written (λ bytes. IsFrontOf bytes (whole m.state.fonts m.pages)) }
-
-        // What the device has reported after what it reported before the job: the file, a beginning of it, or no more than before the call.
-        ensures sent { OnOk result ((m : Machine) → Represents self.old m → self.new.bytes_written ≡ written_then (before_writing self.old.bytes_written) (whole m.state.fonts m.pages)) }
-        ensures part { result ≡ Err Refusal.Device → (m : Machine) → Represents self.old m → GrowsByFront (before_writing self.old.bytes_written) self.new.bytes_written (whole m.state.fonts m.pages) }
-        ensures unsent { IfErr result (λ refusal. refusal ≢ Refusal.Device → self.new.bytes_written ≡ self.old.bytes_written) }
+        ensures part { result ≡ Err Refusal.Device → (m : Machine) → Represents self.old m
+            → GrowsByFront (before_writing self.old.bytes_written) self.new.bytes_written (whole m.state.fonts m.pages) }
         ensures goes_on { GoesOn (writing_of self.old) (writing_of self.new) }
     {
         if self.writer.is_over() {

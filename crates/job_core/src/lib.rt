@@ -1,5 +1,5 @@
-//! The job: it runs a list of commands, and what is shipped goes to a device. This crate exports the types of commands and answers too, so that a caller needs
-//! no other crate for them. The program's crates are above it.
+//! The job, cut in three for the prover: here, over `job_state`, it runs a list of commands, and what is shipped goes to a device. This crate exports
+//! the types of commands and answers too, so that a caller needs no other crate for them. The program's crates are above it.
 #![tactic(auto)]
 
 mod device_job;
@@ -8,11 +8,11 @@ mod resuming;
 
 pub use device_job::Job;
 pub use dvi_device::{Device, DeviceFault, Fuse, Memory, Rest};
-pub use job_commands::{
-    Answer, AppendBox, BoxForm, Characters, Command, CountNumber, Counting, FontLoad, Opening,
-    Parameter, Refusal, Register, Reply, Sizes, Summary, Transfer, Unboxing,
+pub use job_machine::{
+    Answer, AppendBox, BoxForm, Characters, Command, CountNumber, Counting, FontLoad,
+    NumberParameter, Opening, Parameter, Refusal, Register, Reply, SizeParameter, Sizes,
+    SkipParameter, Summary, Transfer, Unboxing, runs, totality,
 };
-pub use job_machine::{runs, totality};
 pub use pack_core::Target;
 pub use resuming::finish_rest;
 pub use tfm_core::{FontFile, FontName, FontSize, TfmCause};

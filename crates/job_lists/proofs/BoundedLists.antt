@@ -4,8 +4,8 @@ use Rattle.std.specs.Prelude.{pos, not, is_ok, nat_lt}
 use Rattle.std.proofs.Math.ListN.{length-set}
 use Rattle.std.proofs.lemmas.Bool.{ltb-false}
 use Rattle.std.proofs.lemmas.List.{length-take}
-use Rattle.job_commands.specs.declared.replies.Refusal.{Refusal}
-use Rattle.job_commands.specs.declared.replies.Refusal.TheVariants.{DimensionTooLarge, ListTooLong}
+use Rattle.job_machine.specs.declared.replies.Refusal.{Refusal}
+use Rattle.job_machine.specs.declared.replies.Refusal.TheVariants.{DimensionTooLarge, ListTooLong}
 use Rattle.node_core.specs.declared.limits.TheConstants.{MAX_ITEMS, MAX_OPEN_LISTS}
 use Rattle.scaled_core.proofs.EachOf.{each_at, each_set, each_taken}
 use Rattle.node_core.proofs.NodeLemmas.{nodes_of-items_of}
@@ -20,7 +20,7 @@ use Rattle.job_machine.specs.declared.OpenList.{OpenList}
 use Rattle.job_machine.specs.Checks.{box_checks, first_refusal}
 use Rattle.job_machine.specs.Effects.{list_with_box}
 use Rattle.job_machine.specs.OpenLists.{glue_in, box_items}
-use Rattle.job_lists.specs.BoundedLists.{IsBounded, AreBounded}
+use Rattle.job_lists.specs.Private.BoundedLists.{IsBounded, AreBounded}
 use Rattle.job_machine.specs.State.{innermost, items_in}
 
 -- The innermost of short lists is short.

@@ -1,6 +1,6 @@
 -- The font of a slot, from what was read of its file.
 use Rattle.std.proofs.Common.{◌≡◌, List, ℕ, ℤ, Option, Some, Ok, Err, refl, sym, ◌∙◌, ap}
-use Rattle.job_commands.specs.declared.replies.Refusal.TheVariants as refusals
+use Rattle.job_machine.specs.declared.replies.Refusal.TheVariants as refusals
 use Rattle.job_machine.specs.FontSlots.{font_of_slot}
 use Rattle.tfm_core.specs.declared.fault.TfmCause.{TfmCause}
 use Rattle.tfm_core.specs.declared.reading.FontReadFault.TheVariants.{BadTfm, DimensionTooLarge}

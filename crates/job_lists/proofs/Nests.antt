@@ -10,9 +10,9 @@ use Rattle.node_core.specs.declared.params.Params.{Params}
 use Rattle.node_core.specs.Items.{Items, none}
 use Rattle.node_core.specs.Nodes.{items_of, nodes_of}
 use Rattle.pack_core.specs.declared.pack.Packed as packs
-use Rattle.job_commands.specs.declared.command.Command.TheVariants.{End}
-use Rattle.job_commands.specs.declared.command.Opening.{Opening}
-use Rattle.job_commands.specs.declared.replies.Refusal.{Refusal}
+use Rattle.job_machine.specs.declared.command.Command.TheVariants.{End}
+use Rattle.job_machine.specs.declared.command.Opening.{Opening}
+use Rattle.job_machine.specs.declared.replies.Refusal.{Refusal}
 use Rattle.node_core.proofs.NodeLemmas.{items_of-nodes_of}
 use Rattle.vert_core.specs.declared.appending.AppendedParagraph.{AppendedParagraph}
 use Rattle.vert_core.specs.declared.appending.UnappendedLines.{UnappendedLines}
@@ -28,7 +28,7 @@ use Rattle.job_machine.specs.Checks.{checks, place_checks, packed_checks, purpos
 use Rattle.job_machine.specs.Effects.{list_with_box, with_box}
 use Rattle.job_machine.proofs.ListElements.{set_back, get_set, get_take, get_some}
 use Rattle.job_lists.specs.EmptiedNest.{refilled_nest, emptied_nest}
-use Rattle.job_lists.specs.EndedParagraphs.{IsEnded, IsRefused}
+use Rattle.job_lists.specs.Private.EndedParagraphs.{IsEnded, IsRefused}
 
 -- The innermost list is emptied, and gets its own items back.
 pub refilled-emptied : (nest : List OpenList) (l : OpenList) → innermost nest ≡ Some l

@@ -15,13 +15,13 @@ use Rattle.vert_core.specs.declared.paragraph.ParagraphFault.TheVariants as faul
 use Rattle.vert_core.specs.Paragraphs.{unbroken, IsUnset}
 use Rattle.vert_core.specs.Setting.{setting}
 use Rattle.vert_core.proofs.Settings.{paragraph_unset, memory_free}
-use Rattle.job_commands.specs.declared.replies.Refusal.{Refusal}
-use Rattle.job_commands.specs.declared.replies.Refusal.TheVariants as refusals
+use Rattle.job_machine.specs.declared.replies.Refusal.{Refusal}
+use Rattle.job_machine.specs.declared.replies.Refusal.TheVariants as refusals
 use Rattle.job_machine.specs.declared.OpenList.{OpenList}
 use Rattle.job_machine.specs.State.{innermost, items_in}
 use Rattle.job_machine.specs.Checks.{first_refusal}
 use Rattle.job_machine.specs.Paragraphs.{depth_in, set_after, paragraph_answer, with_paragraph, refusal_for, paragraph_checks, early_paragraph_checks}
-use Rattle.job_lists.specs.EndedParagraphs.{IsEnded, IsRefused, refusal_of}
+use Rattle.job_lists.specs.Private.EndedParagraphs.{IsEnded, IsRefused, refusal_of}
 
 -- The only fault that is no refusal of the machine is refused memory.
 pub only_memory : (fault : ParagraphFault) → refusal_for fault ≡ None → fault ≡ faults.OutOfMemory

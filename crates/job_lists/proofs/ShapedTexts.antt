@@ -8,9 +8,9 @@ use Rattle.node_core.specs.declared.tree.Node.{Node}
 use Rattle.node_core.specs.Items.{Items, none}
 use Rattle.node_core.specs.Nodes.{items_of, nodes_of}
 use Rattle.node_core.proofs.NodeLemmas.{items_of-nodes_of}
-use Rattle.job_commands.specs.declared.replies.Refusal.{Refusal}
-use Rattle.job_commands.specs.declared.replies.Refusal.TheVariants.{ListTooLong}
-use Rattle.job_commands.specs.declared.replies.Answer.TheVariants.{Shaped}
+use Rattle.job_machine.specs.declared.replies.Refusal.{Refusal}
+use Rattle.job_machine.specs.declared.replies.Refusal.TheVariants.{ListTooLong}
+use Rattle.job_machine.specs.declared.replies.Answer.TheVariants.{Shaped}
 use Rattle.shape_core.specs.Texts.{text_items, text_missing}
 use Rattle.tfm_core.specs.declared.slots.LoadedFont.{LoadedFont}
 use Rattle.job_machine.specs.FontSlots.{CharacterItems, unshaped, text_items_in}

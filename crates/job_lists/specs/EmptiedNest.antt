@@ -1,5 +1,4 @@
--- The nest while the items of its innermost list are elsewhere, to be packed or to get more (own; for the crates of the job alone: no public clause of `job_core`
--- speaks of it).
+-- The nest while the items of its innermost list are elsewhere, to be packed or to get more (own; for the crates of the job alone).
 use Rattle.std.specs.Prelude.{List, Option, Some, None}
 use Rattle.node_core.specs.Items.{Items, none}
 use Rattle.job_machine.specs.declared.OpenList.{OpenList}

@@ -1,4 +1,2 @@
-pub mod BoundedLists
 pub mod EmptiedNest
-pub mod EndedParagraphs
-pub mod Lending
+pub mod Private

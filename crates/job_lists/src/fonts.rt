@@ -4,7 +4,7 @@ ghost use Rattle.std.specs.Prelude.{◌≡◌, Some, IfOk};
 ghost use Rattle.tfm_core.specs.Fonts.{HasNumbers};
 ghost use Rattle.job_machine.specs.FontSlots.{font_of_slot};
 
-use job_commands::Refusal;
+use job_machine::Refusal;
 use std::alloc::{AllocError, Global};
 use tfm_core::{Font, FontFile, FontReadFault, FontSize};
 

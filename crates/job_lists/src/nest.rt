@@ -1,14 +1,15 @@
 //! The open lists of a job: a stack, of which commands change the innermost list and, where one closes, the list around it.
 
-ghost use Rattle.std.specs.Prelude.{◌≡◌, ◌<◌, ◌≤◌, ◌+◌, ◌++◌, ◌∷◌, [], pos, length, None, ◌≢◌, Ok, Err, OnOk, OnErr, IfOk, IfErr, IfSome, IsSome, Some, option_copied};
+ghost use Rattle.std.specs.Prelude.{◌≡◌, ◌<◌, ◌≤◌, ◌+◌, ◌++◌, ◌∷◌, [], pos, length, None, ◌≢◌, Ok, Err, OnOk, OnErr, IfOk, IfErr, IfSome, IsSome};
+ghost use Rattle.std.specs.Prelude.{Some, option_copied};
 ghost use Rattle.node_core.specs.Nodes.{nodes_of, last_box};
 ghost use Rattle.job_machine.specs.State.{innermost, items_in, outer};
 ghost use Rattle.job_machine.specs.OpenLists.{opened_list, packed_list};
 ghost use Rattle.job_machine.specs.Checks.{box_checks, first_refusal};
 ghost use Rattle.job_machine.specs.Effects.{with_nodes, with_rule, with_box, without_last};
 ghost use Rattle.job_lists.specs.EmptiedNest.{emptied_nest, refilled_nest};
-ghost use Rattle.job_lists.specs.Lending.{LendsInnermost};
-ghost use Rattle.job_lists.specs.EndedParagraphs.{IsEnded, IsRefused};
+ghost use Rattle.job_lists.specs.Private.Lending.{LendsInnermost};
+ghost use Rattle.job_lists.specs.Private.EndedParagraphs.{IsEnded, IsRefused};
 ghost use Rattle.std.specs.Borrow.{sem};
 
 use crate::open_lists::{append_lines, append_with_glue, pack};
@@ -49,7 +50,7 @@ impl Model for Nest {
     ghost use Rattle.job_machine.specs.declared.OpenList.{OpenList};
     ghost use Rattle.job_machine.specs.contracts.OpenList as open_list;
     ghost use Rattle.node_core.specs.declared.limits.TheConstants.{MAX_OPEN_LISTS};
-    ghost use Rattle.job_lists.specs.BoundedLists.{AreBounded};
+    ghost use Rattle.job_lists.specs.Private.BoundedLists.{AreBounded};
 
     ghost Value = { List OpenList };
 
@@ -80,18 +81,12 @@ impl Nest {
     }
 
     /// The innermost open list.
+    #[tactic(auto, using(crate::proofs::BoundedLists::innermost_bounded))]
     pub fn innermost(&self) -> Option<&OpenList>
-        ensures { option_copied result ≡ innermost self.now }
+        ensures value { option_copied result ≡ innermost self.now }
+        ensures items_bounded { length (nodes_of (items_in (innermost self.now))) ≤ MAX_ITEMS }
     {
         self.lists.last()
-    }
-
-    /// States that the innermost list has at most `MAX_ITEMS` items. It does nothing.
-    #[tactic(auto, using(crate::proofs::BoundedLists::innermost_bounded))]
-    pub fn innermost_is_bounded(&self)
-        ensures { length (nodes_of (items_in (innermost self.now))) ≤ MAX_ITEMS }
-    {
-        let _lists = &self.lists;
     }
 
     /// Opens an empty list inside the others. Where memory is refused, nothing changes.
@@ -149,8 +144,8 @@ impl Nest {
         }
     }
 
-    /// Moves the nodes of another list, in order, to the end of the innermost one. Where a list is open, the other list is then empty. An empty list takes no memory.
-    /// Where memory is refused, both lists are unchanged.
+    /// Moves the nodes of another list, in order, to the end of the innermost one. Where a list is open, the other list is then empty. An empty list
+    /// takes no memory. Where memory is refused, both lists are unchanged.
     #[tactic(auto, using(job_machine::proofs::States::same_innermost, job_machine::proofs::States::none_added, crate::proofs::Nests::some_nodes, crate::proofs::Nests::no_nodes))]
     pub fn append_list(&mut self, list: &mut NodeList) -> Result<(), AllocError>
         requires { length (nodes_of (items_in (innermost self.old))) + length (nodes_of list.old) ≤ MAX_ITEMS }

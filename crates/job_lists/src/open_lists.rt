@@ -12,8 +12,7 @@ ghost use Rattle.job_machine.specs.OpenLists.{packed_by, glue_in, box_items, pac
 ghost use Rattle.job_machine.specs.Checks.{box_checks, inner_checks, first_refusal};
 ghost use Rattle.job_machine.specs.Effects.{list_with_box};
 
-use job_commands::{BoxForm, Refusal};
-use job_machine::{ListPurpose, OpenList};
+use job_machine::{BoxForm, ListPurpose, OpenList, Refusal};
 use node_core::limits::MAX_ITEMS;
 use node_core::{BoxNode, Glue, Kind, NodeList, Params};
 use pack_core::{Packed, Target, TooLarge, hpack, vpack, vtop};
@@ -121,7 +120,8 @@ pub fn room_for_items(
     ensures ok { OnOk result (first_refusal (inner_checks kind (Some open_list.now) (option_copied held.entry)) ≡ None) }
     ensures count { IfOk result (λ count. count ≡ length (nodes_in (option_copied held.entry))) }
     ensures err { IfErr result (λ refusal. first_refusal (inner_checks kind (Some open_list.now) (option_copied held.entry)) ≡ Some refusal) }
-    ensures list_bounded { IfOk result (λ count. length (nodes_of open_list.now.list) + count ≤ max MAX_ITEMS (length (nodes_of open_list.now.list))) }
+    ensures list_bounded { IfOk result (λ count. length (nodes_of open_list.now.list) + count
+        ≤ max MAX_ITEMS (length (nodes_of open_list.now.list))) }
 {
     let length = open_list.list.len();
     if kind != open_list.purpose.kind() {
@@ -143,7 +143,8 @@ pub fn room_for_items(
 /// Appends a box to a horizontal list.
 fn append_across(open_list: &mut OpenList, box_node: BoxNode, shift: Dimen) -> Result<(), BoxNode>
     requires { length (nodes_of open_list.old.list) < max_nodes }
-    ensures ok { OnOk result (open_list.new ≡ record open_list.old { list = items_of (nodes_of open_list.old.list ++ appended None shift box_node); previous_depth = box_node.depth }) }
+    ensures ok { OnOk result (open_list.new
+        ≡ record open_list.old { list = items_of (nodes_of open_list.old.list ++ appended None shift box_node); previous_depth = box_node.depth }) }
     ensures err { OnErr result (open_list.new ≡ open_list.old) }
     ensures box_returned { IfErr result (λ back. back ≡ box_node) }
 {
@@ -162,7 +163,11 @@ fn append_down(
 ) -> Result<(), BoxNode>
     requires list_bounded { length (nodes_of open_list.old.list) + 2 ≤ max_nodes }
     requires fits { IsOk (interline params.now open_list.old.previous_depth box_node.height) }
-    ensures ok { OnOk result (open_list.new ≡ record open_list.old { list = items_of (nodes_of open_list.old.list ++ appended (glue_of (interline params.now open_list.old.previous_depth box_node.height)) shift box_node); previous_depth = box_node.depth }) }
+    ensures ok { OnOk result (open_list.new ≡ record open_list.old {
+      list = items_of
+          (nodes_of open_list.old.list ++ appended (glue_of (interline params.now open_list.old.previous_depth box_node.height)) shift box_node);
+      previous_depth = box_node.depth;
+    }) }
     ensures err { OnErr result (open_list.new ≡ open_list.old) }
     ensures box_returned { IfErr result (λ back. back ≡ box_node) }
 {
@@ -195,8 +200,8 @@ pub fn append_with_glue(
     }
 }
 
-/// Appends the lines of a paragraph of these items, which go into the lines, with their glue and penalties. The previous depth is then that of the last
-/// line. Where the lines are not appended, both lists are unchanged.
+/// Appends the lines of a paragraph of these items, which go into the lines, with their glue and penalties. The previous depth is then that of the
+/// last line. Where the lines are not appended, both lists are unchanged.
 pub(crate) fn append_lines(
     open_list: &mut OpenList,
     items: &mut NodeList,
@@ -205,11 +210,13 @@ pub(crate) fn append_lines(
 ) -> Result<AppendedParagraph, UnappendedLines>
     requires items_bounded { length (nodes_of items.old) ≤ MAX_ITEMS }
     requires list_bounded { length (nodes_of open_list.old.list) ≤ MAX_ITEMS }
-    ensures ok { IfOk result (IsAppended (setting (nodes_of items.old) params.now open_list.old.previous_depth) (nodes_of open_list.old.list) (nodes_of open_list.new.list)) }
+    ensures ok { IfOk result (IsAppended (setting (nodes_of items.old) params.now open_list.old.previous_depth) (nodes_of open_list.old.list)
+        (nodes_of open_list.new.list)) }
     ensures fits { OnOk result (unbroken (nodes_of items.old) params.now.par_fill_skip ≡ None) }
     ensures changed { IfOk result (λ told. open_list.new ≡ record open_list.old { list = open_list.new.list; previous_depth = told.depth }) }
     ensures emptied { OnOk result (items.new ≡ none) }
-    ensures refused { IfErr result (IsUnappended (setting (nodes_of items.old) params.now open_list.old.previous_depth) (IsUnset (nodes_of items.old) params.now open_list.old.previous_depth) (nodes_of open_list.old.list)) }
+    ensures refused { IfErr result (IsUnappended (setting (nodes_of items.old) params.now open_list.old.previous_depth)
+        (IsUnset (nodes_of items.old) params.now open_list.old.previous_depth) (nodes_of open_list.old.list)) }
     ensures err { OnErr result (open_list.new ≡ open_list.old) }
     ensures same { OnErr result (items.new ≡ items.old) }
 {

@@ -2,17 +2,17 @@
 
 ghost use Rattle.std.specs.Prelude.{◌≡◌, ◌++◌, ◌∷◌, [], None, Ok, IfOk, OnOk, OnErr};
 ghost use Rattle.vert_core.specs.declared.paragraph.SetParagraph.{SetParagraph};
-ghost use Rattle.job_lists.specs.EndedParagraphs.{refusal_of};
+ghost use Rattle.job_lists.specs.Private.EndedParagraphs.{refusal_of};
 ghost use Rattle.job_machine.specs.State.{innermost, outer, items_in};
 ghost use Rattle.job_machine.specs.OpenLists.{opened_list};
 ghost use Rattle.job_machine.specs.Checks.{par_checks, first_refusal};
 ghost use Rattle.job_machine.specs.Machine.{reply_by, state_by};
-ghost use Rattle.job_machine.specs.Paragraphs.{pass_number, refusal_for, lines_checks, set_after, paragraph_checks, early_paragraph_checks, paragraph_answer, with_paragraph};
+ghost use Rattle.job_machine.specs.Paragraphs.{pass_number, refusal_for, lines_checks, set_after, paragraph_checks, early_paragraph_checks};
+ghost use Rattle.job_machine.specs.Paragraphs.{paragraph_answer, with_paragraph};
 
 use crate::nest::Nest;
 use break_core::Pass;
-use job_commands::{Answer, Refusal, Reply};
-use job_machine::ListPurpose;
+use job_machine::{Answer, ListPurpose, Refusal, Reply};
 use node_core::limits::MAX_OPEN_LISTS;
 use node_core::{Kind, Params};
 use std::alloc::AllocError;
@@ -32,7 +32,8 @@ fn pass_number(pass: Option<Pass>) -> u8
 
 /// The answer to `end` for a paragraph that was set.
 fn answer_of(told: &AppendedParagraph) -> Answer
-    ensures { (set : SetParagraph) → told.now.lines ≡ set.lines → told.now.pass ≡ set.pass → told.now.overhang ≡ set.overhang → told.now.demerits ≡ set.demerits → result ≡ paragraph_answer (Ok set) }
+    ensures { (set : SetParagraph) → told.now.lines ≡ set.lines → told.now.pass ≡ set.pass → told.now.overhang ≡ set.overhang
+        → told.now.demerits ≡ set.demerits → result ≡ paragraph_answer (Ok set) }
 {
     Answer::Paragraph {
         lines: told.lines,
@@ -72,7 +73,8 @@ impl Nest {
     /// Where it is refused, or memory is, nothing changes.
     pub fn open_paragraph(&mut self) -> Result<Reply, AllocError>
         ensures reply { IfOk result (λ reply. reply ≡ reply_by (first_refusal (par_checks self.old)) Answer.Done) }
-        ensures state { OnOk result (self.new ≡ state_by (first_refusal (par_checks self.old)) self.old (self.old ++ opened_list ListPurpose.Paragraph ∷ [])) }
+        ensures state { OnOk result
+            (self.new ≡ state_by (first_refusal (par_checks self.old)) self.old (self.old ++ opened_list ListPurpose.Paragraph ∷ [])) }
         ensures err { OnErr result (self.new ≡ self.old) }
         ensures admitted { OnErr result (first_refusal (par_checks self.old) ≡ None) }
     {
@@ -95,8 +97,12 @@ impl Nest {
     /// Where it is refused, or memory is, nothing changes. `AllocError` is returned only where a list is around it and it may be broken.
     #[tactic(auto, using(crate::proofs::ParagraphEnds::not_refused, crate::proofs::ParagraphEnds::ended_lists, crate::proofs::ParagraphEnds::refused_so, crate::proofs::ParagraphEnds::memory_refused))]
     pub fn end_paragraph(&mut self, params: &Params) -> Result<Reply, AllocError>
-        ensures reply { IfOk result (λ reply. reply ≡ reply_by (first_refusal (paragraph_checks params.now (outer self.old) (items_in (innermost self.old)))) (paragraph_answer (set_after params.now (outer self.old) (items_in (innermost self.old))))) }
-        ensures state { OnOk result (self.new ≡ state_by (first_refusal (paragraph_checks params.now (outer self.old) (items_in (innermost self.old)))) self.old (with_paragraph params.now (outer self.old) (items_in (innermost self.old)))) }
+        ensures reply { IfOk result
+            (λ reply. reply ≡ reply_by (first_refusal (paragraph_checks params.now (outer self.old) (items_in (innermost self.old))))
+            (paragraph_answer (set_after params.now (outer self.old) (items_in (innermost self.old))))) }
+        ensures state { OnOk result
+            (self.new ≡ state_by (first_refusal (paragraph_checks params.now (outer self.old) (items_in (innermost self.old)))) self.old
+            (with_paragraph params.now (outer self.old) (items_in (innermost self.old)))) }
         ensures err { OnErr result (self.new ≡ self.old) }
         ensures early { OnErr result (first_refusal (early_paragraph_checks params.now (outer self.old) (items_in (innermost self.old))) ≡ None) }
     {

@@ -7,7 +7,7 @@ ghost use Rattle.job_machine.specs.Checks.{room_checks, first_refusal};
 ghost use Rattle.job_machine.specs.Answers.{shaped_answer};
 ghost use Rattle.job_machine.specs.Machine.{reply_by, state_by};
 
-use job_commands::{Answer, Refusal, Reply};
+use job_machine::{Answer, Refusal, Reply};
 use node_core::Node;
 use node_core::limits::MAX_ITEMS;
 use shape_core::{Missing, shape_character, shape_text};
@@ -17,8 +17,10 @@ use tfm_core::LoadedFont;
 /// The reply to characters whose items were appended after the first `before` ones. Where the list is then longer than `MAX_ITEMS`, it is cut back.
 fn keep_shaped(items: &mut Vec<Node>, before: usize, missing: Missing) -> Reply
     requires before_bounded { before ≤ length items.old.items }
-    ensures reply { (list added : List ANode) → items.old.items ≡ list ++ added → before ≡ length list → result ≡ reply_by (first_refusal (room_checks (length list) added)) (shaped_answer (record { items = added; missing = missing.characters })) }
-    ensures items { (list added : List ANode) → items.old.items ≡ list ++ added → before ≡ length list → items.new.items ≡ state_by (first_refusal (room_checks (length list) added)) list (list ++ added) }
+    ensures reply { (list added : List ANode) → items.old.items ≡ list ++ added → before ≡ length list → result
+        ≡ reply_by (first_refusal (room_checks (length list) added)) (shaped_answer (record { items = added; missing = missing.characters })) }
+    ensures items { (list added : List ANode) → items.old.items ≡ list ++ added → before ≡ length list
+        → items.new.items ≡ state_by (first_refusal (room_checks (length list) added)) list (list ++ added) }
 {
     if items.len() > MAX_ITEMS {
         items.truncate(before);
@@ -42,8 +44,12 @@ pub fn append_text(
     items: &mut Vec<Node>,
 ) -> Result<Reply, AllocError>
     requires { length items.old.items ≤ MAX_ITEMS }
-    ensures reply { IfOk result (λ reply. reply ≡ reply_by (first_refusal (room_checks (length items.old.items) (text_items_in (Some loaded.now) slot text.now).items)) (shaped_answer (text_items_in (Some loaded.now) slot text.now))) }
-    ensures items { OnOk result (items.new.items ≡ state_by (first_refusal (room_checks (length items.old.items) (text_items_in (Some loaded.now) slot text.now).items)) items.old.items (items.old.items ++ (text_items_in (Some loaded.now) slot text.now).items)) }
+    ensures reply { IfOk result
+        (λ reply. reply ≡ reply_by (first_refusal (room_checks (length items.old.items) (text_items_in (Some loaded.now) slot text.now).items))
+        (shaped_answer (text_items_in (Some loaded.now) slot text.now))) }
+    ensures items { OnOk result
+        (items.new.items ≡ state_by (first_refusal (room_checks (length items.old.items) (text_items_in (Some loaded.now) slot text.now).items))
+        items.old.items (items.old.items ++ (text_items_in (Some loaded.now) slot text.now).items)) }
     ensures err { OnErr result (items.new.items ≡ items.old.items) }
     ensures takes { OnErr result (text.now ≢ []) }
 {
@@ -68,8 +74,12 @@ pub fn append_character(
     items: &mut Vec<Node>,
 ) -> Result<Reply, AllocError>
     requires { length items.old.items ≤ MAX_ITEMS }
-    ensures reply { IfOk result (λ reply. reply ≡ reply_by (first_refusal (room_checks (length items.old.items) (character_in (Some loaded.now) slot code).items)) (shaped_answer (character_in (Some loaded.now) slot code))) }
-    ensures items { OnOk result (items.new.items ≡ state_by (first_refusal (room_checks (length items.old.items) (character_in (Some loaded.now) slot code).items)) items.old.items (items.old.items ++ (character_in (Some loaded.now) slot code).items)) }
+    ensures reply { IfOk result
+        (λ reply. reply ≡ reply_by (first_refusal (room_checks (length items.old.items) (character_in (Some loaded.now) slot code).items))
+        (shaped_answer (character_in (Some loaded.now) slot code))) }
+    ensures items { OnOk result
+        (items.new.items ≡ state_by (first_refusal (room_checks (length items.old.items) (character_in (Some loaded.now) slot code).items))
+        items.old.items (items.old.items ++ (character_in (Some loaded.now) slot code).items)) }
     ensures err { OnErr result (items.new.items ≡ items.old.items) }
 {
     let before = items.len();

@@ -4,8 +4,8 @@ use Rattle.std.specs.Prelude.{slice_get}
 use Rattle.std.proofs.lemmas.List.{length-set}
 use Rattle.node_core.specs.declared.tree.Node.TheVariants as nodes
 use Rattle.node_core.specs.Nodes.{items_of, nodes_of}
-use Rattle.job_commands.specs.declared.replies.Answer.TheVariants.{Done}
-use Rattle.job_commands.specs.declared.command.Command.TheVariants.{Special}
+use Rattle.job_machine.specs.declared.replies.Answer.TheVariants.{Done}
+use Rattle.job_machine.specs.declared.command.Command.TheVariants.{Special}
 use Rattle.job_machine.specs.declared.OpenList.{OpenList}
 use Rattle.job_machine.specs.State.{State, innermost}
 use Rattle.job_machine.specs.Checks.{checks, first_refusal}

@@ -4,7 +4,7 @@ use Rattle.std.specs.Prelude.{ℤ}
 use Rattle.node_core.specs.declared.tree.BoxNode.{BoxNode}
 use Rattle.pack_core.specs.declared.pack.Packed as packs
 use Rattle.job_machine.specs.declared.OpenList.{OpenList}
-use Rattle.job_commands.specs.declared.command.Transfer.{Transfer}
+use Rattle.job_machine.specs.declared.command.Transfer.{Transfer}
 use Rattle.job_machine.specs.State.{State, innermost, outer, held_in}
 use Rattle.job_machine.specs.declared.ListPurpose.{ListPurpose}
 use Rattle.job_machine.specs.declared.ListPurpose.TheVariants as purposes
@@ -12,11 +12,11 @@ use Rattle.job_machine.specs.OpenLists.{packed_list}
 use Rattle.job_machine.specs.Checks.{checks, first_refusal}
 use Rattle.job_machine.specs.Effects.{with_home, with_closed, with_purpose, with_ended, with_used, with_unboxed, after}
 use Rattle.job_machine.specs.Machine.{state_by, state_after}
-use Rattle.job_commands.specs.declared.command.AppendBox.{AppendBox}
-use Rattle.job_commands.specs.declared.command.Unboxing.{Unboxing}
-use Rattle.job_commands.specs.declared.replies.Refusal.{Refusal}
-use Rattle.job_commands.specs.declared.command.Command.{Command}
-use Rattle.job_commands.specs.declared.command.Command.TheVariants.{LoadFont, UseFont, Open, Paragraph, End, Text, Character, Rule, Kern, Glue, Penalty, Append, Unbox, LastBox, Split, Measure, Void, Set, Count, Special, Ship}
+use Rattle.job_machine.specs.declared.command.AppendBox.{AppendBox}
+use Rattle.job_machine.specs.declared.command.Unboxing.{Unboxing}
+use Rattle.job_machine.specs.declared.replies.Refusal.{Refusal}
+use Rattle.job_machine.specs.declared.command.Command.{Command}
+use Rattle.job_machine.specs.declared.command.Command.TheVariants.{LoadFont, UseFont, Open, Paragraph, End, Text, Character, Rule, Kern, Glue, Penalty, Append, Unbox, LastBox, Split, Measure, Void, Set, Count, Special, Ship}
 
 pub record KeepsRest (s t : State) : Type 0 where
   pub files : t.files ≡ s.files

@@ -7,10 +7,10 @@ use Rattle.pack_core.specs.declared.pack.Target.{Target}
 use Rattle.pack_core.specs.declared.pack.Packed as packs
 use Rattle.pack_core.specs.declared.pack.TooLarge.{TooLarge}
 use Rattle.pack_core.specs.Boxes.{hbox, hpacked, vbox, vpacked, vtop_box, vtopped}
-use Rattle.job_commands.specs.declared.command.BoxForm.{BoxForm}
+use Rattle.job_machine.specs.declared.command.BoxForm.{BoxForm}
 use Rattle.job_machine.specs.declared.ListPurpose.{ListPurpose}
 use Rattle.job_machine.specs.declared.ListPurpose.TheVariants.{Box, Paragraph}
-use Rattle.job_commands.specs.declared.command.BoxForm.TheVariants.{Hbox, Vbox, Vtop}
+use Rattle.job_machine.specs.declared.command.BoxForm.TheVariants.{Hbox, Vbox, Vtop}
 use Rattle.job_machine.specs.OpenLists.{packed_as, packed_by}
 
 items_packed : (b : Bool) (p q : packs.Packed) (items : Items) → if◌then◌else◌ {A = Result packs.Packed TooLarge} b (Ok p) (Err (record { list = items })) ≡ Ok q → p ≡ q

@@ -7,13 +7,13 @@ use Rattle.tfm_core.specs.MetricFile.{MetricFile}
 use Rattle.tfm_core.specs.Rules.{metric_file}
 use Rattle.tfm_core.specs.Fonts.{SizedFont, chosen_size, fits_at, font_at}
 use Rattle.job_machine.specs.FontSlots.{font_of_slot, sized_font}
-use Rattle.job_commands.specs.declared.command.Command.{Command}
-use Rattle.job_commands.specs.declared.command.Command.TheVariants.{LoadFont, UseFont, Open, Paragraph, End, Text, Character, Rule, Kern, Glue, Penalty, Append, Unbox, LastBox, Split, Measure, Void, Set, Count, Special, Ship}
-use Rattle.job_commands.specs.declared.replies.Answer.{Answer}
-use Rattle.job_commands.specs.declared.replies.Refusal.{Refusal}
-use Rattle.job_commands.specs.declared.replies.Refusal.TheVariants.{OutOfMemory, DimensionTooLarge, Device, JobOver}
-use Rattle.job_commands.specs.declared.replies.Summary.{Summary}
-use Rattle.job_commands.specs.Reply.{Reply}
+use Rattle.job_machine.specs.declared.command.Command.{Command}
+use Rattle.job_machine.specs.declared.command.Command.TheVariants.{LoadFont, UseFont, Open, Paragraph, End, Text, Character, Rule, Kern, Glue, Penalty, Append, Unbox, LastBox, Split, Measure, Void, Set, Count, Special, Ship}
+use Rattle.job_machine.specs.declared.replies.Answer.{Answer}
+use Rattle.job_machine.specs.declared.replies.Refusal.{Refusal}
+use Rattle.job_machine.specs.declared.replies.Refusal.TheVariants.{OutOfMemory, DimensionTooLarge, Device, JobOver}
+use Rattle.job_machine.specs.declared.replies.Summary.{Summary}
+use Rattle.job_machine.specs.Reply.{Reply}
 use Rattle.node_core.specs.declared.params.Params.{Params}
 use Rattle.node_core.specs.declared.params.SplitParams.{SplitParams}
 use Rattle.node_core.specs.declared.tree.Kind.{Kind}

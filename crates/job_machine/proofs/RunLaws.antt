@@ -5,11 +5,11 @@ use Rattle.node_core.specs.declared.limits.TheConstants.{MAX_PAGES, MAX_SHIPPED_
 use Rattle.node_core.specs.declared.tree.BoxNode.{BoxNode}
 use Rattle.tfm_core.specs.NamedBytes.{NamedBytes}
 use Rattle.page_core.specs.Marks.{ShippedPage}
-use Rattle.job_commands.specs.declared.command.Command.{Command}
-use Rattle.job_commands.specs.declared.command.Command.TheVariants.{LoadFont, UseFont, Open, Paragraph, End, Text, Character, Rule, Kern, Glue, Penalty, Append, Unbox, LastBox, Split, Measure, Void, Set, Count, Special, Ship}
-use Rattle.job_commands.specs.declared.replies.Refusal.{Refusal}
-use Rattle.job_commands.specs.declared.replies.Refusal.TheVariants.{JobOver, VoidBox, TooManyPages, TooMuchShipped, TooMuchSpecial, HugePage}
-use Rattle.job_commands.specs.Reply.{Reply}
+use Rattle.job_machine.specs.declared.command.Command.{Command}
+use Rattle.job_machine.specs.declared.command.Command.TheVariants.{LoadFont, UseFont, Open, Paragraph, End, Text, Character, Rule, Kern, Glue, Penalty, Append, Unbox, LastBox, Split, Measure, Void, Set, Count, Special, Ship}
+use Rattle.job_machine.specs.declared.replies.Refusal.{Refusal}
+use Rattle.job_machine.specs.declared.replies.Refusal.TheVariants.{JobOver, VoidBox, TooManyPages, TooMuchShipped, TooMuchSpecial, HugePage}
+use Rattle.job_machine.specs.Reply.{Reply}
 use Rattle.job_machine.specs.State.{State, held_in, shipped_with}
 use Rattle.job_machine.specs.NextPages.{is_huge_in, shipped_pages}
 use Rattle.job_machine.specs.Checks.{checks, first_refusal}

@@ -8,7 +8,7 @@ use Rattle.node_core.specs.declared.params.Params.{Params}
 use Rattle.node_core.specs.Items.{Items}
 use Rattle.node_core.specs.Nodes.{items_of, nodes_of}
 use Rattle.node_core.proofs.NodeLemmas.{items_of-nodes_of}
-use Rattle.job_commands.specs.declared.replies.Refusal.{Refusal}
+use Rattle.job_machine.specs.declared.replies.Refusal.{Refusal}
 use Rattle.job_machine.specs.declared.OpenList.{OpenList}
 use Rattle.job_machine.specs.State.{innermost, outer, with_innermost, held_in}
 use Rattle.job_machine.specs.Checks.{box_checks, first_refusal}

@@ -8,14 +8,15 @@ use Rattle.node_core.specs.Nodes.{nodes_of}
 use Rattle.job_machine.specs.declared.OpenList.{OpenList}
 use Rattle.job_machine.specs.declared.ListPurpose.{ListPurpose}
 use Rattle.job_machine.specs.declared.ListPurpose.TheVariants as purposes
-use Rattle.job_commands.specs.declared.replies.Sizes.{Sizes}
-use Rattle.job_commands.specs.declared.command.Command.{Command}
-use Rattle.job_commands.specs.declared.command.Command.TheVariants.{LoadFont, UseFont, Open, Paragraph, End, Text, Character, Rule, Kern, Glue, Penalty, Append, Unbox, LastBox, Split, Measure, Void, Set, Count, Special, Ship}
-use Rattle.job_commands.specs.declared.replies.Answer.{Answer}
-use Rattle.job_commands.specs.declared.replies.Answer.TheVariants as answers
-use Rattle.job_commands.specs.declared.replies.Answer.TheVariants.{Done, Packed, Measured, MeasuredVoid, Shaped, Added, SplitVoid, Shipped}
+use Rattle.job_machine.specs.declared.replies.Sizes.{Sizes}
+use Rattle.job_machine.specs.declared.command.Command.{Command}
+use Rattle.job_machine.specs.declared.command.Command.TheVariants.{LoadFont, UseFont, Open, Paragraph, End, Text, Character, Rule, Kern, Glue}
+use Rattle.job_machine.specs.declared.command.Command.TheVariants.{Penalty, Append, Unbox, LastBox, Split, Measure, Void, Set, Count, Special, Ship}
+use Rattle.job_machine.specs.declared.replies.Answer.{Answer}
+use Rattle.job_machine.specs.declared.replies.Answer.TheVariants as answers
+use Rattle.job_machine.specs.declared.replies.Answer.TheVariants.{Done, Packed, Measured, MeasuredVoid, Shaped, Added, SplitVoid, Shipped}
 use Rattle.pack_core.specs.declared.pack.Packed as packs
-use Rattle.vert_split.specs.Split.{front_of, rest_of}
+use Rattle.vert_core.specs.Split.{front_of, rest_of}
 use Rattle.job_machine.specs.FontSlots.{CharacterItems, text_shaped, character_shaped}
 use Rattle.job_machine.specs.State.{State, innermost, outer, held_in, nodes_in}
 use Rattle.job_machine.specs.OpenLists.{box_items, packed_list}

@@ -1,6 +1,7 @@
 -- When a command is refused, and with which refusal: one row for each command (own; after TeX: The Program, parts 16, 32, 33 and 47).
 use Rattle.std.specs.List.{list_all, list_any}
-use Rattle.std.specs.Prelude.{◌+◌, ◌==◌, ◌++◌, ◌∷◌, ◌&&◌, ◌||◌, [], ℕ, ℤ, pos, Bool, true, false, not, nat_le, nat_lt, if◌then◌else◌, List, length, Option, Some, None, is_none, is_some, Result, Ok, Err, is_ok}
+use Rattle.std.specs.Prelude.{◌+◌, ◌==◌, ◌++◌, ◌∷◌, ◌&&◌, ◌||◌, [], ℕ, ℤ, pos, Bool, true, false, not, nat_le, nat_lt, if◌then◌else◌, List, length}
+use Rattle.std.specs.Prelude.{Option, Some, None, is_none, is_some, Result, Ok, Err, is_ok}
 use Rattle.node_core.specs.declared.tree.Node.{Node}
 use Rattle.node_core.specs.declared.tree.Kind.{Kind}
 use Rattle.node_core.specs.declared.tree.Kind.TheVariants.{Horizontal, Vertical}
@@ -14,15 +15,19 @@ use Rattle.node_core.specs.Nodes.{nodes_of, box_depth}
 use Rattle.job_machine.specs.declared.OpenList.{OpenList}
 use Rattle.job_machine.specs.declared.ListPurpose.{ListPurpose}
 use Rattle.job_machine.specs.declared.ListPurpose.TheVariants as purposes
-use Rattle.job_commands.specs.declared.command.Command.{Command}
-use Rattle.job_commands.specs.declared.command.Command.TheVariants.{LoadFont, UseFont, Open, Paragraph, End, Text, Character, Rule, Kern, Glue, Penalty, Append, Unbox, LastBox, Split, Measure, Void, Set, Count, Special, Ship}
-use Rattle.job_commands.specs.declared.replies.Refusal.{Refusal}
-use Rattle.job_commands.specs.declared.replies.Refusal.TheVariants.{DimensionTooLarge, NoFont, SlotTaken, NoOpenList, WrongMode, WrongKind, ListTooLong, TooDeep, InfiniteShrink, HugePage, TooManyPages, TooMuchShipped, TooMuchSpecial, JobOver, VoidBox}
-use Rattle.node_core.specs.declared.limits.TheConstants.{MAX_OPEN_LISTS, MAX_ITEMS, MAX_DEPTH, MAX_PAGES, MAX_SHIPPED_NODES, MAX_SPECIAL_TEXT, MAX_SHIPPED_TEXT}
+use Rattle.job_machine.specs.declared.command.Command.{Command}
+use Rattle.job_machine.specs.declared.command.Command.TheVariants.{LoadFont, UseFont, Open, Paragraph, End, Text, Character, Rule, Kern, Glue}
+use Rattle.job_machine.specs.declared.command.Command.TheVariants.{Penalty, Append, Unbox, LastBox, Split, Measure, Void, Set, Count, Special, Ship}
+use Rattle.job_machine.specs.declared.replies.Refusal.{Refusal}
+use Rattle.job_machine.specs.declared.replies.Refusal.TheVariants.{DimensionTooLarge, NoFont, SlotTaken, NoOpenList, WrongMode, WrongKind}
+use Rattle.job_machine.specs.declared.replies.Refusal.TheVariants.{ListTooLong, TooDeep, InfiniteShrink, HugePage, TooManyPages, TooMuchShipped}
+use Rattle.job_machine.specs.declared.replies.Refusal.TheVariants.{TooMuchSpecial, JobOver, VoidBox}
+use Rattle.node_core.specs.declared.limits.TheConstants.{MAX_OPEN_LISTS, MAX_ITEMS, MAX_DEPTH, MAX_PAGES, MAX_SHIPPED_NODES, MAX_SPECIAL_TEXT}
+use Rattle.node_core.specs.declared.limits.TheConstants.{MAX_SHIPPED_TEXT}
 use Rattle.pack_core.specs.declared.pack.Packed as packs
 use Rattle.scaled_core.specs.Dimensions.{fits}
 use Rattle.node_core.specs.Classes.{shrinks_infinitely}
-use Rattle.vert_split.specs.Split.{split_numbers}
+use Rattle.vert_core.specs.Split.{split_numbers}
 use Rattle.tfm_core.specs.Fonts.{SizedFont}
 use Rattle.tfm_core.specs.Slots.{font_in}
 use Rattle.job_machine.specs.FontSlots.{current_font, CharacterItems, text_shaped, character_shaped}
@@ -151,8 +156,8 @@ abbrev pub is_running : RuleSize → Bool
 is_running Running = true
 is_running (Fixed size) = false
 
--- Whether a rule does not belong in a list of that kind. Only the sizes across the list may be running, since they become those of the box around: so the
--- width may not in a horizontal list, nor the height or the depth in a vertical one.
+-- Whether a rule does not belong in a list of that kind. Only the sizes across the list may be running, since they become those of the box around: so
+-- the width may not in a horizontal list, nor the height or the depth in a vertical one.
 abbrev pub is_misplaced : Kind → rules.Rule → Bool
 is_misplaced Horizontal rule = is_running rule.width
 is_misplaced Vertical rule = is_running rule.height || is_running rule.depth

@@ -12,21 +12,21 @@ use Rattle.vert_core.specs.Interline.{ignored_depth}
 use Rattle.job_machine.specs.declared.OpenList.{OpenList}
 use Rattle.job_machine.specs.declared.ListPurpose.{ListPurpose}
 use Rattle.job_machine.specs.declared.ListPurpose.TheVariants as purposes
-use Rattle.job_commands.specs.declared.command.Parameter.{Parameter}
-use Rattle.job_commands.specs.declared.command.Parameter.TheVariants.{BoxMaxDepth, BaselineSkip, LineSkip, LineSkipLimit, SplitMaxDepth, SplitTopSkip, Hsize, FirstLines, FirstSize, ParFillSkip, Pretolerance, Tolerance, LinePenalty, AdjDemerits, ClubPenalty, WidowPenalty, InterlinePenalty, Hoffset, Voffset}
-use Rattle.job_commands.specs.declared.command.Splitting.{Splitting}
-use Rattle.job_commands.specs.declared.command.Transfer.{Transfer}
-use Rattle.job_commands.specs.declared.command.Transfer.TheVariants.{Move, Copy}
-use Rattle.job_commands.specs.declared.command.Command.{Command}
-use Rattle.job_commands.specs.declared.command.Command.TheVariants.{LoadFont, UseFont, Open, Paragraph, End, Text, Character, Rule, Kern, Glue, Penalty, Append, Unbox, LastBox, Split, Measure, Void, Set, Count, Special, Ship}
+use Rattle.job_machine.specs.declared.command.Splitting.{Splitting}
+use Rattle.job_machine.specs.declared.command.Transfer.{Transfer}
+use Rattle.job_machine.specs.declared.command.Transfer.TheVariants.{Move, Copy}
+use Rattle.job_machine.specs.declared.command.Command.{Command}
+use Rattle.job_machine.specs.declared.command.Command.TheVariants.{LoadFont, UseFont, Open, Paragraph, End, Text, Character, Rule, Kern, Glue}
+use Rattle.job_machine.specs.declared.command.Command.TheVariants.{Penalty, Append, Unbox, LastBox, Split, Measure, Void, Set, Count, Special, Ship}
 use Rattle.pack_core.specs.declared.pack.Packed as packs
-use Rattle.vert_split.specs.Split.{front_of, rest_of}
+use Rattle.vert_core.specs.Split.{front_of, rest_of}
 use Rattle.page_core.specs.Marks.{ShippedPage}
 use Rattle.job_machine.specs.FontSlots.{with_font, text_shaped, character_shaped}
 use Rattle.job_machine.specs.State.{State, innermost, outer, with_innermost, items_in, held_in, shipped_with, font_for}
 use Rattle.job_machine.specs.NextPages.{shipped_pages}
 use Rattle.job_machine.specs.OpenLists.{opened_list, box_items, packed_list}
 use Rattle.job_machine.specs.Paragraphs.{with_paragraph}
+use Rattle.job_machine.specs.Parameters.{with_parameter}
 
 -- The nest with more nodes at the end of its innermost list.
 abbrev pub with_nodes : List OpenList → List Node → Option OpenList → List OpenList
@@ -55,7 +55,8 @@ abbrev pub with_box : Params → List OpenList → (shift : ℤ) → BoxNode →
 with_box params nest shift b None = nest
 with_box params nest shift b (Some open_list) = with_innermost nest (list_with_box params shift b open_list)
 
--- The nest without the last item of its innermost list, where that is a box. Glue before the box stays, and so does the previous depth (TeX: The Program, part 47, §1080 and §1081).
+-- The nest without the last item of its innermost list, where that is a box. Glue before the box stays, and so does the previous depth (TeX: The
+-- Program, part 47, §1080 and §1081).
 abbrev pub without_last : List OpenList → Option OpenList → List OpenList
 without_last nest None = nest
 without_last nest (Some open_list) =
@@ -66,28 +67,6 @@ without_last nest (Some open_list) =
 abbrev pub with_taken : Transfer → List (Option BoxNode) → ℕ → List (Option BoxNode)
 with_taken Move registers r = slice_set registers r None
 with_taken Copy registers r = registers
-
--- The parameters with one of them changed.
-abbrev pub with_parameter : Params → Parameter → Params
-with_parameter params (BoxMaxDepth depth) = record params { box_max_depth = depth }
-with_parameter params (BaselineSkip glue) = record params { baseline_skip = glue }
-with_parameter params (LineSkip glue) = record params { line_skip = glue }
-with_parameter params (LineSkipLimit limit) = record params { line_skip_limit = limit }
-with_parameter params (SplitMaxDepth depth) = record params { split = record params.split { split_max_depth = depth } }
-with_parameter params (SplitTopSkip glue) = record params { split = record params.split { split_top_skip = glue } }
-with_parameter params (Hsize size) = record params { hsize = size }
-with_parameter params (FirstLines lines) = record params { first_lines = lines }
-with_parameter params (FirstSize size) = record params { first_size = size }
-with_parameter params (ParFillSkip glue) = record params { par_fill_skip = glue }
-with_parameter params (Pretolerance number) = record params { pretolerance = number }
-with_parameter params (Tolerance number) = record params { tolerance = number }
-with_parameter params (LinePenalty number) = record params { line_penalty = number }
-with_parameter params (AdjDemerits number) = record params { adj_demerits = number }
-with_parameter params (ClubPenalty number) = record params { club_penalty = number }
-with_parameter params (WidowPenalty number) = record params { widow_penalty = number }
-with_parameter params (InterlinePenalty number) = record params { interline_penalty = number }
-with_parameter params (Hoffset size) = record params { hoffset = size }
-with_parameter params (Voffset size) = record params { voffset = size }
 
 -- The state after the box of a closed list went into its register, or to the end of the innermost of the lists around.
 abbrev pub with_home : State → (around : List OpenList) → (into : Option ℕ) → BoxNode → State

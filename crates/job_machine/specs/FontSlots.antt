@@ -1,6 +1,5 @@
 -- The fonts of a job by their slots, and the items that characters become in one of them (own; after TeX: The Program, parts 30 and 46).
 use Rattle.std.specs.Prelude.{[], ◌∷◌, ℕ, ℤ, List, Option, Some, None, Result, Ok, Err, if◌then◌else◌, slice_set}
-use Rattle.tfm_core.specs.declared.font.GlyphSize.{GlyphSize}
 use Rattle.tfm_core.specs.declared.fault.TfmCause.{TfmCause}
 use Rattle.tfm_core.specs.NamedBytes.{NamedBytes}
 use Rattle.tfm_core.specs.MetricFile.{MetricFile}
@@ -12,8 +11,8 @@ use Rattle.shape_core.specs.Spaces.{space_glue}
 use Rattle.node_core.specs.declared.tree.Node.{Node}
 use Rattle.tfm_core.specs.declared.slots.LoadedFont.{LoadedFont}
 use Rattle.tfm_core.specs.Slots.{Slots, font_in}
-use Rattle.job_commands.specs.declared.replies.Refusal.{Refusal}
-use Rattle.job_commands.specs.declared.replies.Refusal.TheVariants.{NoFont, BadTfm, DimensionTooLarge}
+use Rattle.job_machine.specs.declared.replies.Refusal.{Refusal}
+use Rattle.job_machine.specs.declared.replies.Refusal.TheVariants.{NoFont, BadTfm, DimensionTooLarge}
 
 -- The current font: none before a `use`.
 abbrev pub current_font : Slots → Option ℕ → Option LoadedFont
@@ -34,11 +33,6 @@ font_of_slot (Some file) size = sized_font (metric_file file.bytes) size
 abbrev pub with_font : Slots → ℕ → List ℕ → Result SizedFont Refusal → Slots
 with_font fonts slot name (Err refusal) = fonts
 with_font fonts slot name (Ok font) = slice_set fonts slot (Some (record { name = name; font = font }))
-
--- The sizes of a character in a font, if there is a font and it has the character.
-abbrev pub glyph_by : Option LoadedFont → ℕ → Option GlyphSize
-glyph_by None code = None
-glyph_by (Some loaded) code = glyph_of loaded.font code
 
 -- What characters become: the items that they add, and how many of them the font lacks.
 pub record CharacterItems : Type 0 where

@@ -4,7 +4,11 @@ pub mod FontSlots
 pub mod OpenLists
 pub mod Paragraphs
 pub mod Checks
+pub mod Parameters
 pub mod Answers
 pub mod Effects
 pub mod Machine
 pub mod Runs
+pub mod Reply
+pub mod BoxForms
+pub mod Private

@@ -1,9 +1,9 @@
 -- The abstract machine: its reply to a command, and its state and pages after it (own; after TeX: The Program, parts 16, 32, 33 and 47).
 use Rattle.std.specs.Prelude.{◌++◌, [], true, List, Option, Some, None, Ok, Err}
-use Rattle.job_commands.specs.declared.command.Command.{Command}
-use Rattle.job_commands.specs.declared.replies.Answer.{Answer}
-use Rattle.job_commands.specs.declared.replies.Refusal.{Refusal}
-use Rattle.job_commands.specs.Reply.{Reply}
+use Rattle.job_machine.specs.declared.command.Command.{Command}
+use Rattle.job_machine.specs.declared.replies.Answer.{Answer}
+use Rattle.job_machine.specs.declared.replies.Refusal.{Refusal}
+use Rattle.job_machine.specs.Reply.{Reply}
 use Rattle.page_core.specs.Marks.{ShippedPage}
 use Rattle.tfm_core.specs.NamedBytes.{NamedBytes}
 use Rattle.job_machine.specs.State.{State, first_state}

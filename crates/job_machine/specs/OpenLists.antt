@@ -12,9 +12,9 @@ use Rattle.vert_core.specs.Interline.{ignored_depth, interline, glue_of, appende
 use Rattle.job_machine.specs.declared.OpenList.{OpenList}
 use Rattle.job_machine.specs.declared.ListPurpose.{ListPurpose}
 use Rattle.job_machine.specs.declared.ListPurpose.TheVariants.{Box, Paragraph}
-use Rattle.job_commands.specs.BoxForms.{kind_of}
-use Rattle.job_commands.specs.declared.command.BoxForm.{BoxForm}
-use Rattle.job_commands.specs.declared.command.BoxForm.TheVariants.{Hbox, Vbox, Vtop}
+use Rattle.job_machine.specs.BoxForms.{kind_of}
+use Rattle.job_machine.specs.declared.command.BoxForm.{BoxForm}
+use Rattle.job_machine.specs.declared.command.BoxForm.TheVariants.{Hbox, Vbox, Vtop}
 use Rattle.pack_core.specs.declared.pack.Target.{Target}
 use Rattle.pack_core.specs.declared.pack.Packed as packs
 use Rattle.pack_core.specs.declared.pack.TooLarge.{TooLarge}

@@ -1,5 +1,5 @@
--- The end of a paragraph: how it is set after the list around it, what `end` answers, and why it is refused (own; after TeX: The Program, part 39, §877 to
--- §890, and part 47, §1096).
+-- The end of a paragraph: how it is set after the list around it, what `end` answers, and why it is refused (own; after TeX: The Program, part 39,
+-- §877 to §890, and part 47, §1096).
 use Rattle.std.specs.Prelude.{◌+◌, ◌++◌, ◌∷◌, [], ℕ, ℤ, Bool, true, nat_lt, List, length, Option, Some, None, is_none, Result, Ok, Err}
 use Rattle.node_core.specs.declared.params.Params.{Params}
 use Rattle.node_core.specs.Items.{Items, items_depth}
@@ -14,10 +14,10 @@ use Rattle.vert_core.specs.declared.paragraph.ParagraphFault.{ParagraphFault}
 use Rattle.vert_core.specs.declared.paragraph.ParagraphFault.TheVariants as faults
 use Rattle.vert_core.specs.Paragraphs.{unbroken}
 use Rattle.vert_core.specs.Setting.{setting}
-use Rattle.job_commands.specs.declared.replies.Answer.{Answer}
-use Rattle.job_commands.specs.declared.replies.Answer.TheVariants as answers
-use Rattle.job_commands.specs.declared.replies.Refusal.{Refusal}
-use Rattle.job_commands.specs.declared.replies.Refusal.TheVariants.{NoOpenList, InfiniteShrink, TooManyBreaks, DimensionTooLarge, TooDeep, ListTooLong}
+use Rattle.job_machine.specs.declared.replies.Answer.{Answer}
+use Rattle.job_machine.specs.declared.replies.Answer.TheVariants as answers
+use Rattle.job_machine.specs.declared.replies.Refusal.{Refusal}
+use Rattle.job_machine.specs.declared.replies.Refusal.TheVariants.{NoOpenList, InfiniteShrink, TooManyBreaks, DimensionTooLarge, TooDeep, ListTooLong}
 use Rattle.node_core.specs.declared.limits.TheConstants.{MAX_ITEMS, MAX_DEPTH}
 use Rattle.job_machine.specs.declared.OpenList.{OpenList}
 use Rattle.job_machine.specs.State.{innermost, with_innermost, items_in}

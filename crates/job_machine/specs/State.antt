@@ -1,5 +1,6 @@
 -- What a job keeps, and what the definitions read of it (own; after TeX: The Program, parts 16, 32 and 33).
-use Rattle.std.specs.Prelude.{◌-◌, [], ℕ, ℤ, pos, Bool, false, List, length, take, replicate, slice_get, slice_set, Option, Some, None, unwrap_or, Result}
+use Rattle.std.specs.Prelude.{◌-◌, [], ℕ, ℤ, pos, Bool, false, List, length, take, replicate, slice_get, slice_set, Option, Some, None, unwrap_or}
+use Rattle.std.specs.Prelude.{Result}
 use Rattle.node_core.specs.declared.tree.Node.{Node}
 use Rattle.node_core.specs.declared.tree.BoxNode.{BoxNode}
 use Rattle.node_core.specs.declared.params.Params.{Params}
@@ -8,9 +9,9 @@ use Rattle.node_core.specs.Nodes.{nodes_of}
 use Rattle.node_core.specs.Loads.{Load, heavier}
 use Rattle.node_core.specs.Parameters.{first_params}
 use Rattle.job_machine.specs.declared.OpenList.{OpenList}
-use Rattle.job_commands.specs.declared.command.FontLoad.{FontLoad}
+use Rattle.job_machine.specs.declared.command.FontLoad.{FontLoad}
 use Rattle.node_core.specs.declared.limits.TheConstants.{REGISTERS, COUNTS}
-use Rattle.job_commands.specs.declared.replies.Refusal.{Refusal}
+use Rattle.job_machine.specs.declared.replies.Refusal.{Refusal}
 use Rattle.tfm_core.specs.NamedBytes.{NamedBytes, file_named}
 use Rattle.tfm_core.specs.Fonts.{SizedFont}
 use Rattle.tfm_core.specs.Slots.{Slots}

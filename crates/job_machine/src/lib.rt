@@ -1,11 +1,16 @@
-//! The abstract machine of a job: its definitions in `specs/`, the types that they need, and laws of its steps and runs.
+//! The abstract machine of a job: commands, answers and refusals as types, the definitions of what each command does in `specs/`, and laws of its
+//! steps and runs.
 //!
-//! This crate is what a reader has to believe about commands, apart from the crates below that it cites.
-//! `State` is what a job keeps. `Checks`, `Answers` and `Effects` are the table of commands: when each is refused, what it answers and what it changes.
-//! `Machine` puts them together into a step, and `Runs` adds what the table leaves open: refused memory and a failing device.
-//! No command is carried out here: `job_lists`, `job_state` and `job_core` are proved to do what these definitions say.
+//! This crate is what a reader has to believe about commands, apart from the crates below that it cites. `State` is what a job keeps. `Checks`,
+//! `Answers` and `Effects` are the table of commands: when each is refused, what it answers and what it changes. `Machine` puts them together into a
+//! step, and `Runs` adds what the table leaves open: refused memory and a failing device. No command is carried out here: `job_lists`, `job_state`
+//! and `job_core` are proved to do what these definitions say.
 #![tactic(auto)]
 
+pub mod command;
+pub mod laws;
+pub mod parameter;
+pub mod replies;
 pub mod runs;
 pub mod specials;
 pub mod totality;
@@ -13,12 +18,18 @@ pub mod totality;
 ghost use Rattle.std.specs.Prelude.{◌≡◌};
 ghost use Rattle.job_machine.specs.OpenLists.{kind_by};
 
-use job_commands::{BoxForm, Opening};
+pub use command::{
+    AppendBox, BoxForm, Characters, Command, CountNumber, Counting, FontLoad, Opening, Register,
+    Splitting, Transfer, Unboxing,
+};
 use node_core::{Kind, NodeList};
-use pack_core::Target;
+pub use pack_core::Target;
+pub use parameter::{NumberParameter, Parameter, SizeParameter, SkipParameter};
+pub use replies::{Answer, Refusal, Reply, Sizes, Summary};
 use scaled_core::Dimen;
 use std::alloc::Global;
 use std::default::MadeWith;
+pub use tfm_core::{FontName, FontSize, TfmCause};
 
 /// What a list was opened for.
 #[derive(Clone, Copy, Debug, PartialEq, Eq)]

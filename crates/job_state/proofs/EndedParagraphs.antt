@@ -1,11 +1,11 @@
 -- The end of a paragraph changes the open lists, and all else stays.
 use Rattle.std.proofs.Common.{◌≡◌, ◌∙◌, false, List, Option, Some, None, Result, Ok, Err, refl, ap, sym}
 use Rattle.std.specs.Prelude.{◌++◌, ◌∷◌, [], IfOk, OnOk, OnErr}
-use Rattle.job_commands.specs.declared.replies.Answer.{Answer}
-use Rattle.job_commands.specs.declared.command.Command.TheVariants as commands
-use Rattle.job_commands.specs.declared.command.Command.TheVariants.{End}
-use Rattle.job_commands.specs.declared.replies.Refusal.{Refusal}
-use Rattle.job_commands.specs.Reply.{Reply}
+use Rattle.job_machine.specs.declared.replies.Answer.{Answer}
+use Rattle.job_machine.specs.declared.command.Command.TheVariants as commands
+use Rattle.job_machine.specs.declared.command.Command.TheVariants.{End}
+use Rattle.job_machine.specs.declared.replies.Refusal.{Refusal}
+use Rattle.job_machine.specs.Reply.{Reply}
 use Rattle.job_machine.specs.declared.OpenList.{OpenList}
 use Rattle.job_machine.specs.declared.ListPurpose.TheVariants.{Paragraph}
 use Rattle.job_machine.specs.OpenLists.{opened_list}

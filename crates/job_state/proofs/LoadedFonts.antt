@@ -12,14 +12,15 @@ use Rattle.tfm_core.specs.Fonts.{SizedFont, HasNumbers, chosen_size, fits_at, fo
 use Rattle.tfm_core.specs.FileWidths.{file_widths, widths_of_file, widths_by, width_at}
 use Rattle.tfm_core.proofs.ByteLemmas.{byte-glyph_of}
 use Rattle.tfm_core.specs.declared.slots.LoadedFont.{LoadedFont}
-use Rattle.job_commands.specs.declared.command.Command.{Command}
-use Rattle.job_commands.specs.declared.command.Command.TheVariants.{LoadFont, UseFont, Open, Paragraph, End, Text, Character, Rule, Kern, Glue, Penalty, Append, Unbox, LastBox, Split, Measure, Void, Set, Count, Special, Ship}
-use Rattle.job_commands.specs.declared.replies.Refusal.{Refusal}
-use Rattle.job_commands.specs.declared.replies.Refusal.TheVariants.{DimensionTooLarge}
+use Rattle.job_machine.specs.declared.command.Command.{Command}
+use Rattle.job_machine.specs.declared.command.Command.TheVariants.{LoadFont, UseFont, Open, Paragraph, End, Text, Character, Rule, Kern, Glue, Penalty, Append, Unbox, LastBox, Split, Measure, Void, Set, Count, Special, Ship}
+use Rattle.job_machine.specs.declared.replies.Refusal.{Refusal}
+use Rattle.job_machine.specs.declared.replies.Refusal.TheVariants.{DimensionTooLarge}
 use Rattle.tfm_core.specs.Slots.{Slots, font_in}
 use Rattle.job_machine.specs.FontSlots.{sized_font, font_of_slot, with_font}
 use Rattle.job_machine.proofs.KeptRest.{KeepsRest, end_keeps, append_keeps, unbox_keeps}
-use Rattle.job_state.specs.Loaded.{IsLoaded, AreLoaded, GivesNumbersFor}
+use Rattle.job_state.specs.Loaded.{GivesNumbersFor}
+use Rattle.job_state.specs.Private.Loaded.{IsLoaded, AreLoaded}
 use Rattle.job_machine.specs.State.{State, font_for}
 use Rattle.job_machine.specs.Checks.{checks, first_refusal}
 use Rattle.job_machine.specs.Effects.{after}

@@ -26,7 +26,7 @@ use Rattle.vert_core.specs.Setting.{ChosenLines, chosen_lines, lined, set_by, se
 use Rattle.scaled_core.proofs.EachOf.{all_append, all_weaker, each_taken}
 use Rattle.tfm_core.specs.Slots.{Slots}
 use Rattle.job_state.proofs.SplitParts.{each_dropped}
-use Rattle.job_state.specs.Sized.{HasSizes, IsSizedLeaf, IsSized, AreSized}
+use Rattle.job_state.specs.Private.Sized.{HasSizes, IsSizedLeaf, IsSized, AreSized}
 
 -- The glyphs of an item have the sizes that their fonts give.
 abbrev HasGlyphs : Slots → Node → Type 0

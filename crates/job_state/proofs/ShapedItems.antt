@@ -1,8 +1,8 @@
 -- The replies and effects of the commands on characters, by the items that the characters become.
 use Rattle.std.proofs.Common.{◌≡◌, ◌∙◌, ◌++◌, ◌∷◌, ℕ, Bool, true, false, List, [], Option, Some, None, Result, Ok, Err, OnOk, OnErr, refl, ap, sym}
-use Rattle.job_commands.specs.declared.command.Command.TheVariants.{Text, Character}
-use Rattle.job_commands.specs.declared.replies.Refusal.{Refusal}
-use Rattle.job_commands.specs.declared.replies.Refusal.TheVariants.{JobOver}
+use Rattle.job_machine.specs.declared.command.Command.TheVariants.{Text, Character}
+use Rattle.job_machine.specs.declared.replies.Refusal.{Refusal}
+use Rattle.job_machine.specs.declared.replies.Refusal.TheVariants.{JobOver}
 use Rattle.tfm_core.specs.declared.slots.LoadedFont.{LoadedFont}
 use Rattle.tfm_core.specs.Slots.{font_in}
 use Rattle.job_machine.specs.declared.OpenList.{OpenList}

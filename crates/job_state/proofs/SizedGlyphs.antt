@@ -25,27 +25,28 @@ use Rattle.pack_core.specs.declared.pack.Packed as packs
 use Rattle.pack_core.specs.declared.pack.TooLarge.{TooLarge}
 use Rattle.job_machine.specs.declared.OpenList.{OpenList}
 use Rattle.tfm_core.specs.declared.slots.LoadedFont.{LoadedFont}
-use Rattle.job_commands.specs.declared.command.Command.{Command}
-use Rattle.job_commands.specs.declared.command.Command.TheVariants.{LoadFont, UseFont, Open, Paragraph, End, Text, Character, Rule, Kern, Glue, Penalty, Append, Unbox, LastBox, Split, Measure, Void, Set, Count, Special, Ship}
-use Rattle.job_commands.specs.declared.command.FontLoad.{FontLoad}
-use Rattle.job_commands.specs.declared.replies.Refusal.{Refusal}
-use Rattle.job_commands.specs.declared.replies.Refusal.TheVariants.{SlotTaken, NoOpenList, TooDeep, ListTooLong, JobOver}
+use Rattle.job_machine.specs.declared.command.Command.{Command}
+use Rattle.job_machine.specs.declared.command.Command.TheVariants.{LoadFont, UseFont, Open, Paragraph, End, Text, Character, Rule, Kern, Glue, Penalty, Append, Unbox, LastBox, Split, Measure, Void, Set, Count, Special, Ship}
+use Rattle.job_machine.specs.declared.command.FontLoad.{FontLoad}
+use Rattle.job_machine.specs.declared.replies.Refusal.{Refusal}
+use Rattle.job_machine.specs.declared.replies.Refusal.TheVariants.{SlotTaken, NoOpenList, TooDeep, ListTooLong, JobOver}
 use Rattle.tfm_core.specs.Slots.{Slots, font_in}
-use Rattle.job_machine.specs.FontSlots.{with_font, glyph_by, text_items_in, character_in, text_shaped, character_shaped}
+use Rattle.job_machine.specs.FontSlots.{with_font, text_items_in, character_in, text_shaped, character_shaped}
+use Rattle.job_machine.specs.Private.FontSlots.{glyph_by}
 use Rattle.node_core.proofs.Leaves.{each_leaf}
 use Rattle.job_machine.proofs.KeptRest.{KeepsRest, end_keeps, append_keeps, unbox_keeps}
 use Rattle.job_machine.proofs.PackedItems.{packed_items}
 use Rattle.job_state.proofs.SplitParts.{inner_nodes, rest_sound, front_sound}
-use Rattle.job_state.specs.Sized.{HasSizes, IsSizedLeaf, IsSoundBox, IsSized, AreSized, IsSizedList, IsSizedHeld, HasSizedGlyphs}
+use Rattle.job_state.specs.Private.Sized.{HasSizes, IsSizedLeaf, IsSoundBox, IsSized, AreSized, IsSizedList, IsSizedHeld, HasSizedGlyphs}
 use Rattle.job_state.proofs.SetLines.{set_sized}
 use Rattle.vert_core.specs.declared.paragraph.SetParagraph.{SetParagraph}
 use Rattle.vert_core.specs.declared.paragraph.ParagraphFault.{ParagraphFault}
 use Rattle.job_machine.specs.Paragraphs.{depth_in, set_after, set_checks, with_lines}
 use Rattle.job_machine.specs.declared.ListPurpose.{ListPurpose}
 use Rattle.job_machine.specs.declared.ListPurpose.TheVariants as purposes
-use Rattle.job_commands.specs.declared.command.Splitting.{Splitting}
-use Rattle.job_commands.specs.declared.command.Transfer.{Transfer}
-use Rattle.job_commands.specs.declared.command.Transfer.TheVariants.{Move, Copy}
+use Rattle.job_machine.specs.declared.command.Splitting.{Splitting}
+use Rattle.job_machine.specs.declared.command.Transfer.{Transfer}
+use Rattle.job_machine.specs.declared.command.Transfer.TheVariants.{Move, Copy}
 use Rattle.node_core.specs.declared.limits.TheConstants.{REGISTERS, MAX_DEPTH, MAX_ITEMS}
 use Rattle.job_machine.specs.State.{State, first_state, innermost, outer, items_in, held_in, font_for}
 use Rattle.job_machine.specs.OpenLists.{glue_in, box_items, if_packed, packed_by}

@@ -2,10 +2,10 @@
 use Rattle.std.proofs.Common.{◌≡◌, ◌∙◌, sym, false, List, Option, Some, None, Result, Ok, Err, refl, ap}
 use Rattle.std.specs.Prelude.{IfOk, OnOk, OnErr}
 use Rattle.node_core.specs.declared.tree.BoxNode.{BoxNode}
-use Rattle.job_commands.specs.declared.command.Command.TheVariants.{Split}
-use Rattle.job_commands.specs.declared.replies.Refusal.{Refusal}
-use Rattle.job_commands.specs.declared.command.Splitting.{Splitting}
-use Rattle.job_commands.specs.Reply.{Reply}
+use Rattle.job_machine.specs.declared.command.Command.TheVariants.{Split}
+use Rattle.job_machine.specs.declared.replies.Refusal.{Refusal}
+use Rattle.job_machine.specs.declared.command.Splitting.{Splitting}
+use Rattle.job_machine.specs.Reply.{Reply}
 use Rattle.job_machine.specs.State.{State, held_in}
 use Rattle.job_machine.specs.Checks.{checks, split_checks, first_refusal}
 use Rattle.job_machine.specs.Answers.{split_answer}

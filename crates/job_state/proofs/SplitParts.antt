@@ -11,12 +11,12 @@ use Rattle.node_core.specs.Items.{Leaf, Items, EachLeaf, items_depth}
 use Rattle.node_core.specs.Nodes.{items_of, node_of, nodes_of, box_depth}
 use Rattle.pack_core.specs.declared.pack.Packed as packs
 use Rattle.pack_core.specs.Boxes.{vbox}
-use Rattle.vert_split.specs.Places.{is_box_or_rule}
-use Rattle.vert_split.specs.Split.{from_box_or_rule, is_special, specials_above, split_place, topped, left_of, items_after, packed_rest, front_of, rest_of}
+use Rattle.vert_core.specs.Places.{is_box_or_rule}
+use Rattle.vert_core.specs.Split.{from_box_or_rule, is_special, specials_above, split_place, topped, left_of, items_after, packed_rest, front_of, rest_of}
 use Rattle.node_core.specs.declared.limits.TheConstants.{MAX_DEPTH}
 use Rattle.scaled_core.proofs.EachOf.{all_append, each_taken}
 use Rattle.tfm_core.specs.Slots.{Slots}
-use Rattle.job_state.specs.Sized.{HasSizes, IsSizedLeaf, IsSoundBox, IsSizedHeld}
+use Rattle.job_state.specs.Private.Sized.{HasSizes, IsSizedLeaf, IsSoundBox, IsSizedHeld}
 
 module _ {A : Type 0} (P : A → Type 0) where
   pub each_dropped : (n : ℕ) (xs : List A) → AllByRecursion P xs → AllByRecursion P (drop n xs)

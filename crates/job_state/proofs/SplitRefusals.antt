@@ -10,18 +10,18 @@ use Rattle.node_core.specs.declared.tree.Kind.TheVariants.{Vertical}
 use Rattle.node_core.specs.declared.tree.BoxNode.{BoxNode}
 use Rattle.node_core.specs.Nodes.{nodes_of}
 use Rattle.pack_core.specs.declared.pack.Packed as packs
-use Rattle.vert_split.specs.declared.parts.SplitFault.{SplitFault}
-use Rattle.vert_split.specs.declared.parts.SplitFault.TheVariants as faults
+use Rattle.vert_core.specs.declared.parts.SplitFault.{SplitFault}
+use Rattle.vert_core.specs.declared.parts.SplitFault.TheVariants as faults
 use Rattle.node_core.specs.Classes.{shrinks_infinitely}
-use Rattle.vert_split.specs.Split.{split_numbers, refusal, fault_of, front_of, rest_of}
-use Rattle.job_commands.specs.declared.replies.Refusal.{Refusal}
-use Rattle.job_commands.specs.declared.replies.Refusal.TheVariants.{InfiniteShrink, DimensionTooLarge}
-use Rattle.job_commands.specs.declared.command.Splitting.{Splitting}
+use Rattle.vert_core.specs.Split.{split_numbers, refusal, fault_of, front_of, rest_of}
+use Rattle.job_machine.specs.declared.replies.Refusal.{Refusal}
+use Rattle.job_machine.specs.declared.replies.Refusal.TheVariants.{InfiniteShrink, DimensionTooLarge}
+use Rattle.job_machine.specs.declared.command.Splitting.{Splitting}
 use Rattle.job_machine.specs.State.{held_in}
 use Rattle.job_machine.specs.Checks.{is_other, split_checks, first_refusal}
 use Rattle.job_machine.specs.Effects.{with_parts, with_split}
 use Rattle.job_machine.specs.Machine.{state_by}
-use Rattle.job_state.specs.SplitFaults.{refusal_for}
+use Rattle.job_state.specs.Private.SplitFaults.{refusal_for}
 use Rattle.job_machine.proofs.ListElements.{set_again}
 use Rattle.job_machine.proofs.States.{held_back, void_again}
 

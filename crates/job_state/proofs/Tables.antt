@@ -3,7 +3,7 @@ use Rattle.std.proofs.Common.{◌≡◌, ◌∙◌, ℕ, zero, suc, ◌+◌, ◌
 use Rattle.std.specs.Prelude.{slice_get, unwrap_or, slice_index_or}
 use Rattle.std.proofs.lemmas.List.{set-append_left, set-append_right, length-set, length-replicate}
 use Rattle.std.proofs.lemmas.Option.{slice_get_past, slice_get-get_or}
-use Rattle.job_state.specs.Registers.{filled_up}
+use Rattle.job_state.specs.Private.Registers.{filled_up}
 
 module _ {A : Type 0} where
   nothing_at : (n i : ℕ) → unwrap_or (slice_get (replicate {A = Option A} n None) i) None ≡ None

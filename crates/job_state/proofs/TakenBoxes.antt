@@ -3,7 +3,7 @@ use Rattle.std.proofs.Common.{◌≡◌, ◌==◌, ◌∙◌, ℕ, true, List, l
 use Rattle.std.specs.Prelude.{slice_set}
 use Rattle.node_core.specs.declared.tree.BoxNode.{BoxNode}
 use Rattle.node_core.specs.Nodes.{nodes_of}
-use Rattle.job_commands.specs.declared.command.Transfer.TheVariants.{Copy}
+use Rattle.job_machine.specs.declared.command.Transfer.TheVariants.{Copy}
 use Rattle.job_machine.specs.declared.OpenList.{OpenList}
 use Rattle.job_machine.specs.State.{State, held_in}
 use Rattle.job_machine.specs.Effects.{with_unboxed}

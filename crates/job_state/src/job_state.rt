@@ -1,25 +1,25 @@
 //! The state of a job without its device and its bytes: its fonts and its settings. Items, boxes and lists are in the modules below.
 
 ghost use Rattle.std.specs.Prelude.{◌≡◌, ◌==◌, not, None, IfOk, OnOk, OnErr, length};
-ghost use Rattle.job_commands.specs.declared.command.Command.TheVariants as commands;
+ghost use Rattle.job_machine.specs.declared.command.Command.TheVariants as commands;
 ghost use Rattle.job_state.specs.JobStateView.{before_shipping};
-ghost use Rattle.job_state.specs.Loaded.{GivesNumbers};
+ghost use Rattle.job_state.specs.Loaded.{GivesNumbers, GivesNumbersFor};
 ghost use Rattle.job_machine.specs.State.{first_state};
 ghost use Rattle.job_machine.specs.NextPages.{offsets_of};
 ghost use Rattle.job_machine.specs.Checks.{first_refusal};
 ghost use Rattle.job_machine.specs.Machine.{reply_to, state_after};
-ghost use Rattle.job_machine.specs.Runs.{early_checks};
+ghost use Rattle.job_machine.specs.Runs.{IsShip, MayRunOutOfMemory, early_checks};
 
 mod appending;
 mod boxes;
 mod lists;
 
 use crate::registers::Registers;
-use job_commands::{Answer, Counting, FontLoad, Parameter, Refusal, Reply};
 use job_lists::fonts::read_font;
 use job_lists::nest::Nest;
-use node_core::Params;
+use job_machine::{Answer, Command, Counting, FontLoad, Parameter, Refusal, Reply};
 use node_core::limits::COUNTS;
+use node_core::{Node, Params};
 use page_core::Offsets;
 use std::alloc::{AllocError, Global};
 use std::marker::Model;
@@ -27,9 +27,9 @@ use tfm_core::{FontFile, Fonts, LoadedFont, file_named};
 
 /// The state of a job without the writer of its file: font files, fonts, parameters, open lists, registers and counts.
 ///
-/// Each call that takes a command replies as the abstract machine does (`reply_to` of `job_machine`), with the refusals that the machine lists. The one
-/// error is a refused growth: all is then as before the call. The calls speak of a state in which nothing was shipped (`before_shipping`), since no command
-/// but `ship` reads or changes the numbers of what was.
+/// `obey` runs every command but `ship`, and replies as the abstract machine does (`reply_to` of `job_machine`), with the refusals that the machine
+/// lists. The one error is a refused growth: all is then as before the call. It speaks of a state in which nothing was shipped (`before_shipping`),
+/// since no command but `ship` reads or changes the numbers of what was.
 #[derive(Debug, Drop)]
 pub struct JobState {
     files: Vec<FontFile>,
@@ -43,13 +43,21 @@ pub struct JobState {
 
 impl Model for JobState {
     ghost use Rattle.job_state.specs.JobStateView.{JobStateView};
-    ghost use Rattle.job_state.specs.StateCode.{coded_job_state};
+    ghost use Rattle.job_state.specs.Private.StateCode.{coded_job_state};
 
     ghost Value = { JobStateView };
 
     ghost coded = { coded_job_state };
 
-    ghost view = { λ kept. record { files = kept.files.items; fonts = kept.fonts; current = kept.current; params = kept.params; nest = kept.nest; registers = kept.registers; counts = kept.counts } };
+    ghost view = { λ kept. record {
+      files = kept.files.items;
+      fonts = kept.fonts;
+      current = kept.current;
+      params = kept.params;
+      nest = kept.nest;
+      registers = kept.registers;
+      counts = kept.counts;
+    } };
 }
 
 /// Copies of the files.
@@ -82,6 +90,41 @@ impl JobState {
         })
     }
 
+    /// Runs a command that ships nothing. `ship` needs the writer of the file: it asks for `held`, and calls `empty` once the page was sent.
+    pub fn obey(&mut self, command: &Command) -> Result<Reply, AllocError>
+        requires { IsShip command.now → ⊥ }
+        ensures reply { IfOk result (λ reply. reply ≡ reply_to (before_shipping self.old) command.now) }
+        ensures state { OnOk result (before_shipping self.new ≡ state_after (before_shipping self.old) command.now) }
+        ensures numbers { IfOk result (λ reply. IfOk reply (λ answer. GivesNumbersFor (before_shipping self.old) command.now)) }
+        ensures takes { OnErr result (MayRunOutOfMemory (before_shipping self.old) command.now) }
+        ensures early { OnErr result (first_refusal (early_checks (before_shipping self.old) command.now) ≡ None) }
+        ensures err { OnErr result (self.new ≡ self.old) }
+    {
+        match command {
+            Command::LoadFont(load) => self.load_font(load),
+            Command::UseFont(slot) => Ok(self.use_font(*slot)),
+            Command::Open(opening) => self.open_list(*opening),
+            Command::Paragraph => self.open_paragraph(),
+            Command::End => self.end(),
+            Command::Text(text) => self.append_text(text),
+            Command::Character(code) => self.append_character(*code),
+            Command::Rule(rule) => self.append_rule(*rule),
+            Command::Kern(width) => self.append_item(Node::Kern(*width)),
+            Command::Glue(glue) => self.append_item(Node::Glue(*glue)),
+            Command::Penalty(number) => self.append_item(Node::Penalty(number.get())),
+            Command::Append(taken) => self.append_register_box(taken),
+            Command::Unbox(taken) => self.unbox(taken),
+            Command::LastBox(register) => Ok(self.last_box(*register)),
+            Command::Split(splitting) => self.split(splitting),
+            Command::Measure(register) => Ok(self.measure(*register)),
+            Command::Void(register) => Ok(self.void(*register)),
+            Command::Set(parameter) => Ok(self.set(*parameter)),
+            Command::Count(counting) => Ok(self.count(*counting)),
+            Command::Special(text) => self.append_special(text),
+            Command::Ship(_) => unreachable!(),
+        }
+    }
+
     /// Whether at least one list is open.
     pub fn is_open(&self) -> bool
         ensures { result ≡ not (length self.now.nest == 0) }
@@ -96,9 +139,9 @@ impl JobState {
         &self.fonts
     }
 
-    /// Reads a font file into a slot. A file is read only here, so one that no command names is never looked at. Of several files with one name the first
-    /// counts. A slot has one font in the whole job, so the slot of a glyph decides its sizes.
-    pub fn load_font(&mut self, load: &FontLoad) -> Result<Reply, AllocError>
+    /// Reads a font file into a slot. A file is read only here, so one that no command names is never looked at. Of several files with one name the
+    /// first counts. A slot has one font in the whole job, so the slot of a glyph decides its sizes.
+    fn load_font(&mut self, load: &FontLoad) -> Result<Reply, AllocError>
         ensures reply { IfOk result (λ reply. reply ≡ reply_to (before_shipping self.old) (commands.LoadFont load.now)) }
         ensures state { OnOk result (before_shipping self.new ≡ state_after (before_shipping self.old) (commands.LoadFont load.now)) }
         ensures numbers { IfOk result (λ reply. IfOk reply (λ answer. GivesNumbers (before_shipping self.old) load.now)) }
@@ -122,7 +165,7 @@ impl JobState {
     }
 
     /// Makes the font of a slot the current one.
-    pub fn use_font(&mut self, slot: u8) -> Reply
+    fn use_font(&mut self, slot: u8) -> Reply
         ensures reply { result ≡ reply_to (before_shipping self.old) (commands.UseFont slot) }
         ensures state { before_shipping self.new ≡ state_after (before_shipping self.old) (commands.UseFont slot) }
     {
@@ -135,36 +178,16 @@ impl JobState {
 
     /// Gives a parameter its value. It is a value of the whole job, also for lists that are open: boxmaxdepth counts when a list is packed, not when
     /// it was opened.
-    pub fn set(&mut self, parameter: Parameter) -> Reply
+    fn set(&mut self, parameter: Parameter) -> Reply
         ensures reply { result ≡ reply_to (before_shipping self.old) (commands.Set parameter) }
         ensures state { before_shipping self.new ≡ state_after (before_shipping self.old) (commands.Set parameter) }
     {
-        match parameter {
-            Parameter::BoxMaxDepth(depth) => self.params.box_max_depth = depth,
-            Parameter::BaselineSkip(glue) => self.params.baseline_skip = glue,
-            Parameter::LineSkip(glue) => self.params.line_skip = glue,
-            Parameter::LineSkipLimit(limit) => self.params.line_skip_limit = limit,
-            Parameter::SplitMaxDepth(depth) => self.params.split.split_max_depth = depth,
-            Parameter::SplitTopSkip(glue) => self.params.split.split_top_skip = glue,
-            Parameter::Hsize(size) => self.params.hsize = size,
-            Parameter::FirstLines(lines) => self.params.first_lines = lines,
-            Parameter::FirstSize(size) => self.params.first_size = size,
-            Parameter::ParFillSkip(glue) => self.params.par_fill_skip = glue,
-            Parameter::Pretolerance(number) => self.params.pretolerance = number,
-            Parameter::Tolerance(number) => self.params.tolerance = number,
-            Parameter::LinePenalty(number) => self.params.line_penalty = number,
-            Parameter::AdjDemerits(number) => self.params.adj_demerits = number,
-            Parameter::ClubPenalty(number) => self.params.club_penalty = number,
-            Parameter::WidowPenalty(number) => self.params.widow_penalty = number,
-            Parameter::InterlinePenalty(number) => self.params.interline_penalty = number,
-            Parameter::Hoffset(size) => self.params.hoffset = size,
-            Parameter::Voffset(size) => self.params.voffset = size,
-        }
+        parameter.set_in(&mut self.params);
         Ok(Answer::Done)
     }
 
     /// Sets a count of the pages that follow.
-    pub fn count(&mut self, counting: Counting) -> Reply
+    fn count(&mut self, counting: Counting) -> Reply
         ensures reply { result ≡ reply_to (before_shipping self.old) (commands.Count counting) }
         ensures state { before_shipping self.new ≡ state_after (before_shipping self.old) (commands.Count counting) }
     {

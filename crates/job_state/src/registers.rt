@@ -1,6 +1,7 @@
 //! The box registers of a job.
 
-ghost use Rattle.std.specs.Prelude.{◌≡◌, ◌<◌, ◌≤◌, ◌-◌, ◌++◌, ◌∷◌, [], None, Some, IfOk, OnOk, OnErr, length, option_copied, replicate, slice_set, vec_capacity};
+ghost use Rattle.std.specs.Prelude.{◌≡◌, ◌<◌, ◌≤◌, ◌-◌, ◌++◌, ◌∷◌, [], None, Some, IfOk, OnOk, OnErr, length, option_copied, replicate, slice_set};
+ghost use Rattle.std.specs.Prelude.{vec_capacity};
 ghost use Rattle.job_machine.specs.State.{held_in};
 ghost use Rattle.job_machine.specs.Checks.{split_checks, first_refusal};
 ghost use Rattle.job_machine.specs.Answers.{sizes_of, parts_answer, split_answer};
@@ -9,7 +10,7 @@ ghost use Rattle.job_machine.specs.Machine.{reply_by, state_by};
 ghost use Rattle.job_machine.specs.Runs.{LeavesRest};
 
 use crate::splits::split_box;
-use job_commands::{Answer, Register, Reply, Sizes, Splitting};
+use job_machine::{Answer, Register, Reply, Sizes, Splitting};
 use node_core::limits::REGISTERS;
 use node_core::{BoxNode, SplitParams};
 use std::alloc::{AllocError, Global};
@@ -29,7 +30,7 @@ impl Model for Registers {
     ghost use Rattle.node_core.specs.declared.tree.BoxNode.{BoxNode};
     ghost use Rattle.node_core.specs.contracts.tree.BoxNode as box_node;
     ghost use Rattle.node_core.specs.declared.limits.TheConstants.{REGISTERS};
-    ghost use Rattle.job_state.specs.Registers.{filled_up};
+    ghost use Rattle.job_state.specs.Private.Registers.{filled_up};
 
     ghost Value = { List (Option BoxNode) };
 
@@ -89,7 +90,8 @@ impl Registers {
         }
     }
 
-    /// Puts the rest of a split box back into its register, and then the front into the other one. In this order the front stays if both are the same register.
+    /// Puts the rest of a split box back into its register, and then the front into the other one. In this order the front stays if both are the same
+    /// register.
     fn put_parts(&mut self, splitting: &Splitting, parts: Split) -> Answer
         ensures answer { result ≡ parts_answer parts.front parts.rest }
         ensures parts { self.new ≡ with_parts self.old splitting.now parts.front parts.rest }
@@ -108,18 +110,23 @@ impl Registers {
     /// Splits the vbox of a register: the rest goes back into it, and then the front into the other register. If the register is void, the other one
     /// becomes void too.
     ///
-    /// Refusals: WrongKind for an hbox, InfiniteShrink for a list that has infinitely shrinkable glue, DimensionTooLarge for a size or total that does not fit.
-    /// The error is a refused growth, which only a split that leaves a rest can meet. After a refusal or the error all registers are as before:
-    /// both parts are planned before anything moves, and the front keeps the memory of the list.
+    /// Refusals: WrongKind for an hbox, InfiniteShrink for a list that has infinitely shrinkable glue, DimensionTooLarge for a size or total that
+    /// does not fit. The error is a refused growth, which only a split that leaves a rest can meet. After a refusal or the error all registers are as
+    /// before: both parts are planned before anything moves, and the front keeps the memory of the list.
     pub fn split(
         &mut self,
         splitting: &Splitting,
         params: &SplitParams,
     ) -> Result<Reply, AllocError>
-        ensures reply { IfOk result (λ reply. reply ≡ reply_by (first_refusal (split_checks params.now splitting.now.height (held_in self.old splitting.now.register))) (split_answer params.now splitting.now.height (held_in self.old splitting.now.register))) }
-        ensures state { OnOk result (self.new ≡ state_by (first_refusal (split_checks params.now splitting.now.height (held_in self.old splitting.now.register))) self.old (with_split params.now self.old splitting.now (held_in self.old splitting.now.register))) }
+        ensures reply { IfOk result
+            (λ reply. reply ≡ reply_by (first_refusal (split_checks params.now splitting.now.height (held_in self.old splitting.now.register)))
+            (split_answer params.now splitting.now.height (held_in self.old splitting.now.register))) }
+        ensures state { OnOk result
+            (self.new ≡ state_by (first_refusal (split_checks params.now splitting.now.height (held_in self.old splitting.now.register))) self.old
+            (with_split params.now self.old splitting.now (held_in self.old splitting.now.register))) }
         ensures err { OnErr result (self.new ≡ self.old) }
-        ensures admitted { OnErr result (first_refusal (split_checks params.now splitting.now.height (held_in self.old splitting.now.register)) ≡ None) }
+        ensures admitted { OnErr result (first_refusal (split_checks params.now splitting.now.height (held_in self.old splitting.now.register))
+            ≡ None) }
         ensures takes { OnErr result (LeavesRest params.now splitting.now.height (held_in self.old splitting.now.register)) }
     {
         let Some(box_node) = self.take(splitting.register) else {

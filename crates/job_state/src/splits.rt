@@ -2,11 +2,11 @@
 
 ghost use Rattle.std.specs.Prelude.{◌≡◌, None, Some, IfOk, IfErr, OnOk, IsSome};
 ghost use Rattle.node_core.specs.Nodes.{nodes_of};
-ghost use Rattle.vert_split.specs.Split.{front_of, rest_of};
+ghost use Rattle.vert_core.specs.Split.{front_of, rest_of};
 ghost use Rattle.job_machine.specs.Checks.{split_checks, first_refusal};
-ghost use Rattle.job_state.specs.SplitFaults.{refusal_for};
+ghost use Rattle.job_state.specs.Private.SplitFaults.{refusal_for};
 
-use job_commands::Refusal;
+use job_machine::Refusal;
 use node_core::{BoxNode, Kind, SplitParams};
 use scaled_core::Dimen;
 use vert_core::{Split, SplitFault, split_list};

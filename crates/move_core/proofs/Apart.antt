@@ -6,7 +6,7 @@ use Rattle.dvi_ops.specs.Forest.{Forest, flat}
 use Rattle.dvi_ops.specs.Runs.{characters, woven}
 use Rattle.move_core.specs.Registers.{is_amount}
 use Rattle.move_core.specs.Reused.{along, plain_amount, reused}
-use Rattle.move_core.specs.Passes.{Groups, comes, again_in, entered, op_written, amounts_after, rewritten, outside_groups, ends_empty_group, is_push, has_empty_group}
+use Rattle.move_core.specs.Private.Passes.{Groups, comes, again_in, entered, op_written, amounts_after, rewritten, outside_groups, ends_empty_group, is_push, has_empty_group}
 use Rattle.move_core.proofs.FullGroups.{trimmed_whole}
 use Rattle.move_core.proofs.SameBody.{gives_reused}
 

@@ -6,7 +6,7 @@ use Rattle.dvi_ops.specs.Instruction.{Across, Downward, By, Set, Again, Move, In
 use Rattle.dvi_ops.specs.View.{body_view}
 use Rattle.dvi_ops.specs.declared.body_op.BodyOp.{BodyOp}
 use Rattle.move_core.specs.Registers.{Known}
-use Rattle.move_core.specs.Passes.{Groups, again_in, entered, flags_of, is_move, amounts_after, op_written, rewritten}
+use Rattle.move_core.specs.Private.Passes.{Groups, again_in, entered, flags_of, is_move, amounts_after, op_written, rewritten}
 
 -- The instructions from the one before i on.
 pub in_front : (ops : List BodyOp) (i : ℕ) (d : BodyOp) → 0 < i → i - 1 < length ops →

@@ -2,7 +2,7 @@
 use Rattle.std.proofs.Common.{◌≡◌, ◌∙◌, ◌++◌, [], ◌∷◌, List, Bool, true, false, ◌||◌, refl, ap, sym, reverse, append-nil, append_assoc}
 use Rattle.std.proofs.lemmas.List.{reverse-append}
 use Rattle.dvi_ops.specs.Instruction.{Instruction, Push, Pop}
-use Rattle.move_core.specs.Passes.{trimmed, is_push, ends_empty_group, has_empty_group}
+use Rattle.move_core.specs.Private.Passes.{trimmed, is_push, ends_empty_group, has_empty_group}
 
 first_true : (a b c : Bool) → a ≡ true → (a || b) ≡ c → true ≡ c
 first_true true b c is all = all

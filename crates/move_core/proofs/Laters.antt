@@ -4,7 +4,7 @@ use Rattle.std.specs.Prelude.{option_to_list, MatchOption}
 use Rattle.std.proofs.lemmas.List.{reverse-append, nil_from_length}
 use Rattle.dvi_ops.specs.Instruction.{Axis, Instruction, Push, Pop}
 use Rattle.move_core.specs.declared.later.Amounts.{Amounts}
-use Rattle.move_core.specs.Passes.{has, held_at, comes}
+use Rattle.move_core.specs.Private.Passes.{has, held_at, comes}
 
 -- The collected amounts are those that come.
 abbrev pub KnowsAt : Amounts → List Amounts → List Instruction → Type 0

@@ -5,7 +5,7 @@ use Rattle.dvi_ops.specs.Instruction.{Axis, By, Set, Again, BodyLeaf, Move, Inst
 use Rattle.dvi_ops.specs.Forest.{Forest, Empty, Then, Group, flat}
 use Rattle.move_core.specs.Registers.{Known, nothing_known, is_amount, written}
 use Rattle.move_core.specs.Reused.{along, plain_amount, has_move, comes_again, reused_from, grouped, pruned, reused}
-use Rattle.move_core.specs.Passes.{trimmed, comes, again_in, outside_groups, rewritten}
+use Rattle.move_core.specs.Private.Passes.{trimmed, comes, again_in, outside_groups, rewritten}
 
 -- A reversed list before another one.
 onto : List Instruction → List Instruction → List Instruction

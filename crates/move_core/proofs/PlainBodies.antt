@@ -9,7 +9,7 @@ use Rattle.dvi_ops.specs.declared.body_op.BodyOp.{BodyOp}
 use Rattle.dvi_ops.specs.Forest.{Forest, Empty, Then, Group, flat}
 use Rattle.dvi_ops.specs.Plain.{NamesNoRegister}
 use Rattle.move_core.specs.SamePage.{IsPlainBody}
-use Rattle.move_core.specs.Passes.{depth_after, closes_all}
+use Rattle.move_core.specs.Private.Passes.{depth_after, closes_all}
 use Rattle.move_core.proofs.Meanings.{IsPlain}
 use Rattle.move_core.proofs.SameBody.{plain_forest}
 use Rattle.move_core.proofs.Flags.{from_here}

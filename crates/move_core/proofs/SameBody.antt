@@ -11,7 +11,7 @@ use Rattle.scaled_core.proofs.EachOf.{all_front, all_back}
 use Rattle.move_core.specs.Registers.{nothing_known}
 use Rattle.move_core.specs.Reused.{reused_from, pruned, reused}
 use Rattle.move_core.specs.SamePage.{IsPlainBody, AreBodies, shown, MeansTheSame, PassesThroughNoOther, NestsNoDeeper, HasNoHollow, unset, UsesStored, SetsAhead, still}
-use Rattle.move_core.specs.Passes.{trimmed, rewritten, outside_groups}
+use Rattle.move_core.specs.Private.Passes.{trimmed, rewritten, outside_groups}
 use Rattle.move_core.proofs.Choices.{nothing_agrees}
 use Rattle.move_core.proofs.Meanings.{IsPlain, shown_follows, reused_follows, reused_points}
 use Rattle.move_core.proofs.Pruned.{meaning-pruned, points-pruned, nests-pruned, plain-pruned, no_hollow-pruned}

@@ -66,7 +66,8 @@ set_in_a_group = across 5 (Group (across 7 (across 9 (across 7 (across 9 (across
 abbrev pub set_in_a_group_reused : Forest
 set_in_a_group_reused =
     shown_at Across (Set First (pos 5))
-    (Group (shown_at Across (Set Second (pos 7)) (shown_at Across (Set First (pos 9)) (shown_at Across (Again Second) (shown_at Across (Again First) (across 5 Empty)))))
+    (Group (shown_at Across (Set Second (pos 7))
+    (shown_at Across (Set First (pos 9)) (shown_at Across (Again Second) (shown_at Across (Again First) (across 5 Empty)))))
     (shown_at Across (Again First) Empty))
 
 -- An amount that comes again only in a group, and one in a group that comes again only after it.

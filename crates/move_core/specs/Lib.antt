@@ -2,5 +2,5 @@
 pub mod Registers
 pub mod Reused
 pub mod SamePage
-pub mod Passes
 pub mod Examples
+pub mod Private

@@ -3,7 +3,7 @@
 ghost use Rattle.std.specs.Prelude.{◌≡◌, ◌∷◌, [], List, ℤ, false, IfOk};
 ghost use Rattle.dvi_ops.specs.Instruction.{Axis, Instruction};
 ghost use Rattle.dvi_ops.specs.View.{body_view};
-ghost use Rattle.move_core.specs.Passes.{Knows, again_in, has};
+ghost use Rattle.move_core.specs.Private.Passes.{Knows, again_in, has};
 
 use crate::amount_set::AmountSet;
 use dvi_ops::BodyOp;

@@ -8,10 +8,13 @@ ghost use Rattle.dvi_ops.specs.Layout.{IsWritable, bytes_of};
 ghost use Rattle.dvi_ops.specs.Plain.{NamesNoRegister};
 ghost use Rattle.move_core.specs.Reused.{reused};
 ghost use Rattle.move_core.specs.SamePage.{HasNoHollow, MeansTheSame, NestsNoDeeper, PassesThroughNoOther, SetsAhead, UsesStored, still, unset};
-ghost use Rattle.move_core.specs.Examples.{apart_amounts, empty_groups, empty_groups_reused, fonts_in_nested_boxes, kerned_rules, kerned_rules_reused, nested, nested_reused, set_in_a_group, set_in_a_group_reused, three_amounts, three_amounts_reused, three_depths, three_depths_reused, two_directions};
+ghost use Rattle.move_core.specs.Examples.{apart_amounts, empty_groups, empty_groups_reused, fonts_in_nested_boxes, kerned_rules};
+ghost use Rattle.move_core.specs.Examples.{kerned_rules_reused, nested, nested_reused, set_in_a_group, set_in_a_group_reused, three_amounts};
+ghost use Rattle.move_core.specs.Examples.{three_amounts_reused, three_depths, three_depths_reused, two_directions};
 
 /// The reused body of every page body that names no register, also of one with font definitions and with numbers of fonts and characters above 255,
-/// which `reuse` does not take: it has the same marks, the same end and the same font, passes through no other place, nests no deeper and is never longer.
+/// which `reuse` does not take: it has the same marks, the same end and the same font, passes through no other place, nests no deeper and is never
+/// longer.
 pub fn reused_means_the_same()
     ensures meaning { (body : Forest) → AllByRecursion NamesNoRegister (flat body) → MeansTheSame body (reused body) }
     ensures points { (body : Forest) → AllByRecursion NamesNoRegister (flat body) → PassesThroughNoOther body (reused body) }

@@ -3,7 +3,8 @@
 ghost use Rattle.std.specs.Prelude.{◌≡◌, ◌<◌, [], ◌∷◌, List, false, length, map, reverse, IfOk, OnOk};
 ghost use Rattle.dvi_ops.specs.Instruction.{Instruction};
 ghost use Rattle.dvi_ops.specs.View.{body_view};
-ghost use Rattle.move_core.specs.Passes.{again_in, trimmed, ends_empty_group, is_push, has_empty_group, flags_of, is_move, rewritten, outside_groups, entered, known_groups, RewritesOp};
+ghost use Rattle.move_core.specs.Private.Passes.{again_in, trimmed, ends_empty_group, is_push, has_empty_group, flags_of, is_move, rewritten};
+ghost use Rattle.move_core.specs.Private.Passes.{outside_groups, entered, known_groups, RewritesOp};
 
 use crate::later::Later;
 use crate::registers::Known;

@@ -3,7 +3,7 @@
 ghost use Rattle.std.specs.Prelude.{◌≡◌, ◌<◌, ◌↔◌, IsTrue, map};
 ghost use Rattle.dvi_ops.specs.View.{body_view};
 ghost use Rattle.move_core.specs.SamePage.{IsPlainBody};
-ghost use Rattle.move_core.specs.Passes.{depth_after};
+ghost use Rattle.move_core.specs.Private.Passes.{depth_after};
 
 use dvi_ops::BodyOp;
 

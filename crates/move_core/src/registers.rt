@@ -4,7 +4,7 @@ ghost use Rattle.std.specs.Prelude.{◌≡◌};
 ghost use Rattle.dvi_ops.specs.Instruction.{Across, Downward, Do, Move};
 ghost use Rattle.dvi_ops.specs.View.{body_view};
 ghost use Rattle.move_core.specs.Registers.{nothing_known, choose, other};
-ghost use Rattle.move_core.specs.Passes.{register_view, step_view, held_view, known_view, op_written, amounts_after};
+ghost use Rattle.move_core.specs.Private.Passes.{register_view, step_view, held_view, known_view, op_written, amounts_after};
 
 use dvi_ops::BodyOp;
 

@@ -1,5 +1,4 @@
--- What a job counts about the boxes that it ships (own; the clauses of the writer and of the machine speak of it, and no public clause of this crate
--- does).
+-- What a job counts about the boxes that it ships (own; the clauses of the writer and of the machine speak of it).
 use Rattle.std.specs.Prelude.{ℕ, ◌+◌}
 use Rattle.node_core.specs.declared.tree.BoxNode.{BoxNode}
 use Rattle.node_core.specs.Nodes.{box_count, box_text}

@@ -1,17 +1,18 @@
 -- Lists of nodes and the items that are their value in contracts (own).
-use Rattle.std.specs.Prelude.{◌≡◌, ℕ, false, ◌+◌, ◌-◌, ◌*◌, List, [], ◌∷◌, length, take, slice_get, Option, None, Some}
+use Rattle.std.specs.Prelude.{◌≡◌, ℕ, false, ◌+◌, ◌-◌, List, [], ◌∷◌, length, take, slice_get, Option, None, Some}
 use Rattle.std.specs.List.{list_any}
 use Rattle.node_core.specs.declared.tree.Node.{Node}
 use Rattle.node_core.specs.declared.tree.Node.TheVariants.{Glyph, FontKern, Kern, Glue, Penalty, Rule, Special, Box}
 use Rattle.node_core.specs.declared.tree.BoxNode.{BoxNode}
 use Rattle.node_core.specs.Classes.{has_content}
-use Rattle.node_core.specs.Items.{Leaf, glyph, font_kern, kern, glue, penalty, rule, special, BoxFrame, Items, none, leaf, box, items_depth, items_count, items_text}
+use Rattle.node_core.specs.Items.{Leaf, glyph, font_kern, kern, glue, penalty, rule, special, BoxFrame, Items, none, leaf, box, items_depth}
+use Rattle.node_core.specs.Items.{items_count, items_text}
 
 -- The greatest number of nodes in a list (own).
 abbrev pub max_nodes : ℕ
 max_nodes = 131072
 
--- No item of a list is a box or a special (own; no public clause speaks of it).
+-- No item of a list is a box or a special (own).
 abbrev pub IsPlain : List Node → Type 0
 IsPlain nodes = list_any has_content nodes ≡ false
 
@@ -55,13 +56,6 @@ nodes_of (box shift frame inner rest) = Box shift (box_of frame inner) ∷ nodes
 -- The depth of a box: 1 if there is no box in it (own).
 abbrev pub box_depth : BoxNode → ℕ
 box_depth b = items_depth b.list + 1
-
--- Sizes of a list and of a box on the heap for the model: each is smaller than what contains it (own; no public clause speaks of them).
-abbrev pub list_size : Items → ℕ
-list_size items = 2 * items_depth items
-
-abbrev pub box_size : BoxNode → ℕ
-box_size b = 2 * items_depth b.list + 1
 
 -- The count of a box: itself and every item in it (own).
 abbrev pub box_count : BoxNode → ℕ

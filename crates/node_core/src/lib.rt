@@ -15,5 +15,6 @@ pub use class::ItemClass;
 pub use params::{FirstLines, IntParameter, Params, SplitParams};
 pub use special::SpecialText;
 pub use tree::{
-    BoxNode, Glue, Glyph, HeapBox, Kind, Node, NodeList, Order, Rule, RuleSize, Setting, push_box,
+    BoxNode, Glue, Glyph, HeapBox, Kind, Node, NodeList, Order, Rule, RuleSize, Setting,
+    any_has_content, push_box,
 };

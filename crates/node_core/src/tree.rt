@@ -3,11 +3,11 @@
 //! In contracts the value of a list is the tree of its items, without pointers and capacities. So two lists, nodes or boxes are equal in a clause
 //! exactly when they are the same tree. `nodes_of` gives the nodes of a list in order.
 
-ghost use Rattle.std.specs.Prelude.{◌≡◌, ◌==◌, ◌<◌, ◌≤◌, ◌+◌, [], ◌∷◌, ◌++◌, length, take, OnOk, OnErr, IfOk, IfErr};
+ghost use Rattle.std.specs.Prelude.{◌≡◌, ◌==◌, ◌<◌, ◌≤◌, ◌+◌, true, [], ◌∷◌, ◌++◌, length, take, OnOk, OnErr, IfOk, IfErr};
 ghost use Rattle.std.specs.List.{list_any};
 ghost use Rattle.node_core.specs.Classes.{has_content};
 ghost use Rattle.node_core.specs.Items.{Items, none};
-ghost use Rattle.node_core.specs.Nodes.{max_nodes, items_of, nodes_of, last_box, without};
+ghost use Rattle.node_core.specs.Nodes.{max_nodes, IsPlain, items_of, nodes_of, last_box, without};
 
 use crate::special::SpecialText;
 use scaled_core::{Dimen, Ratio};
@@ -130,7 +130,7 @@ pub struct HeapBox {
 
 impl Model for HeapBox {
     ghost use Rattle.node_core.specs.declared.tree.BoxNode.{BoxNode};
-    ghost use Rattle.node_core.specs.BoxCodes.{coded_box};
+    ghost use Rattle.node_core.specs.Private.BoxCodes.{coded_box};
 
     ghost Value = { BoxNode };
 
@@ -138,7 +138,7 @@ impl Model for HeapBox {
 
     ghost view = { λ b. b.content.value };
 
-    ghost use Rattle.node_core.specs.Nodes.{box_size};
+    ghost use Rattle.node_core.specs.Private.Nodes.{box_size};
 
     ghost size = { box_size };
 
@@ -200,7 +200,7 @@ pub struct NodeList {
 
 impl Model for NodeList {
     ghost use Rattle.node_core.specs.Items.{Items};
-    ghost use Rattle.node_core.specs.Codes.{coded_items};
+    ghost use Rattle.node_core.specs.Private.Codes.{coded_items};
 
     ghost Value = { Items };
 
@@ -211,13 +211,14 @@ impl Model for NodeList {
     ghost view = { λ list. items_of list.nodes.items };
 
     ghost use Rattle.std.specs.Prelude.{◌≡◌, ◌≤◌, true, length};
-    ghost use Rattle.node_core.specs.Nodes.{max_nodes, IsPlain, list_size};
+    ghost use Rattle.node_core.specs.Nodes.{max_nodes, IsPlain};
+    ghost use Rattle.node_core.specs.Private.Nodes.{list_size};
 
     ghost invariant = { λ list. (length list.nodes.items ≤ max_nodes) × (list.plain ≡ true → IsPlain list.nodes.items) };
 
     ghost size = { list_size };
 
-    ghost use Rattle.node_core.specs.Falls.{most_le-list_size};
+    ghost use Rattle.node_core.specs.Private.Falls.{most_le-list_size};
 
     ghost size_decreases = { λ list h. most_le-list_size list.nodes.items };
 }
@@ -245,16 +246,19 @@ impl NodeList {
         NodeList { nodes, plain }
     }
 
-    /// The list of these nodes, at most 131,072, of which each is looked at once: where none of them is a box or a special, the measures of the list
-    /// need no walk. Does not allocate.
+    /// The list of these nodes, at most 131,072. `is_plain` says that it is known that none of them is a box or a special: then the measures of the
+    /// list need no walk. Does not allocate.
     #[tactic(auto, using(crate::proofs::NodeLemmas::nodes))]
-    pub fn with_measures(nodes: Vec<Node>) -> NodeList
+    pub fn with_plainness(nodes: Vec<Node>, is_plain: bool) -> NodeList
         requires list_bounded { length nodes.items ≤ max_nodes }
+        requires plain { is_plain ≡ true → IsPlain nodes.items }
         ensures items { result ≡ items_of nodes.items }
         ensures nodes { nodes_of result ≡ nodes.items }
     {
-        let plain = !any_has_content(&nodes);
-        NodeList { nodes, plain }
+        NodeList {
+            nodes,
+            plain: is_plain,
+        }
     }
 
     /// The nodes of the list, in the vector that held them.
@@ -372,11 +376,15 @@ impl NodeList {
     }
 }
 
-/// Whether there is a box or a special.
-fn any_has_content(nodes: &[Node]) -> bool
+/// Whether there is a box or a special. The loop has no way out, since without one the compiler tests 32 items at once.
+pub fn any_has_content(nodes: &[Node]) -> bool
     ensures { result ≡ list_any has_content nodes.now }
 {
-    nodes.iter().any(|node| node.has_content())
+    let mut found = false;
+    for node in nodes {
+        found |= node.has_content();
+    }
+    found
 }
 
 /// Appends a box to the nodes. If memory is refused, the error is the box, and the nodes are as they were before the call.

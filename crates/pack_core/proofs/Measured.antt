@@ -8,7 +8,7 @@ use Rattle.node_core.specs.declared.tree.Order.TheVariants.{Normal, Fil, Fill, F
 use Rattle.pack_core.specs.declared.across.Across.{Across}
 use Rattle.pack_core.specs.Totals.{total}
 use Rattle.pack_core.specs.Orders.{order_amounts, plus}
-use Rattle.pack_core.specs.Measures.{HasPassed}
+use Rattle.pack_core.specs.Private.Measures.{HasPassed}
 use Rattle.pack_core.proofs.Sums.{total_more}
 use Rattle.pack_core.proofs.Passing.{within-more}
 

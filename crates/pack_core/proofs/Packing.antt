@@ -20,7 +20,7 @@ use Rattle.pack_core.specs.Totals.{total, first_height}
 use Rattle.pack_core.specs.Glue.{setting_of, setting_badness}
 use Rattle.pack_core.specs.Boxes.{hbox, hbox_excess, hbox_badness, hbox_numbers, hpacked, vbox, vbox_excess, vbox_badness, vbox_numbers, vpacked, vtop_box, vtop_numbers, vtopped, some_if, hbox_shell, vbox_shell, packed_of}
 use Rattle.pack_core.specs.Places.{place, place_in}
-use Rattle.pack_core.specs.Steps.{vtop_shell, boxed_list}
+use Rattle.pack_core.specs.Private.Steps.{vtop_shell, boxed_list}
 use Rattle.pack_core.proofs.Edge.{fills}
 
 boxed-given : (fit : Bool) (items : Items) (shell : Shell) → boxed_list items (some_if fit shell) ≡ (if fit then Ok (packed_of items shell) else Err (record { list = items }))

@@ -1,6 +1,6 @@
 -- The steps from the totals of a list to its box agree with the definitions.
 use Rattle.std.proofs.Common.{◌≡◌, ◌∙◌, ℕ, ◌==◌, ◌&&◌, length, List, [], ◌∷◌, Bool, true, false, refl, sym, ap, arith}
-use Rattle.std.specs.Prelude.{◌-ℤ◌, ℤ, pos, negsuc, zero, suc, Option, Some, None, if◌then◌else◌}
+use Rattle.std.specs.Prelude.{◌-ℤ◌, ℤ, Option, Some, None, if◌then◌else◌}
 use Rattle.std.specs.List.{list_all}
 use Rattle.std.specs.Option.{is_some, IfSome}
 use Rattle.std.proofs.Math.Path.{fun_ext}
@@ -10,13 +10,12 @@ use Rattle.node_core.specs.declared.tree.Node.{Node}
 use Rattle.node_core.specs.declared.tree.Order.{Order}
 use Rattle.node_core.specs.declared.tree.Order.TheVariants.{Normal, Fil, Fill, Filll}
 use Rattle.node_core.specs.declared.tree.Setting.{Setting}
-use Rattle.node_core.specs.declared.tree.Setting.TheVariants.{Natural, Shrink}
 use Rattle.pack_core.specs.declared.orders.OrderAmounts.{OrderAmounts}
 use Rattle.pack_core.specs.declared.orders.OrderDimens.{OrderDimens}
 use Rattle.pack_core.specs.Items.{advance, across, above, below, downward, breadth}
 use Rattle.scaled_core.specs.Dimensions.{fits, Within, dimension_of}
 use Rattle.pack_core.specs.Totals.{total, greatest, first_height}
-use Rattle.pack_core.specs.Glue.{highest, stretched, shrunk, setting_of, setting_badness, stretch_totals, shrink_totals, stretch_badness, shrink_badness}
+use Rattle.pack_core.specs.Glue.{glue_badness, glue_setting, setting_of, setting_badness, stretch_totals, shrink_totals}
 use Rattle.pack_core.specs.Boxes.{wanted, hbox_shell, glue_totals, hbox_width, hbox_excess, hbox_badness, hbox_numbers, natural_height, vbox_depth, vbox_height, vbox_excess, vbox_badness, vbox_numbers, vtop_depth, vtop_numbers, some_if, vbox_shell}
 use Rattle.pack_core.specs.declared.setting.GlueSet.{GlueSet}
 use Rattle.pack_core.specs.declared.pack.Target.{Target}
@@ -24,8 +23,9 @@ use Rattle.pack_core.specs.declared.pack.Shell.{Shell}
 use Rattle.std.proofs.Math.Bool.{and-true, and-false}
 use Rattle.scaled_core.proofs.Fitting.{dimension_fits, dimension_found, dimension_missing}
 use Rattle.std.proofs.lemmas.List.Folds.{list_all-append}
-use Rattle.pack_core.specs.Orders.{by_order, order_dimens, order_amounts, each_order}
-use Rattle.pack_core.specs.Steps.{dimens_of, shrink_ratio, shrink_setting, stretch_setting, set_to, stretching_badness, shrinking_badness, excess_badness, list_badness, glue_set, vtop_shell}
+use Rattle.pack_core.specs.Orders.{order_amounts}
+use Rattle.pack_core.specs.Private.Orders.{by_order, order_dimens, each_order}
+use Rattle.pack_core.specs.Private.Steps.{dimens_of, glue_set, vtop_shell}
 
 -- A value under a test is there exactly when the test holds.
 pub some_if-true : {A : Type 0} (x : A) → some_if true x ≡ Some x
@@ -91,49 +91,32 @@ pub dimens-refused :
 unfolding dimens_of
 dimens-refused amounts some = rw some (sym (some_if-false _))
 
--- Glue of each order shrinks by the ratio of the order.
-shrunk-ratio :
-    (amount : ℤ) (totals : OrderDimens) (order : Order)
-    → shrunk amount (by_order totals) (Some order) ≡ Shrink order (shrink_ratio amount totals order)
-unfolding shrink_ratio
-shrunk-ratio amount totals Normal = refl
-shrunk-ratio amount totals Fil = refl
-shrunk-ratio amount totals Fill = refl
-shrunk-ratio amount totals Filll = refl
-
-pub shrink_setting-some :
-    (amount : ℤ) (totals : OrderDimens) (order : Order) → highest (by_order totals) ≡ Some order
-    → shrink_setting amount totals ≡ Shrink order (shrink_ratio amount totals order)
-unfolding shrink_setting
-shrink_setting-some amount totals order e = ap (shrunk amount (by_order totals)) e ∙ shrunk-ratio amount totals order
-
-pub shrink_setting-none :
-    (amount : ℤ) (totals : OrderDimens) → highest (by_order totals) ≡ None → shrink_setting amount totals ≡ Natural
-unfolding shrink_setting
-shrink_setting-none amount totals e = ap (shrunk amount (by_order totals)) e
-
-pub ruleset steps = (some_if-true, some_if-false, some_if-some, some_if-none, dimension_found, dimension_missing, total-across, total-downward, shrink_setting-some, shrink_setting-none)
+pub ruleset steps = (some_if-true, some_if-false, some_if-some, some_if-none, dimension_found, dimension_missing, total-across, total-downward)
 
 -- The setting computed from the totals of the four orders is the setting of the list.
-set_to-is : (excess : ℤ) (nodes : List Node) → set_to excess (order_dimens (stretch_totals nodes)) (order_dimens (shrink_totals nodes)) ≡ setting_of excess nodes
-unfolding set_to setting_of stretch_setting shrink_setting
-set_to-is (pos zero) nodes = refl
-set_to-is (pos (suc n)) nodes = ap (λ (totals : Order → ℤ). stretched (pos (suc n)) totals (highest totals)) (by_order-totals (stretch_totals nodes))
-set_to-is (negsuc n) nodes = ap (λ (totals : Order → ℤ). shrunk (pos (suc n)) totals (highest totals)) (by_order-totals (shrink_totals nodes))
+setting-is :
+    (excess : ℤ) (nodes : List Node)
+    → glue_setting excess (by_order (order_dimens (stretch_totals nodes))) (by_order (order_dimens (shrink_totals nodes))) ≡ setting_of excess nodes
+unfolding setting_of
+setting-is excess nodes =
+    ap (λ (totals : Order → ℤ). glue_setting excess totals (by_order (order_dimens (shrink_totals nodes)))) (by_order-totals (stretch_totals nodes))
+    ∙ ap (λ (totals : Order → ℤ). glue_setting excess (stretch_totals nodes) totals) (by_order-totals (shrink_totals nodes))
 
 -- Whether a list has no items.
 abbrev is_empty : List Node → Bool
 is_empty [] = true
 is_empty (x ∷ xs) = false
 
-list_badness-is :
+-- The badness computed from the totals of the four orders is that of the list.
+badness-is :
     (excess : ℤ) (nodes : List Node)
-    → list_badness (is_empty nodes) excess (order_dimens (stretch_totals nodes)) (order_dimens (shrink_totals nodes)) ≡ setting_badness excess nodes
-unfolding list_badness excess_badness stretching_badness shrinking_badness setting_badness
-list_badness-is excess [] = refl
-list_badness-is (pos zero) (x ∷ xs) = refl
-list_badness-is (pos (suc n)) (x ∷ xs) = ap (λ (totals : Order → ℤ). stretch_badness (pos (suc n)) totals) (by_order-totals (stretch_totals (x ∷ xs)))
-list_badness-is (negsuc n) (x ∷ xs) = ap (λ (totals : Order → ℤ). shrink_badness (pos (suc n)) totals) (by_order-totals (shrink_totals (x ∷ xs)))
+    → (if is_empty nodes then 0 else glue_badness excess (by_order (order_dimens (stretch_totals nodes))) (by_order (order_dimens (shrink_totals nodes))))
+    ≡ setting_badness excess nodes
+unfolding setting_badness
+badness-is excess [] = refl
+badness-is excess (x ∷ xs) =
+    ap (λ (totals : Order → ℤ). glue_badness excess totals (by_order (order_dimens (shrink_totals (x ∷ xs))))) (by_order-totals (stretch_totals (x ∷ xs)))
+    ∙ ap (λ (totals : Order → ℤ). glue_badness excess (stretch_totals (x ∷ xs)) totals) (by_order-totals (shrink_totals (x ∷ xs)))
 
 -- Equal numbers have the same dimension.
 pub dimension-same : (a b : ℤ) (found : Option ℤ) → found ≡ dimension_of a → a ≡ b → found ≡ dimension_of b
@@ -147,15 +130,15 @@ pub glue-given :
     (excess : ℤ) (nodes : List Node) (stretch shrink : OrderDimens) (setting : Setting) (badness : ℕ)
     → dimens_of (order_amounts (stretch_totals nodes)) ≡ Some stretch
     → dimens_of (order_amounts (shrink_totals nodes)) ≡ Some shrink
-    → setting ≡ set_to excess stretch shrink
-    → badness ≡ list_badness (length nodes == 0) excess stretch shrink
+    → setting ≡ glue_setting excess (by_order stretch) (by_order shrink)
+    → badness ≡ (if length nodes == 0 then 0 else glue_badness excess (by_order stretch) (by_order shrink))
     → Some (record { setting = setting; badness = badness }) ≡ some_if (list_all fits (glue_totals nodes)) (glue_set excess nodes)
 unfolding glue_set dimens_of
 glue-given excess nodes stretch shrink setting badness can_stretch can_shrink set bad =
     let s = some_if-some (list_all fits (each_order (stretch_totals nodes))) (order_dimens (stretch_totals nodes)) stretch can_stretch in
     let t = some_if-some (list_all fits (each_order (shrink_totals nodes))) (order_dimens (shrink_totals nodes)) shrink can_shrink in
-    let set-is : setting ≡ setting_of excess nodes = set ∙ (rw (← s.1, ← t.1) (set_to-is excess nodes)) in
-    let bad-is : badness ≡ setting_badness excess nodes = bad ∙ (rw (empty-length nodes, ← s.1, ← t.1) (list_badness-is excess nodes)) in
+    let set-is : setting ≡ setting_of excess nodes = set ∙ (rw (← s.1, ← t.1) (setting-is excess nodes)) in
+    let bad-is : badness ≡ setting_badness excess nodes = bad ∙ (rw (empty-length nodes, ← s.1, ← t.1) (badness-is excess nodes)) in
     let all : list_all fits (glue_totals nodes) ≡ true =
     list_all-append fits (each_order (stretch_totals nodes)) (each_order (shrink_totals nodes)) ∙ rw (s.0, t.0) refl in
     rw (all, set-is, bad-is) (sym (some_if-true _))

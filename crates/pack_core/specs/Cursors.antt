@@ -1,10 +1,8 @@
 -- The state of a walk over the items of a box (own; the clauses `reached` of `Cursor` relate it to `place`).
-use Rattle.std.specs.Prelude.{◌+ℤ◌, ◌+◌, ◌*◌, ◌^◌, ◌≤◌, ℕ, ℤ, List, length}
+use Rattle.std.specs.Prelude.{◌+ℤ◌, ◌+◌, ℕ, ℤ, List, length}
 use Rattle.node_core.specs.declared.tree.Kind.{Kind}
 use Rattle.node_core.specs.declared.tree.Node.{Node}
 use Rattle.node_core.specs.declared.tree.Setting.{Setting}
-use Rattle.node_core.specs.Nodes.{max_nodes}
-use Rattle.scaled_core.specs.Dimensions.{Within}
 use Rattle.pack_core.specs.Items.{advance}
 use Rattle.pack_core.specs.Totals.{total}
 use Rattle.pack_core.specs.Places.{share, set_by}
@@ -14,12 +12,6 @@ pub record Reached : Type 0 where
   pub natural : ℤ
   pub shares : ℤ
   pub passed : ℕ
-
--- At most as many items were passed as a list has, and so the sums are small.
-pub record IsReachable (natural shares : ℤ) (passed : ℕ) : Type 0 where
-  pub advances : Within (2 ^ 31 * passed) natural
-  pub parts : Within (2 ^ 31 * passed) shares
-  pub few : passed ≤ max_nodes
 
 -- The state of a walk after these items.
 unfoldable pub reached : Kind → Setting → (before : List Node) → Reached

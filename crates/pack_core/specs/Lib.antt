@@ -6,7 +6,6 @@ pub mod Orders
 pub mod ListTotals
 pub mod Boxes
 pub mod Places
-pub mod Measures
-pub mod Steps
 pub mod Cursors
 pub mod Laws
+pub mod Private

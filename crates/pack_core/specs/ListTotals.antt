@@ -1,12 +1,11 @@
 -- The exact totals of a list, added up item by item (TeX: The Program, part 33, §649 to §656 and §669 to §671; own: of any size).
-use Rattle.std.specs.Prelude.{◌+ℤ◌, ◌+◌, ◌*◌, ◌^◌, ◌<◌, ℕ, ℤ, if◌then◌else◌, List, length}
+use Rattle.std.specs.Prelude.{◌+ℤ◌, ◌+◌, ℕ, ℤ, if◌then◌else◌, List, length}
 use Rattle.node_core.specs.declared.tree.Kind.{Kind}
 use Rattle.node_core.specs.declared.tree.Node.{Node}
-use Rattle.scaled_core.specs.Dimensions.{Within}
 use Rattle.pack_core.specs.Items.{advance, stretch_in, shrink_in, is_sizeless, last_below}
 use Rattle.pack_core.specs.Totals.{total, pending_depth}
 use Rattle.pack_core.specs.Glue.{stretch_totals, shrink_totals}
-use Rattle.pack_core.specs.Orders.{order_amounts, plus, AreWithin}
+use Rattle.pack_core.specs.Orders.{order_amounts, plus}
 use Rattle.pack_core.specs.declared.orders.OrderAmounts.{OrderAmounts}
 
 -- The totals of a list of a kind: the sum of the advances of its items, the stretch and shrink of its glue in each order, the pending depth at its
@@ -46,10 +45,3 @@ with_item totals node =
       pending_depth = pending_after totals.pending_depth node;
       passed = totals.passed + 1;
     }
-
--- The sums of this number of items are small.
-pub record AreSmall (passed : ℕ) (advance : ℤ) (stretch shrink : OrderAmounts) : Type 0 where
-  pub moves : Within (2 ^ 31 * passed) advance
-  pub stretches : AreWithin (2 ^ 31 * passed) stretch
-  pub shrinks : AreWithin (2 ^ 31 * passed) shrink
-  pub few : passed < 2 ^ 64

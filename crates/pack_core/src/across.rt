@@ -7,7 +7,7 @@ ghost use Rattle.pack_core.specs.Items.{across, above, below, stretch_in, shrink
 ghost use Rattle.pack_core.specs.Totals.{total, greatest};
 ghost use Rattle.pack_core.specs.Glue.{stretch_totals, shrink_totals};
 ghost use Rattle.pack_core.specs.Orders.{order_amounts, plus};
-ghost use Rattle.pack_core.specs.Measures.{HasPassed};
+ghost use Rattle.pack_core.specs.Private.Measures.{HasPassed};
 
 use crate::orders::{OrderAmounts, no_amounts};
 use crate::sizes::{across_of, depth_of, height_of};

@@ -40,7 +40,8 @@ fn totals_below(glue: &Glue, nodes: &[Node]) -> Totals
 /// their numbers does not fit. Does not allocate.
 pub fn vbox_below(depth_limit: Dimen, glue: &Glue, nodes: &[Node]) -> Option<Shell>
     requires { length nodes.now ≤ max_nodes }
-    ensures value { result ≡ some_if (list_all fits (vbox_numbers Target.Natural depth_limit (Node.Glue glue.now ∷ nodes.now))) (vbox_shell Target.Natural depth_limit (Node.Glue glue.now ∷ nodes.now)) }
+    ensures value { result ≡ some_if (list_all fits (vbox_numbers Target.Natural depth_limit (Node.Glue glue.now ∷ nodes.now)))
+        (vbox_shell Target.Natural depth_limit (Node.Glue glue.now ∷ nodes.now)) }
     ensures fits { is_some result ≡ list_all fits (vbox_numbers Target.Natural depth_limit (Node.Glue glue.now ∷ nodes.now)) }
     ensures shell { IfSome result (λ shell. shell ≡ vbox_shell Target.Natural depth_limit (Node.Glue glue.now ∷ nodes.now)) }
 {

@@ -33,7 +33,8 @@ pub fn highest_order_is_set()
 /// The pending depth at the end of a list is that of the last item that is neither a penalty nor a special, if that item is a rule or a box, and
 /// otherwise 0.
 pub fn depth_of_the_last_rule()
-    ensures last { (front : List Node) → (item : Node) → (penalties : List Node) → is_sizeless item ≡ false → IsTrue (list_all is_sizeless penalties) →
+    ensures last { (front : List Node) → (item : Node) → (penalties : List Node) → is_sizeless item ≡ false → IsTrue (list_all is_sizeless penalties)
+        →
         pending_depth (front ++ item ∷ penalties) ≡ last_below item }
     ensures none { (penalties : List Node) → IsTrue (list_all is_sizeless penalties) → pending_depth penalties ≡ pos 0 }
 {}
@@ -64,7 +65,8 @@ pub fn sizeless_items_in_front()
         vbox_numbers target limit (front ++ rest) ≡ vbox_numbers target limit rest }
     ensures frame { (target : Target) → (limit : ℤ) → (front rest : List Node) → IsTrue (list_all is_sizeless front) →
         vbox_frame target limit (front ++ rest) ≡ vbox_frame target limit rest }
-    ensures badness { (target : Target) → (limit : ℤ) → (front : List Node) → (item : Node) → (rest : List Node) → IsTrue (list_all is_sizeless front) →
+    ensures badness { (target : Target) → (limit : ℤ) → (front : List Node) → (item : Node) → (rest : List Node) → IsTrue (list_all is_sizeless front)
+        →
         vbox_badness target limit (front ++ item ∷ rest) ≡ vbox_badness target limit (item ∷ rest) }
     ensures natural { (limit : ℤ) → (nodes : List Node) → vbox_badness targets.Natural limit nodes ≡ 0 }
 {}

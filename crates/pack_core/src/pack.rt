@@ -11,11 +11,10 @@ ghost use Rattle.node_core.specs.declared.tree.Node.{Node};
 ghost use Rattle.pack_core.specs.Items.{breadth};
 ghost use Rattle.pack_core.specs.Totals.{greatest, first_height};
 ghost use Rattle.pack_core.specs.ListTotals.{totals_of};
-ghost use Rattle.pack_core.specs.Boxes.{wanted, hbox, hbox_badness, hbox_numbers, hpacked};
-ghost use Rattle.pack_core.specs.Boxes.{vbox, vbox_badness, vbox_numbers, vpacked, vtop_box, vtop_numbers, vtopped};
-ghost use Rattle.pack_core.specs.Boxes.{some_if, hbox_shell, vbox_shell, packed_of};
+ghost use Rattle.pack_core.specs.Boxes.{wanted, hbox, hbox_badness, hbox_numbers, hpacked, vbox, vbox_badness, vbox_numbers, vpacked, vtop_box};
+ghost use Rattle.pack_core.specs.Boxes.{vtop_numbers, vtopped, some_if, hbox_shell, vbox_shell, packed_of};
 ghost use Rattle.pack_core.specs.Places.{place_in};
-ghost use Rattle.pack_core.specs.Steps.{vtop_shell, boxed_list};
+ghost use Rattle.pack_core.specs.Private.Steps.{vtop_shell, boxed_list};
 
 use crate::across::Across;
 use crate::extents::{first_height, greatest_breadth};
@@ -222,7 +221,8 @@ fn with_height(shell: Option<Shell>, height: Dimen) -> Option<Shell>
 
 /// The vtop of a list, without the list, if its numbers fit.
 fn vtop_shell_of(target: Target, limit: Dimen, nodes: &[Node]) -> Option<Shell>
-    ensures { result ≡ some_if (list_all fits (vtop_numbers target limit nodes.now)) (vtop_shell (vbox_shell target limit nodes.now) (first_height nodes.now)) }
+    ensures { result ≡ some_if (list_all fits (vtop_numbers target limit nodes.now))
+        (vtop_shell (vbox_shell target limit nodes.now) (first_height nodes.now)) }
 {
     let height = first_height(nodes);
     let shell = vbox_shell(target, limit, nodes);
@@ -230,7 +230,7 @@ fn vtop_shell_of(target: Target, limit: Dimen, nodes: &[Node]) -> Option<Shell>
 }
 
 /// The list in its box, or the list itself if there is no box for it.
-#[tactic(auto, unfolding(crate::specs::Steps::boxed_list))]
+#[tactic(auto, unfolding(crate::specs::Private::Steps::boxed_list))]
 fn boxed_list(list: NodeList, shell: Option<Shell>) -> Result<Packed, TooLarge>
     ensures { result ≡ boxed_list list shell }
 {

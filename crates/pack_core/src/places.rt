@@ -23,7 +23,8 @@ pub struct Cursor {
 }
 
 impl Model for Cursor {
-    ghost use Rattle.pack_core.specs.Cursors.{Reached, IsReachable};
+    ghost use Rattle.pack_core.specs.Cursors.{Reached};
+    ghost use Rattle.pack_core.specs.Private.Cursors.{IsReachable};
 
     ghost Value = { Reached };
 
@@ -50,10 +51,12 @@ impl Cursor {
 
     /// Passes an item of a list of this kind and setting; at most 131,072 items are passed.
     #[tactic(auto, using(crate::proofs::Walks::walks))]
+    #[inline(always)]
     pub fn pass(&mut self, kind: Kind, setting: &Setting, node: &Node)
         requires { self.old.passed < max_nodes }
         ensures value { self.new ≡ one_more kind setting.now self.old node.now }
-        ensures reached { (before : List Node) → self.old ≡ reached kind setting.now before → self.new ≡ reached kind setting.now (before ++ node.now ∷ []) }
+        ensures reached { (before : List Node) → self.old ≡ reached kind setting.now before
+            → self.new ≡ reached kind setting.now (before ++ node.now ∷ []) }
     {
         self.natural += advance_of(kind, node);
         self.shares += share_of(setting, node);
@@ -66,7 +69,8 @@ impl Cursor {
         requires items_bounded { self.old.passed < max_nodes }
         requires distance_bounded { Within (2 ^ 31) distance }
         ensures value { self.new ≡ moved_on self.old distance }
-        ensures reached { (kind : Kind) → (setting : Setting) → (before : List Node) → (node : Node) → distance ≡ advance kind node → share setting node ≡ pos 0 →
+        ensures reached { (kind : Kind) → (setting : Setting) → (before : List Node) → (node : Node) → distance ≡ advance kind node
+            → share setting node ≡ pos 0 →
             self.old ≡ reached kind setting before → self.new ≡ reached kind setting (before ++ node ∷ []) }
     {
         self.natural += distance;

@@ -1,15 +1,16 @@
 //! Setting the glue of a list (TeX: The Program, part 33, §657 to §667 and §672 to §678).
 
-ghost use Rattle.std.specs.Prelude.{◌≡◌, ◌≢◌, ◌-ℤ◌, ◌≤ℤ◌, ◌==◌, ◌^◌, pos, List, length};
+ghost use Rattle.std.specs.Prelude.{◌≡◌, ◌≢◌, ◌-ℤ◌, ◌≤ℤ◌, ◌==◌, ◌^◌, if◌then◌else◌, pos, List, length};
 ghost use Rattle.std.specs.Option.{IfSome};
 ghost use Rattle.std.specs.List.{list_all};
 ghost use Rattle.scaled_core.specs.Dimensions.{Within, fits};
 ghost use Rattle.node_core.specs.declared.tree.Node.{Node};
-ghost use Rattle.pack_core.specs.Glue.{highest, fraction, is_finite, stretch_totals, shrink_totals};
+ghost use Rattle.pack_core.specs.Glue.{highest, fraction, is_finite, stretched, shrink_ratio, shrunk, glue_setting, stretch_badness, shrink_badness};
+ghost use Rattle.pack_core.specs.Glue.{glue_badness, stretch_totals, shrink_totals};
 ghost use Rattle.pack_core.specs.Boxes.{glue_totals, some_if};
-ghost use Rattle.pack_core.specs.Orders.{by_order, order_amounts};
-ghost use Rattle.pack_core.specs.Steps.{dimens_of, glue_set};
-ghost use Rattle.pack_core.specs.Steps.{shrink_ratio, stretch_setting, shrink_setting, set_to, stretching_badness, shrinking_badness, excess_badness, list_badness};
+ghost use Rattle.pack_core.specs.Orders.{order_amounts};
+ghost use Rattle.pack_core.specs.Private.Orders.{by_order};
+ghost use Rattle.pack_core.specs.Private.Steps.{dimens_of, glue_set};
 
 use crate::orders::{OrderAmounts, OrderDimens};
 use node_core::{Order, Setting};
@@ -86,10 +87,9 @@ fn fraction(amount: i64, total: Dimen) -> Ratio
 }
 
 /// The setting that stretches glue by an amount.
-#[tactic(auto, unfolding(crate::specs::Steps::stretch_setting))]
 fn stretch_setting(amount: i64, totals: &OrderDimens) -> Setting
     requires { Within (2 ^ 31) amount }
-    ensures { result ≡ stretch_setting amount totals.now }
+    ensures { result ≡ stretched amount (by_order totals.now) (highest (by_order totals.now)) }
 {
     match highest_order(totals) {
         None => Setting::Natural,
@@ -101,11 +101,10 @@ fn stretch_setting(amount: i64, totals: &OrderDimens) -> Setting
 }
 
 /// The ratio by which glue of an order shrinks by an amount. Glue of normal order shrinks by at most its total, so its ratio is at most 1.
-#[tactic(auto, unfolding(crate::specs::Steps::shrink_ratio))]
 fn shrink_ratio(amount: i64, totals: &OrderDimens, order: Order) -> Ratio
     requires amount { Within (2 ^ 31) amount }
     requires total { by_order totals.now order ≢ pos 0 }
-    ensures { result ≡ shrink_ratio amount totals.now order }
+    ensures { result ≡ shrink_ratio amount (by_order totals.now) order }
 {
     match order {
         Order::Normal => {
@@ -122,10 +121,9 @@ fn shrink_ratio(amount: i64, totals: &OrderDimens, order: Order) -> Ratio
 }
 
 /// The setting that shrinks glue by an amount.
-#[tactic(auto, using(crate::proofs::Steps::steps))]
 fn shrink_setting(amount: i64, totals: &OrderDimens) -> Setting
     requires { Within (2 ^ 31) amount }
-    ensures { result ≡ shrink_setting amount totals.now }
+    ensures { result ≡ shrunk amount (by_order totals.now) (highest (by_order totals.now)) }
 {
     match highest_order(totals) {
         None => Setting::Natural,
@@ -138,10 +136,9 @@ fn shrink_setting(amount: i64, totals: &OrderDimens) -> Setting
 
 /// The setting for this excess, which is the size of the box minus the natural size of the list: glue stretches if it is above 0, and shrinks if it
 /// is below 0.
-#[tactic(auto, unfolding(crate::specs::Steps::set_to))]
 fn set_to(excess: i64, stretch: &OrderDimens, shrink: &OrderDimens) -> Setting
     requires { Within (2 ^ 31) excess }
-    ensures { result ≡ set_to excess stretch.now shrink.now }
+    ensures { result ≡ glue_setting excess (by_order stretch.now) (by_order shrink.now) }
 {
     if excess > 0 {
         return stretch_setting(excess, stretch);
@@ -164,10 +161,9 @@ fn is_finite(order: Option<Order>) -> bool
 }
 
 /// The badness of stretching by an amount; 0 if glue of an infinite order is set.
-#[tactic(auto, unfolding(crate::specs::Steps::stretching_badness))]
 fn stretching_badness(amount: i64, totals: &OrderDimens) -> u32
     requires { pos 0 ≤ℤ amount }
-    ensures { result ≡ stretching_badness amount totals.now }
+    ensures { result ≡ stretch_badness amount (by_order totals.now) }
 {
     if !is_finite(highest_order(totals)) {
         return 0;
@@ -177,10 +173,9 @@ fn stretching_badness(amount: i64, totals: &OrderDimens) -> u32
 
 /// The badness of shrinking by an amount: 1000000, overfull, if glue of normal order cannot shrink by that much; 0 if glue of an infinite order is
 /// set.
-#[tactic(auto, unfolding(crate::specs::Steps::shrinking_badness))]
 fn shrinking_badness(amount: i64, totals: &OrderDimens) -> u32
     requires { pos 0 ≤ℤ amount }
-    ensures { result ≡ shrinking_badness amount totals.now }
+    ensures { result ≡ shrink_badness amount (by_order totals.now) }
 {
     let order = highest_order(totals);
     if !is_finite(order) {
@@ -194,10 +189,9 @@ fn shrinking_badness(amount: i64, totals: &OrderDimens) -> u32
 }
 
 /// The badness of this excess, which is the size of the box minus the natural size of the list.
-#[tactic(auto, unfolding(crate::specs::Steps::excess_badness))]
 fn excess_badness(excess: i64, stretch: &OrderDimens, shrink: &OrderDimens) -> u32
     requires { Within (2 ^ 31) excess }
-    ensures { result ≡ excess_badness excess stretch.now shrink.now }
+    ensures { result ≡ glue_badness excess (by_order stretch.now) (by_order shrink.now) }
 {
     if excess > 0 {
         return stretching_badness(excess, stretch);
@@ -209,10 +203,9 @@ fn excess_badness(excess: i64, stretch: &OrderDimens, shrink: &OrderDimens) -> u
 }
 
 /// The badness of a list with this excess, which is the size of the box minus the natural size of the list. An empty list has badness 0.
-#[tactic(auto, unfolding(crate::specs::Steps::list_badness))]
 fn list_badness(empty: bool, excess: i64, stretch: &OrderDimens, shrink: &OrderDimens) -> u32
     requires { Within (2 ^ 31) excess }
-    ensures { result ≡ list_badness empty excess stretch.now shrink.now }
+    ensures { result ≡ (if empty then 0 else glue_badness excess (by_order stretch.now) (by_order shrink.now)) }
 {
     if empty {
         return 0;
@@ -229,7 +222,8 @@ pub fn set_glue(
     stretch: OrderAmounts,
     shrink: OrderAmounts,
 ) -> Option<GlueSet>
-    ensures { (nodes : List Node) → empty ≡ (length nodes == 0) → stretch ≡ order_amounts (stretch_totals nodes) → shrink ≡ order_amounts (shrink_totals nodes) →
+    ensures { (nodes : List Node) → empty ≡ (length nodes == 0) → stretch ≡ order_amounts (stretch_totals nodes)
+        → shrink ≡ order_amounts (shrink_totals nodes) →
         result ≡ some_if (list_all fits (glue_totals nodes)) (glue_set (size -ℤ natural) nodes) }
 {
     let stretch = dimens_of(stretch)?;

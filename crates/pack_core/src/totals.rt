@@ -15,8 +15,8 @@ use node_core::{ItemClass, Kind, Node};
 use scaled_core::Dimen;
 use std::marker::Model;
 
-/// The exact totals of the items of a list that were passed, in scaled points: the sum of their advances, the stretch and shrink of their glue in each
-/// order, and the pending depth after them. The sums do not overflow, and need not fit as dimensions.
+/// The exact totals of the items of a list that were passed, in scaled points: the sum of their advances, the stretch and shrink of their glue in
+/// each order, and the pending depth after them. The sums do not overflow, and need not fit as dimensions.
 #[derive(Clone, Copy, Debug)]
 pub struct Totals {
     kind: Kind,
@@ -28,15 +28,18 @@ pub struct Totals {
 }
 
 impl Model for Totals {
-    ghost use Rattle.pack_core.specs.ListTotals.{ListTotals, AreSmall};
+    ghost use Rattle.pack_core.specs.ListTotals.{ListTotals};
+    ghost use Rattle.pack_core.specs.Private.ListTotals.{AreSmall};
 
     ghost Value = { ListTotals };
 
-    ghost view = { λ t. record { kind = t.kind; advance = t.advance; stretch = t.stretch; shrink = t.shrink; pending_depth = t.pending_depth; passed = t.passed } };
+    ghost view = { λ t.
+        record { kind = t.kind; advance = t.advance; stretch = t.stretch; shrink = t.shrink; pending_depth = t.pending_depth; passed = t.passed } };
 
     ghost invariant = { λ t. AreSmall t.passed t.advance t.stretch t.shrink };
 
-    ghost inverse = { λ t. record { kind = t.kind; advance = t.advance; stretch = t.stretch; shrink = t.shrink; pending_depth = t.pending_depth; passed = t.passed } };
+    ghost inverse = { λ t.
+        record { kind = t.kind; advance = t.advance; stretch = t.stretch; shrink = t.shrink; pending_depth = t.pending_depth; passed = t.passed } };
 }
 
 impl Totals {
@@ -59,7 +62,8 @@ impl Totals {
     pub fn pass(&mut self, node: &Node)
         requires { self.old.passed < u64.MAX }
         ensures value { self.new ≡ with_item self.old node.now }
-        ensures totals { (before : List Node) → self.old ≡ totals_of self.old.kind before → self.new ≡ totals_of self.old.kind (before ++ node.now ∷ []) }
+        ensures totals { (before : List Node) → self.old ≡ totals_of self.old.kind before
+            → self.new ≡ totals_of self.old.kind (before ++ node.now ∷ []) }
     {
         self.passed += 1;
         // Only glue changes the amounts of the orders, and its advance is the same in both kinds of lists.

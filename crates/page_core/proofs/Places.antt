@@ -20,7 +20,8 @@ use Rattle.pack_core.proofs.Walks.{one_more-reached, place-reached, reached-pass
 use Rattle.page_core.specs.Marks.{ShippedPage, page_v, is_huge, right_at, down_at, list_v, item_h, item_v, box_h, box_v, numbers_at, numbers_after}
 use Rattle.scaled_core.specs.Mark as body
 use Rattle.page_core.specs.Pictures.{Picture, stroke, group, grouped, picture_after}
-use Rattle.page_core.specs.Placing.{Reaches, numbers_between, strokes_of, strokes_at, reference_h, reference_v}
+use Rattle.page_core.specs.Placing.{Reaches, strokes_of, reference_h, reference_v}
+use Rattle.page_core.specs.Private.Placing.{numbers_between, strokes_at}
 use Rattle.page_core.proofs.Walked.{reach_by}
 
 -- The items from place i on are the item there and those after it.

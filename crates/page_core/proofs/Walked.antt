@@ -13,15 +13,17 @@ use Rattle.node_core.specs.declared.tree.BoxNode.{BoxNode}
 use Rattle.node_core.specs.declared.tree.Setting.{Setting}
 use Rattle.node_core.specs.declared.tree.Setting.TheVariants as settings
 use Rattle.pack_core.specs.Items.{advance, own_size}
-use Rattle.scaled_core.specs.Dimensions.{fits}
+use Rattle.scaled_core.specs.Dimensions.{fits, dimension_of}
 use Rattle.pack_core.specs.Places.{share, set_by}
 use Rattle.pack_core.specs.Cursors.{Reached, one_more, moved_on, place_at}
 use Rattle.page_core.specs.declared.placing.Point.{Point}
-use Rattle.page_core.specs.Marks.{right_at, down_at, rule_below, rule_tall, rule_wide, box_h, box_v, points_and_sizes}
-use Rattle.page_core.specs.Pictures.{Picture}
+use Rattle.scaled_core.specs.Mark as body
+use Rattle.page_core.specs.Marks.{right_at, down_at, rule_below, rule_tall, rule_wide, glyph_mark, box_h, box_v, points_and_sizes}
+use Rattle.page_core.specs.Pictures.{Picture, stroke, in_front}
 use Rattle.page_core.specs.declared.placing.PlacedItem.{PlacedItem}
-use Rattle.std.specs.Option.{IfSome, OnSome}
-use Rattle.page_core.specs.Placing.{strokes_of, fitting_point, point_in, numbers_between, strokes_at, is_rigid, Reaches}
+use Rattle.std.specs.Option.{IfSome, OnSome, option_map}
+use Rattle.page_core.specs.Placing.{strokes_of, fitting_point, Reaches, reference_h, reference_v}
+use Rattle.page_core.specs.Private.Placing.{level_with, point_in, numbers_between, strokes_at, is_rigid, is_blank}
 
 -- A point is at its numbers.
 pub point-is : (h v : ℤ) (p : Point ℤ) → fitting_point h v ≡ Some p → (p.h ≡ h) × (p.v ≡ v)
@@ -88,6 +90,91 @@ pub strokes-point :
     (b : BoxNode) (h v place : ℤ) (at : Point ℤ) (x : Node) (rest : Picture) → point_in b h v place ≡ Some at
     → strokes_at b h v place x rest ≡ strokes_of b at.h at.v x rest
 strokes-point b h v place at x rest here = let p = point-is (right_at b.kind h place) (down_at b.kind v place) at here in cc (p.0, p.1)
+
+-- The strokes of a glyph of a horizontal list at a position.
+pub strokes-glyph :
+    (b : BoxNode) (h v place : ℤ) (at : Point ℤ) (g : Glyph) (rest : Picture) → b.kind ≡ Horizontal → point_in b h v place ≡ Some at
+    → strokes_at b h v place (nodes.Glyph g) rest ≡ stroke (body.Glyph (pos g.slot) (pos g.code) at.h at.v) g.width rest
+strokes-glyph b h v place at g rest across here =
+    strokes-point b h v place at (nodes.Glyph g) rest here
+    ∙ ap (λ (kind : Kind). in_front (glyph_mark kind at.h at.v g) g.width rest) across
+
+-- A point whose height fits is one where the value of h fits.
+pub level-point : (h v : ℤ) → fits v ≡ true → fitting_point h v ≡ option_map (level_with v) (dimension_of h)
+unfolding dimension_of
+level-point h v is = by_test (fits h) (fits v) is
+  where
+    by_test :
+        (a b : Bool) → b ≡ true
+        → (if a && b then Some (level_with v h) else None) ≡ option_map (level_with v) (if a then Some h else None)
+    by_test true true is = refl
+    by_test false true is = refl
+    by_test a false is = absurd (cc)
+
+-- Where there is a point, both numbers fit.
+some_point : (h v : ℤ) (p : Point ℤ) → fitting_point h v ≡ Some p → (fits h && fits v) ≡ true
+some_point h v p is = by_test (fits h && fits v) is
+  where
+    by_test : (b : Bool) → (if b then Some (record { h = h; v = v }) else None) ≡ Some p → b ≡ true
+    by_test true is = refl
+    by_test false is = absurd (cc)
+
+all_four : (a b c d : Bool) → (a && b) ≡ true → (c && d) ≡ true → (a && (b && (c && (d && true)))) ≡ true
+all_four true true true true here there = refl
+all_four false b c d here there = absurd (cc)
+all_four true false c d here there = absurd (cc)
+all_four true true false d here there = absurd (cc)
+all_four true true true false here there = absurd (cc)
+
+four_fit :
+    (b : BoxNode) (h v place next : ℤ) (at after : Point ℤ) → point_in b h v place ≡ Some at → point_in b h v next ≡ Some after
+    → list_all fits (right_at b.kind h place ∷ down_at b.kind v place ∷ right_at b.kind h next ∷ down_at b.kind v next ∷ []) ≡ true
+four_fit b h v place next at after here there =
+    let x0 = right_at b.kind h place in
+    let y0 = down_at b.kind v place in
+    let x1 = right_at b.kind h next in
+    let y1 = down_at b.kind v next in
+    all_four (fits x0) (fits y0) (fits x1) (fits y1) (some_point x0 y0 at here) (some_point x1 y1 after there)
+
+-- The numbers of a glyph fit where its places do.
+pub glyph-fits :
+    (b : BoxNode) (h v place next : ℤ) (at after : Point ℤ) (g : Glyph) → point_in b h v place ≡ Some at → point_in b h v next ≡ Some after
+    → list_all fits (numbers_between b h v place next (nodes.Glyph g)) ≡ true
+glyph-fits b h v place next at after g here there = four_fit b h v place next at after here there
+
+-- The same for an item without a mark.
+pub blank-fits :
+    (b : BoxNode) (h v place next : ℤ) (at after : Point ℤ) (x : Node) → is_blank x ≡ true → point_in b h v place ≡ Some at → point_in b h v next ≡ Some after
+    → list_all fits (numbers_between b h v place next x) ≡ true
+blank-fits b h v place next at after (nodes.FontKern w) is here there = four_fit b h v place next at after here there
+blank-fits b h v place next at after (nodes.Kern w) is here there = four_fit b h v place next at after here there
+blank-fits b h v place next at after (nodes.Glue g) is here there = four_fit b h v place next at after here there
+blank-fits b h v place next at after (nodes.Penalty p) is here there = four_fit b h v place next at after here there
+blank-fits b h v place next at after (nodes.Glyph g) is here there = absurd (cc)
+blank-fits b h v place next at after (nodes.Special text) is here there = absurd (cc)
+blank-fits b h v place next at after (nodes.Rule r) is here there = absurd (cc)
+blank-fits b h v place next at after (nodes.Box shift inner) is here there = absurd (cc)
+
+-- Such an item has no strokes, and its reference point is its place.
+pub blank-strokes : (b : BoxNode) (h v : ℤ) (x : Node) (rest : Picture) → is_blank x ≡ true → strokes_of b h v x rest ≡ rest
+blank-strokes b h v (nodes.FontKern w) rest is = refl
+blank-strokes b h v (nodes.Kern w) rest is = refl
+blank-strokes b h v (nodes.Glue g) rest is = refl
+blank-strokes b h v (nodes.Penalty p) rest is = refl
+blank-strokes b h v (nodes.Glyph g) rest is = absurd (cc)
+blank-strokes b h v (nodes.Special text) rest is = absurd (cc)
+blank-strokes b h v (nodes.Rule r) rest is = absurd (cc)
+blank-strokes b h v (nodes.Box shift inner) rest is = absurd (cc)
+
+pub blank-place : (kind : Kind) (h v : ℤ) (x : Node) → is_blank x ≡ true → (reference_h kind h x ≡ h) × (reference_v kind v x ≡ v)
+blank-place kind h v (nodes.FontKern w) is = (refl, refl)
+blank-place kind h v (nodes.Kern w) is = (refl, refl)
+blank-place kind h v (nodes.Glue g) is = (refl, refl)
+blank-place kind h v (nodes.Penalty p) is = (refl, refl)
+blank-place kind h v (nodes.Glyph g) is = absurd (cc)
+blank-place kind h v (nodes.Special text) is = absurd (cc)
+blank-place kind h v (nodes.Rule r) is = absurd (cc)
+blank-place kind h v (nodes.Box shift inner) is = absurd (cc)
 
 -- A glyph or a rule is independent of the glue setting.
 share_glyph : (setting : Setting) (g : Glyph) → share setting (nodes.Glyph g) ≡ pos 0
@@ -208,3 +295,16 @@ told_on P found at is holds = subst (λ (f : Option (Point ℤ)). OnSome f P) is
 -- The facts about an index that was found.
 pub told_index : (P : ℕ → Type 0) (found : Option ℕ) (n : ℕ) → found ≡ Some n → IfSome found P → P n
 told_index P found n is holds = subst (λ (f : Option ℕ). IfSome f P) is holds
+
+-- The item after a glyph of a horizontal list is where h is after it.
+pub ends :
+    (b : BoxNode) (h v : ℤ) (from : Reached) (at after : Point ℤ) (g : Glyph) → b.kind ≡ Horizontal → point_in b h v (place_at b.setting from) ≡ Some at
+    → point_in b h v (place_at b.setting (one_more b.kind b.setting from (nodes.Glyph g))) ≡ Some after → after.h ≡ at.h +ℤ g.width
+ends b h v from at after g across here there =
+    reaches b h v from at after (nodes.Glyph g) here there ∙ ap (λ (kind : Kind). right_at kind at.h g.width) across
+
+-- What was drawn in a horizontal list, in a list of a kind that is known to be horizontal.
+pub across-so :
+    {D : Type 0} (from to : Kind → Picture → D) (kind : Kind) (seen shown rest : Picture) → kind ≡ Horizontal → seen ≡ shown
+    → from Horizontal shown ≡ to Horizontal rest → from kind seen ≡ to kind rest
+across-so from to kind seen shown rest across same is = rw (across, same) is

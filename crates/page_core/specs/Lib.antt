@@ -3,3 +3,4 @@ pub mod Marks
 pub mod Pages
 pub mod Pictures
 pub mod Placing
+pub mod Private

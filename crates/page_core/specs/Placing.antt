@@ -1,5 +1,5 @@
 -- The placing of the items of a box, one by one (own).
-use Rattle.std.specs.Prelude.{◌≡◌, ◌+ℤ◌, ◌&&◌, ℤ, pos, if◌then◌else◌, Bool, true, false, List, Option, Some, None}
+use Rattle.std.specs.Prelude.{◌≡◌, ◌+ℤ◌, ◌&&◌, ℤ, pos, if◌then◌else◌, Option, Some, None}
 use Rattle.node_core.specs.declared.tree.Kind.{Kind}
 use Rattle.node_core.specs.declared.tree.Node.{Node}
 use Rattle.node_core.specs.declared.tree.BoxNode.{BoxNode}
@@ -9,7 +9,7 @@ use Rattle.scaled_core.specs.Mark as body
 use Rattle.scaled_core.specs.Mark.{Mark}
 use Rattle.pack_core.specs.Items.{own_size}
 use Rattle.scaled_core.specs.Dimensions.{fits}
-use Rattle.page_core.specs.Marks.{right_at, down_at, box_h, box_v, marks_of_item, points_and_sizes}
+use Rattle.page_core.specs.Marks.{right_at, box_h, box_v, marks_of_item}
 use Rattle.page_core.specs.declared.placing.Point.{Point}
 use Rattle.page_core.specs.declared.placing.MarkKind.{MarkKind}
 use Rattle.page_core.specs.declared.placing.MarkKind.TheVariants as ink
@@ -50,17 +50,6 @@ Reaches kind h next_h (nodes.Special text) = Unit {0}
 Reaches kind h next_h (nodes.Rule rule) = next_h ≡ right_at kind h (own_size rule.width)
 Reaches kind h next_h (nodes.Box shift b) = Unit {0}
 
--- Whether an item is independent of the glue setting: every item but glue.
-abbrev pub is_rigid : Node → Bool
-is_rigid (nodes.Glue glue) = false
-is_rigid (nodes.Glyph glyph) = true
-is_rigid (nodes.FontKern width) = true
-is_rigid (nodes.Kern width) = true
-is_rigid (nodes.Penalty penalty) = true
-is_rigid (nodes.Special text) = true
-is_rigid (nodes.Rule rule) = true
-is_rigid (nodes.Box shift b) = true
-
 -- The marks of an item at (h, v), before a picture. Specials and the items of a box are left out.
 abbrev pub strokes_of : BoxNode → (h v : ℤ) → Node → Picture → Picture
 strokes_of b h v (nodes.Glyph g) rest = in_front (marks_of_item b h v (items.glyph g)) (width_in b (items.glyph g)) rest
@@ -76,16 +65,3 @@ reference_h kind h other = h
 abbrev pub reference_v : Kind → (v : ℤ) → Node → ℤ
 reference_v kind v (nodes.Box shift inner) = box_v kind v shift inner.height
 reference_v kind v other = v
-
--- The point at a place of the list of a box, which begins at (h, v), where both of its numbers fit.
-abbrev pub point_in : BoxNode → (h v place : ℤ) → Option (Point ℤ)
-point_in b h v place = fitting_point (right_at b.kind h place) (down_at b.kind v place)
-
--- The numbers of an item between two places of the list.
-abbrev pub numbers_between : BoxNode → (h v place next : ℤ) → Node → List ℤ
-numbers_between b h v place next x =
-    points_and_sizes b (right_at b.kind h place) (down_at b.kind v place) (right_at b.kind h next) (down_at b.kind v next) x
-
--- The marks of an item at a place of the list, before a picture.
-abbrev pub strokes_at : BoxNode → (h v place : ℤ) → Node → Picture → Picture
-strokes_at b h v place x rest = strokes_of b (right_at b.kind h place) (down_at b.kind v place) x rest

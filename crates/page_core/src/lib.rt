@@ -1,7 +1,7 @@
 //! Pages: a box with ten counts and a reference point, the marks that it makes, and the numbers that have to fit.
 //!
-//! A job makes pages; a writer spells them, and a reader sees their marks. The walk over the items of a box gives each item its place, with its mark, and
-//! stops at the first number that does not fit. The walk gives the marks to a sink. The crate knows nothing of DVI: the sink of `ship_core` draws
+//! A job makes pages; a writer spells them, and a reader sees their marks. The walk over the items of a box gives each item its place, with its mark,
+//! and stops at the first number that does not fit. The walk gives the marks to a sink. The crate knows nothing of DVI: the sink of `ship_core` draws
 //! them by instructions.
 #![tactic(auto)]
 

@@ -1,6 +1,6 @@
 //! The walk over the items of a box and of its inner boxes, which gives each mark to a sink and stops at the first number that does not fit.
 
-ghost use Rattle.std.specs.Prelude.{◌≡◌, ◌<◌, ◌≤◌, [], length, take, drop, true, false, Some, None, is_some, IfOk, IfSome, OnSome};
+ghost use Rattle.std.specs.Prelude.{◌≡◌, ◌<◌, ◌≤◌, [], length, take, drop, true, false, Some, None, is_some, IfOk, IfSome, OnOk, OnSome};
 ghost use Rattle.std.specs.List.{list_all};
 ghost use Rattle.node_core.specs.Nodes.{max_nodes, items_of};
 ghost use Rattle.scaled_core.specs.Dimensions.{fits};
@@ -9,107 +9,215 @@ ghost use Rattle.page_core.specs.Marks.{right_at, down_at, list_v, numbers_after
 ghost use Rattle.node_core.specs.declared.tree.Kind.{Kind};
 ghost use Rattle.page_core.specs.Pictures.{Picture, blank, grouped, picture_after};
 ghost use Rattle.node_core.specs.declared.tree.Node.TheVariants as nodes;
-ghost use Rattle.page_core.specs.Placing.{Reaches, point_in, numbers_between, strokes_at, strokes_of, reference_h, reference_v};
+ghost use Rattle.page_core.specs.Placing.{Reaches, strokes_of, reference_h, reference_v};
+ghost use Rattle.page_core.specs.Private.Placing.{is_blank, level_with, point_in, numbers_between, strokes_at};
 
 use crate::item_walk::{ItemWalk, ListOrigin, begin_of, go_past_glyph};
-use crate::placing::{PagePoint, PagePosition, glyph_mark, place_item};
+use crate::placing::{PagePoint, PagePosition, Point, place_item};
 use crate::sink::{BoxRef, MarkSink};
 use node_core::{BoxNode, Glyph, Kind, Node};
 use pack_core::Cursor;
+use scaled_core::Dimen;
 
-/// Draws a glyph of a horizontal list at the position `at`, and moves the cursor past it. It returns the position after the glyph; None exactly where
-/// one of its numbers does not fit.
-#[inline(always)]
-fn draw_glyph<B: BoxRef, S: MarkSink<B>>(
-    sink: &mut S,
-    cursor: &mut Cursor,
-    box_node: &BoxNode,
-    begin: &ListOrigin,
-    at: PagePosition,
-    glyph: &Glyph,
-) -> Result<Option<PagePosition>, S::Fault>
-    requires kind { box_node.now.kind ≡ Kind.Horizontal }
-    requires items_bounded { cursor.old.passed < max_nodes }
-    requires at { point_in box_node.now begin.now.h begin.now.v (place_at box_node.now.setting cursor.old) ≡ Some at }
-    ensures cursor { cursor.new ≡ one_more box_node.now.kind box_node.now.setting cursor.old (nodes.Glyph glyph.now) }
-    ensures next { IfOk result (λ drawn. drawn ≡ point_in box_node.now begin.now.h begin.now.v
-        (place_at box_node.now.setting (one_more box_node.now.kind box_node.now.setting cursor.old (nodes.Glyph glyph.now)))) }
-    ensures fits { IfOk result (λ drawn. is_some drawn ≡ list_all fits (numbers_between box_node.now begin.now.h begin.now.v
-        (place_at box_node.now.setting cursor.old)
-        (place_at box_node.now.setting (one_more box_node.now.kind box_node.now.setting cursor.old (nodes.Glyph glyph.now)))
-        (nodes.Glyph glyph.now))) }
-    ensures mark { IfOk result (λ drawn. OnSome drawn ((rest : Picture) → S.drawn_with box_node.now.kind sink.old
-        (strokes_at box_node.now begin.now.h begin.now.v (place_at box_node.now.setting cursor.old) (nodes.Glyph glyph.now) rest)
-        ≡ S.drawn_with box_node.now.kind sink.new rest)) }
-{
-    let Some(next) = go_past_glyph(cursor, box_node, begin, &at, glyph) else {
-        return Ok(None);
-    };
-    at.numbers_fit();
-    next.numbers_fit();
-    sink.draw(
-        Kind::Horizontal,
-        Some(glyph_mark(box_node, at, next, *glyph)),
-    )?;
-    Ok(Some(next))
+/// The items of a list from an index on.
+#[derive(Clone, Copy, Debug)]
+struct ItemsFrom<'a> {
+    items: &'a [Node],
+    from: usize,
 }
 
-/// Draws the glyphs of a horizontal list from the item at an index on, up to the first item that is no glyph, and moves past them. It returns the
-/// index of that item; None only where a number of an item does not fit. Most items are such glyphs, and in a loop of their own their place stays in
-/// registers.
+/// A place in a run of glyphs of one font: the cursor there, the position (h, v), and the slot of the font.
+#[derive(Clone, Copy, Debug)]
+struct GlyphRun {
+    cursor: Cursor,
+    h: Dimen,
+    v: Dimen,
+    slot: u8,
+}
+
+/// Draws the first glyph of a run, and moves past it. It returns whether the numbers of the glyph fit.
+#[inline(always)]
+fn draw_first<B: BoxRef, S: MarkSink<B>>(
+    sink: &mut S,
+    run: &mut GlyphRun,
+    box_node: &BoxNode,
+    begin: &ListOrigin,
+    glyph: &Glyph,
+) -> Result<bool, S::Fault>
+    requires kind { box_node.now.kind ≡ Kind.Horizontal }
+    requires items_bounded { run.old.cursor.passed < max_nodes }
+    requires at { point_in box_node.now begin.now.h begin.now.v (place_at box_node.now.setting run.old.cursor)
+        ≡ Some (level_with run.old.v run.old.h) }
+    requires slot { run.old.slot ≡ glyph.now.slot }
+    ensures cursor { OnOk result (run.new.cursor ≡ one_more box_node.now.kind box_node.now.setting run.old.cursor (nodes.Glyph glyph.now)) }
+    ensures at { IfOk result (λ fit. fit ≡ true → point_in box_node.now begin.now.h begin.now.v (place_at box_node.now.setting run.new.cursor)
+        ≡ Some (level_with run.new.v run.new.h)) }
+    ensures fits { IfOk result (λ fit. fit ≡ list_all fits (numbers_between box_node.now begin.now.h begin.now.v
+        (place_at box_node.now.setting run.old.cursor)
+        (place_at box_node.now.setting (one_more box_node.now.kind box_node.now.setting run.old.cursor (nodes.Glyph glyph.now)))
+        (nodes.Glyph glyph.now))) }
+    ensures mark { IfOk result (λ fit. fit ≡ true → (rest : Picture) → S.drawn_with box_node.now.kind sink.old
+        (strokes_at box_node.now begin.now.h begin.now.v (place_at box_node.now.setting run.old.cursor) (nodes.Glyph glyph.now) rest)
+        ≡ S.drawn_with box_node.now.kind sink.new rest) }
+    ensures stands { IfOk result (λ fit. fit ≡ true → S.Stands sink.new run.new.h run.new.v run.new.slot) }
+{
+    let at = Point { h: run.h, v: run.v };
+    let Some(end) = go_past_glyph(&mut run.cursor, box_node, begin, &at, glyph) else {
+        return Ok(false);
+    };
+    sink.draw_glyph(at, *glyph, end)?;
+    run.h = end;
+    Ok(true)
+}
+
+/// Draws one more glyph of a run, and moves past it, where it has the font of the run, its numbers fit, and the sink takes it without memory. It
+/// returns whether it did.
+#[inline(always)]
+fn draw_next<B: BoxRef, S: MarkSink<B>>(
+    sink: &mut S,
+    run: &mut GlyphRun,
+    box_node: &BoxNode,
+    begin: &ListOrigin,
+    glyph: &Glyph,
+) -> bool
+    requires kind { box_node.now.kind ≡ Kind.Horizontal }
+    requires items_bounded { run.old.cursor.passed < max_nodes }
+    requires at { point_in box_node.now begin.now.h begin.now.v (place_at box_node.now.setting run.old.cursor)
+        ≡ Some (level_with run.old.v run.old.h) }
+    requires stands { S.Stands sink.old run.old.h run.old.v run.old.slot }
+    ensures cursor { result ≡ true → run.new.cursor ≡ one_more box_node.now.kind box_node.now.setting run.old.cursor (nodes.Glyph glyph.now) }
+    ensures at { result ≡ true → point_in box_node.now begin.now.h begin.now.v (place_at box_node.now.setting run.new.cursor)
+        ≡ Some (level_with run.new.v run.new.h) }
+    ensures fits { result ≡ true → list_all fits (numbers_between box_node.now begin.now.h begin.now.v
+        (place_at box_node.now.setting run.old.cursor)
+        (place_at box_node.now.setting (one_more box_node.now.kind box_node.now.setting run.old.cursor (nodes.Glyph glyph.now)))
+        (nodes.Glyph glyph.now)) ≡ true }
+    ensures mark { result ≡ true → (rest : Picture) → S.drawn_with box_node.now.kind sink.old
+        (strokes_at box_node.now begin.now.h begin.now.v (place_at box_node.now.setting run.old.cursor) (nodes.Glyph glyph.now) rest)
+        ≡ S.drawn_with box_node.now.kind sink.new rest }
+    ensures stands { result ≡ true → S.Stands sink.new run.new.h run.new.v run.new.slot }
+    ensures stays { result ≡ false → run.new ≡ run.old }
+    ensures same { result ≡ false → (rest : Picture) → S.drawn_with box_node.now.kind sink.old rest ≡ S.drawn_with box_node.now.kind sink.new rest }
+{
+    if glyph.slot != run.slot {
+        return false;
+    }
+    let at = Point { h: run.h, v: run.v };
+    let mut cursor = run.cursor;
+    let Some(end) = go_past_glyph(&mut cursor, box_node, begin, &at, glyph) else {
+        return false;
+    };
+    if !sink.draw_next(at, *glyph, end) {
+        return false;
+    }
+    run.cursor = cursor;
+    run.h = end;
+    true
+}
+
+/// Draws the glyphs of a run from the item at an index on, as far as `draw_next` does, and moves past them. It returns the index of the item after
+/// them. Most items are such glyphs: none needs a movement or a font, and in a loop of their own their place stays in registers.
+#[inline(always)]
+fn draw_run<B: BoxRef, S: MarkSink<B>>(
+    sink: &mut S,
+    run: &mut GlyphRun,
+    box_node: &BoxNode,
+    begin: &ListOrigin,
+    left: ItemsFrom<'_>,
+) -> usize
+    requires kind { box_node.now.kind ≡ Kind.Horizontal }
+    requires within { left.from ≤ length left.items.now }
+    requires items_bounded { length left.items.now ≤ max_nodes }
+    requires cursor { run.old.cursor ≡ reached box_node.now.kind box_node.now.setting (take left.from left.items.now) }
+    requires at { point_in box_node.now begin.now.h begin.now.v (place_at box_node.now.setting run.old.cursor)
+        ≡ Some (level_with run.old.v run.old.h) }
+    requires stands { S.Stands sink.old run.old.h run.old.v run.old.slot }
+    ensures onward { left.entry.from ≤ result }
+    ensures within { result ≤ length left.entry.items.now }
+    ensures cursor { run.new.cursor ≡ reached box_node.now.kind box_node.now.setting (take result left.entry.items.now) }
+    ensures at { point_in box_node.now begin.now.h begin.now.v (place_at box_node.now.setting run.new.cursor)
+        ≡ Some (level_with run.new.v run.new.h) }
+    ensures left { list_all fits (numbers_after box_node.now begin.now.h begin.now.v (take result left.entry.items.now)
+        (items_of (drop result left.entry.items.now)))
+        ≡ list_all fits (numbers_after box_node.now begin.now.h begin.now.v (take left.entry.from left.entry.items.now)
+        (items_of (drop left.entry.from left.entry.items.now))) }
+    ensures marks { S.drawn_with box_node.now.kind sink.new
+        (picture_after box_node.now begin.now.h begin.now.v (take result left.entry.items.now) (items_of (drop result left.entry.items.now)))
+        ≡ S.drawn_with box_node.now.kind sink.old
+        (picture_after box_node.now begin.now.h begin.now.v (take left.entry.from left.entry.items.now)
+        (items_of (drop left.entry.from left.entry.items.now))) }
+{
+    let ItemsFrom { items, from } = left;
+    for index in from..items.len() {
+        let Node::Glyph(glyph) = &items[index] else {
+            return index;
+        };
+        if !draw_next(sink, run, box_node, begin, glyph) {
+            return index;
+        }
+    }
+    items.len()
+}
+
+/// Draws the glyphs of a horizontal list from the item at an index on, as far as they have the font of the first one, and moves past them. It returns
+/// the index of the item after them; None only where a number of an item does not fit.
 #[inline(always)]
 fn draw_glyphs<B: BoxRef, S: MarkSink<B>>(
     sink: &mut S,
     walk: &mut ItemWalk,
     box_node: &BoxNode,
     begin: &ListOrigin,
-    items: &[Node],
-    from: usize,
+    left: ItemsFrom<'_>,
 ) -> Result<Option<usize>, S::Fault>
-    requires within { from ≤ length items.now }
-    requires items_bounded { length items.now ≤ max_nodes }
-    requires cursor { walk.old.cursor ≡ reached box_node.now.kind box_node.now.setting (take from items.now) }
+    requires within { left.from < length left.items.now }
+    requires items_bounded { length left.items.now ≤ max_nodes }
+    requires cursor { walk.old.cursor ≡ reached box_node.now.kind box_node.now.setting (take left.from left.items.now) }
     requires here { walk.old.here ≡ point_in box_node.now begin.now.h begin.now.v (place_at box_node.now.setting walk.old.cursor) }
-    ensures onward { IfOk result (λ drawn. IfSome drawn (λ next. from ≤ next)) }
-    ensures within { IfOk result (λ drawn. IfSome drawn (λ next. next ≤ length items.now)) }
+    ensures onward { IfOk result (λ drawn. IfSome drawn (λ next. left.entry.from ≤ next)) }
+    ensures within { IfOk result (λ drawn. IfSome drawn (λ next. next ≤ length left.entry.items.now)) }
     ensures cursor { IfOk result (λ drawn. IfSome drawn (λ next.
-        walk.new.cursor ≡ reached box_node.now.kind box_node.now.setting (take next items.now))) }
+        walk.new.cursor ≡ reached box_node.now.kind box_node.now.setting (take next left.entry.items.now))) }
     ensures here { IfOk result (λ drawn. OnSome drawn (walk.new.here
         ≡ point_in box_node.now begin.now.h begin.now.v (place_at box_node.now.setting walk.new.cursor))) }
     ensures over { IfOk result (λ drawn. drawn ≡ None
-        → list_all fits (numbers_after box_node.now begin.now.h begin.now.v (take from items.now) (items_of (drop from items.now))) ≡ false) }
+        → list_all fits (numbers_after box_node.now begin.now.h begin.now.v (take left.entry.from left.entry.items.now)
+        (items_of (drop left.entry.from left.entry.items.now))) ≡ false) }
     ensures left { IfOk result (λ drawn. IfSome drawn (λ next.
-        list_all fits (numbers_after box_node.now begin.now.h begin.now.v (take next items.now) (items_of (drop next items.now)))
-        ≡ list_all fits (numbers_after box_node.now begin.now.h begin.now.v (take from items.now) (items_of (drop from items.now))))) }
+        list_all fits (numbers_after box_node.now begin.now.h begin.now.v (take next left.entry.items.now)
+        (items_of (drop next left.entry.items.now)))
+        ≡ list_all fits (numbers_after box_node.now begin.now.h begin.now.v (take left.entry.from left.entry.items.now)
+        (items_of (drop left.entry.from left.entry.items.now))))) }
     ensures marks { IfOk result (λ drawn. IfSome drawn (λ next.
         S.drawn_with box_node.now.kind sink.new
-        (picture_after box_node.now begin.now.h begin.now.v (take next items.now) (items_of (drop next items.now)))
+        (picture_after box_node.now begin.now.h begin.now.v (take next left.entry.items.now) (items_of (drop next left.entry.items.now)))
         ≡ S.drawn_with box_node.now.kind sink.old
-        (picture_after box_node.now begin.now.h begin.now.v (take from items.now) (items_of (drop from items.now))))) }
+        (picture_after box_node.now begin.now.h begin.now.v (take left.entry.from left.entry.items.now)
+        (items_of (drop left.entry.from left.entry.items.now))))) }
 {
-    let (Kind::Horizontal, Some(first)) = (box_node.kind, walk.here) else {
+    let ItemsFrom { items, from } = left;
+    let (Kind::Horizontal, Some(at), Node::Glyph(glyph)) = (box_node.kind, walk.here, &items[from])
+    else {
         return Ok(Some(from));
     };
-    let mut cursor = walk.cursor;
-    let mut at = first;
-    for index in from..items.len() {
-        let Node::Glyph(glyph) = &items[index] else {
-            *walk = ItemWalk {
-                cursor,
-                here: Some(at),
-            };
-            return Ok(Some(index));
-        };
-        let Some(next) = draw_glyph(sink, &mut cursor, box_node, begin, at, glyph)? else {
-            return Ok(None);
-        };
-        at = next;
-    }
-    *walk = ItemWalk {
-        cursor,
-        here: Some(at),
+    let mut run = GlyphRun {
+        cursor: walk.cursor,
+        h: at.h,
+        v: at.v,
+        slot: glyph.slot,
     };
-    Ok(Some(items.len()))
+    if !draw_first(sink, &mut run, box_node, begin, glyph)? {
+        return Ok(None);
+    }
+    let after = ItemsFrom {
+        items,
+        from: from + 1,
+    };
+    let next = draw_run(sink, &mut run, box_node, begin, after);
+    *walk = ItemWalk {
+        cursor: run.cursor,
+        here: Some(Point { h: run.h, v: run.v }),
+    };
+    Ok(Some(next))
 }
 
 /// Draws an item at the position `at` in the list of a box, where the next item is at `next`. It returns the reference point of the item; None
@@ -136,6 +244,17 @@ fn draw_at<B: BoxRef, S: MarkSink<B>>(
     Ok(Some(placed.at))
 }
 
+/// Whether an item has no mark, and no numbers but its places: a kern, glue or a penalty.
+#[inline(always)]
+fn is_blank(node: &Node) -> bool
+    ensures { result ≡ is_blank node.now }
+{
+    matches!(
+        node,
+        Node::FontKern(_) | Node::Kern(_) | Node::Glue(_) | Node::Penalty(_)
+    )
+}
+
 /// Draws the next item of a list, and moves past it. It returns the reference point of the item; None exactly where one of its numbers does not fit.
 /// Specials and the items of an inner box are left to the caller.
 #[inline(always)]
@@ -148,12 +267,16 @@ fn draw_item<B: BoxRef, S: MarkSink<B>>(
 ) -> Result<Option<PagePosition>, S::Fault>
     requires items_bounded { walk.old.cursor.passed < max_nodes }
     requires here { walk.old.here ≡ point_in box_node.now begin.now.h begin.now.v (place_at box_node.now.setting walk.old.cursor) }
-    ensures cursor { IfOk result (λ drawn. OnSome drawn (walk.new.cursor ≡ one_more box_node.now.kind box_node.now.setting walk.old.cursor node.now)) }
-    ensures here { IfOk result (λ drawn. OnSome drawn (walk.new.here ≡ point_in box_node.now begin.now.h begin.now.v (place_at box_node.now.setting walk.new.cursor))) }
-    ensures fits { IfOk result (λ drawn. is_some drawn ≡ list_all fits (numbers_between box_node.now begin.now.h begin.now.v (place_at box_node.now.setting walk.old.cursor)
+    ensures cursor { IfOk result
+        (λ drawn. OnSome drawn (walk.new.cursor ≡ one_more box_node.now.kind box_node.now.setting walk.old.cursor node.now)) }
+    ensures here { IfOk result
+        (λ drawn. OnSome drawn (walk.new.here ≡ point_in box_node.now begin.now.h begin.now.v (place_at box_node.now.setting walk.new.cursor))) }
+    ensures fits { IfOk result
+        (λ drawn. is_some drawn ≡ list_all fits (numbers_between box_node.now begin.now.h begin.now.v (place_at box_node.now.setting walk.old.cursor)
         (place_at box_node.now.setting (one_more box_node.now.kind box_node.now.setting walk.old.cursor node.now)) node.now)) }
     ensures mark { IfOk result (λ drawn. OnSome drawn ((rest : Picture) → S.drawn_with box_node.now.kind sink.old
-        (strokes_at box_node.now begin.now.h begin.now.v (place_at box_node.now.setting walk.old.cursor) node.now rest) ≡ S.drawn_with box_node.now.kind sink.new rest)) }
+        (strokes_at box_node.now begin.now.h begin.now.v (place_at box_node.now.setting walk.old.cursor) node.now rest)
+        ≡ S.drawn_with box_node.now.kind sink.new rest)) }
     ensures h { IfOk result (λ drawn. IfSome drawn (λ place. place.h
         ≡ reference_h box_node.now.kind (right_at box_node.now.kind begin.now.h (place_at box_node.now.setting walk.old.cursor)) node.now)) }
     ensures v { IfOk result (λ drawn. IfSome drawn (λ place. place.v
@@ -166,6 +289,9 @@ fn draw_item<B: BoxRef, S: MarkSink<B>>(
     let Some(next) = walk.here else {
         return Ok(None);
     };
+    if is_blank(node) {
+        return Ok(Some(at));
+    }
     draw_at(sink, box_node, at, next, node)
 }
 
@@ -212,7 +338,8 @@ fn draw_items<B: BoxRef, S: MarkSink<B>>(
     let items = box_node.list.as_slice();
     let mut next = 0;
     while next < items.len() {
-        let Some(index) = draw_glyphs(sink, &mut walk, box_node, begin, items, next)? else {
+        let left = ItemsFrom { items, from: next };
+        let Some(index) = draw_glyphs(sink, &mut walk, box_node, begin, left)? else {
             return Ok(false);
         };
         if index >= items.len() {
@@ -242,8 +369,8 @@ fn draw_items<B: BoxRef, S: MarkSink<B>>(
     Ok(true)
 }
 
-/// Gives the marks of a box with the reference point `at` to a sink, in order. Each inner box with items is a group. It returns whether the numbers of
-/// all items fit, those of inner boxes included. Where one does not fit, the walk stops there, and what the sink was given is of no use.
+/// Gives the marks of a box with the reference point `at` to a sink, in order. Each inner box with items is a group. It returns whether the numbers
+/// of all items fit, those of inner boxes included. Where one does not fit, the walk stops there, and what the sink was given is of no use.
 pub fn draw_list<B: BoxRef, S: MarkSink<B>>(
     sink: &mut S,
     tree: B,

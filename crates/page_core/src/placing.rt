@@ -104,7 +104,7 @@ pub fn point_at(kind: Kind, h: i64, v: i64, distance: i128) -> Option<PagePositi
 
 /// A dimension plus a distance, where the sum fits.
 #[inline(always)]
-fn dimension_after(from: Dimen, distance: i64) -> Option<Dimen>
+pub fn dimension_after(from: Dimen, distance: i64) -> Option<Dimen>
     requires distance_bounded { Within (2 ^ 31) distance }
     ensures { result ≡ dimension_of (from +ℤ distance) }
 {
@@ -210,7 +210,8 @@ fn place_box(
     shift: Dimen,
     inner: &BoxNode,
 ) -> Option<PlacedItem>
-    ensures fits { is_some result ≡ list_all fits (at.h ∷ at.v ∷ next.h ∷ next.v ∷ box_h kind at.h shift ∷ box_v kind at.v shift inner.now.height ∷ []) }
+    ensures fits { is_some result ≡ list_all fits (at.h ∷ at.v ∷ next.h ∷ next.v ∷ box_h kind at.h shift ∷ box_v kind at.v shift inner.now.height
+        ∷ []) }
     ensures mark { IfSome result (λ s. s.mark ≡ None) }
     ensures h { IfSome result (λ s. s.at.h ≡ box_h kind at.h shift) }
     ensures v { IfSome result (λ s. s.at.v ≡ box_v kind at.v shift inner.now.height) }

@@ -1,7 +1,8 @@
 //! What takes the marks of a page, one after the other, and how a walk sees the boxes of a page.
 
 use crate::placing::{PagePosition, PlacedMark};
-use node_core::{BoxNode, Kind, Node};
+use node_core::{BoxNode, Glyph, Kind, Node};
+use scaled_core::Dimen;
 use std::convert::Infallible;
 
 /// A reference to a box of a tree. A walk is generic over it, since a recursive function whose bound names a lifetime has no proof yet: in place of
@@ -28,7 +29,8 @@ pub trait BoxRef: Copy {
     /// The inner box at an index of the list, where the item there is a box.
     fn inner(&self, index: usize) -> Option<Self>
         requires within { index < length (nodes_of (box_node self.now).list) }
-        ensures some { IfSome result (λ inner. (shift : ℤ) × (slice_get (nodes_of (box_node self.now).list) index ≡ Some (Box shift (box_node inner)))) }
+        ensures some { IfSome result (λ inner. (shift : ℤ)
+            × (slice_get (nodes_of (box_node self.now).list) index ≡ Some (Box shift (box_node inner)))) }
         ensures none { result ≡ None → (shift : ℤ) (inner : BoxNode) → slice_get (nodes_of (box_node self.now).list) index ≢ Some (Box shift inner) };
 
     /// The text of the special at an index of the list, where the item there is a special.
@@ -69,8 +71,9 @@ impl<'a> BoxRef for &'a BoxNode {
 
 /// A sink takes the marks of a page in order. The marks of an inner box with items are a group, which is opened before them and closed after them.
 pub trait MarkSink<B: BoxRef> {
-    ghost use Rattle.std.specs.Prelude.{◌≡◌, pos, IfOk, OnOk, IfSome};
+    ghost use Rattle.std.specs.Prelude.{◌≡◌, ◌+ℤ◌, ℕ, ℤ, pos, true, false, IfOk, OnOk, IfSome};
     ghost use Rattle.node_core.specs.declared.tree.Kind.{Kind};
+    ghost use Rattle.scaled_core.specs.Mark as marks;
     ghost use Rattle.scaled_core.specs.Mark.{Special};
     ghost use Rattle.page_core.specs.Pictures.{Picture, blank, stroke, group};
     ghost use Rattle.page_core.specs.Placing.{IsMarkEnd, strokes_in};
@@ -90,10 +93,29 @@ pub trait MarkSink<B: BoxRef> {
     /// The second sink is the first one after a group was opened, which returned the place.
     ghost Opens: { Self → Self → Self.Place → Type 0 };
 
+    /// The last mark was a glyph of the font in this slot, and ended at (h, v).
+    ghost Stands: { Self → (h v : ℤ) → (slot : ℕ) → Type 0 };
+
     /// Takes the mark of an item in a list of that kind, if the item has one.
     fn draw(&mut self, kind: Kind, mark: Option<PlacedMark>) -> Result<(), Self::Fault>
         requires end { IfSome mark (IsMarkEnd kind) }
         ensures mark { OnOk result ((rest : Picture) → drawn_with kind self.old (strokes_in mark rest) ≡ drawn_with kind self.new rest) };
+
+    /// Takes a glyph of a horizontal list at a position, with the value of h after it.
+    fn draw_glyph(&mut self, at: PagePosition, glyph: Glyph, end: Dimen) -> Result<(), Self::Fault>
+        requires { end ≡ at.h +ℤ glyph.width }
+        ensures mark { OnOk result ((rest : Picture) → drawn_with Kind.Horizontal self.old
+            (stroke (marks.Glyph (pos glyph.slot) (pos glyph.code) at.h at.v) glyph.width rest) ≡ drawn_with Kind.Horizontal self.new rest) }
+        ensures stands { OnOk result (Stands self.new end at.v glyph.slot) };
+
+    /// Takes a glyph that stands where the last one ended, of the same font, where that takes no memory; and returns whether it did.
+    fn draw_next(&mut self, at: PagePosition, glyph: Glyph, end: Dimen) -> bool
+        requires end { end ≡ at.h +ℤ glyph.width }
+        requires stands { Stands self.old at.h at.v glyph.slot }
+        ensures mark { result ≡ true → (rest : Picture) → drawn_with Kind.Horizontal self.old
+            (stroke (marks.Glyph (pos glyph.slot) (pos glyph.code) at.h at.v) glyph.width rest) ≡ drawn_with Kind.Horizontal self.new rest }
+        ensures stands { result ≡ true → Stands self.new end at.v glyph.slot }
+        ensures same { result ≡ false → (rest : Picture) → drawn_with Kind.Horizontal self.old rest ≡ drawn_with Kind.Horizontal self.new rest };
 
     /// Takes a special at a position.
     fn draw_special(&mut self, at: PagePosition, text: B::Text) -> Result<(), Self::Fault>
@@ -107,7 +129,8 @@ pub trait MarkSink<B: BoxRef> {
     /// Closes the group that was opened at a place: where the sink inside it was given the picture of a box, the sink around it has got this group.
     fn close_group(&mut self, place: Self::Place) -> Result<(), Self::Fault>
         ensures group { OnOk result ((kind own : Kind) (outer inside : Self) (inner rest : Picture) → Opens outer inside place
-            → drawn_with own inside inner ≡ drawn_with own self.old blank → drawn_with kind outer (group own inner rest) ≡ drawn_with kind self.new rest) };
+            → drawn_with own inside inner ≡ drawn_with own self.old blank
+            → drawn_with kind outer (group own inner rest) ≡ drawn_with kind self.new rest) };
 }
 
 /// A sink that drops all marks, for a walk that only finds whether the numbers of a page fit. It takes no memory and never fails.
@@ -125,9 +148,26 @@ impl<B: BoxRef> MarkSink<B> for NoMarks {
 
     ghost Opens = { λ outer inside place. Unit {0} };
 
+    ghost Stands = { λ sink h v slot. Unit {0} };
+
     #[inline(always)]
     fn draw(&mut self, _kind: Kind, _mark: Option<PlacedMark>) -> Result<(), Infallible> {
         Ok(())
+    }
+
+    #[inline(always)]
+    fn draw_glyph(
+        &mut self,
+        _at: PagePosition,
+        _glyph: Glyph,
+        _end: Dimen,
+    ) -> Result<(), Infallible> {
+        Ok(())
+    }
+
+    #[inline(always)]
+    fn draw_next(&mut self, _at: PagePosition, _glyph: Glyph, _end: Dimen) -> bool {
+        true
     }
 
     #[inline(always)]

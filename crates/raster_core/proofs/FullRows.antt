@@ -3,7 +3,8 @@ use Rattle.std.proofs.Common.{◌≡◌, ℕ, ◌+◌, ◌-◌, ◌*◌, ◌/◌
 use Rattle.std.specs.Prelude.{bit_or}
 use Rattle.std.specs.Int.{div_ceil}
 use Rattle.std.proofs.lemmas.Bool.{cases_lt, lt-ltb, le-ltb, le-leb, lt-leb, eqb-true, and_from, and_right, or_left, or_right}
-use Rattle.raster_core.specs.Words.{AreFull, IsRun, Ors, between, in_row, in_rows, is_set}
+use Rattle.raster_core.specs.Words.{AreFull, between, in_rows, is_set}
+use Rattle.raster_core.specs.Private.Words.{IsRun, Ors, in_row}
 use Rattle.raster_core.proofs.MaskBits.{is_set-or}
 use Rattle.raster_core.proofs.RowSteps.{one_row}
 

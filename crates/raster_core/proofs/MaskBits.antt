@@ -6,7 +6,8 @@ use Rattle.std.proofs.lemmas.Nat.{one_shl, mod_below}
 use Rattle.std.proofs.lemmas.Nat.Bits.{bit_at_and, bit_at_or, bit_at_not, bit_at_ones, bit_at_ones_above, bit_at-lt}
 use Rattle.std.proofs.lemmas.Bool.{cases_lt, lt-ltb, le-ltb, le-leb, lt-leb}
 use Rattle.std.proofs.lemmas.List.{get_or-set_same, get_or-set_other}
-use Rattle.raster_core.specs.Words.{is_set, between, in_row}
+use Rattle.raster_core.specs.Words.{is_set, between}
+use Rattle.raster_core.specs.Private.Words.{in_row}
 
 bit_cases : (P : ℕ → Type 0) → P 0 → P 1 → (x : ℕ) → x < 2 → P x
 bit_cases P p q zero h = p

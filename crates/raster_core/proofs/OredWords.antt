@@ -3,7 +3,7 @@ use Rattle.std.proofs.Common.{◌≡◌, ℕ, ◌+◌, ◌-◌, ◌<◌, ◌≤�
 use Rattle.std.specs.Prelude.{bit_or}
 use Rattle.std.specs.Simd.Lanes.{zip2, chunk, put_chunk}
 use Rattle.std.proofs.lemmas.Simd.{length-zip2, length-chunk, get_or-chunk, get_or-zip2, get_or-put_chunk_at, get_or-put_chunk_below, get_or-put_chunk_above}
-use Rattle.raster_core.specs.Words.{Ors}
+use Rattle.raster_core.specs.Private.Words.{Ors}
 
 -- Eight lanes of the mask and of the words, put back.
 abbrev pub eight : (old : List ℕ) (at : ℕ) (mask : List ℕ) (from : ℕ) → List ℕ

@@ -9,7 +9,7 @@ use Rattle.std.proofs.lemmas.Grind.{flat_map-append}
 use Rattle.std.proofs.lemmas.Bool.{eqb-false}
 use Rattle.std.proofs.Math.Bool.{or-true}
 use Rattle.raster_core.specs.PlainText.{digit_text, ends_line, row_text}
-use Rattle.raster_core.specs.RowPieces.{digit_of, digits, columns_text, line_text}
+use Rattle.raster_core.specs.Private.RowPieces.{digit_of, digits, columns_text, line_text}
 
 range_split : (a n m : ℕ) → range_with_len a (n + m) ≡ range_with_len a n ++ range_with_len (a + n) m
 range_split a zero m =

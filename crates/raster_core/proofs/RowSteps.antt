@@ -2,7 +2,8 @@
 use Rattle.std.proofs.Common.{◌≡◌, ℕ, ◌+◌, ◌*◌, ◌/◌, ◌%◌, ◌<◌, ◌≤◌, Bool, true, false, ◌&&◌, ◌||◌, eqb, ltb, leb, List, get_or, refl, sym, ap, ◌∙◌, subst, arith, inl, inr, ◌⊎◌}
 use Rattle.std.proofs.lemmas.Nat.{mul-add-lt, row_fits}
 use Rattle.std.proofs.lemmas.Bool.{cases_lt, cases_order, lt-ltb, le-ltb, le-leb, lt-leb, eq-eqb, ne_eqb, or_right}
-use Rattle.raster_core.specs.Words.{is_set, between, in_row, in_rows, Ors}
+use Rattle.raster_core.specs.Words.{is_set, between, in_rows}
+use Rattle.raster_core.specs.Private.Words.{in_row, Ors}
 use Rattle.raster_core.proofs.MaskBits.{is_set-or}
 
 or-false : (a : Bool) → a ≡ (a || false)

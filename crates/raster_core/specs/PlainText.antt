@@ -3,7 +3,8 @@ use Rattle.std.specs.Prelude.{◌==◌, ◌+◌, ◌%◌, ◌||◌, ◌++◌, �
 use Rattle.std.specs.List.{flat_map, range_with_len}
 use Rattle.raster_core.specs.Pictures.{PixelGrid, is_black}
 
--- Whether a line ends after the digit of column x: after every seventieth digit of a row, and at the end of the row (Netpbm: no line is longer than 70).
+-- Whether a line ends after the digit of column x: after every seventieth digit of a row, and at the end of the row (Netpbm: no line is longer than
+-- 70).
 abbrev pub ends_line : (width x : ℕ) → Bool
 ends_line width x = ((x + 1) % 70 == 0) || (x + 1 == width)
 

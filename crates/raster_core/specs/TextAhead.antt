@@ -12,4 +12,5 @@ rows_from width height black row = flat_map (λ y. row_text width (λ x. black x
 -- The rest of the text of a bitmap: its header, if it was not given, and the digits of the rows that were not given (own).
 abbrev pub pbm_text_ahead : PbmText → List ℕ
 pbm_text_ahead t =
-    (if t.begun then [] else header_text t.rows.width t.rows.height) ++ rows_from t.rows.width t.rows.height (in_rows t.rows.words.now t.rows.stride) t.done
+    (if t.begun then [] else header_text t.rows.width t.rows.height) ++ rows_from t.rows.width t.rows.height
+    (in_rows t.rows.words.now t.rows.stride) t.done

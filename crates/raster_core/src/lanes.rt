@@ -1,7 +1,7 @@
 //! A mask put into a row, eight words at a time.
 
 ghost use Rattle.std.specs.Prelude.{◌≡◌, ◌+◌, ◌<◌, ◌≤◌, ℕ, true, length, bit_or, slice_index};
-ghost use Rattle.raster_core.specs.Words.{Ors};
+ghost use Rattle.raster_core.specs.Private.Words.{Ors};
 
 use std::simd::prelude::*;
 

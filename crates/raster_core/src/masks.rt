@@ -1,7 +1,8 @@
 //! The mask of a row: a run of black pixels as words.
 
 ghost use Rattle.std.specs.Prelude.{◌≡◌, ◌*◌, ◌^◌, ◌<◌, ◌≤◌, ℕ, length, nat_lt, slice_index};
-ghost use Rattle.raster_core.specs.Words.{between, in_row, is_set};
+ghost use Rattle.raster_core.specs.Words.{between, is_set};
+ghost use Rattle.raster_core.specs.Private.Words.{in_row};
 
 /// The word whose lowest `count` bits are 1 and whose other bits are 0.
 fn low_bits(count: usize) -> u64

@@ -38,7 +38,7 @@ impl Model for Bitmap {
 
     ghost Value = { PixelGrid };
 
-    ghost use Rattle.raster_core.specs.Bitmaps.{IsBitmap, picture};
+    ghost use Rattle.raster_core.specs.Private.Bitmaps.{IsBitmap, picture};
 
     ghost view = { picture };
 
@@ -102,7 +102,8 @@ impl Bitmap {
 
     /// The rows.
     fn rows(&self) -> Rows<'_>
-        ensures { header_text result.width result.height ++ rows_text result.width result.height (in_rows result.words.now result.stride) ≡ pbm self.now }
+        ensures { header_text result.width result.height ++ rows_text result.width result.height (in_rows result.words.now result.stride)
+            ≡ pbm self.now }
     {
         Rows {
             words: &self.words,

@@ -4,7 +4,7 @@ ghost use Rattle.std.specs.Prelude.{◌≡◌, ◌+◌, ◌-◌, ◌*◌, ◌<�
 ghost use Rattle.raster_core.specs.Words.{in_rows, is_set};
 ghost use Rattle.raster_core.specs.PlainText.{header_text, row_text, rows_text};
 ghost use Rattle.raster_core.specs.declared.printing.TheConstants.{MAX_DIGITS, MAX_HEADER};
-ghost use Rattle.raster_core.specs.RowPieces.{digit_of, digits, line_text, row_size};
+ghost use Rattle.raster_core.specs.Private.RowPieces.{digit_of, digits, line_text, row_size};
 
 use crate::rows::Rows;
 use crate::word_rows::is_set;
@@ -145,7 +145,8 @@ fn append_rows(out: &mut Vec<u8>, rows: Rows<'_>)
 
 /// Appends the header and the text of all rows. All memory is taken before the first byte, so that nothing is appended where it is refused.
 pub fn append_text(out: &mut Vec<u8>, rows: Rows<'_>) -> Result<(), AllocError>
-    ensures ok { OnOk result (out.new.items ≡ out.old.items ++ (header_text rows.entry.width rows.entry.height ++ rows_text rows.entry.width rows.entry.height (in_rows rows.entry.words.now rows.entry.stride))) }
+    ensures ok { OnOk result (out.new.items ≡ out.old.items ++ (header_text rows.entry.width rows.entry.height ++ rows_text rows.entry.width
+        rows.entry.height (in_rows rows.entry.words.now rows.entry.stride))) }
     ensures err { OnErr result (out.new.items ≡ out.old.items) }
 {
     out.reserve(MAX_HEADER + rows.height * rows.row_size())?;

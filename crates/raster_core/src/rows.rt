@@ -1,7 +1,7 @@
 //! The rows of a bitmap.
 
 ghost use Rattle.std.specs.Prelude.{◌≡◌, ◌*◌, ◌≤◌, length};
-ghost use Rattle.raster_core.specs.RowPieces.{row_size};
+ghost use Rattle.raster_core.specs.Private.RowPieces.{row_size};
 
 /// The rows of a bitmap as words: the pixels of a row are the first `width` bits of `stride` words.
 #[derive(Clone, Copy, Debug)]

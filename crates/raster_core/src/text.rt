@@ -3,7 +3,7 @@
 ghost use Rattle.std.specs.Prelude.{◌≡◌, ◌+◌, ◌*◌, ◌<◌, ◌≤◌, ◌++◌, [], false, length, vec_capacity, vec_len, IsTrue};
 ghost use Rattle.raster_core.specs.Words.{in_rows};
 ghost use Rattle.raster_core.specs.PlainText.{header_text, rows_text};
-ghost use Rattle.raster_core.specs.RowPieces.{row_size};
+ghost use Rattle.raster_core.specs.Private.RowPieces.{row_size};
 ghost use Rattle.raster_core.specs.TextAhead.{pbm_text_ahead};
 ghost use Rattle.raster_core.specs.declared.text.TheConstants.{ROW_TEXT};
 
@@ -28,7 +28,8 @@ pub struct PbmText<'a> {
 impl<'a> PbmText<'a> {
     /// The text of all rows, with its header.
     pub(crate) fn new(rows: Rows<'a>) -> PbmText<'a>
-        ensures { pbm_text_ahead result ≡ header_text rows.entry.width rows.entry.height ++ rows_text rows.entry.width rows.entry.height (in_rows rows.entry.words.now rows.entry.stride) }
+        ensures { pbm_text_ahead result ≡ header_text rows.entry.width rows.entry.height ++ rows_text rows.entry.width rows.entry.height
+            (in_rows rows.entry.words.now rows.entry.stride) }
     {
         PbmText {
             rows,

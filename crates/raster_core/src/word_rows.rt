@@ -1,7 +1,8 @@
 //! Pixels of many rows.
 
 ghost use Rattle.std.specs.Prelude.{◌≡◌, ◌==◌, ◌+◌, ◌*◌, ◌/◌, ◌<◌, ◌≤◌, ◌&&◌, ◌||◌, ℕ, length};
-ghost use Rattle.raster_core.specs.Words.{AreFull, IsRun, between, in_rows, is_set};
+ghost use Rattle.raster_core.specs.Words.{AreFull, between, in_rows, is_set};
+ghost use Rattle.raster_core.specs.Private.Words.{IsRun};
 
 use crate::lanes::{has_row, or_row};
 use crate::masks::fill;
@@ -21,7 +22,8 @@ struct Run<'a> {
     ghost run: { IsRun mask.now inner.now first last },
 }
 
-/// Makes a run of pixels of a row black. Where the words that it fills are known to be black, only the first and the last word of the run are written.
+/// Makes a run of pixels of a row black. Where the words that it fills are known to be black, only the first and the last word of the run are
+/// written.
 fn blacken_row(words: &mut [u64], full: &mut [u64], run: Run<'_>, row: usize)
     requires room { row * length run.mask.now + length run.mask.now ≤ length words.old }
     requires full_room { row * 3 + 3 ≤ length full.old }

@@ -7,8 +7,8 @@ use crate::samples::{
 };
 use boxglue_lib::VERSION_LINE;
 
-/// A command line with a script, over the file of the one-rule page: its status, its output and its errors, and the file that it makes, in hexadecimal digits
-/// (an empty text if no file is created).
+/// A command line with a script, over the file of the one-rule page: its status, its output and its errors, and the file that it makes, in
+/// hexadecimal digits (an empty text if no file is created).
 struct Row {
     words: &'static [&'static str],
     script: &'static str,

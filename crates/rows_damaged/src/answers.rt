@@ -1,8 +1,7 @@
 //! The answer to a file.
 
 use anyhow::{Context, Result, bail};
-use boxglue_print::{FontFile, Output, list_text};
-use boxglue_program::run_memory;
+use boxglue_program::{FontFile, Output, list_text, run_memory};
 use std::alloc::Global;
 use tfm_core::{Tfm, TfmFault};
 

@@ -3,7 +3,7 @@
 use crate::answers::FileKind;
 use crate::checksum::checksum;
 use anyhow::{Context, Result};
-use boxglue_print::{FontFile, Output};
+use boxglue_program::{FontFile, Output};
 use std::alloc::Global;
 use std::io::Write;
 use std::slice;

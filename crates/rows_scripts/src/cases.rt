@@ -132,7 +132,8 @@ impl<'a> Case<'a> {
         Ok(())
     }
 
-    /// Runs a script on a device that does not fail. Then, for each call, runs it on a device that fails at this call, and again over the rest of its file.
+    /// Runs a script on a device that does not fail. Then, for each call, runs it on a device that fails at this call, and again over the rest of its
+    /// file.
     fn run_for_each_call<W: Write>(
         &self,
         alloc: Global,
@@ -172,8 +173,8 @@ impl<'a> Case<'a> {
     }
 }
 
-/// Runs a script on a device that fails at a call, and again over the rest of its file. Prints how many bytes were taken before the failure, and whether
-/// the device then has the whole file.
+/// Runs a script on a device that fails at a call, and again over the rest of its file. Prints how many bytes were taken before the failure, and
+/// whether the device then has the whole file.
 fn print_call<W: Write>(
     alloc: Global,
     script: &Script,

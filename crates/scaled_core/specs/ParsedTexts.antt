@@ -1,11 +1,13 @@
 -- The value of a text as a function that takes its parts from left to right (own, after TeX: The Program, part 26, §448, scan_dimen).
-use Rattle.std.specs.Prelude.{◌==◌, ℕ, ℤ, pos, neg_ℤ, Bool, true, false, ◌&&◌, if◌then◌else◌, List, [], ◌∷◌, Option, None, Some, Result, Ok, Err, length, drop, option_map}
+use Rattle.std.specs.Prelude.{◌==◌, ℕ, ℤ, pos, neg_ℤ, Bool, true, false, ◌&&◌, if◌then◌else◌, List, [], ◌∷◌, Option, None, Some, Result, Ok, Err}
+use Rattle.std.specs.Prelude.{length, drop, option_map}
 use Rattle.std.specs.List.{find, prefix_len, take_while}
 use Rattle.std.specs.Char.{is_ascii_digit}
 use Rattle.std.specs.Str.{bytes_eq}
 use Rattle.std.specs.Str.Parse.{digits_value}
 use Rattle.scaled_core.specs.declared.units.LengthUnit.{LengthUnit}
-use Rattle.scaled_core.specs.declared.units.LengthUnit.TheVariants.{Point, Inch, Pica, Centimeter, Millimeter, BigPoint, DidotPoint, Cicero, ScaledPoint}
+use Rattle.scaled_core.specs.declared.units.LengthUnit.TheVariants.{Point, Inch, Pica, Centimeter, Millimeter, BigPoint, DidotPoint, Cicero}
+use Rattle.scaled_core.specs.declared.units.LengthUnit.TheVariants.{ScaledPoint}
 use Rattle.scaled_core.specs.declared.fault.DimenFault.{DimenFault}
 use Rattle.scaled_core.specs.declared.fault.DimenFault.TheVariants.{TooLarge, NotADimension}
 use Rattle.scaled_core.specs.Dimensions.{fits}
@@ -64,7 +66,8 @@ written_value negative whole fraction unit =
 unfoldable pub dimension_value : List ℕ → Option ℤ
 dimension_value text =
     let number = text_after_sign text in
-    written_value (is_negative text) (front_digits number) (point_digits (text_after_digits number)) (unit_named (text_after_fraction (text_after_digits number)))
+    written_value (is_negative text) (front_digits number) (point_digits (text_after_digits number))
+    (unit_named (text_after_fraction (text_after_digits number)))
 
 -- The dimension of a value, or why there is none: no value, or a value that does not fit (own).
 unfoldable pub parsed_value : Option ℤ → Result ℤ DimenFault

@@ -1,5 +1,6 @@
 -- The printed texts of dimensions (TeX: The Program, part 7, §103, print_scaled).
-use Rattle.std.specs.Prelude.{◌==◌, ℕ, ℤ, pos, negsuc, if◌then◌else◌, nat_lt, nat_le, ◌+◌, ◌-◌, ◌*◌, ◌/◌, ◌%◌, ◌^◌, zero, suc, Bool, List, [], ◌∷◌, ◌++◌, codes, unwrap_or, decimal}
+use Rattle.std.specs.Prelude.{◌==◌, ℕ, ℤ, pos, negsuc, if◌then◌else◌, nat_lt, nat_le, ◌+◌, ◌-◌, ◌*◌, ◌/◌, ◌%◌, ◌^◌, zero, suc, Bool, List, [], ◌∷◌}
+use Rattle.std.specs.Prelude.{◌++◌, codes, unwrap_or, decimal}
 use Rattle.std.specs.List.{find}
 use Rattle.scaled_core.specs.Rounding.{nearest}
 

@@ -1,7 +1,8 @@
 -- The units of dimension texts (TeX: The Program, part 26, §453 and §458, scan_dimen).
 use Rattle.std.specs.Prelude.{ℕ, ◌+◌, ◌*◌, ◌/◌, List, codes}
 use Rattle.scaled_core.specs.declared.units.LengthUnit.{LengthUnit}
-use Rattle.scaled_core.specs.declared.units.LengthUnit.TheVariants.{Point, Inch, Pica, Centimeter, Millimeter, BigPoint, DidotPoint, Cicero, ScaledPoint}
+use Rattle.scaled_core.specs.declared.units.LengthUnit.TheVariants.{Point, Inch, Pica, Centimeter, Millimeter, BigPoint, DidotPoint, Cicero}
+use Rattle.scaled_core.specs.declared.units.LengthUnit.TheVariants.{ScaledPoint}
 
 -- How a unit is written (TeX: The Program, part 26, §453 and §458).
 abbrev pub unit_text : LengthUnit → List ℕ

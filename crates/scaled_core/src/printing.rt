@@ -9,7 +9,8 @@ use itoa::Buffer;
 use std::alloc::AllocError;
 
 /// Appends the text of a dimension in points, without a unit: the decimal with the fewest places, at least one, that reads back as the same number of
-/// scaled points (TeX: The Program, part 7, §103, print_scaled). If memory is refused, `out` is as it was before the call, and had no room for 47 bytes.
+/// scaled points (TeX: The Program, part 7, §103, print_scaled). If memory is refused, `out` is as it was before the call, and had no room for 47
+/// bytes.
 pub fn print_dimen(dimension: Dimen, out: &mut Vec<u8>) -> Result<(), AllocError>
     ensures ok { OnOk result (out.new.items ≡ out.old.items ++ dimension_text dimension) }
     ensures err { OnErr result (out.new.items ≡ out.old.items) }

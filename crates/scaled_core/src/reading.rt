@@ -8,7 +8,8 @@ ghost use Rattle.std.specs.Str.Parse.{digits_value};
 ghost use Rattle.scaled_core.specs.Dimensions.{Fits};
 ghost use Rattle.scaled_core.specs.DimensionTexts.{IsDimensionText, IsNoDimension, IsTooLargeText, decimal_fraction};
 ghost use Rattle.scaled_core.specs.Rounding.{nearest};
-ghost use Rattle.scaled_core.specs.ParsedTexts.{parsed_value, written_value, text_after_digits, text_after_fraction, text_after_sign, front_digits, is_negative, point_digits, read_dimension, unit_named, with_minus};
+ghost use Rattle.scaled_core.specs.ParsedTexts.{parsed_value, written_value, text_after_digits, text_after_fraction, text_after_sign, front_digits};
+ghost use Rattle.scaled_core.specs.ParsedTexts.{is_negative, point_digits, read_dimension, unit_named, with_minus};
 
 use crate::dimen::Dimen;
 use crate::fault::DimenFault;

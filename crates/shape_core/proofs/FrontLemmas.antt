@@ -7,9 +7,10 @@ use Rattle.std.proofs.lemmas.List.{get_or-take, length-take}
 use Rattle.std.proofs.lemmas.Option.{same_Some}
 use Rattle.tfm_core.specs.declared.font.GlyphSize.{GlyphSize}
 use Rattle.tfm_core.specs.declared.font.Step.{Step}
-use Rattle.shape_core.specs.Fronts.{first_part, front_of}
+use Rattle.shape_core.specs.Private.Fronts.{first_part, front_of}
 use Rattle.shape_core.specs.Shaping.{items_from, missing_from, shaped_items, shaped_missing}
-use Rattle.shape_core.specs.Texts.{spaces, word, is_other, part_length}
+use Rattle.shape_core.specs.Texts.{spaces, word, is_other}
+use Rattle.shape_core.specs.Private.Texts.{part_length}
 use Rattle.shape_core.proofs.TextLemmas.{passes, stops, take_next, prefix_len-le-length, part_length-some, part_length-within, part_length-of_space, part_length-of_word, part_of-spaces, part_of-word}
 
 before-other : (d : ℕ) (text : List ℕ) → is_other d ≡ true → take (prefix_len is_other (d ∷ text)) (d ∷ text) ≡ d ∷ take (prefix_len is_other text) text

@@ -9,7 +9,8 @@ use Rattle.node_core.specs.declared.tree.Node.{Node}
 use Rattle.tfm_core.specs.declared.font.GlyphSize.{GlyphSize}
 use Rattle.tfm_core.specs.declared.font.Step.{Step}
 use Rattle.shape_core.proofs.ShapingLemmas.{some_added}
-use Rattle.shape_core.specs.Texts.{TextPart, spaces, word, is_other, is_space, parts_with, part_items, part_length, part_missing, part_of, parts_of, text_items, text_missing}
+use Rattle.shape_core.specs.Texts.{TextPart, spaces, word, is_other, is_space, parts_with, part_items, part_missing, parts_of, text_items, text_missing}
+use Rattle.shape_core.specs.Private.Texts.{part_length, part_of}
 
 pub drop_next : {X : Type 0} (n : ℕ) (x : X) (xs : List X) → drop (1 + n) (x ∷ xs) ≡ drop n xs
 drop_next n x xs = let e : 1 + n ≡ suc n = omega arith in rw e refl

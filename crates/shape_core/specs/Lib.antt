@@ -1,4 +1,4 @@
 pub mod Shaping
 pub mod Spaces
 pub mod Texts
-pub mod Fronts
+pub mod Private

@@ -1,6 +1,6 @@
 -- Texts: words with runs of spaces between them (own).
-use Rattle.std.specs.Prelude.{◌≡◌, ◌==◌, ◌<◌, ◌++◌, ℕ, Bool, true, false, not, List, [], ◌∷◌, Option, if◌then◌else◌, length, sum_by, take}
-use Rattle.std.specs.List.{flat_map, list_all, prefix_len}
+use Rattle.std.specs.Prelude.{◌≡◌, ◌==◌, ◌<◌, ◌++◌, ℕ, Bool, true, false, not, List, [], ◌∷◌, Option, length, sum_by, take}
+use Rattle.std.specs.List.{flat_map, list_all}
 use Rattle.node_core.specs.declared.tree.Glue.{Glue}
 use Rattle.node_core.specs.declared.tree.Node.{Node}
 use Rattle.node_core.specs.declared.tree.Node.TheVariants as node
@@ -62,13 +62,3 @@ text_items slot sizes steps blank text = flat_map (part_items slot sizes steps b
 -- The number of missing characters of a text (own).
 unfoldable pub text_missing : (ℕ → Option GlyphSize) → (ℕ → ℕ → Option Step) → List ℕ → ℕ
 text_missing sizes steps text = sum_by (part_missing sizes steps) (parts_of text)
-
--- The part that consists of a whole text: spaces or a word, by its first character (own).
-abbrev pub part_of : List ℕ → TextPart
-part_of [] = spaces
-part_of (c ∷ text) = if is_space c then spaces else word (c ∷ text)
-
--- The length of the first part of a text (own).
-abbrev pub part_length : List ℕ → ℕ
-part_length [] = 0
-part_length (c ∷ text) = if is_space c then prefix_len is_space (c ∷ text) else prefix_len is_other (c ∷ text)

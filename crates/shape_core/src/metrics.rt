@@ -38,7 +38,8 @@ pub trait Metrics {
     fn space(&self) -> Glue
         ensures { result ≡ blank self.now };
 
-    ghost ligatures: { (metrics : Self) (code following character : ℕ) → steps metrics code following ≡ Some (Ligature character) → IsSome (sizes metrics character) };
+    ghost ligatures: { (metrics : Self) (code following character : ℕ) → steps metrics code following ≡ Some (Ligature character)
+        → IsSome (sizes metrics character) };
 }
 
 impl Metrics for Font {

@@ -3,13 +3,15 @@
 ghost use Rattle.std.specs.Prelude.{◌≡◌, ◌≢◌, ◌≤◌, ◌<◌, ◌++◌, ◌∷◌, [], length, take, OnOk, OnErr, IfOk};
 ghost use Rattle.std.specs.List.{prefix_len};
 ghost use Rattle.shape_core.specs.Shaping.{shaped_items, shaped_missing};
-ghost use Rattle.shape_core.specs.Fronts.{first_part};
-ghost use Rattle.shape_core.specs.Texts.{is_space, part_items, part_length, part_missing, text_items, text_missing};
+ghost use Rattle.shape_core.specs.Private.Fronts.{first_part};
+ghost use Rattle.shape_core.specs.Texts.{is_space, part_items, part_missing, text_items, text_missing};
+ghost use Rattle.shape_core.specs.Private.Texts.{part_length};
 
 use crate::metrics::Metrics;
 use crate::word::{Missing, ShapedFront, push, shape, shape_front};
 use node_core::Node;
 use std::alloc::AllocError;
+use std::mem::replace;
 
 /// The number of spaces at the beginning of a text.
 #[inline(always)]
@@ -31,7 +33,8 @@ fn shape_part<M: Metrics>(
     nodes: &mut Vec<Node>,
 ) -> Result<ShapedFront, AllocError>
     requires { 0 < length text.now }
-    ensures ok { OnOk result (nodes.new.items ≡ nodes.old.items ++ part_items slot (M.sizes metrics.now) (M.steps metrics.now) (M.blank metrics.now) (first_part text.now)) }
+    ensures ok { OnOk result (nodes.new.items ≡ nodes.old.items ++ part_items slot (M.sizes metrics.now) (M.steps metrics.now) (M.blank metrics.now)
+        (first_part text.now)) }
     ensures number { IfOk result (λ shaped. shaped.missing ≡ part_missing (M.sizes metrics.now) (M.steps metrics.now) (first_part text.now)) }
     ensures length { IfOk result (λ shaped. shaped.length ≡ part_length text.now) }
     ensures missing_bounded { IfOk result (λ shaped. shaped.missing ≤ shaped.length) }
@@ -49,6 +52,7 @@ fn shape_part<M: Metrics>(
 }
 
 /// Appends the items of a text; if memory is refused, only the first of them.
+#[inline(always)]
 #[tactic(auto, using(crate::proofs::TextLemmas::turns))]
 fn shape_parts<M: Metrics>(
     metrics: &M,
@@ -56,7 +60,8 @@ fn shape_parts<M: Metrics>(
     mut text: &[u8],
     nodes: &mut Vec<Node>,
 ) -> Result<Missing, AllocError>
-    ensures ok { OnOk result (nodes.new.items ≡ nodes.old.items ++ text_items slot (M.sizes metrics.now) (M.steps metrics.now) (M.blank metrics.now) text.now) }
+    ensures ok { OnOk result (nodes.new.items ≡ nodes.old.items ++ text_items slot (M.sizes metrics.now) (M.steps metrics.now)
+        (M.blank metrics.now) text.now) }
     ensures number { IfOk result (λ missing. missing.characters ≡ text_missing (M.sizes metrics.now) (M.steps metrics.now) text.now) }
     ensures missing_bounded { IfOk result (λ missing. missing.characters ≤ length text.now) }
     ensures front { take (length nodes.old.items) nodes.new.items ≡ nodes.old.items }
@@ -72,22 +77,28 @@ fn shape_parts<M: Metrics>(
 }
 
 /// Appends the items of a text in the font of this slot, and returns how many of its characters the font does not have. Each run of spaces becomes
-/// one glue of the font, and the words between them are shaped. If memory is refused, `nodes` is as it was before the call. A text without items takes
-/// no memory.
+/// one glue of the font, and the words between them are shaped. If memory is refused, `nodes` is as it was before the call. A text without items
+/// takes no memory.
 pub fn shape_text<M: Metrics>(
     metrics: &M,
     slot: u8,
     text: &[u8],
     nodes: &mut Vec<Node>,
 ) -> Result<Missing, AllocError>
-    ensures ok { OnOk result (nodes.new.items ≡ nodes.old.items ++ text_items slot (M.sizes metrics.now) (M.steps metrics.now) (M.blank metrics.now) text.now) }
+    ensures ok { OnOk result (nodes.new.items ≡ nodes.old.items ++ text_items slot (M.sizes metrics.now) (M.steps metrics.now)
+        (M.blank metrics.now) text.now) }
     ensures number { IfOk result (λ missing. missing.characters ≡ text_missing (M.sizes metrics.now) (M.steps metrics.now) text.now) }
     ensures missing_bounded { IfOk result (λ missing. missing.characters ≤ length text.now) }
     ensures err { OnErr result (nodes.new.items ≡ nodes.old.items) }
     ensures growth { OnErr result (text_items slot (M.sizes metrics.now) (M.steps metrics.now) (M.blank metrics.now) text.now ≢ []) }
 {
     let held = nodes.len();
-    let shaped = shape_parts(metrics, slot, text, nodes);
+    let alloc = *nodes.allocator();
+    // The vector is moved here while it grows: as a value of this call it stays in registers, and its length is not written back after each
+    // character.
+    let mut items = replace(nodes, Vec::new(alloc));
+    let shaped = shape_parts(metrics, slot, text, &mut items);
+    *nodes = items;
     if shaped.is_err() {
         nodes.truncate(held);
     }

@@ -2,8 +2,9 @@
 
 ghost use Rattle.std.specs.Prelude.{◌≡◌, ◌≢◌, ◌≤◌, ◌<◌, ◌++◌, ◌∷◌, [], List, None, Some, length, slice_get, take, OnOk, OnErr, IfOk};
 ghost use Rattle.node_core.specs.declared.tree.Node.{Node};
-ghost use Rattle.shape_core.specs.Fronts.{front_of};
-ghost use Rattle.shape_core.specs.Shaping.{Shaping, glyph_node, outcome_at, outcome_items, outcome_missing, outcome_next, outcome_of, shaped_items, shaped_missing};
+ghost use Rattle.shape_core.specs.Private.Fronts.{front_of};
+ghost use Rattle.shape_core.specs.Shaping.{Shaping, glyph_node, outcome_at, outcome_items, outcome_missing, outcome_next, outcome_of, shaped_items};
+ghost use Rattle.shape_core.specs.Shaping.{shaped_missing};
 
 use crate::metrics::Metrics;
 use node_core::{Glyph, Node};
@@ -191,8 +192,10 @@ pub(crate) fn shape_front<M: Metrics>(
     nodes: &mut Vec<Node>,
 ) -> Result<ShapedFront, AllocError>
     requires { 0 < length (front_of until_space text.now) }
-    ensures ok { OnOk result (nodes.new.items ≡ nodes.old.items ++ shaped_items slot (M.sizes metrics.now) (M.steps metrics.now) (front_of until_space text.now)) }
-    ensures number { IfOk result (λ shaped. shaped.missing ≡ shaped_missing (M.sizes metrics.now) (M.steps metrics.now) (front_of until_space text.now)) }
+    ensures ok { OnOk result (nodes.new.items ≡ nodes.old.items ++ shaped_items slot (M.sizes metrics.now) (M.steps metrics.now)
+        (front_of until_space text.now)) }
+    ensures number { IfOk result (λ shaped. shaped.missing ≡ shaped_missing (M.sizes metrics.now) (M.steps metrics.now)
+        (front_of until_space text.now)) }
     ensures length { IfOk result (λ shaped. shaped.length ≡ length (front_of until_space text.now)) }
     ensures missing_bounded { IfOk result (λ shaped. shaped.missing ≤ length (front_of until_space text.now)) }
     ensures front { take (length nodes.old.items) nodes.new.items ≡ nodes.old.items }
@@ -227,7 +230,8 @@ pub fn shape<M: Metrics>(
 ) -> Result<Missing, AllocError>
     ensures ok { OnOk result (nodes.new.items ≡ nodes.old.items ++ shaped_items slot (M.sizes metrics.now) (M.steps metrics.now) word.now) }
     ensures number { IfOk result (λ missing. missing.characters ≡ shaped_missing (M.sizes metrics.now) (M.steps metrics.now) word.now) }
-    ensures shaping { IfOk result (λ missing. (items : List Node) × (nodes.new.items ≡ nodes.old.items ++ items) × Shaping slot (M.sizes metrics.now) (M.steps metrics.now) word.now items missing.characters) }
+    ensures shaping { IfOk result (λ missing. (items : List Node) × (nodes.new.items ≡ nodes.old.items ++ items)
+        × Shaping slot (M.sizes metrics.now) (M.steps metrics.now) word.now items missing.characters) }
     ensures missing_bounded { IfOk result (λ missing. missing.characters ≤ length word.now) }
     ensures err { OnErr result (nodes.new.items ≡ nodes.old.items) }
     ensures growth { OnErr result (shaped_items slot (M.sizes metrics.now) (M.steps metrics.now) word.now ≢ []) }

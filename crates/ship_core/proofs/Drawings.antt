@@ -1,12 +1,15 @@
 -- The writer's drawing, as lists of instructions.
-use Rattle.std.proofs.Common.{◌≡◌, ℕ, zero, suc, List, [], ◌∷◌, ◌++◌, length, refl, append_assoc, ◌∙◌, ap, sym, arith}
+use Rattle.std.proofs.Common.{◌≡◌, ℕ, zero, suc, List, [], ◌∷◌, ◌++◌, length, refl, append_assoc, ◌∙◌, ap, ap₂, sym, arith}
 use Rattle.std.specs.Prelude.{ℤ, pos, negsuc, ◌+ℤ◌, ◌-ℤ◌, Bool, true, false, if◌then◌else◌, Option, Some, None}
 use Rattle.std.specs.Option.{option_map}
 use Rattle.std.specs.Ordering.{int_eq}
+use Rattle.std.proofs.lemmas.Bool.Decides.{Decides-int_eq}
+use Rattle.std.proofs.lemmas.Int.{ints}
 use Rattle.std.proofs.lemmas.List.{append-nil}
 use Rattle.dvi_ops.specs.Instruction.{Axis, Across, Downward, SetChar, FontNum, Xxx, Instruction, Do, Push, Pop}
 use Rattle.dvi_ops.specs.Runs.{instructions_of}
 use Rattle.node_core.specs.declared.tree.Kind.{Kind}
+use Rattle.node_core.specs.declared.tree.Kind.TheVariants.{Horizontal}
 use Rattle.scaled_core.specs.Mark as body
 use Rattle.dvi_ops.specs.Forest.{Forest, Then, flat}
 use Rattle.ship_core.specs.Drawing.{moved_by, selected, ruled, font_after, body_of_picture}
@@ -15,7 +18,7 @@ use Rattle.page_core.specs.declared.placing.MarkKind.{MarkKind}
 use Rattle.page_core.specs.declared.placing.MarkKind.TheVariants as ink
 use Rattle.ship_core.specs.declared.drawing.Drawing.{Drawing}
 use Rattle.page_core.specs.Placing.{mark_with, h_after_mark}
-use Rattle.ship_core.specs.Inking.{movement, selection, inked, makes, leaves}
+use Rattle.ship_core.specs.Private.Inking.{movement, selection, inked, makes, leaves}
 
 pub flat-moved_by : (axis : Axis) (z : ℤ) (rest : Forest) → flat (moved_by axis z rest) ≡ movement axis z ++ flat rest
 flat-moved_by axis (pos zero) rest = refl
@@ -96,6 +99,40 @@ pub drawn_mark :
     → before ++ flat (body_of_picture kind h v current (stroke (mark_with x y width i) width rest)) ≡ after ++ flat (body_of_picture kind end down left rest)
 drawn_mark kind before after h v current left x y width end down i rest is edge font below =
     rw (is, edge, font, below) (drawn_ink kind before h v current x y width i rest)
+
+-- Where a mark is at the place, nothing moves, and a font that is selected is not selected again.
+nothing_moved : (axis : Axis) (z : ℤ) → movement axis (z -ℤ z) ≡ []
+nothing_moved axis z = let none : z -ℤ z ≡ pos 0 = omega (arith, ints) in ap (movement axis) none
+
+same_font : (font : ℤ) → selection (Some font) font ≡ []
+same_font font = let same : int_eq font font ≡ true = (Decides-int_eq font font).1 refl in rw same refl
+
+unmoved : (before : List Instruction) (h v : ℤ) → (before ++ movement Across (h -ℤ h)) ++ movement Downward (v -ℤ v) ≡ before
+unmoved before h v =
+    ap (λ is. (before ++ is) ++ movement Downward (v -ℤ v)) (nothing_moved Across h)
+    ∙ (ap (λ is. (before ++ []) ++ is) (nothing_moved Downward v) ∙ (append-nil (before ++ []) ∙ append-nil before))
+
+drawn_here :
+    (before after : List Instruction) (h v : ℤ) (current left : Option ℤ) (width end down : ℤ) (slot code : ℕ) (rest : Picture)
+    → after ≡ before ++ Do (SetChar (pos code)) ∷ [] → end ≡ h +ℤ width → current ≡ Some (pos slot) → left ≡ Some (pos slot) → down ≡ v
+    → before ++ flat (body_of_picture Horizontal h v current (stroke (body.Glyph (pos slot) (pos code) h v) width rest))
+    ≡ after ++ flat (body_of_picture Horizontal end down left rest)
+drawn_here before after h v current left width end down slot code rest is edge font same below =
+    let none : selection current (pos slot) ≡ [] = ap (λ (c : Option ℤ). selection c (pos slot)) font ∙ same_font (pos slot) in
+    let moved = (before ++ movement Across (h -ℤ h)) ++ movement Downward (v -ℤ v) in
+    let chose : moved ++ selection current (pos slot) ≡ before = ap (λ is. moved ++ is) none ∙ (append-nil moved ∙ unmoved before h v) in
+    drawn_mark Horizontal before after h v current left h v width end down (ink.Glyph slot code) rest
+    (is ∙ sym (ap (λ is. is ++ Do (SetChar (pos code)) ∷ []) chose)) edge same below
+
+-- The drawing after a glyph that stands at its place, of its font, makes the same as the one before it.
+pub drawn_next :
+    (before after : List Instruction) (h v : ℤ) (current left : Option ℤ) (x y width end down : ℤ) (slot code : ℕ) (rest : Picture)
+    → after ≡ before ++ Do (SetChar (pos code)) ∷ [] → end ≡ x +ℤ width → h ≡ x → v ≡ y → current ≡ Some (pos slot) → left ≡ Some (pos slot) → down ≡ y
+    → before ++ flat (body_of_picture Horizontal h v current (stroke (body.Glyph (pos slot) (pos code) x y) width rest))
+    ≡ after ++ flat (body_of_picture Horizontal end down left rest)
+drawn_next before after h v current left x y width end down slot code rest is edge right below font same under =
+    ap₂ (λ (m n : ℤ). before ++ flat (body_of_picture Horizontal m n current (stroke (body.Glyph (pos slot) (pos code) x y) width rest))) right below
+    ∙ drawn_here before after x y current left width end down slot code rest is edge font same under
 
 -- The font after the strokes that follow is the same too.
 pub left_font :

@@ -7,7 +7,8 @@ use Rattle.dvi_ops.specs.Forest.{Forest, Empty, Then, Group, flat, nests}
 use Rattle.dvi_ops.specs.Runs.{characters, woven}
 use Rattle.dvi_ops.specs.View.{body_view}
 use Rattle.dvi_ops.specs.declared.body_op.BodyOp.{BodyOp}
-use Rattle.ship_core.specs.Pushes.{pushed_after, max_pushed}
+use Rattle.ship_core.specs.Pushes.{pushed_after}
+use Rattle.ship_core.specs.Private.Pushes.{max_pushed}
 
 -- At least as many are open as before.
 pushed_before : (pushed : ℕ) (is : List Instruction) → pushed ≤ max_pushed pushed is

@@ -34,7 +34,8 @@ ShowsItsMarks =
 -- Each instruction of the body of a page can be written, where the texts of its specials have fewer than 2^32 bytes in total.
 abbrev pub CanBeWritten : Type 0
 CanBeWritten =
-    (widths : Widths) (page : ShippedPage) → is_huge page ≡ false → EachLeaf (HasWidth widths) page.box_node.list → items_text page.box_node.list < 2 ^ 32
+    (widths : Widths) (page : ShippedPage) → is_huge page ≡ false → EachLeaf (HasWidth widths) page.box_node.list
+    → items_text page.box_node.list < 2 ^ 32
     → AllByRecursion IsWritable (flat (body_of page))
 
 -- No instruction of the body uses w, x, y or z, whatever the page.

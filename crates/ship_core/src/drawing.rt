@@ -1,20 +1,21 @@
 //! The instructions that draw marks.
 
-ghost use Rattle.std.specs.Prelude.{◌≡◌, ◌-ℤ◌, ◌++◌, [], ◌∷◌, pos, None, Some, Option, IfOk, OnOk};
+ghost use Rattle.std.specs.Prelude.{◌≡◌, ◌+ℤ◌, ◌-ℤ◌, ◌++◌, [], ◌∷◌, pos, true, false, None, Some, Option, IfOk, OnOk};
 ghost use Rattle.std.specs.Option.{option_map};
 ghost use Rattle.node_core.specs.declared.tree.Kind.{Kind};
 ghost use Rattle.dvi_ops.specs.Forest.{flat};
 ghost use Rattle.dvi_ops.specs.Instruction.{Across, Downward, Do, Push, Pop};
 ghost use Rattle.dvi_ops.specs.Runs.{instructions_of};
 ghost use Rattle.dvi_ops.specs.View.{body_view};
+ghost use Rattle.scaled_core.specs.Mark as body;
 ghost use Rattle.scaled_core.specs.Mark.{Special};
 ghost use Rattle.ship_core.specs.Drawing.{ruled, body_of_picture};
 ghost use Rattle.page_core.specs.Pictures.{Picture, stroke};
 ghost use Rattle.page_core.specs.Placing.{IsMarkEnd, strokes_in};
-ghost use Rattle.ship_core.specs.Inking.{inked, makes, leaves, movement, selection};
+ghost use Rattle.ship_core.specs.Private.Inking.{inked, makes, leaves, movement, selection};
 
 use dvi_ops::{BodyOp, PageRuns};
-use node_core::{BoxNode, Kind};
+use node_core::{BoxNode, Glyph, Kind};
 use page_core::MarkSink;
 use page_core::placing::{MarkKind, PagePosition, PlacedMark, Point};
 use scaled_core::Dimen;
@@ -83,7 +84,8 @@ fn append_ink(
 impl<'a> Drawing<'a> {
     /// A drawing without instructions, with capacity for `room` of them. The place is (0, 0), and no font is selected.
     pub fn new(alloc: Global, room: usize) -> Result<Drawing<'a>, AllocError>
-        ensures { IfOk result (λ drawing. (kind : Kind) (rest : Picture) → makes kind drawing rest ≡ flat (body_of_picture kind (pos 0) (pos 0) None rest)) }
+        ensures { IfOk result (λ drawing. (kind : Kind) (rest : Picture)
+            → makes kind drawing rest ≡ flat (body_of_picture kind (pos 0) (pos 0) None rest)) }
     {
         Ok(Drawing {
             ops: PageRuns::new(alloc, room)?,
@@ -116,12 +118,13 @@ impl<'a> Drawing<'a> {
         ensures h { OnOk result (self.new.h ≡ self.old.h) }
         ensures v { OnOk result (self.new.v ≡ self.old.v) }
         ensures font { OnOk result (self.new.font ≡ Some slot) }
-        ensures ops { OnOk result (instructions_of self.new.ops ≡ instructions_of self.old.ops ++ selection (option_map pos self.old.font) (pos slot)) }
+        ensures ops { OnOk result (instructions_of self.new.ops ≡ instructions_of self.old.ops
+            ++ selection (option_map pos self.old.font) (pos slot)) }
     {
         if self.font == Some(slot) {
             return Ok(());
         }
-        self.ops.push(BodyOp::FontNum(slot))?;
+        self.ops.push(BodyOp::FontNum(i32::from(slot)))?;
         self.font = Some(slot);
         Ok(())
     }
@@ -143,10 +146,57 @@ impl<'a> Drawing<'a> {
         Ok(())
     }
 
+    /// Draws a glyph of a horizontal list at a place, with the value of h after it.
+    #[tactic(auto, using(crate::proofs::Drawings::movements))]
+    #[inline(always)]
+    fn append_glyph(&mut self, at: PagePosition, glyph: Glyph, end: Dimen) -> Result<(), AllocError>
+        requires { end ≡ at.h +ℤ glyph.width }
+        ensures ops { OnOk result ((rest : Picture) → makes Kind.Horizontal self.old
+            (stroke (body.Glyph (pos glyph.slot) (pos glyph.code) at.h at.v) glyph.width rest) ≡ makes Kind.Horizontal self.new rest) }
+        ensures left { OnOk result ((rest : Picture) → leaves self.old
+            (stroke (body.Glyph (pos glyph.slot) (pos glyph.code) at.h at.v) glyph.width rest) ≡ leaves self.new rest) }
+        ensures h { OnOk result (self.new.h ≡ end) }
+        ensures v { OnOk result (self.new.v ≡ at.v) }
+        ensures font { OnOk result (self.new.font ≡ Some glyph.slot) }
+    {
+        let Point { h, v } = at;
+        self.move_to(h, v)?;
+        self.select(glyph.slot)?;
+        self.ops.push_character(glyph.code)?;
+        self.h = end;
+        Ok(())
+    }
+
+    /// Draws a glyph of the selected font at a place where the drawing is, where there is room for it; and returns whether it did.
+    #[tactic(auto, using(crate::proofs::Drawings::movements))]
+    #[inline(always)]
+    fn append_next(&mut self, at: PagePosition, glyph: Glyph, end: Dimen) -> bool
+        requires end { end ≡ at.h +ℤ glyph.width }
+        requires h { self.old.h ≡ at.h }
+        requires v { self.old.v ≡ at.v }
+        requires font { self.old.font ≡ Some glyph.slot }
+        ensures ops { result ≡ true → (rest : Picture) → makes Kind.Horizontal self.old
+            (stroke (body.Glyph (pos glyph.slot) (pos glyph.code) at.h at.v) glyph.width rest) ≡ makes Kind.Horizontal self.new rest }
+        ensures left { result ≡ true → (rest : Picture) → leaves self.old
+            (stroke (body.Glyph (pos glyph.slot) (pos glyph.code) at.h at.v) glyph.width rest) ≡ leaves self.new rest }
+        ensures h { result ≡ true → self.new.h ≡ end }
+        ensures v { result ≡ true → self.new.v ≡ at.v }
+        ensures font { result ≡ true → self.new.font ≡ Some glyph.slot }
+        ensures full { result ≡ false → self.new ≡ self.old }
+    {
+        let _h = at.h;
+        if !self.ops.push_in_room(glyph.code) {
+            return false;
+        }
+        self.h = end;
+        true
+    }
+
     /// Draws a special at a place. It leaves h and v there, since a special has no width.
     #[tactic(auto, using(crate::proofs::Drawings::movements))]
     fn append_special(&mut self, at: PagePosition, text: &'a [u8]) -> Result<(), AllocError>
-        ensures ops { OnOk result ((kind : Kind) (rest : Picture) → makes kind self.old (stroke (Special at.h at.v text.now) (pos 0) rest) ≡ makes kind self.new rest) }
+        ensures ops { OnOk result ((kind : Kind) (rest : Picture) → makes kind self.old (stroke (Special at.h at.v text.now) (pos 0) rest)
+            ≡ makes kind self.new rest) }
         ensures font { OnOk result ((rest : Picture) → leaves self.old (stroke (Special at.h at.v text.now) (pos 0) rest) ≡ leaves self.new rest) }
     {
         self.move_to(at.h, at.v)?;
@@ -184,9 +234,9 @@ impl<'a> Drawing<'a> {
 }
 
 impl<'a> MarkSink<&'a BoxNode> for Drawing<'a> {
-    ghost use Rattle.std.specs.Prelude.{List, Option, ℤ};
+    ghost use Rattle.std.specs.Prelude.{◌≡◌, List, Option, Some, ℤ};
     ghost use Rattle.dvi_ops.specs.Instruction.{Instruction};
-    ghost use Rattle.ship_core.specs.Inking.{makes, leaves, IsOpened};
+    ghost use Rattle.ship_core.specs.Private.Inking.{makes, leaves, IsOpened};
 
     type Place = PagePosition;
 
@@ -198,12 +248,24 @@ impl<'a> MarkSink<&'a BoxNode> for Drawing<'a> {
 
     ghost Opens = { IsOpened };
 
+    ghost Stands = { λ drawing h v slot. (drawing.h ≡ h) × (drawing.v ≡ v) × (drawing.font ≡ Some slot) };
+
     #[inline(always)]
     fn draw(&mut self, kind: Kind, mark: Option<PlacedMark>) -> Result<(), AllocError> {
         match mark {
             None => Ok(()),
             Some(mark) => self.draw_mark(kind, mark),
         }
+    }
+
+    #[inline(always)]
+    fn draw_glyph(&mut self, at: PagePosition, glyph: Glyph, end: Dimen) -> Result<(), AllocError> {
+        self.append_glyph(at, glyph, end)
+    }
+
+    #[inline(always)]
+    fn draw_next(&mut self, at: PagePosition, glyph: Glyph, end: Dimen) -> bool {
+        self.append_next(at, glyph, end)
     }
 
     fn draw_special(&mut self, at: PagePosition, text: &'a [u8]) -> Result<(), AllocError> {

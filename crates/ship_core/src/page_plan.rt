@@ -37,7 +37,8 @@ fn draw_page(
     at: PagePoint,
     room: usize,
 ) -> Result<Option<PageRuns<'_>>, AllocError>
-    ensures body { IfOk result (λ drawn. IfSome drawn (λ runs. (counts : List ℤ) → instructions_of runs ≡ flat (body_of (page_at counts at.h at.v box_node.now)))) }
+    ensures body { IfOk result (λ drawn. IfSome drawn (λ runs. (counts : List ℤ)
+        → instructions_of runs ≡ flat (body_of (page_at counts at.h at.v box_node.now)))) }
     ensures huge { IfOk result (λ drawn. (counts : List ℤ) → is_huge (page_at counts at.h at.v box_node.now) ≡ is_none drawn) }
 {
     if !ends_fit(box_node, at) {
@@ -82,9 +83,9 @@ pub fn plan_with_room(
     }
 }
 
-/// As `plan`, with the characters apart from the other instructions, and with capacity for `room` characters from the start. Drawing stops at the first
-/// number that does not fit, so one walk is enough; only where memory was refused, `is_huge` walks over the page again to find whether HugePage comes
-/// first.
+/// As `plan`, with the characters apart from the other instructions, and with capacity for `room` characters from the start. Drawing stops at the
+/// first number that does not fit, so one walk is enough; only where memory was refused, `is_huge` walks over the page again to find whether HugePage
+/// comes first.
 pub fn plan_runs(
     alloc: Global,
     box_node: &BoxNode,

@@ -2,9 +2,9 @@
 
 use crate::samples::ONE_RULE;
 use boxglue_calls::Font;
+use boxglue_calls::jobs::status::{JOB_EXISTS, NO_JOB};
+use boxglue_calls::jobs::{JobHandle, answers, commands, finish, free, new, take};
 use boxglue_calls::status::{ACCEPTED, BAD_FONT_NAME, BUFFER_TOO_SMALL, REFUSED};
-use boxglue_jobs::status::{JOB_EXISTS, NO_JOB};
-use boxglue_jobs::{JobHandle, answers, commands, finish, free, new, take};
 use std::alloc::Global;
 
 /// The pieces of the script `ONE_RULE`.

@@ -1,11 +1,11 @@
 //! Replies that are rows of numbers.
 
 use crate::samples::ONE_RULE;
-use boxglue_calls::status::{ACCEPTED, BUFFER_TOO_SMALL, REFUSED};
-use boxglue_jobs::status::NO_JOB;
-use boxglue_jobs::{
+use boxglue_calls::jobs::status::NO_JOB;
+use boxglue_calls::jobs::{
     BoxSizes, JobHandle, ReplyRow, ReplySizes, answers, end, new, reply_kind, run, run_replies,
 };
+use boxglue_calls::status::{ACCEPTED, BUFFER_TOO_SMALL, REFUSED};
 
 /// No sizes.
 const FLAT: BoxSizes = BoxSizes {

@@ -2,7 +2,7 @@
 
 ghost use Rattle.std.specs.Prelude.{IfOk, None};
 ghost use Rattle.tfm_core.specs.Slots.{Slots};
-ghost use Rattle.dvi_layout.specs.Shippable.{IsShippable};
+ghost use Rattle.dvi_write.specs.Shippable.{IsShippable};
 
 use dvi_write::{DviWriter, Fonts, Memory, Offsets, WriteFault, WrittenFile};
 use job_core::{

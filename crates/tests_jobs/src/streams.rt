@@ -1,7 +1,7 @@
 //! Readers and writers that give or take little in each call, or nothing, or are interrupted.
 
-use boxglue_host::{HostFault, read_all, read_within, write_some};
 use boxglue_program::{Unwritten, write_text};
+use boxglue_words::{HostFault, read_all, read_within, write_some};
 use std::io;
 use std::io::{Error, ErrorKind, Read, Write};
 

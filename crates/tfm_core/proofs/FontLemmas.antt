@@ -6,7 +6,8 @@ use Rattle.std.proofs.lemmas.Bool.{ltb-true, leb-true, leb-false, le-ltb}
 use Rattle.std.proofs.lemmas.Option.{option_and_then_some, slice_get-get_or}
 use Rattle.tfm_core.specs.declared.record.CharInfo.{CharInfo}
 use Rattle.tfm_core.specs.declared.record.LigKernStep.{LigKernStep}
-use Rattle.tfm_core.specs.Fonts.{HasAction, IsInTables, IsWhole, SizedFont, action_of, has_action, is_in_tables, matching_step}
+use Rattle.tfm_core.specs.Fonts.{SizedFont, action_of, matching_step}
+use Rattle.tfm_core.specs.Private.Fonts.{HasAction, IsInTables, IsWhole, has_action, is_in_tables}
 use Rattle.tfm_core.specs.Program.{first_for, info_program, is_for, is_step_for}
 use Rattle.tfm_core.specs.declared.font.Step.TheVariants.{Kern, Ligature}
 use Rattle.tfm_core.specs.Rules.{character_at, names_absent_kern_or_character, with_width}

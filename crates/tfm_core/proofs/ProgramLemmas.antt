@@ -8,7 +8,7 @@ use Rattle.tfm_core.specs.declared.record.LigKernStep.{LigKernStep}
 use Rattle.tfm_core.specs.declared.record.Tag.{Tag}
 use Rattle.tfm_core.specs.declared.record.Tag.TheVariants.{Plain, Program, Larger, Recipe}
 use Rattle.tfm_core.specs.Fonts.{SizedFont, matching_step}
-use Rattle.tfm_core.specs.FontView.{start_of, tag_start}
+use Rattle.tfm_core.specs.Private.FontView.{start_of, tag_start}
 use Rattle.tfm_core.specs.Program.{first_for, first_step, info_program, is_for, tag_program, taken_steps, taken_steps_from}
 use Rattle.tfm_core.specs.Rules.{character_at}
 

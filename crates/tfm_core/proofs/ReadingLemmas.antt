@@ -8,7 +8,8 @@ use Rattle.tfm_core.specs.declared.record.LigKernStep.{LigKernStep}
 use Rattle.tfm_core.specs.MetricFile.{MetricFile, StandsIn, char_info, counts_in, lig_kern_step, record_in, record_with}
 use Rattle.tfm_core.specs.Words.{signed_word}
 use Rattle.tfm_core.proofs.TableLemmas.{IsTable-table, table-unique}
-use Rattle.tfm_core.specs.Rules.{IsFirstBroken, IsMetricFile, KeepsRules, broken_in_front, broken_in_tables, breaks_char_info, breaks_design_size, breaks_fix_word, breaks_lig_kern, first_broken, is_broken, metric_file, record_unless}
+use Rattle.tfm_core.specs.Rules.{IsFirstBroken, IsMetricFile, broken_in_front, breaks_char_info, breaks_design_size, breaks_fix_word, breaks_lig_kern, first_broken, is_broken, metric_file, record_unless}
+use Rattle.tfm_core.specs.Private.Rules.{KeepsRules, broken_in_tables}
 
 -- The six tests, in their order.
 abbrev chosen : Bool → Bool → Bool → Bool → Bool → Bool → Option TfmCause

@@ -7,7 +7,7 @@ use Rattle.tfm_core.specs.declared.font.FontRow.{FontRow}
 use Rattle.tfm_core.specs.declared.font.GlyphSize.{GlyphSize}
 use Rattle.tfm_core.specs.declared.record.LigKernStep.{LigKernStep}
 use Rattle.tfm_core.specs.Fonts.{SizedFont, action_of, glyph_of, matching_step, step_of}
-use Rattle.tfm_core.specs.FontView.{AreRows, IsFontRow, is_in, no_row}
+use Rattle.tfm_core.specs.Private.FontView.{AreRows, IsFontRow, is_in, no_row}
 use Rattle.tfm_core.proofs.ProgramLemmas.{matching_step-without}
 
 -- The row that is read for a character is the row of that character.

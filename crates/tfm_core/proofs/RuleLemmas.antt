@@ -6,7 +6,8 @@ use Rattle.tfm_core.specs.Scaling.{IsFontSize}
 use Rattle.std.proofs.lemmas.Bool.Decides.{nat_tests}
 use Rattle.std.proofs.lemmas.Bool.{eqb-true, ltb-false}
 use Rattle.tfm_core.specs.declared.record.Counts.{Counts}
-use Rattle.tfm_core.specs.MetricFile.{HasTables, counts_in, end_place}
+use Rattle.tfm_core.specs.MetricFile.{counts_in, end_place}
+use Rattle.tfm_core.specs.Private.MetricFile.{HasTables}
 use Rattle.tfm_core.specs.Rules.{breaks_counts, breaks_design_size, has_large_number, has_wrong_codes, is_too_short, lacks_a_table}
 
 -- Both parts of a test joined by `||` fail.

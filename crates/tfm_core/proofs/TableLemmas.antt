@@ -3,7 +3,8 @@ use Rattle.std.proofs.Common.{◌≡◌, ℤ, ℕ, ◌+◌, ◌*◌, ◌<◌, Li
 use Rattle.std.proofs.lemmas.List.{same_lists, take_rest}
 use Rattle.std.proofs.lemmas.List.FromFn.{map-range_with_len_more, length-map-range_with_len, get_or-map-range_with_len}
 use Rattle.tfm_core.specs.Words.{IsWordTable, from_word, signed_word, table}
-use Rattle.tfm_core.specs.MetricFile.{char_info, character_count, lig_kern_step, places_of, record_with}
+use Rattle.tfm_core.specs.MetricFile.{char_info, character_count, lig_kern_step, record_with}
+use Rattle.tfm_core.specs.Private.MetricFile.{places_of}
 use Rattle.tfm_core.specs.declared.places.Places.{Places}
 use Rattle.tfm_core.specs.declared.record.CharInfo.{CharInfo}
 use Rattle.tfm_core.specs.declared.record.Counts.{Counts}

@@ -3,14 +3,16 @@ use Rattle.std.proofs.Common.{◌≡◌, ℕ, ℤ, ◌+◌, ◌*◌, Bool, true,
 use Rattle.std.specs.List.{enumerate_from, list_all, list_any}
 use Rattle.tfm_core.specs.declared.record.CharInfo.{CharInfo}
 use Rattle.tfm_core.specs.declared.record.LigKernStep.{LigKernStep}
-use Rattle.tfm_core.specs.Fonts.{IsWhole, SizedFont, are_dimens_at, fits_at, font_at, has_action, is_in_tables, is_space_at}
+use Rattle.tfm_core.specs.Fonts.{SizedFont, are_dimens_at, fits_at, font_at, is_space_at}
+use Rattle.tfm_core.specs.Private.Fonts.{IsWhole, has_action, is_in_tables}
 use Rattle.tfm_core.specs.Scaling.{scaled}
 use Rattle.tfm_core.proofs.RuleLemmas.{or_false}
 use Rattle.tfm_core.proofs.FontLemmas.{and_true}
 use Rattle.std.proofs.lemmas.List.{length-map}
 use Rattle.std.proofs.lemmas.Bool.{leb-false, lt-ltb}
 use Rattle.tfm_core.specs.MetricFile.{MetricFile}
-use Rattle.tfm_core.specs.Rules.{KeepsRules, breaks_char_info, breaks_character, breaks_lig_kern, breaks_step, names_absent_kern_or_character}
+use Rattle.tfm_core.specs.Rules.{breaks_char_info, breaks_character, breaks_lig_kern, breaks_step, names_absent_kern_or_character}
+use Rattle.tfm_core.specs.Private.Rules.{KeepsRules}
 
 all_from_none : {X : Type 0} (p q : X → Bool) → ((x : X) → p x ≡ false → q x ≡ true) → (xs : List X) → list_any p xs ≡ false → list_all q xs ≡ true
 all_from_none p q step [] h = refl

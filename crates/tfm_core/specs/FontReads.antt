@@ -32,4 +32,5 @@ pub record IsFontIn (bytes : List ℕ) (size : Option ℤ) (font : SizedFont) : 
 abbrev pub IsReadRefusal : List ℕ → (size : Option ℤ) → FontReadFault → Type 0
 IsReadRefusal bytes size OutOfMemory = broken_in_front bytes ≡ None
 IsReadRefusal bytes size (BadTfm cause) = metric_file bytes ≡ Err cause
-IsReadRefusal bytes size DimensionTooLarge = (metrics : MetricFile) × (metric_file bytes ≡ Ok metrics) × (fits_at metrics (chosen_size metrics size) ≡ false)
+IsReadRefusal bytes size DimensionTooLarge =
+    (metrics : MetricFile) × (metric_file bytes ≡ Ok metrics) × (fits_at metrics (chosen_size metrics size) ≡ false)

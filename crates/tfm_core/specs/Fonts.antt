@@ -1,5 +1,6 @@
 -- A metric file at a size (TeX: The Program, part 30).
-use Rattle.std.specs.Prelude.{◌≡◌, ◌&&◌, ◌||◌, ◌+◌, ◌-◌, ◌*◌, ◌<◌, ℕ, ℤ, pos, Bool, true, not, List, Option, Some, None, if◌then◌else◌, IsSome, get_or, is_none, length, map, nat_le, nat_lt, slice_get, unwrap_or}
+use Rattle.std.specs.Prelude.{◌&&◌, ◌+◌, ◌-◌, ◌*◌, ℕ, ℤ, pos, Bool, List, Option, Some, None, if◌then◌else◌, get_or, is_none, map, nat_le, slice_get}
+use Rattle.std.specs.Prelude.{unwrap_or}
 use Rattle.std.specs.Int.{w32}
 use Rattle.std.specs.Int.RustNames.{FitsSigned}
 use Rattle.std.specs.List.{list_all}
@@ -13,7 +14,7 @@ use Rattle.tfm_core.specs.declared.record.CharInfo.{CharInfo}
 use Rattle.tfm_core.specs.declared.record.LigKernStep.{LigKernStep}
 use Rattle.tfm_core.specs.MetricFile.{MetricFile}
 use Rattle.tfm_core.specs.Program.{first_for, info_program}
-use Rattle.tfm_core.specs.Rules.{character_at, names_absent_kern_or_character}
+use Rattle.tfm_core.specs.Rules.{character_at}
 use Rattle.tfm_core.specs.Scaling.{IsFontSize, design_size_of, scaled}
 
 -- The requested size, or the design size if none is requested (TeX: The Program, part 30, §568).
@@ -123,26 +124,3 @@ action_of font s =
 -- What comes between two characters: a kern, or a ligature in their place (TFtoPL, 13).
 unfoldable pub step_of : SizedFont → ℕ → ℕ → Option Step
 step_of font code following = option_and_then (action_of font) (matching_step font code following)
-
--- A character's indices are within their tables (own).
-unfoldable pub is_in_tables : SizedFont → CharInfo → Bool
-is_in_tables font c = nat_lt c.width (length font.widths) && nat_lt c.height (length font.heights) && nat_lt c.depth (length font.depths)
-
--- A character's indices are within their tables: `is_in_tables` as facts (own).
-pub record IsInTables (font : SizedFont) (c : CharInfo) : Type 0 where
-  pub width : c.width < length font.widths
-  pub height : c.height < length font.heights
-  pub depth : c.depth < length font.depths
-
--- A step that can apply to a character names a kern or a character that is there (own).
-unfoldable pub has_action : SizedFont → LigKernStep → Bool
-has_action font s = nat_lt 128 s.skip || not (names_absent_kern_or_character font.first font.characters (length font.kerns) s)
-
--- A step gives a kern or a ligature (own).
-pub record HasAction (font : SizedFont) (s : LigKernStep) : Type 0 where
-  pub given : IsSome (action_of font s)
-
--- All characters have sizes, and all steps name what is there (own).
-pub record IsWhole (font : SizedFont) : Type 0 where
-  pub characters : list_all (is_in_tables font) font.characters ≡ true
-  pub steps : list_all (has_action font) font.steps ≡ true

@@ -1,4 +1,3 @@
-pub mod FontView
 pub mod Fonts
 pub mod Slots
 pub mod MetricFile
@@ -9,3 +8,4 @@ pub mod Words
 pub mod NamedBytes
 pub mod FileWidths
 pub mod FontReads
+pub mod Private

@@ -1,9 +1,8 @@
 -- A metric file: its record, and the place of each entry in the bytes (TFtoPL, 8 to 15).
-use Rattle.std.specs.Prelude.{◌≡◌, ◌==◌, ◌+◌, ◌-◌, ◌*◌, ◌/◌, ◌%◌, ℕ, ℤ, List, length, ◌≤◌, if◌then◌else◌, slice_index}
+use Rattle.std.specs.Prelude.{◌≡◌, ◌==◌, ◌+◌, ◌-◌, ◌/◌, ◌%◌, ℕ, ℤ, List, if◌then◌else◌, slice_index}
 use Rattle.tfm_core.specs.declared.record.Counts.{Counts}
 use Rattle.tfm_core.specs.declared.record.CharInfo.{CharInfo}
 use Rattle.tfm_core.specs.declared.record.LigKernStep.{LigKernStep}
-use Rattle.tfm_core.specs.declared.places.Places.{Places}
 use Rattle.tfm_core.specs.declared.record.Tag.{Tag}
 use Rattle.tfm_core.specs.declared.record.Tag.TheVariants.{Plain, Program, Larger, Recipe}
 use Rattle.tfm_core.specs.Words.{IsWordTable, table, from_word, halfword, signed_word}
@@ -105,26 +104,6 @@ parameters_place c = kerns_place c + c.kerns + c.recipes
 -- The word after the parameters, the last table; in a file that keeps the rule Counts it is lf (TFtoPL, 8).
 abbrev pub end_place : Counts → ℕ
 end_place c = parameters_place c + c.parameters
-
--- The word at which each table that is read begins, and the word after the last one (TFtoPL, 9).
-unfoldable pub places_of : Counts → Places
-places_of c = record {
-  characters = characters_place c;
-  widths = widths_place c;
-  heights = heights_place c;
-  depths = depths_place c;
-  italics = italics_place c;
-  steps = steps_place c;
-  kerns = kerns_place c;
-  parameters = parameters_place c;
-  end = end_place c;
-}
-
--- The bytes are long enough for the twelve numbers, the first two words of the header and all tables (TFtoPL, 8).
-pub record HasTables (bytes : List ℕ) : Type 0 where
-  pub numbers : 24 ≤ length bytes
-  pub header : 2 ≤ (counts_in bytes).header
-  pub tables : 4 * end_place (counts_in bytes) ≤ length bytes
 
 -- Word 0 of the header: the checksum (TFtoPL, 10).
 abbrev pub check_sum_in : List ℕ → ℤ

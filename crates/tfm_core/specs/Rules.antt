@@ -1,6 +1,7 @@
 -- The rules of a metric file, each as a test that holds if the rule is broken (TeX: The Program, part 30, §560 to §576, read_font_info; their order
 -- is own).
-use Rattle.std.specs.Prelude.{◌≡◌, ◌==◌, ◌&&◌, ◌||◌, ◌+◌, ◌-◌, ◌*◌, ◌/◌, ℕ, ℤ, pos, Bool, false, not, List, [], ◌∷◌, Option, Some, None, Result, Ok, Err, if◌then◌else◌, int_lt, length, drop, take, nat_le, nat_lt, slice_get, unsigned_abs, is_none, IsTrue, IsFalse}
+use Rattle.std.specs.Prelude.{◌==◌, ◌&&◌, ◌||◌, ◌+◌, ◌-◌, ◌*◌, ◌/◌, ℕ, ℤ, pos, Bool, false, not, List, [], ◌∷◌, Option, Some, None, Result, Ok, Err}
+use Rattle.std.specs.Prelude.{if◌then◌else◌, int_lt, length, drop, take, nat_le, nat_lt, slice_get, unsigned_abs, is_none, IsTrue, IsFalse}
 use Rattle.std.specs.List.{AllByRecursion, enumerate_from, find, list_any}
 use Rattle.std.specs.Ordering.{int_eq}
 use Rattle.tfm_core.specs.declared.fault.TfmCause.{TfmCause}
@@ -78,7 +79,8 @@ space_words parameters = take 3 (drop 1 parameters)
 
 -- A width, height, depth or italic correction is no fix word (TeX: The Program, part 30, §571).
 unfoldable pub some_size_is_no_fix_word : MetricFile → Bool
-some_size_is_no_fix_word file = some_is_no_fix_word file.widths || some_is_no_fix_word file.heights || some_is_no_fix_word file.depths || some_is_no_fix_word file.italics
+some_size_is_no_fix_word file = some_is_no_fix_word file.widths || some_is_no_fix_word file.heights || some_is_no_fix_word file.depths
+    || some_is_no_fix_word file.italics
 
 -- A kern or one of the parameters 2, 3 and 4 is no fix word; the other parameters are not used (own).
 unfoldable pub some_distance_is_no_fix_word : MetricFile → Bool
@@ -155,21 +157,6 @@ first_broken bytes = find (is_broken bytes) (TooShort ∷ Counts ∷ DesignSize 
 -- The first broken rule among those that need no table (own).
 unfoldable pub broken_in_front : List ℕ → Option TfmCause
 broken_in_front bytes = find (is_broken bytes) (TooShort ∷ Counts ∷ DesignSize ∷ [])
-
--- The first broken rule among those that need tables (own).
-unfoldable pub broken_in_tables : MetricFile → Option TfmCause
-broken_in_tables file =
-    if breaks_char_info file then Some CharInfo
-    else (if breaks_fix_word file then Some FixWord
-    else (if breaks_lig_kern file then Some LigKern
-    else None))
-
--- The record keeps the rules; those about places in the bytes are not among them (own).
-pub record KeepsRules (file : MetricFile) : Type 0 where
-  pub design_size : breaks_design_size file.design_word ≡ false
-  pub char_info : breaks_char_info file ≡ false
-  pub fix_word : breaks_fix_word file ≡ false
-  pub lig_kern : breaks_lig_kern file ≡ false
 
 -- The record, if no rule is broken (own).
 abbrev pub record_unless : MetricFile → Option TfmCause → Result MetricFile TfmCause

@@ -1,5 +1,6 @@
 -- Scaling of the words of a metric file by the size of a font (TeX: The Program, part 30, §571 and §572).
-use Rattle.std.specs.Prelude.{◌≡◌, ◌==◌, ◌||◌, ◌^◌, ◌+◌, ◌-◌, ◌/◌, ◌%◌, ◌<◌, ◌≤◌, ◌+ℤ◌, ◌*ℤ◌, ◌≤ℤ◌, ◌<ℤ◌, ℕ, ℤ, pos, Bool, Option, Some, None, if◌then◌else◌, int_div, nat_lt, unsigned_abs}
+use Rattle.std.specs.Prelude.{◌≡◌, ◌==◌, ◌||◌, ◌^◌, ◌+◌, ◌-◌, ◌/◌, ◌%◌, ◌<◌, ◌≤◌, ◌+ℤ◌, ◌*ℤ◌, ◌≤ℤ◌, ◌<ℤ◌, ℕ, ℤ, pos, Bool, Option, Some, None}
+use Rattle.std.specs.Prelude.{if◌then◌else◌, int_div, nat_lt, unsigned_abs}
 use Rattle.std.specs.Int.{w32, cast_unsigned, int_div_euclid}
 
 -- A font's size in scaled points: positive and below 2^27 (TeX: The Program, part 30, and part 49, §1259).

@@ -1,7 +1,7 @@
 //! Sets of characters. With one of them a font rules out most pairs of characters without looking at a program.
 
 ghost use Rattle.std.specs.Prelude.{◌≡◌, ◌==◌, ◌||◌, ◌<◌, ℕ, false};
-ghost use Rattle.tfm_core.specs.FontView.{is_in};
+ghost use Rattle.tfm_core.specs.Private.FontView.{is_in};
 
 /// A set of characters: bit `c % 64` of word `c / 64` is 1 if character c is in it.
 #[derive(Clone, Copy, Debug)]

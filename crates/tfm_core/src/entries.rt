@@ -142,7 +142,7 @@ impl Model for Entries {
 
 impl Entries {
     /// The record in the bytes, for the counts at their front.
-    #[tactic(auto, unfolding(crate::specs::MetricFile::places_of, crate::specs::MetricFile::record_with))]
+    #[tactic(auto, unfolding(crate::specs::Private::MetricFile::places_of, crate::specs::MetricFile::record_with))]
     pub fn read(alloc: Global, bytes: &[u8], counts: Counts) -> Result<Entries, AllocError>
         requires header { 2 ≤ counts.header }
         requires room { 4 * end_place counts ≤ length bytes.now }

@@ -3,8 +3,8 @@
 ghost use Rattle.std.specs.Prelude.{◌≡◌, ◌↔◌, Err, None, Some, IfOk, IfSome, IsSome, OnOk, false, true, if◌then◌else◌, is_some};
 ghost use Rattle.tfm_core.specs.declared.fault.FontFault.TheVariants.{DimensionTooLarge};
 ghost use Rattle.tfm_core.specs.Fonts.{HasNumbers, chosen_size, fits_at, font_at, glyph_of, matching_step, step_of};
-ghost use Rattle.tfm_core.specs.FontView.{AreRows};
-ghost use Rattle.tfm_core.specs.Rules.{KeepsRules};
+ghost use Rattle.tfm_core.specs.Private.FontView.{AreRows};
+ghost use Rattle.tfm_core.specs.Private.Rules.{KeepsRules};
 
 use crate::character_set::CharacterSet;
 use crate::entries::Entries;
@@ -64,7 +64,7 @@ impl Model for Font {
 
     ghost Value = { SizedFont };
 
-    ghost use Rattle.tfm_core.specs.FontView.{font_view, font_is_whole};
+    ghost use Rattle.tfm_core.specs.Private.FontView.{font_view, font_is_whole};
 
     ghost view = { font_view };
 
@@ -165,8 +165,8 @@ impl Font {
         self.rows[usize::from(code)].glyph
     }
 
-    /// The sizes of a character that the font has, if its program has no step for the following one; otherwise `None`. One look at what is known of the
-    /// character answers both, and most characters of a text are so. Does not allocate.
+    /// The sizes of a character that the font has, if its program has no step for the following one; otherwise `None`. One look at what is known of
+    /// the character answers both, and most characters of a text are so. Does not allocate.
     #[inline(always)]
     pub fn alone(&self, code: u8, following: u8) -> Option<GlyphSize>
         ensures value { result ≡ (if is_some (matching_step self.now code following) then None else glyph_of self.now code) }

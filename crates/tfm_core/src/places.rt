@@ -1,7 +1,8 @@
 //! The places of the tables in a metric file.
 
 ghost use Rattle.std.specs.Prelude.{◌≡◌, ◌≤◌};
-ghost use Rattle.tfm_core.specs.MetricFile.{character_count, places_of};
+ghost use Rattle.tfm_core.specs.MetricFile.{character_count};
+ghost use Rattle.tfm_core.specs.Private.MetricFile.{places_of};
 
 use crate::record::Counts;
 
@@ -28,7 +29,7 @@ pub fn character_count(counts: Counts) -> usize
 }
 
 /// The places of the tables.
-#[tactic(auto, unfolding(crate::specs::MetricFile::places_of))]
+#[tactic(auto, unfolding(crate::specs::Private::MetricFile::places_of))]
 pub fn places_of(counts: Counts) -> Places
     ensures { result ≡ places_of counts }
 {

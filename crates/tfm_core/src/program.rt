@@ -1,7 +1,7 @@
 //! The ligature/kern program of a character (TFtoPL, 13; TeX: The Program, part 30, §545).
 
 ghost use Rattle.std.specs.Prelude.{◌≡◌, ◌<◌, ◌||◌, ℕ, is_some, slice_get};
-ghost use Rattle.tfm_core.specs.FontView.{is_in, tag_start};
+ghost use Rattle.tfm_core.specs.Private.FontView.{is_in, tag_start};
 ghost use Rattle.tfm_core.specs.Program.{first_for, first_step, is_for, taken_steps};
 
 use crate::character_set::CharacterSet;

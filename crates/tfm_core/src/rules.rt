@@ -1,7 +1,10 @@
 //! The rules of a metric file (TeX: The Program, part 30, §560 to §576).
 
 ghost use Rattle.std.specs.Prelude.{◌≡◌, ◌<◌, length};
-ghost use Rattle.tfm_core.specs.Rules.{begins_nonzero, begins_past_steps, some_table_begins_nonzero, breaks_char_info, breaks_character, breaks_counts, breaks_design_size, breaks_fix_word, breaks_lig_kern, breaks_step, character_at, has_large_number, some_distance_is_no_fix_word, some_size_is_no_fix_word, some_is_no_fix_word, has_wrong_codes, is_too_short, lacks_a_table, names_absent_kern_or_character, space_words};
+ghost use Rattle.tfm_core.specs.Rules.{begins_nonzero, begins_past_steps, some_table_begins_nonzero, breaks_char_info, breaks_character};
+ghost use Rattle.tfm_core.specs.Rules.{breaks_counts, breaks_design_size, breaks_fix_word, breaks_lig_kern, breaks_step, character_at};
+ghost use Rattle.tfm_core.specs.Rules.{has_large_number, some_distance_is_no_fix_word, some_size_is_no_fix_word, some_is_no_fix_word};
+ghost use Rattle.tfm_core.specs.Rules.{has_wrong_codes, is_too_short, lacks_a_table, names_absent_kern_or_character, space_words};
 
 use crate::entries::{Entries, counts};
 use crate::places::places_of;
@@ -58,7 +61,7 @@ fn lacks_a_table(c: Counts) -> bool
 }
 
 /// Whether the twelve numbers do not agree with each other.
-#[tactic(auto, unfolding(crate::specs::Rules::breaks_counts, crate::specs::MetricFile::places_of))]
+#[tactic(auto, unfolding(crate::specs::Rules::breaks_counts, crate::specs::Private::MetricFile::places_of))]
 pub fn breaks_counts(c: Counts) -> bool
     ensures { result ≡ breaks_counts c }
 {

@@ -1,9 +1,12 @@
 //! The contents of a metric file at a size (TeX: The Program, part 30).
 
 ghost use Rattle.std.specs.Prelude.{◌≡◌, ◌≤◌, ◌<◌, ℕ, map, IfOk, IfSome, is_some, true};
-ghost use Rattle.tfm_core.specs.Fonts.{HasAction, HasNumbers, IsInTables, action_of, are_dimens_at, fits_at, font_at, glyph_of, is_dimen_at, is_space_at, matching_step, parameter, sizes_of, space_at};
-ghost use Rattle.tfm_core.specs.FontView.{is_in, start_of};
-ghost use Rattle.tfm_core.specs.Rules.{KeepsRules, character_at};
+ghost use Rattle.tfm_core.specs.Fonts.{HasNumbers, action_of, are_dimens_at, fits_at, font_at, glyph_of, is_dimen_at, is_space_at, matching_step};
+ghost use Rattle.tfm_core.specs.Fonts.{parameter, sizes_of, space_at};
+ghost use Rattle.tfm_core.specs.Private.Fonts.{HasAction, IsInTables};
+ghost use Rattle.tfm_core.specs.Private.FontView.{is_in, start_of};
+ghost use Rattle.tfm_core.specs.Rules.{character_at};
+ghost use Rattle.tfm_core.specs.Private.Rules.{KeepsRules};
 ghost use Rattle.tfm_core.specs.Scaling.{scaled as scaled_by};
 
 use crate::character_set::CharacterSet;
@@ -38,7 +41,7 @@ impl Model for SizedFile {
 
     ghost Value = { SizedFont };
 
-    ghost use Rattle.tfm_core.specs.FontView.{file_view, file_is_whole};
+    ghost use Rattle.tfm_core.specs.Private.FontView.{file_view, file_is_whole};
 
     ghost view = { file_view };
 
@@ -218,7 +221,7 @@ impl SizedFile {
     }
 
     /// The step at which a character's program begins, if it has a program (TFtoPL, 13).
-    #[tactic(auto, unfolding(crate::specs::FontView::start_of))]
+    #[tactic(auto, unfolding(crate::specs::Private::FontView::start_of))]
     pub fn start(&self, code: u8) -> Option<u16>
         ensures { result ≡ start_of self.now code }
     {

@@ -3,9 +3,11 @@
 ghost use Rattle.std.specs.Prelude.{◌≡◌, None, Ok, Err, IfOk, OnErr};
 ghost use Rattle.tfm_core.specs.declared.fault.TfmCause.{TfmCause};
 ghost use Rattle.tfm_core.specs.declared.fault.TfmFault.TheVariants.{Bad, OutOfMemory};
-ghost use Rattle.tfm_core.specs.MetricFile.{HasTables, MetricFile};
+ghost use Rattle.tfm_core.specs.MetricFile.{MetricFile};
+ghost use Rattle.tfm_core.specs.Private.MetricFile.{HasTables};
 ghost use Rattle.tfm_core.specs.Scaling.{design_size_of};
-ghost use Rattle.tfm_core.specs.Rules.{IsFirstBroken, IsMetricFile, KeepsRules, broken_in_front, broken_in_tables, metric_file};
+ghost use Rattle.tfm_core.specs.Rules.{IsFirstBroken, IsMetricFile, broken_in_front, metric_file};
+ghost use Rattle.tfm_core.specs.Private.Rules.{KeepsRules, broken_in_tables};
 
 use crate::entries::{Entries, counts, word};
 use crate::fault::{TfmCause, TfmFault};
@@ -22,7 +24,7 @@ pub struct Tfm {
 
 impl Model for Tfm {
     ghost use Rattle.tfm_core.specs.MetricFile.{MetricFile};
-    ghost use Rattle.tfm_core.specs.Rules.{KeepsRules};
+    ghost use Rattle.tfm_core.specs.Private.Rules.{KeepsRules};
 
     ghost Value = { MetricFile };
 
@@ -50,7 +52,7 @@ fn broken_in_front(bytes: &[u8]) -> Option<TfmCause>
 }
 
 /// The first broken rule among those that need tables.
-#[tactic(auto, unfolding(crate::specs::Rules::broken_in_tables))]
+#[tactic(auto, unfolding(crate::specs::Private::Rules::broken_in_tables))]
 fn broken_in_tables(file: &Entries) -> Option<TfmCause>
     ensures { result ≡ broken_in_tables file.now }
 {
@@ -69,8 +71,8 @@ fn broken_in_tables(file: &Entries) -> Option<TfmCause>
 impl Tfm {
     /// The metric file in the bytes; bytes after its last word are ignored (TFtoPL, 8 to 15). Allocates its tables.
     ///
-    /// A file that breaks a rule is never accepted: `Bad` names the first broken rule. `OutOfMemory` is returned if an allocation is refused, and then
-    /// the rules `TooShort`, `Counts` and `DesignSize` are kept, which are tested before anything is allocated.
+    /// A file that breaks a rule is never accepted: `Bad` names the first broken rule. `OutOfMemory` is returned if an allocation is refused, and
+    /// then the rules `TooShort`, `Counts` and `DesignSize` are kept, which are tested before anything is allocated.
     #[tactic(auto, using(crate::proofs::ReadingLemmas::relations))]
     pub fn read(alloc: Global, bytes: &[u8]) -> Result<Tfm, TfmFault>
         ensures ok { IfOk result (λ tfm. IsMetricFile bytes.now tfm) }

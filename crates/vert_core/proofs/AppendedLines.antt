@@ -18,8 +18,8 @@ use Rattle.vert_core.specs.Appended.{IsAppended, IsUnappended}
 use Rattle.vert_core.specs.Finished.{finished}
 use Rattle.vert_core.specs.Lines.{vertical_items}
 use Rattle.vert_core.specs.Paragraphs.{set_empty, with_breaks, IsSet}
-use Rattle.vert_core.specs.Planned.{copied, stacked}
-use Rattle.vert_core.specs.PlannedParagraphs.{IsPlanned}
+use Rattle.vert_core.specs.Private.Planned.{copied, stacked}
+use Rattle.vert_core.specs.Private.PlannedParagraphs.{IsPlanned}
 use Rattle.vert_core.specs.Setting.{list_setting, setting}
 use Rattle.vert_core.proofs.Settings.{list_set}
 use Rattle.vert_core.proofs.Stacks.{count_places}

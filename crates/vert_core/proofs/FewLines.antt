@@ -9,10 +9,9 @@ use Rattle.node_core.specs.declared.tree.Glue.{Glue}
 use Rattle.node_core.specs.declared.tree.Node.{Node}
 use Rattle.node_core.specs.declared.tree.Node.TheVariants as nodes
 use Rattle.pack_core.specs.Glue.{is_zero}
-use Rattle.break_table.specs.declared.state.BreakState.{BreakState}
-use Rattle.break_table.specs.Problems.{ends_of, places_of}
-use Rattle.break_table.specs.Chosen.{top, IsFalling}
-use Rattle.break_table.specs.Tables.{max_places}
+use Rattle.break_lines.specs.declared.state.BreakState.{BreakState}
+use Rattle.break_lines.specs.Problems.{ends_of, places_of, max_places}
+use Rattle.break_lines.specs.Chosen.{top, IsFalling}
 use Rattle.break_core.specs.declared.broken.Breaks.{Breaks}
 use Rattle.break_lines.specs.Legal.{up_to}
 use Rattle.break_lines.specs.Facts.{facts_of, refusal}

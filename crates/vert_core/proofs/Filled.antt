@@ -5,7 +5,7 @@ use Rattle.node_core.specs.declared.tree.Node.{Node}
 use Rattle.node_core.specs.Nodes.{items_of, nodes_of}
 use Rattle.node_core.proofs.NodeLemmas.{nodes_of-items_of}
 use Rattle.vert_core.specs.declared.planning.PlannedLine.{PlannedLine}
-use Rattle.vert_core.specs.Planned.{with_part, next_begin, moved, items_in, AreInOrder}
+use Rattle.vert_core.specs.Private.Planned.{with_part, next_begin, moved, items_in, AreInOrder}
 
 -- What the last of some lines gives goes to the end of a list.
 pub popped :

@@ -5,11 +5,11 @@ use Rattle.std.proofs.Math.Logic.{◌⊎◌, inl, inr}
 use Rattle.std.proofs.lemmas.Int.{ints}
 use Rattle.std.proofs.lemmas.Bool.{cases_lt}
 use Rattle.std.proofs.lemmas.List.Elements.{Contains-append_right, Contains-append_cases, Contains-push_cases}
-use Rattle.break_table.specs.Orders.{NotAfter}
-use Rattle.break_table.specs.Problems.{Problem, Path, path_of, ends_of, places_of, key}
-use Rattle.break_table.specs.Chosen.{top, IsFalling, IsBreakList, AdmitsNone, IsChosen}
-use Rattle.break_table.proofs.Lists.{way_of_break_list, break_list_of_way}
-use Rattle.break_table.proofs.Dictionary.{not_after_refl, not_after_trans, not_after_antisym, key_apart}
+use Rattle.break_lines.specs.Orders.{NotAfter}
+use Rattle.break_lines.specs.Problems.{Problem, Path, path_of, ends_of, places_of, key}
+use Rattle.break_lines.specs.Chosen.{top, IsFalling, IsBreakList, AdmitsNone, IsChosen}
+use Rattle.break_lines.proofs.Lists.{way_of_break_list, break_list_of_way}
+use Rattle.break_lines.proofs.Dictionary.{not_after_refl, not_after_trans, not_after_antisym, key_apart}
 use Rattle.vert_core.specs.LeastLists.{is_not_after, lists_up_to, lists_to, lesser_path, least_of, least_path}
 
 -- The test decides the order.

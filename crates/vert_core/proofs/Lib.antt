@@ -1,10 +1,12 @@
 -- Lemmas on lists that are shortened again.
 -- Lemmas on the items that lines keep and add.
+-- Lemmas on sums, trials and the parts of a list.
 pub mod Shortened
 pub mod KeptItems
 pub mod Measured
 pub mod Stacks
 pub mod Filled
+pub mod PlainItems
 pub mod PlannedLines
 pub mod PlannedOrder
 pub mod Nesting
@@ -19,3 +21,9 @@ pub mod Unbroken
 pub mod Unset
 pub mod Tried
 pub mod BadLines
+pub mod Walks
+pub mod Openings
+pub mod Search
+pub mod Specials
+pub mod Rests
+pub mod Choices

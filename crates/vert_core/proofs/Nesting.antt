@@ -14,7 +14,7 @@ use Rattle.break_lines.specs.LineItems.{at_break}
 use Rattle.vert_core.specs.declared.planning.PlannedLine.{PlannedLine}
 use Rattle.vert_core.specs.Interline.{appended}
 use Rattle.vert_core.specs.Lines.{penalty_nodes}
-use Rattle.vert_core.specs.Planned.{line_of, stacked, copied}
+use Rattle.vert_core.specs.Private.Planned.{line_of, stacked, copied}
 use Rattle.vert_core.proofs.PlannedLines.{stacked_copy}
 
 -- The depth of two lists together.

@@ -19,7 +19,7 @@ use Rattle.vert_core.specs.declared.measuring.MeasuredLine.{MeasuredLine}
 use Rattle.vert_core.specs.declared.planning.PlannedLine.{PlannedLine}
 use Rattle.vert_core.specs.Interline.{interline, glue_of, appended}
 use Rattle.vert_core.specs.Lines.{BrokenParagraph, line_begin, line_items, boxed_line, line_box, depth_before, penalty_after, penalty_nodes, after_line, line_brings, brought_by}
-use Rattle.vert_core.specs.Planned.{front, first_index, penalty_between, hollow, planned, line_of, closed_box, stacked, with_part, part_of, copied, next_begin, moved, AreInOrder}
+use Rattle.vert_core.specs.Private.Planned.{front, first_index, penalty_between, hollow, planned, line_of, closed_box, stacked, with_part, part_of, copied, next_begin, moved, AreInOrder}
 use Rattle.vert_core.proofs.KeptItems.{length-without_first}
 use Rattle.vert_core.proofs.Measured.{measured_height}
 

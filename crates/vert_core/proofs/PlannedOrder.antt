@@ -5,10 +5,10 @@ use Rattle.std.proofs.lemmas.List.{length-reverse, get_or-reverse, map-append, r
 use Rattle.std.proofs.lemmas.Option.{slice_get-get_or}
 use Rattle.node_core.specs.declared.params.Params.{Params}
 use Rattle.node_core.specs.declared.tree.Node.{Node}
-use Rattle.break_table.specs.declared.state.BreakState.{BreakState}
-use Rattle.break_table.specs.Problems.{ends_of, places_of}
-use Rattle.break_table.specs.Chosen.{top, IsFalling}
-use Rattle.break_table.proofs.Entries.{get_at}
+use Rattle.break_lines.specs.declared.state.BreakState.{BreakState}
+use Rattle.break_lines.specs.Problems.{ends_of, places_of}
+use Rattle.break_lines.specs.Chosen.{top, IsFalling}
+use Rattle.break_lines.proofs.Entries.{get_at}
 use Rattle.break_core.specs.declared.broken.Breaks.{Breaks}
 use Rattle.break_core.specs.declared.broken.LineEnd.{LineEnd}
 use Rattle.break_core.specs.Passes.{line_end_at, IsBroken}
@@ -18,7 +18,7 @@ use Rattle.break_lines.proofs.Places.{place_at, rising_places}
 use Rattle.vert_core.specs.declared.planning.PlannedLine.{PlannedLine}
 use Rattle.vert_core.specs.Lines.{BrokenParagraph, line_places, broken_list, line_begin, brought_by, vertical_items, last_depth, lines_fit}
 use Rattle.vert_core.specs.Paragraphs.{with_breaks}
-use Rattle.vert_core.specs.Planned.{first_index, planned, stacked, copied, moved, AreInOrder}
+use Rattle.vert_core.specs.Private.Planned.{first_index, planned, stacked, copied, moved, AreInOrder}
 use Rattle.vert_core.proofs.Stacks.{count_places}
 use Rattle.vert_core.proofs.Filled.{order_more, order_weak}
 use Rattle.vert_core.proofs.PlannedLines.{index_within, index_after, moved_copied, count_copied, stacked_all}

@@ -7,9 +7,9 @@ use Rattle.std.proofs.lemmas.List.{length-map, length-reverse}
 use denote.RawPtr.{null_ptr}
 use Rattle.node_core.specs.declared.params.Params.{Params}
 use Rattle.node_core.specs.declared.tree.Node.{Node}
-use Rattle.break_table.specs.declared.state.BreakState.{BreakState}
-use Rattle.break_table.specs.Problems.{Path, ends_of, places_of}
-use Rattle.break_table.specs.Chosen.{top, IsFalling, IsChosen, AdmitsNone}
+use Rattle.break_lines.specs.declared.state.BreakState.{BreakState}
+use Rattle.break_lines.specs.Problems.{Path, ends_of, places_of}
+use Rattle.break_lines.specs.Chosen.{top, IsFalling, IsChosen, AdmitsNone}
 use Rattle.break_lines.specs.declared.fault.BreakFault.{BreakFault}
 use Rattle.break_lines.specs.declared.fault.BreakFault.TheVariants as breaking
 use Rattle.break_lines.specs.Legal.{legal_places}

@@ -5,8 +5,8 @@ use Rattle.node_core.specs.declared.params.Params.{Params}
 use Rattle.node_core.specs.declared.tree.Node.{Node}
 use Rattle.node_core.specs.Items.{Items}
 use Rattle.node_core.specs.Nodes.{items_of}
-use Rattle.break_table.specs.Problems.{Path, ends_of, places_of}
-use Rattle.break_table.specs.Chosen.{IsChosen, AdmitsNone}
+use Rattle.break_lines.specs.Problems.{Path, ends_of, places_of}
+use Rattle.break_lines.specs.Chosen.{IsChosen, AdmitsNone}
 use Rattle.break_core.specs.declared.broken.Breaks.{Breaks}
 use Rattle.break_core.specs.declared.broken.LineEnd.{LineEnd}
 use Rattle.break_lines.specs.declared.fault.BreakFault.TheVariants as breaking

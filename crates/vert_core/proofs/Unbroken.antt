@@ -8,7 +8,7 @@ use Rattle.std.proofs.lemmas.List.Folds.{list_any-append}
 use Rattle.node_core.specs.declared.tree.Glue.{Glue}
 use Rattle.node_core.specs.declared.tree.Node.{Node}
 use Rattle.node_core.specs.declared.tree.Node.TheVariants as nodes
-use Rattle.break_table.specs.Tables.{max_places}
+use Rattle.break_lines.specs.Problems.{max_places}
 use Rattle.break_lines.specs.declared.fault.BreakFault.{BreakFault}
 use Rattle.break_lines.specs.declared.fault.BreakFault.TheVariants.{InfiniteShrink, TooManyBreaks, OutOfMemory}
 use Rattle.node_core.specs.Classes.{shrinks_infinitely}

@@ -25,7 +25,8 @@ pub record IsAppended (setting : Result SetParagraph ParagraphFault) (before aft
   pub demerits : told.demerits ≡ set.demerits
 
 -- Why a paragraph with this setting was not appended to a list: it is not set; else its lines nest too deep; else the list would be too long.
-abbrev pub IsUnappended : (setting : Result SetParagraph ParagraphFault) → (IsUnset : ParagraphFault → Type 0) → (before : List Node) → UnappendedLines → Type 0
+abbrev pub IsUnappended : (setting : Result SetParagraph ParagraphFault) → (IsUnset : ParagraphFault → Type 0) → (before : List Node)
+    → UnappendedLines → Type 0
 IsUnappended setting IsUnset before (Unset fault) = IsUnset fault
 IsUnappended setting IsUnset before TooDeep = (set : SetParagraph) × (setting ≡ Ok set) × (MAX_DEPTH < items_depth set.items)
 IsUnappended setting IsUnset before TooLong =

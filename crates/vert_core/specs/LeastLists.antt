@@ -1,7 +1,7 @@
 -- The chosen list of breaks as a function: the best of all lists (own; TeX: The Program, part 38, §813, and part 39, §874, has one table in place of
 -- all lists).
 use Rattle.std.specs.Prelude.{◌++◌, ℕ, zero, suc, ℤ, Bool, true, false, int_lt, if◌then◌else◌, List, [], ◌∷◌, map, Option, Some, None}
-use Rattle.break_table.specs.Problems.{Problem, Path, path_of, key}
+use Rattle.break_lines.specs.Problems.{Problem, Path, path_of, key}
 
 -- Whether a list of numbers is before another one in lexicographic order, or equal to it.
 abbrev pub is_not_after : List ℤ → List ℤ → Bool

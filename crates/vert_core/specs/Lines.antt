@@ -1,6 +1,7 @@
 -- The lines of a paragraph in a vertical list: their boxes, the glue before them and the penalties after them (TeX: The Program, part 39, §877 to
 -- §890; own: which numbers have to fit).
-use Rattle.std.specs.Prelude.{◌+ℤ◌, ◌+◌, ◌++◌, ◌==◌, ◌&&◌, ℕ, zero, suc, ℤ, pos, Bool, nat_lt, if◌then◌else◌, List, [], ◌∷◌, length, map, get_or, slice_get, flat_map, Option, None}
+use Rattle.std.specs.Prelude.{◌+ℤ◌, ◌+◌, ◌++◌, ◌==◌, ◌&&◌, ℕ, zero, suc, ℤ, pos, Bool, nat_lt, if◌then◌else◌, List, [], ◌∷◌, length, map, get_or}
+use Rattle.std.specs.Prelude.{slice_get, flat_map, Option, None}
 use Rattle.std.specs.Result.{is_ok}
 use Rattle.std.specs.List.{list_all}
 use Rattle.node_core.specs.declared.params.Params.{Params}

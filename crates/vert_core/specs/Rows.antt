@@ -38,7 +38,8 @@ rule width = nodes.Rule (record { width = Fixed width; height = Fixed (pos 65536
 -- Rules that are 50pt, 5pt and 10pt wide: after the first one there are glue of 0pt and a kern of -15pt, and after the second one glue of 0pt.
 abbrev pub negative_kern : List Node
 negative_kern =
-    rule (pos 3276800) ∷ nodes.Glue (rigid (pos 0)) ∷ nodes.Kern (negsuc 983039) ∷ rule (pos 327680) ∷ nodes.Glue (rigid (pos 0)) ∷ rule (pos 655360) ∷ []
+    rule (pos 3276800) ∷ nodes.Glue (rigid (pos 0)) ∷ nodes.Kern (negsuc 983039) ∷ rule (pos 327680) ∷ nodes.Glue (rigid (pos 0)) ∷ rule (pos 655360)
+    ∷ []
 
 -- The parameters of a new job with hsize 40pt.
 abbrev pub narrow : Params

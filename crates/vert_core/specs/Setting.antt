@@ -4,7 +4,7 @@ use Rattle.std.specs.Prelude.{ℤ, if◌then◌else◌, List, [], ◌∷◌, len
 use Rattle.node_core.specs.declared.params.Params.{Params}
 use Rattle.node_core.specs.declared.tree.Node.{Node}
 use Rattle.node_core.specs.Nodes.{items_of}
-use Rattle.break_table.specs.Problems.{Path, ends_of}
+use Rattle.break_lines.specs.Problems.{Path, ends_of}
 use Rattle.break_core.specs.declared.broken.LineEnd.{LineEnd}
 use Rattle.break_core.specs.declared.broken.Pass.{Pass}
 use Rattle.break_core.specs.declared.broken.Pass.TheVariants.{First, Second, Third}

@@ -63,7 +63,8 @@ fn append_finished(
     ensures ok { IfOk result (IsAppended (list_setting nodes.old.items params.now previous_depth) around.old.items around.new.items) }
     ensures fits { OnOk result (refusal nodes.old.items ≡ None) }
     ensures emptied { OnOk result (nodes.new.items ≡ []) }
-    ensures refused { IfErr result (IsUnappended (list_setting nodes.old.items params.now previous_depth) (IsUnsetList nodes.old.items params.now previous_depth) around.old.items) }
+    ensures refused { IfErr result (IsUnappended (list_setting nodes.old.items params.now previous_depth)
+        (IsUnsetList nodes.old.items params.now previous_depth) around.old.items) }
     ensures err { OnErr result (nodes.new.items ≡ nodes.old.items) }
     ensures same { OnErr result (around.new.items ≡ around.old.items) }
 {
@@ -71,8 +72,13 @@ fn append_finished(
         Ok(planned) => planned,
         Err(fault) => return Err(UnappendedLines::Unset(fault)),
     };
-    let PlannedParagraph { plan, breaks, .. } = planned;
-    if levels_of_lines(nodes, &plan.lines) > MAX_DEPTH {
+    let PlannedParagraph {
+        plan,
+        breaks,
+        plain,
+        ..
+    } = planned;
+    if levels_of_lines(nodes, &plan.lines, plain) > MAX_DEPTH {
         return Err(UnappendedLines::TooDeep);
     }
     if around.len().saturating_add(plan.count) > MAX_ITEMS {
@@ -85,7 +91,7 @@ fn append_finished(
         overhang: breaks.overhang,
         demerits: breaks.demerits,
     };
-    match stack_planned(nodes, plan, around) {
+    match stack_planned(nodes, plan, plain, around) {
         Ok(()) => Ok(told),
         Err(_) => Err(UnappendedLines::Unset(ParagraphFault::OutOfMemory)),
     }
@@ -100,10 +106,12 @@ fn append_items(
     previous_depth: Dimen,
 ) -> Result<AppendedParagraph, UnappendedLines>
     requires { length nodes.old.items + 2 ≤ max_nodes }
-    ensures ok { IfOk result (IsAppended (list_setting (finished nodes.old.items params.now.par_fill_skip) params.now previous_depth) around.old.items around.new.items) }
+    ensures ok { IfOk result (IsAppended (list_setting (finished nodes.old.items params.now.par_fill_skip) params.now previous_depth)
+        around.old.items around.new.items) }
     ensures fits { OnOk result (refusal (finished nodes.old.items params.now.par_fill_skip) ≡ None) }
     ensures emptied { OnOk result (nodes.new.items ≡ []) }
-    ensures refused { IfErr result (IsUnappended (list_setting (finished nodes.old.items params.now.par_fill_skip) params.now previous_depth) (IsUnsetList (finished nodes.old.items params.now.par_fill_skip) params.now previous_depth) around.old.items) }
+    ensures refused { IfErr result (IsUnappended (list_setting (finished nodes.old.items params.now.par_fill_skip) params.now previous_depth)
+        (IsUnsetList (finished nodes.old.items params.now.par_fill_skip) params.now previous_depth) around.old.items) }
     ensures err { OnErr result (nodes.new.items ≡ nodes.old.items) }
     ensures same { OnErr result (around.new.items ≡ around.old.items) }
 {
@@ -136,7 +144,8 @@ pub fn append_paragraph(
     ensures ok { IfOk result (IsAppended (setting (nodes_of list.old) params.now previous_depth) (nodes_of around.old) (nodes_of around.new)) }
     ensures fits { OnOk result (unbroken (nodes_of list.old) params.now.par_fill_skip ≡ None) }
     ensures emptied { OnOk result (list.new ≡ none) }
-    ensures refused { IfErr result (IsUnappended (setting (nodes_of list.old) params.now previous_depth) (IsUnset (nodes_of list.old) params.now previous_depth) (nodes_of around.old)) }
+    ensures refused { IfErr result (IsUnappended (setting (nodes_of list.old) params.now previous_depth)
+        (IsUnset (nodes_of list.old) params.now previous_depth) (nodes_of around.old)) }
     ensures err { OnErr result (list.new ≡ list.old) }
     ensures same { OnErr result (around.new ≡ around.old) }
 {

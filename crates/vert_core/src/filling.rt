@@ -2,7 +2,7 @@
 
 ghost use Rattle.std.specs.Prelude.{◌≡◌, ◌≤◌, ◌+◌, ◌++◌, ◌∷◌, [], length, map, drop, reverse, flat_map, vec_len, vec_capacity, IfOk, OnOk, OnErr};
 ghost use Rattle.node_core.specs.Nodes.{max_nodes};
-ghost use Rattle.vert_core.specs.Planned.{AreInOrder, copied, items_in, moved, part_of, with_part};
+ghost use Rattle.vert_core.specs.Private.Planned.{AreInOrder, copied, items_in, moved, part_of, with_part};
 
 use crate::planning::PlannedLine;
 use node_core::{Node, NodeList};

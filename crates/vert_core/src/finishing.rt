@@ -102,7 +102,8 @@ pub fn finish_paragraph(
 /// Turns a finished list back into the list from which it was made; `replaced` is the result of `finish_paragraph`.
 pub fn unfinish_paragraph(nodes: &mut Vec<Node>, replaced: Option<Glue>)
     requires { (list : List Node) × (par_fill_skip : Glue) × (nodes.old.items ≡ finished list par_fill_skip) × (replaced ≡ final_glue list) }
-    ensures { (list : List Node) → (par_fill_skip : Glue) → nodes.old.items ≡ finished list par_fill_skip → replaced ≡ final_glue list → nodes.new.items ≡ list }
+    ensures { (list : List Node) → (par_fill_skip : Glue) → nodes.old.items ≡ finished list par_fill_skip → replaced ≡ final_glue list
+        → nodes.new.items ≡ list }
 {
     let count = nodes.len();
     match replaced {

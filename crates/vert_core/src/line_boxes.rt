@@ -3,7 +3,7 @@
 ghost use Rattle.std.specs.Prelude.{◌≡◌, ◌<◌, ◌+◌, ◌++◌, ◌∷◌, [], length, drop, take, slice_get, IfSome};
 ghost use Rattle.std.specs.List.{cons_option};
 ghost use Rattle.break_lines.specs.LineItems.{at_break, without_first, kept};
-ghost use Rattle.vert_core.specs.Planned.{front, line_of};
+ghost use Rattle.vert_core.specs.Private.Planned.{front, line_of};
 ghost use Rattle.vert_core.specs.declared.line_boxes.LinesFault.TheVariants.{OutOfMemory};
 
 use node_core::Node;

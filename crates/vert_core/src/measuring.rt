@@ -6,8 +6,8 @@ ghost use Rattle.node_core.specs.Nodes.{max_nodes, items_of};
 ghost use Rattle.pack_core.specs.Boxes.{packed_of};
 ghost use Rattle.vert_core.specs.Interline.{interline, glue_of};
 ghost use Rattle.vert_core.specs.Lines.{line_places, line_begin, lines_fit};
-ghost use Rattle.vert_core.specs.Measuring.{paragraph_of, items_at, box_at, fits_at};
-ghost use Rattle.vert_core.specs.Planned.{first_index};
+ghost use Rattle.vert_core.specs.Private.Measuring.{paragraph_of, items_at, box_at, fits_at};
+ghost use Rattle.vert_core.specs.Private.Planned.{first_index};
 
 use crate::interline::interline_glue;
 use crate::line_boxes::front_of;
@@ -63,7 +63,8 @@ pub(crate) fn measure_line(
     requires line_bounded { line < length broken.now.ends.now }
     ensures fits { is_some result ≡ fits_at broken.now line previous_depth }
     ensures packed { IfSome result (λ measured. (packed_of (items_of (items_at broken.now line)) measured.shell).box_node ≡ box_at broken.now line) }
-    ensures begin { IfSome result (λ measured. measured.begin ≡ first_index broken.now.nodes.now (line_begin (line_places broken.now.ends.now) line) (get_or (line_places broken.now.ends.now) line 0)) }
+    ensures begin { IfSome result (λ measured. measured.begin ≡ first_index broken.now.nodes.now (line_begin (line_places broken.now.ends.now) line)
+        (get_or (line_places broken.now.ends.now) line 0)) }
     ensures glue { IfSome result (λ measured. measured.glue ≡ glue_of (interline broken.now.params.now previous_depth measured.shell.height)) }
 {
     let begin = line_begin(broken.ends, line);

@@ -1,17 +1,17 @@
 //! Setting paragraphs: they are finished, broken into lines, and stacked as in a vertical list.
 
-ghost use Rattle.std.specs.Prelude.{◌≡◌, ◌≤◌, ◌+◌, ◌++◌, ◌<◌, [], ℤ, length, flat_map, None, IfOk, IfErr, OnOk, OnErr};
+ghost use Rattle.std.specs.Prelude.{◌≡◌, ◌≤◌, ◌+◌, ◌++◌, ◌<◌, true, [], ℤ, length, flat_map, None, IfOk, IfErr, OnOk, OnErr};
 ghost use Rattle.std.specs.Option.{unwrap_or};
 ghost use Rattle.node_core.specs.Items.{none};
-ghost use Rattle.node_core.specs.Nodes.{max_nodes, nodes_of};
+ghost use Rattle.node_core.specs.Nodes.{max_nodes, IsPlain, nodes_of};
 ghost use Rattle.break_lines.specs.Facts.{facts_of, refusal};
 ghost use Rattle.break_core.specs.Passes.{IsBroken};
 ghost use Rattle.break_core.specs.Trials.{passes_run};
 ghost use Rattle.vert_core.specs.declared.paragraph.ParagraphFault.TheVariants.{OutOfMemory};
 ghost use Rattle.vert_core.specs.Finished.{finished};
 ghost use Rattle.vert_core.specs.Paragraphs.{set_empty, unbroken, unset_by, unstacked_by, IsSet, IsSetParagraph, IsUnsetList, IsUnset};
-ghost use Rattle.vert_core.specs.Planned.{AreInOrder, moved, stacked};
-ghost use Rattle.vert_core.specs.PlannedParagraphs.{IsPlanned};
+ghost use Rattle.vert_core.specs.Private.Planned.{AreInOrder, moved, stacked};
+ghost use Rattle.vert_core.specs.Private.PlannedParagraphs.{IsPlanned};
 ghost use Rattle.vert_core.specs.Tried.{TrialsAreBounded, AreFewTrials};
 
 use crate::filling::move_items;
@@ -21,7 +21,7 @@ use crate::measuring::BrokenList;
 use crate::planning::{PlannedLines, plan_lines_that_fit};
 use crate::stacking::stack_lines;
 use break_core::{BreakFault, Breaks, ListMeter, Pass, active_breaks};
-use node_core::{Node, NodeList, Params};
+use node_core::{Node, NodeList, Params, any_has_content};
 use scaled_core::Dimen;
 use std::alloc::{AllocError, Global};
 use std::mem::replace;
@@ -152,6 +152,8 @@ pub(crate) struct PlannedParagraph {
     pub(crate) plan: PlannedLines,
     pub(crate) breaks: Breaks,
     pub(crate) trials: u128,
+    /// Whether it is known that no item of the list is a box or a special.
+    pub(crate) plain: bool,
 }
 
 /// Breaks a finished list of at most 131,072 nodes, and plans its lines.
@@ -163,6 +165,7 @@ pub(crate) fn plan_finished(
 ) -> Result<PlannedParagraph, ParagraphFault>
     requires { length nodes.now ≤ max_nodes }
     ensures ok { IfOk result (IsPlanned nodes.now params.now previous_depth) }
+    ensures plain { IfOk result (λ planned. planned.plain ≡ true → IsPlain nodes.now) }
     ensures refused { IfErr result (IsUnsetList nodes.now params.now previous_depth) }
 {
     let (breaks, trials) = counted_breaks(alloc, nodes, params)?;
@@ -172,30 +175,37 @@ pub(crate) fn plan_finished(
         params,
     };
     let plan = plan_lines_that_fit(alloc, &broken, previous_depth)?;
+    // Few lists have a box or a special. One look at each item here saves the look at each item of each line.
+    let plain = !any_has_content(nodes);
     Ok(PlannedParagraph {
         plan,
         breaks,
         trials,
+        plain,
     })
 }
 
 /// Moves the items of a finished list into its lines, and these to the end of another list. Where memory is refused, both are as they were before.
+/// `plain` says that it is known that no item is a box or a special.
 pub(crate) fn stack_planned(
     nodes: &mut Vec<Node>,
     plan: PlannedLines,
+    plain: bool,
     around: &mut Vec<Node>,
 ) -> Result<(), AllocError>
     requires list_bounded { length nodes.old.items ≤ max_nodes }
     requires in_order { AreInOrder (length nodes.old.items + 1) plan.lines.items }
     requires count { plan.count ≡ length (flat_map stacked (moved nodes.old.items (length nodes.old.items) plan.lines.items)) }
-    ensures ok { OnOk result (around.new.items ≡ around.old.items ++ flat_map stacked (moved nodes.old.items (length nodes.old.items) plan.lines.items)) }
+    requires plain { plain ≡ true → IsPlain nodes.old.items }
+    ensures ok { OnOk result
+        (around.new.items ≡ around.old.items ++ flat_map stacked (moved nodes.old.items (length nodes.old.items) plan.lines.items)) }
     ensures emptied { OnOk result (nodes.new.items ≡ []) }
     ensures err { OnErr result (nodes.new.items ≡ nodes.old.items) }
     ensures same { OnErr result (around.new.items ≡ around.old.items) }
 {
     around.reserve(plan.count)?;
     let filled = move_items(nodes, plan.lines)?;
-    stack_lines(around, filled);
+    stack_lines(around, filled, plain);
     Ok(())
 }
 
@@ -218,10 +228,11 @@ fn set_finished(
         plan,
         breaks,
         trials,
+        plain,
     } = plan_finished(alloc, nodes, params, previous_depth)?;
     let depth = plan.depth;
     let mut items = Vec::new(alloc);
-    stack_planned(nodes, plan, &mut items)?;
+    stack_planned(nodes, plan, plain, &mut items)?;
     let set = SetParagraph {
         items: NodeList::from_vec(items),
         depth,
@@ -243,7 +254,8 @@ fn set_items(
     requires { length nodes.old.items + 2 ≤ max_nodes }
     ensures ok { IfOk result (λ counted. IsSet (finished nodes.old.items params.now.par_fill_skip) params.now previous_depth counted.set) }
     ensures fits { OnOk result (refusal (finished nodes.old.items params.now.par_fill_skip) ≡ None) }
-    ensures trials { IfOk result (λ counted. AreFewTrials (facts_of (finished nodes.old.items params.now.par_fill_skip)) params.now counted.set.pass counted.trials) }
+    ensures trials { IfOk result (λ counted. AreFewTrials (facts_of (finished nodes.old.items params.now.par_fill_skip)) params.now
+        counted.set.pass counted.trials) }
     ensures refused { IfErr result (IsUnsetList (finished nodes.old.items params.now.par_fill_skip) params.now previous_depth) }
     ensures emptied { OnOk result (nodes.new.items ≡ []) }
     ensures err { OnErr result (nodes.new.items ≡ nodes.old.items) }
@@ -264,9 +276,9 @@ fn set_items(
 /// list is as it was before the call.
 ///
 /// The fault is `InfiniteShrink` exactly when glue of the finished list shrinks in an infinite order, and `TooManyBreaks` exactly when there is no
-/// such glue but more than 8,192 legal places; refused memory hides neither. Otherwise it is `DimensionTooLarge` if a line does not fit, which refused
-/// memory hides only where the breaks were not found for it, or `OutOfMemory`. For a paragraph with items at least one line is tried, and at most as
-/// many lines as there are places after each place up to the place where trying stops.
+/// such glue but more than 8,192 legal places; refused memory hides neither. Otherwise it is `DimensionTooLarge` if a line does not fit, which
+/// refused memory hides only where the breaks were not found for it, or `OutOfMemory`. For a paragraph with items at least one line is tried, and at
+/// most as many lines as there are places after each place up to the place where trying stops.
 pub fn set_paragraph(
     alloc: Global,
     list: &mut NodeList,
@@ -276,7 +288,8 @@ pub fn set_paragraph(
     requires list_bounded { length (nodes_of list.old) + 2 ≤ max_nodes }
     ensures ok { IfOk result (λ counted. IsSetParagraph (nodes_of list.old) params.now previous_depth counted.set) }
     ensures fits { OnOk result (unbroken (nodes_of list.old) params.now.par_fill_skip ≡ None) }
-    ensures trials { IfOk result (λ counted. AreFewTrials (facts_of (finished (nodes_of list.old) params.now.par_fill_skip)) params.now counted.set.pass counted.trials) }
+    ensures trials { IfOk result (λ counted. AreFewTrials (facts_of (finished (nodes_of list.old) params.now.par_fill_skip)) params.now
+        counted.set.pass counted.trials) }
     ensures refused { IfErr result (IsUnset (nodes_of list.old) params.now previous_depth) }
     ensures emptied { OnOk result (list.new ≡ none) }
     ensures err { OnErr result (list.new ≡ list.old) }

@@ -21,7 +21,8 @@ ghost use Rattle.vert_core.specs.declared.paragraph.ParagraphFault.TheVariants.{
 ghost use Rattle.vert_core.specs.Finished.{finished};
 ghost use Rattle.vert_core.specs.Paragraphs.{unbroken, IsSetParagraph, IsUnset};
 ghost use Rattle.vert_core.specs.Setting.{setting};
-ghost use Rattle.vert_core.specs.Rows.{penalties_of, with_penalties, greatest_penalties, in_two, two_short_lines, narrow, special, special_line, numbers_in};
+ghost use Rattle.vert_core.specs.Rows.{penalties_of, with_penalties, greatest_penalties, in_two, two_short_lines, narrow, special, special_line};
+ghost use Rattle.vert_core.specs.Rows.{numbers_in};
 
 /// Of two lines, the first is followed by the sum of all three penalties. With more lines, clubpenalty is added after the first one and widowpenalty
 /// after the last but one. There is no penalty after the last line, nor where the sum is 0.
@@ -40,9 +41,11 @@ pub fn penalties_between_lines()
 pub fn two_lines()
     ensures items { (list : List Node) → (first last : ℕ) → (params : Params) → (previous : ℤ) →
         vertical_items (in_two list first last params previous) ≡
-        appended (glue_of (interline params previous (line_box (in_two list first last params previous) 0).height)) (pos 0) (line_box (in_two list first last params previous) 0)
+        appended (glue_of (interline params previous (line_box (in_two list first last params previous) 0).height)) (pos 0)
+        (line_box (in_two list first last params previous) 0)
         ++ (penalty_nodes ((params.interline_penalty +ℤ params.club_penalty) +ℤ params.widow_penalty)
-        ++ appended (glue_of (interline params (line_box (in_two list first last params previous) 0).depth (line_box (in_two list first last params previous) 1).height)) (pos 0)
+        ++ appended (glue_of (interline params (line_box (in_two list first last params previous) 0).depth
+        (line_box (in_two list first last params previous) 1).height)) (pos 0)
         (line_box (in_two list first last params previous) 1)) }
     ensures depth { (list : List Node) → (first last : ℕ) → (params : Params) → (previous : ℤ) →
         last_depth (in_two list first last params previous) ≡ (line_box (in_two list first last params previous) 1).depth }

@@ -3,7 +3,7 @@
 ghost use Rattle.std.specs.Prelude.{◌≡◌, ◌<◌, ◌+◌, pos, if◌then◌else◌};
 ghost use Rattle.scaled_core.specs.Dimensions.{Within};
 ghost use Rattle.vert_core.specs.Lines.{penalty_after};
-ghost use Rattle.vert_core.specs.Planned.{penalty_between};
+ghost use Rattle.vert_core.specs.Private.Planned.{penalty_between};
 
 use node_core::{IntParameter, Params};
 

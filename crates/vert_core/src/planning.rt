@@ -6,8 +6,8 @@ ghost use Rattle.node_core.specs.Nodes.{max_nodes};
 ghost use Rattle.pack_core.specs.Boxes.{packed_of};
 ghost use Rattle.break_lines.specs.Legal.{up_to};
 ghost use Rattle.vert_core.specs.Lines.{line_places, last_depth, lines_fit};
-ghost use Rattle.vert_core.specs.Measuring.{paragraph_of};
-ghost use Rattle.vert_core.specs.Planned.{penalty_between, planned, stacked};
+ghost use Rattle.vert_core.specs.Private.Measuring.{paragraph_of};
+ghost use Rattle.vert_core.specs.Private.Planned.{penalty_between, planned, stacked};
 
 use crate::line_boxes::LinesFault;
 use crate::measuring::{BrokenList, MeasuredLine, line_end, lines_fit, measure_line};
@@ -50,7 +50,13 @@ fn planned_line(
     measured: &MeasuredLine,
 ) -> Result<PlannedLine, AllocError>
     requires { line < length broken.now.ends.now }
-    ensures { IfOk result (λ planned. planned ≡ record { glue = measured.now.glue; box_node = (packed_of none measured.now.shell).box_node; penalty = penalty_between broken.now.params.now (length broken.now.ends.now) line; begin = measured.now.begin; end = get_or (line_places broken.now.ends.now) line 0 }) }
+    ensures { IfOk result (λ planned. planned ≡ record {
+      glue = measured.now.glue;
+      box_node = (packed_of none measured.now.shell).box_node;
+      penalty = penalty_between broken.now.params.now (length broken.now.ends.now) line;
+      begin = measured.now.begin;
+      end = get_or (line_places broken.now.ends.now) line 0;
+    }) }
 {
     let Ok(box_node) = HeapBox::new(
         alloc,
@@ -68,7 +74,7 @@ fn planned_line(
 }
 
 /// The number of items that a line adds to the vertical list.
-#[tactic(auto, unfolding(crate::specs::Planned::stacked))]
+#[tactic(auto, unfolding(crate::specs::Private::Planned::stacked))]
 fn items_of_line(line: &PlannedLine) -> usize
     ensures count { result ≡ length (stacked line.now) }
     ensures few { result ≤ 3 }
@@ -85,7 +91,8 @@ pub(crate) fn plan_lines(
     previous_depth: Dimen,
 ) -> Result<PlannedLines, LinesFault>
     requires { length broken.now.nodes.now ≤ max_nodes }
-    ensures lines { IfOk result (λ plan. plan.lines.items ≡ map (planned (paragraph_of broken.now previous_depth)) (up_to (length broken.now.ends.now))) }
+    ensures lines { IfOk result (λ plan. plan.lines.items ≡ map (planned (paragraph_of broken.now previous_depth))
+        (up_to (length broken.now.ends.now))) }
     ensures count { IfOk result (λ plan. plan.count ≡ length (flat_map stacked plan.lines.items)) }
     ensures depth { IfOk result (λ plan. plan.depth ≡ last_depth (paragraph_of broken.now previous_depth)) }
     ensures fits { OnOk result (lines_fit (paragraph_of broken.now previous_depth) ≡ true) }
@@ -128,7 +135,8 @@ pub(crate) fn plan_lines_that_fit(
     previous_depth: Dimen,
 ) -> Result<PlannedLines, LinesFault>
     requires { length broken.now.nodes.now ≤ max_nodes }
-    ensures lines { IfOk result (λ plan. plan.lines.items ≡ map (planned (paragraph_of broken.now previous_depth)) (up_to (length broken.now.ends.now))) }
+    ensures lines { IfOk result (λ plan. plan.lines.items ≡ map (planned (paragraph_of broken.now previous_depth))
+        (up_to (length broken.now.ends.now))) }
     ensures count { IfOk result (λ plan. plan.count ≡ length (flat_map stacked plan.lines.items)) }
     ensures depth { IfOk result (λ plan. plan.depth ≡ last_depth (paragraph_of broken.now previous_depth)) }
     ensures fits { OnOk result (lines_fit (paragraph_of broken.now previous_depth) ≡ true) }

@@ -1,18 +1,19 @@
 //! Stacking the lines of a paragraph as in a vertical list (TeX: The Program, part 39, §877 to §890).
 
-ghost use Rattle.std.specs.Prelude.{◌≡◌, ◌≤◌, ◌<◌, ◌+◌, ◌++◌, [], true, length, reverse, flat_map, vec_len, vec_capacity, if◌then◌else◌, OnOk, OnErr, IfOk, IfErr};
-ghost use Rattle.std.specs.List.{cons_option};
+ghost use Rattle.std.specs.Prelude.{◌≡◌, ◌≤◌, ◌<◌, ◌+◌, ◌++◌, [], true, length, reverse, flat_map, vec_len, vec_capacity, if◌then◌else◌, OnOk, OnErr};
+ghost use Rattle.std.specs.Prelude.{IfOk, IfErr};
+ghost use Rattle.std.specs.List.{All, cons_option};
 ghost use Rattle.node_core.specs.Nodes.{max_nodes};
 ghost use Rattle.vert_core.specs.Lines.{broken_list, penalty_nodes, vertical_items, last_depth, lines_fit};
-ghost use Rattle.vert_core.specs.Measuring.{paragraph_of};
-ghost use Rattle.vert_core.specs.Planned.{closed_box, stacked};
+ghost use Rattle.vert_core.specs.Private.Measuring.{paragraph_of};
+ghost use Rattle.vert_core.specs.Private.Planned.{HasPlainItems, closed_box, stacked};
 
 use crate::filling::copy_items;
 use crate::line_boxes::{LinesFault, keep_line};
 use crate::measuring::BrokenList;
 use crate::planning::{PlannedLine, fault_of, plan_lines};
 use break_core::Breaks;
-use node_core::{HeapBox, Node, NodeList, Params};
+use node_core::{HeapBox, Node, NodeList, Params, any_has_content};
 use scaled_core::Dimen;
 use std::alloc::Global;
 
@@ -44,8 +45,10 @@ fn penalty_node(penalty: i32) -> Option<Node>
     Some(Node::Penalty(penalty))
 }
 
-/// The box of a line, with the items that the line keeps of those in it.
-fn closed_box(alloc: Global, line: PlannedLine) -> HeapBox
+/// The box of a line, with the items that the line keeps of those in it. `plain` says that it is known that none of these is a box or a special.
+#[tactic(auto, using(crate::proofs::PlainItems::plain_line))]
+fn closed_box(alloc: Global, line: PlannedLine, plain: bool) -> HeapBox
+    requires { plain ≡ true → HasPlainItems line }
     ensures { result ≡ closed_box line }
 {
     let count = line.end.saturating_sub(line.begin);
@@ -55,31 +58,34 @@ fn closed_box(alloc: Global, line: PlannedLine) -> HeapBox
     let _whole = list.len();
     let mut items = list.into_vec();
     keep_line(&mut items, count);
-    boxed.replace_list(NodeList::with_measures(items));
+    boxed.replace_list(NodeList::with_plainness(items, plain));
     boxed
 }
 
 /// Appends a line to a list with room for it: its glue, its box, and its penalty.
-#[tactic(auto, unfolding(crate::specs::Planned::stacked))]
-fn stack_line(list: &mut Vec<Node>, line: PlannedLine)
-    requires { vec_len list.old + length (stacked line) ≤ vec_capacity list.old }
+#[tactic(auto, unfolding(crate::specs::Private::Planned::stacked))]
+fn stack_line(list: &mut Vec<Node>, line: PlannedLine, plain: bool)
+    requires room { vec_len list.old + length (stacked line) ≤ vec_capacity list.old }
+    requires plain { plain ≡ true → HasPlainItems line }
     ensures items { list.new.items ≡ list.old.items ++ stacked line }
     ensures capacity { vec_capacity list.new ≡ vec_capacity list.old }
 {
     let after = penalty_node(line.penalty);
     put_some(list, line.glue.map(Node::Glue));
-    let boxed = closed_box(*list.allocator(), line);
+    let boxed = closed_box(*list.allocator(), line, plain);
     list.push_reserved(Node::Box(Dimen::ZERO, boxed));
     put_some(list, after);
 }
 
-/// Appends lines that have their items, and of which the last one comes first, to a list with room for them.
-pub(crate) fn stack_lines(list: &mut Vec<Node>, mut lines: Vec<PlannedLine>)
-    requires { vec_len list.old + length (flat_map stacked (reverse lines.items)) ≤ vec_capacity list.old }
+/// Appends lines that have their items, and of which the last one comes first, to a list with room for them. `plain` says that it is known that none
+/// of these items is a box or a special.
+pub(crate) fn stack_lines(list: &mut Vec<Node>, mut lines: Vec<PlannedLine>, plain: bool)
+    requires room { vec_len list.old + length (flat_map stacked (reverse lines.items)) ≤ vec_capacity list.old }
+    requires plain { plain ≡ true → All HasPlainItems lines.items }
     ensures { list.new.items ≡ list.old.items ++ flat_map stacked (reverse lines.items) }
 {
     while let Some(line) = lines.pop() {
-        stack_line(list, line);
+        stack_line(list, line, plain);
     }
 }
 
@@ -97,7 +103,7 @@ fn copied_lines(
     let plan = plan_lines(alloc, broken, previous_depth)?;
     let mut nodes = Vec::with_capacity(alloc, plan.count)?;
     let filled = copy_items(alloc, broken.nodes, plan.lines)?;
-    stack_lines(&mut nodes, filled);
+    stack_lines(&mut nodes, filled, !any_has_content(broken.nodes));
     Ok(VerticalItems {
         nodes,
         depth: plan.depth,

@@ -1,7 +1,7 @@
 //! Items are appended to the innermost open list: characters in the current font, rules, specials and all others but boxes.
 
 ghost use Rattle.std.specs.Prelude.{◌≡◌, ◌≢◌, ◌∷◌, [], None, Some, IfOk, IfErr, OnOk, OnErr};
-ghost use Rattle.job_commands.specs.declared.command.Command.TheVariants as commands;
+ghost use Rattle.job_machine.specs.declared.command.Command.TheVariants as commands;
 ghost use Rattle.tfm_core.specs.Slots.{font_in};
 ghost use Rattle.job_state.specs.JobStateView.{before_shipping};
 ghost use Rattle.job_machine.specs.Checks.{checks, first_refusal, character_checks, item_checks, is_misplaced};
@@ -10,8 +10,8 @@ ghost use Rattle.job_machine.specs.Machine.{reply_by, reply_to, state_by, state_
 ghost use Rattle.job_machine.specs.Runs.{early_checks};
 
 use super::JobState;
-use job_commands::{Answer, Characters, Refusal, Reply};
 use job_lists::texts::{append_character, append_text};
+use job_machine::{Answer, Characters, Refusal, Reply};
 use node_core::limits::{MAX_ITEMS, MAX_SPECIAL_TEXT};
 use node_core::{Kind, Node, NodeList, Rule, RuleSize, SpecialText};
 use std::alloc::AllocError;
@@ -41,7 +41,7 @@ impl JobState {
     }
 
     /// Appends a text in the current font. An empty text takes no memory.
-    pub fn append_text(&mut self, text: &Characters) -> Result<Reply, AllocError>
+    pub(super) fn append_text(&mut self, text: &Characters) -> Result<Reply, AllocError>
         ensures reply { IfOk result (λ reply. reply ≡ reply_to (before_shipping self.old) (commands.Text text.now)) }
         ensures state { OnOk result (before_shipping self.new ≡ state_after (before_shipping self.old) (commands.Text text.now)) }
         ensures err { OnErr result (self.new ≡ self.old) }
@@ -62,7 +62,7 @@ impl JobState {
     }
 
     /// Appends a character of the current font, without kerns and ligatures.
-    pub fn append_character(&mut self, code: u8) -> Result<Reply, AllocError>
+    pub(super) fn append_character(&mut self, code: u8) -> Result<Reply, AllocError>
         ensures reply { IfOk result (λ reply. reply ≡ reply_to (before_shipping self.old) (commands.Character code)) }
         ensures state { OnOk result (before_shipping self.new ≡ state_after (before_shipping self.old) (commands.Character code)) }
         ensures err { OnErr result (self.new ≡ self.old) }
@@ -82,9 +82,10 @@ impl JobState {
     }
 
     /// Appends an item of any kind that may be in every list: a kern, glue or a penalty.
-    pub fn append_item(&mut self, item: Node) -> Result<Reply, AllocError>
+    pub(super) fn append_item(&mut self, item: Node) -> Result<Reply, AllocError>
         ensures reply { IfOk result (λ reply. reply ≡ reply_by (first_refusal (item_checks (before_shipping self.old))) Answer.Done) }
-        ensures state { OnOk result (before_shipping self.new ≡ state_by (first_refusal (item_checks (before_shipping self.old))) (before_shipping self.old) (with_items (before_shipping self.old) (item ∷ []))) }
+        ensures state { OnOk result (before_shipping self.new ≡ state_by (first_refusal (item_checks (before_shipping self.old)))
+            (before_shipping self.old) (with_items (before_shipping self.old) (item ∷ []))) }
         ensures err { OnErr result (self.new ≡ self.old) }
         ensures admitted { OnErr result (first_refusal (item_checks (before_shipping self.old)) ≡ None) }
     {
@@ -99,7 +100,7 @@ impl JobState {
     }
 
     /// Appends a rule. A running size is the box's own, so it is allowed only in the direction in which packing finds the size of the box.
-    pub fn append_rule(&mut self, rule: Rule) -> Result<Reply, AllocError>
+    pub(super) fn append_rule(&mut self, rule: Rule) -> Result<Reply, AllocError>
         ensures reply { IfOk result (λ reply. reply ≡ reply_to (before_shipping self.old) (commands.Rule rule)) }
         ensures state { OnOk result (before_shipping self.new ≡ state_after (before_shipping self.old) (commands.Rule rule)) }
         ensures err { OnErr result (self.new ≡ self.old) }
@@ -119,7 +120,7 @@ impl JobState {
     }
 
     /// Appends a special. Its text is copied only after all checks, so that no refusal takes memory.
-    pub fn append_special(&mut self, text: &Characters) -> Result<Reply, AllocError>
+    pub(super) fn append_special(&mut self, text: &Characters) -> Result<Reply, AllocError>
         ensures reply { IfOk result (λ reply. reply ≡ reply_to (before_shipping self.old) (commands.Special text.now)) }
         ensures state { OnOk result (before_shipping self.new ≡ state_after (before_shipping self.old) (commands.Special text.now)) }
         ensures err { OnErr result (self.new ≡ self.old) }

@@ -1,7 +1,7 @@
 //! The boxes of the registers: they are appended, unboxed, split, measured and dropped.
 
 ghost use Rattle.std.specs.Prelude.{◌≡◌, ◌≢◌, ◌≤◌, ◌+◌, [], None, IfOk, OnOk, OnErr, IsSome, length, option_copied, slice_set};
-ghost use Rattle.job_commands.specs.declared.command.Command.TheVariants as commands;
+ghost use Rattle.job_machine.specs.declared.command.Command.TheVariants as commands;
 ghost use Rattle.job_state.specs.JobStateView.{before_shipping};
 ghost use Rattle.node_core.specs.Nodes.{nodes_of};
 ghost use Rattle.job_machine.specs.State.{innermost, items_in, held_in, nodes_in};
@@ -12,8 +12,8 @@ ghost use Rattle.job_machine.specs.Runs.{LeavesRest};
 
 use super::JobState;
 use crate::registers::sizes_of;
-use job_commands::{Answer, AppendBox, Refusal, Register, Reply, Splitting, Transfer, Unboxing};
 use job_lists::open_lists::{room_for_box, room_for_items};
+use job_machine::{Answer, AppendBox, Refusal, Register, Reply, Splitting, Transfer, Unboxing};
 use node_core::BoxNode;
 use node_core::limits::MAX_ITEMS;
 use scaled_core::Dimen;
@@ -21,7 +21,7 @@ use std::alloc::AllocError;
 
 impl JobState {
     /// Appends the box of a register, moved or copied. A void register adds nothing.
-    pub fn append_register_box(&mut self, taken: &AppendBox) -> Result<Reply, AllocError>
+    pub(super) fn append_register_box(&mut self, taken: &AppendBox) -> Result<Reply, AllocError>
         ensures reply { IfOk result (λ reply. reply ≡ reply_to (before_shipping self.old) (commands.Append taken.now)) }
         ensures state { OnOk result (before_shipping self.new ≡ state_after (before_shipping self.old) (commands.Append taken.now)) }
         ensures err { OnErr result (self.new ≡ self.old) }
@@ -48,7 +48,8 @@ impl JobState {
     /// Moves the box of a register to the end of the innermost list, if the checks admit it there. The box is put back if memory is refused.
     fn move_box(&mut self, register: Register, shift: Dimen) -> Result<(), AllocError>
         requires { first_refusal (held_checks self.old.params (innermost self.old.nest) (held_in self.old.registers register)) ≡ None }
-        ensures ok { OnOk result (before_shipping self.new ≡ with_used (before_shipping self.old) Transfer.Move register shift (held_in self.old.registers register)) }
+        ensures ok { OnOk result (before_shipping self.new ≡ with_used (before_shipping self.old) Transfer.Move register shift
+            (held_in self.old.registers register)) }
         ensures err { OnErr result (self.new ≡ self.old) }
     {
         let Some(box_node) = self.registers.take(register) else {
@@ -66,7 +67,8 @@ impl JobState {
     /// Appends a copy of the box of a register to the innermost list, if the checks admit it there. The copy is made before anything else is touched.
     fn copy_box(&mut self, register: Register, shift: Dimen) -> Result<(), AllocError>
         requires { first_refusal (held_checks self.old.params (innermost self.old.nest) (held_in self.old.registers register)) ≡ None }
-        ensures ok { OnOk result (before_shipping self.new ≡ with_used (before_shipping self.old) Transfer.Copy register shift (held_in self.old.registers register)) }
+        ensures ok { OnOk result (before_shipping self.new ≡ with_used (before_shipping self.old) Transfer.Copy register shift
+            (held_in self.old.registers register)) }
         ensures err { OnErr result (self.new ≡ self.old) }
     {
         let Some(box_node) = self.registers.get(register) else {
@@ -80,7 +82,7 @@ impl JobState {
     }
 
     /// Appends the items of the box of a register, moved or copied. If there are none, it takes no memory.
-    pub fn unbox(&mut self, taken: &Unboxing) -> Result<Reply, AllocError>
+    pub(super) fn unbox(&mut self, taken: &Unboxing) -> Result<Reply, AllocError>
         ensures reply { IfOk result (λ reply. reply ≡ reply_to (before_shipping self.old) (commands.Unbox taken.now)) }
         ensures state { OnOk result (before_shipping self.new ≡ state_after (before_shipping self.old) (commands.Unbox taken.now)) }
         ensures err { OnErr result (self.new ≡ self.old) }
@@ -90,7 +92,6 @@ impl JobState {
         let Some(innermost) = self.nest.innermost() else {
             return Ok(Err(Refusal::NoOpenList));
         };
-        self.nest.innermost_is_bounded();
         let held = self.registers.get(taken.register);
         let count = match room_for_items(innermost, taken.kind, held) {
             Ok(count) => count,
@@ -106,7 +107,8 @@ impl JobState {
     /// Moves the items of the box of a register to the end of the innermost list, which has room for them. The box is put back if memory is refused.
     fn move_items(&mut self, register: Register) -> Result<(), AllocError>
         requires { length (nodes_of (items_in (innermost self.old.nest))) + length (nodes_in (held_in self.old.registers register)) ≤ MAX_ITEMS }
-        ensures ok { OnOk result (before_shipping self.new ≡ with_unboxed (before_shipping self.old) Transfer.Move register (held_in self.old.registers register)) }
+        ensures ok { OnOk result (before_shipping self.new ≡ with_unboxed (before_shipping self.old) Transfer.Move register
+            (held_in self.old.registers register)) }
         ensures err { OnErr result (self.new ≡ self.old) }
         ensures takes { OnErr result (nodes_in (held_in self.old.registers register) ≢ []) }
     {
@@ -125,7 +127,8 @@ impl JobState {
     /// Appends copies of the items of the box of a register to the innermost list, which has room for them.
     fn copy_items(&mut self, register: Register) -> Result<(), AllocError>
         requires { length (nodes_of (items_in (innermost self.old.nest))) + length (nodes_in (held_in self.old.registers register)) ≤ MAX_ITEMS }
-        ensures ok { OnOk result (before_shipping self.new ≡ with_unboxed (before_shipping self.old) Transfer.Copy register (held_in self.old.registers register)) }
+        ensures ok { OnOk result (before_shipping self.new ≡ with_unboxed (before_shipping self.old) Transfer.Copy register
+            (held_in self.old.registers register)) }
         ensures err { OnErr result (self.new ≡ self.old) }
         ensures takes { OnErr result (nodes_in (held_in self.old.registers register) ≢ []) }
     {
@@ -139,9 +142,9 @@ impl JobState {
         self.nest.append_list(&mut copy)
     }
 
-    /// Takes the last item of the innermost list into a register, if it is a box. Otherwise the register becomes void. Interline glue before the box is an
-    /// item of its own and stays, and the previous depth is still that of the last box that was appended (as in TeX).
-    pub fn last_box(&mut self, register: Register) -> Reply
+    /// Takes the last item of the innermost list into a register, if it is a box. Otherwise the register becomes void. Interline glue before the box
+    /// is an item of its own and stays, and the previous depth is still that of the last box that was appended (as in TeX).
+    pub(super) fn last_box(&mut self, register: Register) -> Reply
         ensures reply { result ≡ reply_to (before_shipping self.old) (commands.LastBox register) }
         ensures state { before_shipping self.new ≡ state_after (before_shipping self.old) (commands.LastBox register) }
     {
@@ -153,8 +156,9 @@ impl JobState {
         Ok(Answer::Done)
     }
 
-    /// Splits the vbox of a register: the rest goes back into it, and then the front into the other one. Only a split that leaves a rest takes memory.
-    pub fn split(&mut self, splitting: &Splitting) -> Result<Reply, AllocError>
+    /// Splits the vbox of a register: the rest goes back into it, and then the front into the other one. Only a split that leaves a rest takes
+    /// memory.
+    pub(super) fn split(&mut self, splitting: &Splitting) -> Result<Reply, AllocError>
         ensures reply { IfOk result (λ reply. reply ≡ reply_to (before_shipping self.old) (commands.Split splitting.now)) }
         ensures state { OnOk result (before_shipping self.new ≡ state_after (before_shipping self.old) (commands.Split splitting.now)) }
         ensures err { OnErr result (self.new ≡ self.old) }
@@ -165,7 +169,7 @@ impl JobState {
     }
 
     /// Reports the kind and the sizes of the box in a register.
-    pub fn measure(&self, register: Register) -> Reply
+    pub(super) fn measure(&self, register: Register) -> Reply
         ensures reply { result ≡ reply_to (before_shipping self.now) (commands.Measure register) }
         ensures state { before_shipping self.now ≡ state_after (before_shipping self.now) (commands.Measure register) }
     {
@@ -183,7 +187,7 @@ impl JobState {
     }
 
     /// The command that makes a register void.
-    pub fn void(&mut self, register: Register) -> Reply
+    pub(super) fn void(&mut self, register: Register) -> Reply
         ensures reply { result ≡ reply_to (before_shipping self.old) (commands.Void register) }
         ensures state { before_shipping self.new ≡ state_after (before_shipping self.old) (commands.Void register) }
     {

@@ -1,7 +1,7 @@
 //! Lists and paragraphs are opened, and end as boxes or lines.
 
 ghost use Rattle.std.specs.Prelude.{◌≡◌, ◌≤◌, None, IfOk, OnOk, OnErr, length};
-ghost use Rattle.job_commands.specs.declared.command.Command.TheVariants as commands;
+ghost use Rattle.job_machine.specs.declared.command.Command.TheVariants as commands;
 ghost use Rattle.job_state.specs.JobStateView.{before_shipping};
 ghost use Rattle.node_core.specs.Nodes.{nodes_of};
 ghost use Rattle.job_lists.specs.EmptiedNest.{refilled_nest};
@@ -14,9 +14,8 @@ ghost use Rattle.job_machine.specs.Runs.{early_checks};
 
 use super::JobState;
 use crate::registers::sizes_of;
-use job_commands::{Answer, Opening, Refusal, Register, Reply};
 use job_lists::open_lists::room_for_box;
-use job_machine::ListPurpose;
+use job_machine::{Answer, ListPurpose, Opening, Refusal, Register, Reply};
 use node_core::BoxNode;
 use node_core::limits::{MAX_DEPTH, MAX_ITEMS, MAX_OPEN_LISTS};
 use pack_core::Packed;
@@ -24,7 +23,7 @@ use std::alloc::AllocError;
 
 impl JobState {
     /// Opens a list. It is refused here if its box would have no list to go to, though that is needed only at its end.
-    pub fn open_list(&mut self, opening: Opening) -> Result<Reply, AllocError>
+    pub(super) fn open_list(&mut self, opening: Opening) -> Result<Reply, AllocError>
         ensures reply { IfOk result (λ reply. reply ≡ reply_to (before_shipping self.old) (commands.Open opening)) }
         ensures state { OnOk result (before_shipping self.new ≡ state_after (before_shipping self.old) (commands.Open opening)) }
         ensures err { OnErr result (self.new ≡ self.old) }
@@ -42,7 +41,7 @@ impl JobState {
     }
 
     /// Opens a paragraph inside a vertical list.
-    pub fn open_paragraph(&mut self) -> Result<Reply, AllocError>
+    pub(super) fn open_paragraph(&mut self) -> Result<Reply, AllocError>
         ensures reply { IfOk result (λ reply. reply ≡ reply_to (before_shipping self.old) commands.Paragraph) }
         ensures state { OnOk result (before_shipping self.new ≡ state_after (before_shipping self.old) commands.Paragraph) }
         ensures err { OnErr result (self.new ≡ self.old) }
@@ -51,9 +50,9 @@ impl JobState {
         self.nest.open_paragraph()
     }
 
-    /// Ends the innermost list: its box goes into its register or to the end of the enclosing list, or the lines of its paragraph go to the end of that list.
-    /// After a refusal the list is open as before, with its items.
-    pub fn end(&mut self) -> Result<Reply, AllocError>
+    /// Ends the innermost list: its box goes into its register or to the end of the enclosing list, or the lines of its paragraph go to the end of
+    /// that list. After a refusal the list is open as before, with its items.
+    pub(super) fn end(&mut self) -> Result<Reply, AllocError>
         ensures reply { IfOk result (λ reply. reply ≡ reply_to (before_shipping self.old) commands.End) }
         ensures state { OnOk result (before_shipping self.new ≡ state_after (before_shipping self.old) commands.End) }
         ensures err { OnErr result (self.new ≡ self.old) }

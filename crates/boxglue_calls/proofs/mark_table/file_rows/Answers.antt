@@ -6,7 +6,7 @@ use Rattle.dvi_ops.specs.File.{MarkedPage}
 use Rattle.dvi_read.specs.PageMarks.{marks_of}
 use Rattle.dvi_scan.specs.View.{mark_of, marked_page}
 use Rattle.dvi_scan.specs.declared.page.Mark.{Mark as PassMark}
-use Rattle.boxglue_calls.specs.MarkRows.{mark_rows, places_left}
+use Rattle.boxglue_calls.specs.Private.MarkRows.{mark_rows, places_left}
 use Rattle.boxglue_calls.specs.MarkTables.{page_row, page_rows}
 use Rattle.boxglue_calls.proofs.MarkRowLaws.{pages_step}
 use Rattle.boxglue_calls.proofs.mark_table.file_rows.Goals as goal

@@ -3,7 +3,7 @@ use Rattle.std.proofs.Common.{◌≡◌, ◌∙◌, List, subst}
 use Rattle.std.specs.Prelude.{IfOk}
 use Rattle.std.proofs.lemmas.Result.{IfOk-weaker}
 use Rattle.boxglue_calls.specs.Fonts.{files_of}
-use Rattle.boxglue_calls.specs.MarkRows.{HasRowsOf, IsRefusal}
+use Rattle.boxglue_calls.specs.Private.MarkRows.{HasRowsOf, IsRefusal}
 use Rattle.boxglue_calls.proofs.MarkTableLaws.{IsTableOf, TableFits, refusal_fits, refused, table_fits, tabulated}
 use Rattle.tfm_core.specs.NamedBytes.{NamedBytes}
 use Rattle.boxglue_calls.proofs.mark_table.mark_table.Goals as goal

@@ -1,7 +1,7 @@
 -- The table, as it is handed over, and the rooms that suffice.
 use Rattle.std.proofs.Common.{◌≡◌, inr, length, refl, rules, true}
 use Rattle.boxglue_calls.specs.Fonts.{are_named, files_of}
-use Rattle.boxglue_calls.specs.MarkRows.{outputs_of}
+use Rattle.boxglue_calls.specs.Private.MarkRows.{outputs_of}
 use Rattle.boxglue_calls.proofs.MarkTableLaws.{done_small, handed_loud, handed_marks, rooms_suffice}
 use Rattle.boxglue_calls.proofs.mark_table.marks.Goals as goal
 

@@ -1,6 +1,6 @@
 use Rattle.std.proofs.Common.{◌≡◌, ◌++◌, map, take}
 use Rattle.dvi_scan.specs.View.{mark_of}
-use Rattle.boxglue_calls.specs.MarkRows.{mark_rows, places_left}
+use Rattle.boxglue_calls.specs.Private.MarkRows.{mark_rows, places_left}
 use Rattle.boxglue_calls.proofs.mark_table.push_marks.Given as goal
 
 abbrev pub invariant-loop-mark : goal.invariant-loop-mark

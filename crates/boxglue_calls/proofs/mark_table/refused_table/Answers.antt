@@ -1,6 +1,6 @@
 -- The line of the refusal is short, since a place is a number of 64 bits.
 use Rattle.std.proofs.Common.{◌≤◌, ◌<◌, ◌^◌, ◌∙◌, List, ℕ, ap, arith, length, refl, subst, sym}
-use Rattle.boxglue_calls.specs.MarkRows.{place_of}
+use Rattle.boxglue_calls.specs.Private.MarkRows.{place_of}
 use Rattle.boxglue_calls.proofs.FaultLines.{line_short}
 use Rattle.boxglue_calls.proofs.mark_table.refused_table.Goals as goal
 

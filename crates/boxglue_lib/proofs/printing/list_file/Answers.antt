@@ -1,7 +1,7 @@
 -- The line of the refusal, or the pieces of the listing: all of it, or a beginning.
 use Rattle.std.proofs.Common.{true, inl, inr, refl}
 use Rattle.dvi_read.specs.Listing.{listing}
-use Rattle.boxglue_print.proofs.PrintLemmas.{refuses}
+use Rattle.boxglue_program.proofs.PrintLemmas.{refuses}
 use Rattle.boxglue_lib.proofs.printing.list_file.Goals as goal
 
 pub returns-in_err-write_text-in-Err-clause-unwritten : goal.returns-in_err-write_text-in-Err-clause-unwritten
@@ -27,10 +27,23 @@ returns-in-Err-clause-listed g c =
       written,
     )
 
+pub write_listing-requires-clause-ahead : goal.write_listing-requires-clause-ahead
+write_listing-requires-clause-ahead g c =
+    let (pages, file, has) = c.in-Ok.ensures.ok in (listing pages, c.in_ok-lines.ensures pages has)
+
 pub returns-in_err-write_listing-clause-unwritten : goal.returns-in_err-write_listing-clause-unwritten
-returns-in_err-write_listing-clause-unwritten g c said = (
-  listing c.in-Ok.opened.pages,
-  true,
-  inl (record { pages = c.in-Ok.opened.pages; file = c.in-Ok.ensures.ok; text_is = refl; accepted_is = refl }),
-  c.in_err-write_listing.ensures.front,
-)
+returns-in_err-write_listing-clause-unwritten g c said =
+    let (pages, file, has) = c.in-Ok.ensures.ok in (
+      listing pages,
+      true,
+      inl (record { pages = pages; file = file; text_is = refl; accepted_is = refl }),
+      c.in_err-write_listing.ensures.front (listing pages) (c.in_ok-lines.ensures pages has),
+    )
+
+pub returns-clause-listed : goal.returns-clause-listed
+returns-clause-listed g c =
+    let (pages, file, has) = c.in-Ok.ensures.ok in (
+      listing pages,
+      inl (record { pages = pages; file = file; text_is = refl; accepted_is = refl }),
+      c.in_ok-write_listing.ensures.all (listing pages) (c.in_ok-lines.ensures pages has),
+    )

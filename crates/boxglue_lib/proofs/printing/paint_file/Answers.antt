@@ -1,7 +1,7 @@
 -- The line of the refusal, or the pieces of the bitmap: all of it, or a beginning.
 use Rattle.std.proofs.Common.{ap, Err, true, inl, inr, refl}
 use Rattle.raster_core.specs.PlainText.{pbm}
-use Rattle.boxglue_print.proofs.PrintLemmas.{has_page, paints, refuses}
+use Rattle.boxglue_program.proofs.PrintLemmas.{has_page, paints, refuses}
 use Rattle.boxglue_lib.proofs.EndLemmas.{keeps_same}
 use Rattle.boxglue_lib.proofs.printing.paint_file.Goals as goal
 

@@ -1,15 +1,17 @@
 -- What was written is a beginning of the listing, and the rest of it is still to come.
-use Rattle.std.proofs.Common.{◌≡◌, ◌≤◌, ◌++◌, ℕ, List, length, vec_capacity}
+use Rattle.std.proofs.Common.{◌≡◌, ◌≤◌, ◌++◌, ℕ, List, vec_capacity}
 use Rattle.std.specs.Io.KnownBytes.{Appends}
-use Rattle.dvi_read.specs.Listing.{lines_ahead, listing}
+use Rattle.dvi_read.specs.SeenAhead.{AreLinesAhead, lines_left}
 use Rattle.dvi_read.specs.declared.part.TheConstants.{PART}
 use Rattle.boxglue_lib.proofs.printing.write_listing.Given as goal
 
-abbrev pub invariant-loop-lines : goal.invariant-loop-lines
-invariant-loop-lines g l = record {
+abbrev pub invariant-loop-writer : goal.invariant-loop-writer
+invariant-loop-writer g l = record {
   room : PART ≤ vec_capacity l.piece;
-  begun : (taken : List ℕ) × Appends (g.W.Write.contents l.initial.writer) (g.W.Write.contents l.writer) taken × (taken ++ lines_ahead l.lines ≡ listing l.dvi.pages);
+  some : (text : List ℕ) × AreLinesAhead l.lines text;
+  begun : (text : List ℕ) → AreLinesAhead l.initial.lines text → (taken : List ℕ) × (rest : List ℕ)
+      × Appends (g.W.Write.contents l.initial.writer) (g.W.Write.contents l.writer) taken × (taken ++ rest ≡ text) × AreLinesAhead l.lines rest;
 }
 
-abbrev pub decreases-loop-lines : goal.decreases-loop-lines
-decreases-loop-lines g l = length (lines_ahead l.lines)
+abbrev pub decreases-loop-writer : goal.decreases-loop-writer
+decreases-loop-writer g l = lines_left l.lines

@@ -1,6 +1,6 @@
 -- How the session ended, and what is known of the device that was returned.
 use Rattle.std.proofs.Common.{◌≡◌, ap, ◌∙◌}
-use Rattle.boxglue_host.specs.Hosts.{written_to_file}
+use Rattle.boxglue_words.specs.Hosts.{written_to_file}
 use Rattle.boxglue_lib.proofs.EndLemmas.{back_alike, placed_since}
 use Rattle.boxglue_lib.proofs.SessionLemmas.{holds_of_file, session_ends}
 use Rattle.boxglue_lib.specs.Typesets.{OutFile}

@@ -1,7 +1,7 @@
 -- One more line was run and answered.
 use Rattle.std.proofs.Common.{◌≡◌, ◌+◌, ◌++◌, ◌∷◌, [], ℕ, Bool, false, true, List, length, take, arith, ap, subst, sym, ◌∙◌}
 use Rattle.std.proofs.lemmas.List.{take_all, take_more}
-use Rattle.job_commands.specs.Reply.{Reply}
+use Rattle.job_machine.specs.Reply.{Reply}
 use Rattle.boxglue_program.specs.declared.outcome.Outcome.{Outcome}
 use Rattle.boxglue_program.specs.Outcomes.{replies_outcome}
 use Rattle.boxglue_program.specs.Runs.{commands_of, line_numbers}

@@ -1,6 +1,6 @@
 -- The lines so far were run and answered.
 use Rattle.std.proofs.Common.{◌≡◌, ◌≤◌, ◌+◌, ◌*◌, ◌++◌, ℕ, true, List, length, take, vec_len, vec_capacity}
-use Rattle.job_commands.specs.Reply.{Reply}
+use Rattle.job_machine.specs.Reply.{Reply}
 use Rattle.dvi_write.specs.Writing.{GoesOn}
 use Rattle.job_core.specs.Jobs.{RunsTo, writing_of}
 use Rattle.boxglue_program.specs.Outcomes.{replies_outcome}

@@ -1,6 +1,6 @@
 -- What was run of the bytes kept before and of a piece, and what is kept of it.
 use Rattle.std.proofs.Common.{◌≡◌, ◌<◌, length, rules}
-use Rattle.boxglue_program.specs.Dialogs.{dialog_of}
+use Rattle.boxglue_program.specs.Private.Dialogs.{dialog_of}
 use Rattle.boxglue_program.proofs.PieceLaws.{cut_of, none_taken, lines_taken, stopped_at_once, stopped_at_rest, stopped_within}
 use Rattle.boxglue_program.proofs.session.take_piece.Goals as goal
 

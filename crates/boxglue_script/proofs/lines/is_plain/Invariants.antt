@@ -1,6 +1,6 @@
 use Rattle.std.proofs.Common.{◌≡◌, take}
 use Rattle.std.specs.List.{list_all}
-use Rattle.boxglue_script.specs.Reading.{is_plain}
+use Rattle.boxglue_script.specs.Private.Reading.{is_plain}
 use Rattle.boxglue_script.proofs.lines.is_plain.Given as goal
 
 abbrev pub invariant-loop-byte : goal.invariant-loop-byte

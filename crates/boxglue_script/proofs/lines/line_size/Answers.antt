@@ -1,6 +1,6 @@
 use Rattle.std.proofs.Common.{◌∙◌, arith}
 use Rattle.std.proofs.lemmas.List.Sums.{prefix_len-le-length}
-use Rattle.boxglue_script.specs.Reading.{in_line}
+use Rattle.boxglue_script.specs.Private.Reading.{in_line}
 use Rattle.boxglue_script.proofs.LineLemmas.{first_feed}
 use Rattle.boxglue_script.proofs.lines.line_size.Goals as goal
 

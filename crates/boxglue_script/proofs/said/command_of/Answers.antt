@@ -2,7 +2,7 @@
 use Rattle.std.proofs.Common.{◌≡◌, arith}
 use Rattle.std.proofs.lemmas.Grind.{common_steps}
 use Rattle.boxglue_script.specs.ScriptLines.{fields_of}
-use Rattle.boxglue_script.specs.Reading.{first_word, command_by, command_of, given, line_of}
+use Rattle.boxglue_script.specs.Private.Reading.{first_word, command_by, command_of, given, line_of}
 use Rattle.boxglue_script.proofs.FieldLemmas.{line_command}
 use Rattle.boxglue_script.proofs.said.command_of.Goals as goal
 

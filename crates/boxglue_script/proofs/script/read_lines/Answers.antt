@@ -6,7 +6,7 @@ use Rattle.boxglue_script.specs.Blocks.{lines_of}
 use Rattle.boxglue_script.proofs.ScriptLaws.{handed_is, read_more, read_whole, right_at_start, right_so_far, right_up_to}
 use Rattle.boxglue_script.proofs.PlainTexts.{ArePrintable, plain_lines}
 use Rattle.boxglue_script.specs.declared.script.Line.{Line}
-use Rattle.boxglue_script.specs.Reading.{Found, lines_then, reads}
+use Rattle.boxglue_script.specs.Private.Reading.{Found, lines_then, reads}
 use Rattle.boxglue_script.proofs.script.read_lines.Goals as goal
 
 nothing_found : (found : Found) → lines_then [] found ≡ found

@@ -2,7 +2,7 @@
 use Rattle.std.proofs.Common.{◌≡◌, ◌+◌, ◌≤◌, [], true, length, vec_len}
 use Rattle.std.specs.Str.Lines.{lines}
 use Rattle.boxglue_script.specs.Blocks.{lines_of}
-use Rattle.boxglue_script.specs.Reading.{reads, lines_then}
+use Rattle.boxglue_script.specs.Private.Reading.{reads, lines_then}
 use Rattle.boxglue_script.proofs.ScriptLaws.{IsRightUpTo}
 use Rattle.boxglue_script.proofs.PlainTexts.{ArePrintable}
 use Rattle.boxglue_script.proofs.script.read_lines.Given as goal

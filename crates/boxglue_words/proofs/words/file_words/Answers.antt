@@ -3,7 +3,7 @@ use Rattle.std.proofs.Common.{◌≡◌, ◌∙◌, sym, None, Some}
 use Rattle.clap.specs.Matches.{found_of}
 use Rattle.clap.specs.Words.{first_of, rows_of}
 use Rattle.clap.proofs.WalkLemmas.{first_value-rows}
-use Rattle.boxglue_words.specs.Steps.{IsFileFault}
+use Rattle.boxglue_words.specs.Private.Steps.{IsFileFault}
 use Rattle.boxglue_words.proofs.PairLemmas.{handed_on}
 use Rattle.boxglue_words.proofs.TaskLemmas.{faulty_fonts, file_missing}
 use Rattle.boxglue_words.proofs.words.file_words.Goals as goal

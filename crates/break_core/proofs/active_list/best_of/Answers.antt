@@ -1,7 +1,7 @@
 use Rattle.std.proofs.Common.{◌≡◌, ◌+◌, ◌<◌, length, refl, sym, subst, arith}
 use Rattle.std.proofs.lemmas.Option.{slice_get_read}
-use Rattle.break_table.proofs.Entries.{get_at}
-use Rattle.break_core.specs.Active.{IsBestOf}
+use Rattle.break_lines.proofs.Entries.{get_at}
+use Rattle.break_core.specs.Private.Active.{IsBestOf}
 use Rattle.break_core.proofs.Beaten.{best_one, best_taken, best_stays}
 use Rattle.break_core.proofs.active_list.best_of.Goals.{then-is_not_after, else-is_not_after}
 use Rattle.break_core.proofs.active_list.best_of.Goals as goal

@@ -1,5 +1,5 @@
 use Rattle.std.proofs.Common.{◌<◌}
-use Rattle.break_core.specs.Active.{IsBestOf}
+use Rattle.break_core.specs.Private.Active.{IsBestOf}
 use Rattle.break_core.proofs.active_list.best_of.Given as goal
 
 abbrev pub invariant-loop-index : goal.invariant-loop-index

@@ -3,7 +3,7 @@ use Rattle.std.specs.Prelude.{slice_get}
 use Rattle.std.proofs.lemmas.Bool.{cond-false}
 use Rattle.std.proofs.lemmas.List.{take_more_set}
 use Rattle.std.proofs.lemmas.Option.{same_Some, slice_get_read}
-use Rattle.break_table.proofs.Entries.{get_at, set-get_same, get-set_other}
+use Rattle.break_lines.proofs.Entries.{get_at, set-get_same, get-set_other}
 use Rattle.break_core.proofs.active_list.keep_group.Goals.{then-kept-index, else-kept-index}
 use Rattle.break_core.proofs.active_list.keep_group.Goals as goal
 

@@ -1,8 +1,8 @@
 use Rattle.std.proofs.Common.{◌≡◌, ◌∙◌, ◌+◌, ◌++◌, [], None, length, length-append, ◌≤◌, ◌<◌, replicate, cond, false, refl, ap, sym, subst, rules, arith}
-use Rattle.break_table.specs.declared.group.ActiveGroup.{ActiveGroup}
-use Rattle.break_table.specs.Tables.{IsRow, row_entries}
+use Rattle.break_lines.specs.declared.group.ActiveGroup.{ActiveGroup}
+use Rattle.break_lines.specs.Tables.{IsRow, row_entries}
 use Rattle.break_lines.specs.Legal.{is_forced}
-use Rattle.break_core.specs.Active.{stops, pruned, groups_of, with_group, with_live, IsBestOf, HaveBest, IsActive, IsFilled}
+use Rattle.break_core.specs.Private.Active.{stops, pruned, groups_of, with_group, with_live, IsBestOf, HaveBest, IsActive, IsFilled}
 use Rattle.break_core.proofs.Active.{filled_more}
 use Rattle.break_core.proofs.Lives.{groups_put, over_put, best_put}
 use Rattle.break_core.proofs.Beaten.{best_longer}

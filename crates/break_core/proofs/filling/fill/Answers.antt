@@ -1,7 +1,7 @@
 use Rattle.std.proofs.Common.{◌≡◌, ◌∙◌, ◌+◌, ℕ, [], ◌∷◌, None, vec_len, length, false, replicate, refl, ap, sym, subst, rules, arith}
-use Rattle.break_table.specs.Tables.{slots, first_entry}
-use Rattle.break_table.specs.declared.group.ActiveGroup.{ActiveGroup}
-use Rattle.break_core.specs.Active.{stops, pruned, groups_of, AreOver, IsBestOf, IsFilled, IsSwept}
+use Rattle.break_lines.specs.Tables.{slots, first_entry}
+use Rattle.break_lines.specs.declared.group.ActiveGroup.{ActiveGroup}
+use Rattle.break_core.specs.Private.Active.{stops, pruned, groups_of, AreOver, IsBestOf, IsFilled, IsSwept}
 use Rattle.break_core.proofs.Active.{table_rest}
 use Rattle.break_core.proofs.Counts.{counted_none, counted_more, counted_longer, kept_none, kept_on, started_more, started_none, start_group}
 use Rattle.break_core.proofs.Lives.{filled_start, over_first, best_kept, no_groups}

@@ -1,6 +1,6 @@
 use Rattle.std.proofs.Common.{◌≡◌, ◌+◌, ◌<◌, [], ◌∷◌, replicate, None}
-use Rattle.break_table.specs.Tables.{slots}
-use Rattle.break_core.specs.Active.{stops, pruned, groups_of, AreOver, HaveBest, IsFilled, IsCounted, TrialsOnlyGrow}
+use Rattle.break_lines.specs.Tables.{slots}
+use Rattle.break_core.specs.Private.Active.{stops, pruned, groups_of, AreOver, HaveBest, IsFilled, IsCounted, TrialsOnlyGrow}
 use Rattle.break_core.proofs.Counts.{start_group}
 use Rattle.break_core.proofs.filling.fill.Given as goal
 

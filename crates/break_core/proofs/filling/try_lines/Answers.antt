@@ -8,11 +8,11 @@ use Rattle.std.proofs.lemmas.Option.{slice_get_read}
 use Rattle.break_lines.specs.Sizes.{least_width, line_fits}
 use Rattle.break_core.specs.declared.active_list.Live.{Live}
 use Rattle.break_core.specs.Trials.{is_overfull}
-use Rattle.break_core.specs.Leaving.{is_long, is_more, kept_over}
-use Rattle.break_core.specs.Active.{deactivates, stops, pruned, groups_of, AreOver, HaveBest, IsNext, IsActive, AreLoosest, CostLoosest, CanAllWait, IsOfferingWaiting}
-use Rattle.break_table.specs.Tables.{slots, IsRow}
-use Rattle.break_table.proofs.Rows.{row_empty}
-use Rattle.break_table.proofs.Entries.{get-set_same, get-set_other}
+use Rattle.break_core.specs.Private.Leaving.{is_long, is_more, kept_over}
+use Rattle.break_core.specs.Private.Active.{deactivates, stops, pruned, groups_of, AreOver, HaveBest, IsNext, IsActive, AreLoosest, CostLoosest, CanAllWait, IsOfferingWaiting}
+use Rattle.break_lines.specs.Tables.{slots, IsRow}
+use Rattle.break_lines.proofs.Rows.{row_empty}
+use Rattle.break_lines.proofs.Entries.{get-set_same, get-set_other}
 use Rattle.break_core.proofs.Filled.{group_of}
 use Rattle.break_core.proofs.Overfull.{overfull_of, both_true}
 use Rattle.break_core.proofs.Endings.{long_found, over_found, pruned_is, ended_is, goes_on, ended_quiet}

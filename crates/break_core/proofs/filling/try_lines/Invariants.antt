@@ -1,7 +1,7 @@
 use Rattle.std.proofs.Common.{◌≡◌, ◌+◌, ◌-◌, ◌≤◌, ◌<◌, ℕ, length, drop, take}
 use Rattle.std.specs.Prelude.{slice_get, ◌⊎◌}
-use Rattle.break_table.specs.Tables.{slots, IsRow}
-use Rattle.break_core.specs.Active.{stops, pruned, groups_of, AreOver, HaveBest, IsActive, IsSwept, TrialsOnlyGrow, WasTried, AreLoosest}
+use Rattle.break_lines.specs.Tables.{slots, IsRow}
+use Rattle.break_core.specs.Private.Active.{stops, pruned, groups_of, AreOver, HaveBest, IsActive, IsSwept, TrialsOnlyGrow, WasTried, AreLoosest}
 use Rattle.break_core.proofs.Active.{IsFront}
 use Rattle.break_core.proofs.filling.try_lines.Given as goal
 

@@ -1,6 +1,6 @@
 use Rattle.std.proofs.Common.{◌≡◌, ◌+◌, refl, subst, arith}
-use Rattle.break_table.proofs.Entries.{get_at}
-use Rattle.break_core.specs.Filling.{IsBestOffer}
+use Rattle.break_lines.proofs.Entries.{get_at}
+use Rattle.break_core.specs.Private.Filling.{IsBestOffer}
 use Rattle.break_core.proofs.ActiveNodes.{best_first, best_more}
 use Rattle.break_core.proofs.offering.best_offer.Goals as goal
 

@@ -1,5 +1,5 @@
 use Rattle.std.proofs.Common.{◌<◌}
-use Rattle.break_core.specs.Filling.{IsBestOffer}
+use Rattle.break_core.specs.Private.Filling.{IsBestOffer}
 use Rattle.break_core.proofs.offering.best_offer.Given as goal
 
 abbrev pub invariant-loop-index : goal.invariant-loop-index

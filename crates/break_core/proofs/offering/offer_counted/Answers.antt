@@ -1,7 +1,7 @@
 use Rattle.std.proofs.Common.{◌∙◌, ap, subst}
 use Rattle.std.specs.Prelude.{◌&&◌}
 use Rattle.break_lines.specs.Sizes.{line_fits}
-use Rattle.break_core.specs.Filling.{IsOffering}
+use Rattle.break_core.specs.Private.Filling.{IsOffering}
 use Rattle.break_core.proofs.Endings.{left_out, not_left_out}
 use Rattle.break_core.proofs.offering.offer_counted.Goals as goal
 

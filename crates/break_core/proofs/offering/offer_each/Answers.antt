@@ -2,12 +2,12 @@ use Rattle.std.proofs.Common.{◌≡◌, ◌∙◌, ◌≤◌, to_z, of_z, w32, 
 use Rattle.std.specs.Prelude.{nat_lt, if◌then◌else◌}
 use Rattle.std.proofs.lemmas.Int.{ints}
 use Rattle.std.proofs.lemmas.Option.{slice_get_read}
-use Rattle.break_table.specs.Ways.{since}
-use Rattle.break_table.specs.Tables.{slots}
+use Rattle.break_lines.specs.Ways.{since}
+use Rattle.break_lines.specs.Tables.{slots}
 use Rattle.break_lines.specs.Costs.{line_of, after_class}
 use Rattle.break_lines.proofs.Parts.{alone_is}
 use Rattle.break_lines.specs.Sizes.{fit_after}
-use Rattle.break_core.specs.Filling.{IsOffering}
+use Rattle.break_core.specs.Private.Filling.{IsOffering}
 use Rattle.break_core.proofs.Filled.{none_offered}
 use Rattle.break_core.proofs.offering.offer_each.Goals as goal
 

@@ -1,6 +1,6 @@
 use Rattle.std.proofs.Common.{◌≡◌, ◌≤◌, length}
-use Rattle.break_table.specs.Tables.{slots}
-use Rattle.break_core.specs.Filling.{IsOffering}
+use Rattle.break_lines.specs.Tables.{slots}
+use Rattle.break_core.specs.Private.Filling.{IsOffering}
 use Rattle.break_core.proofs.offering.offer_each.Given as goal
 
 abbrev pub invariant-loop-index : goal.invariant-loop-index

@@ -1,8 +1,8 @@
 use Rattle.std.proofs.Common.{◌∙◌, length, refl, ap, sym}
 use Rattle.std.proofs.lemmas.Option.{same_Some, slice_get_read}
-use Rattle.break_table.specs.Tables.{extended}
+use Rattle.break_lines.specs.Tables.{extended}
 use Rattle.break_lines.specs.Costs.{line_after}
-use Rattle.break_core.specs.Filling.{offer_from}
+use Rattle.break_core.specs.Private.Filling.{offer_from}
 use Rattle.break_core.proofs.offering.offer_from.Goals as goal
 
 pub extended-requires-clause-counted : goal.extended-requires-clause-counted

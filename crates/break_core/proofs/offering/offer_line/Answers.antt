@@ -1,11 +1,12 @@
 use Rattle.std.proofs.Common.{◌≡◌, ◌∙◌, to_z, of_z, w32, ap, sym, subst, arith}
 use Rattle.std.proofs.lemmas.Int.{ints}
-use Rattle.break_table.specs.Tables.{slots}
+use Rattle.break_lines.specs.Tables.{slots}
 use Rattle.break_lines.specs.Costs.{line_alone, is_loosest}
 use Rattle.break_lines.specs.Sizes.{line_fits}
-use Rattle.break_core.specs.Filling.{IsOf}
+use Rattle.break_core.specs.Private.Filling.{IsOf}
 use Rattle.break_core.proofs.ActiveNodes.{best_line, none_line, overfull_once}
 use Rattle.break_core.proofs.Endings.{left_out}
+use Rattle.break_core.proofs.Beaten.{offered_by}
 use Rattle.break_core.proofs.offering.offer_line.Goals as goal
 
 pub fit_line-line-requires : goal.fit_line-line-requires
@@ -23,7 +24,7 @@ pub offer_best-requires-clause-group_bounded : goal.offer_best-requires-clause-g
 offer_best-requires-clause-group_bounded c = c.requires.can.within
 
 pub offer_best-requires-clause-earlier : goal.offer_best-requires-clause-earlier
-offer_best-requires-clause-earlier c = c.requires.can.earlier
+offer_best-requires-clause-earlier c = omega (arith, c.requires.can.earlier, c.offered_line-line.ensures.place)
 
 pub offer_best-requires-clause-entries : goal.offer_best-requires-clause-entries
 offer_best-requires-clause-entries c =
@@ -31,7 +32,7 @@ offer_best-requires-clause-entries c =
     subst (λ n. IsOf n c.args.table.now c.args.live.now.group) none c.requires.can.entries
 
 pub offer_best-requires-clause-places : goal.offer_best-requires-clause-places
-offer_best-requires-clause-places c = c.requires.can.places
+offer_best-requires-clause-places c = omega (arith, c.requires.can.places, c.offered_line-line.ensures.place)
 
 pub offer_best-requires-clause-best : goal.offer_best-requires-clause-best
 offer_best-requires-clause-best c = c.requires.best
@@ -78,7 +79,8 @@ returns-clause-row c =
     c.args.row.now.items c.offer_best.new.row.items none c.if-left.false
     (sym c.in-Some.is ∙ c.line_alone.ensures.value ∙ ap (λ x. line_alone rules.params.now rules.bound x c.fit_line-line.result) penalty
     ∙ ap (line_alone rules.params.now rules.bound tried.penalty) c.fit_line-line.ensures.value)
-    c.offer_best.ensures.row
+    (offered_by c.args.table.now rules.params.now c.args.live.now.group c.args.row.now.items c.offer_best.new.row.items
+    c.offered_line-line.ensures.place c.offered_line-line.ensures.alone c.offer_best.ensures.row)
 
 pub returns-clause-wide : goal.returns-clause-wide
 returns-clause-wide c =

@@ -1,6 +1,6 @@
 use Rattle.std.proofs.Common.{sym, subst}
 use Rattle.break_core.specs.Passes.{bound_of}
-use Rattle.break_core.specs.Filling.{AreEndsInParagraph}
+use Rattle.break_core.specs.Private.Filling.{AreEndsInParagraph}
 use Rattle.break_core.proofs.Admitting.{answer_within}
 use Rattle.break_core.proofs.Added.{all_by_passes, on_error}
 use Rattle.break_core.proofs.passes.breaks_of.Goals as goal

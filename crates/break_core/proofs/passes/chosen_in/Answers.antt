@@ -1,7 +1,7 @@
 use Rattle.std.proofs.Common.{◌+◌, sym, subst}
 use Rattle.std.specs.Prelude.{IfOk}
-use Rattle.break_table.specs.Tables.{IsTable}
-use Rattle.break_core.specs.Active.{pruned, MayEnd}
+use Rattle.break_lines.specs.Tables.{IsTable}
+use Rattle.break_core.specs.Private.Active.{pruned, MayEnd}
 use Rattle.break_core.proofs.Added.{within_pass}
 use Rattle.break_core.proofs.Admitting.{Found, all_found}
 use Rattle.break_core.proofs.passes.chosen_in.Goals as goal

@@ -2,7 +2,7 @@ use Rattle.std.proofs.Common.{◌≡◌, ◌+◌, ◌<◌, ℕ, List, length}
 use Rattle.node_core.specs.declared.tree.Node.{Node}
 use Rattle.break_lines.specs.Legal.{legal_places}
 use Rattle.break_lines.specs.Facts.{facts_of}
-use Rattle.break_lines.specs.Marks.{marks_of}
+use Rattle.break_lines.specs.Private.Marks.{marks_of}
 use Rattle.break_lines.specs.Divided.{AddsLess}
 use Rattle.break_lines.proofs.dividing.is_divided.Given as goal
 

@@ -1,6 +1,6 @@
 use Rattle.std.proofs.Common.{◌≡◌, ◌+◌, ◌<◌, ℕ, List}
 use Rattle.node_core.specs.declared.tree.Node.{Node}
-use Rattle.break_lines.specs.Marks.{marks_of}
+use Rattle.break_lines.specs.Private.Marks.{marks_of}
 use Rattle.break_lines.proofs.Evenness.{GoesOn}
 use Rattle.break_lines.proofs.even.is_even.Given as goal
 

@@ -1,7 +1,7 @@
 use Rattle.std.proofs.Common.{◌≡◌, ◌∙◌, ◌+ℤ◌, to_z, of_z, w64, ap, arith}
 use Rattle.std.proofs.lemmas.Int.{ints}
 use Rattle.break_lines.specs.declared.sums.Sums.{Sums}
-use Rattle.break_lines.specs.Marks.{plus, stretch_alone, shrink_alone}
+use Rattle.break_lines.specs.Private.Marks.{plus, stretch_alone, shrink_alone}
 use Rattle.break_lines.proofs.Amounts.{glue_amounts, glue_small}
 use Rattle.break_lines.proofs.item_sums.add_glue.Goals as goal
 

@@ -3,8 +3,8 @@ use Rattle.std.proofs.lemmas.Int.{ints}
 use Rattle.scaled_core.specs.Dimensions.{Within}
 use Rattle.node_core.specs.declared.tree.Node.TheVariants as nodes
 use Rattle.pack_core.specs.Items.{across}
-use Rattle.break_lines.specs.Marks.{amounts_of}
-use Rattle.break_lines.specs.SmallMarks.{IsPrefix}
+use Rattle.break_lines.specs.Private.Marks.{amounts_of}
+use Rattle.break_lines.specs.Private.SmallMarks.{IsPrefix}
 use Rattle.break_lines.proofs.Amounts.{other_sums, prefix_more, prefix_wider}
 use Rattle.break_lines.proofs.item_sums.add_item.Goals as goal
 

@@ -1,6 +1,6 @@
 use Rattle.std.proofs.Common.{◌≡◌, ◌∙◌, ◌+ℤ◌, to_z, of_z, w64, ap, sym, arith}
 use Rattle.std.proofs.lemmas.Int.{ints}
-use Rattle.break_lines.specs.Marks.{plus, shrink_alone}
+use Rattle.break_lines.specs.Private.Marks.{plus, shrink_alone}
 use Rattle.break_lines.proofs.Amounts.{more_shrink}
 use Rattle.break_lines.proofs.item_sums.add_shrink.Goals as goal
 

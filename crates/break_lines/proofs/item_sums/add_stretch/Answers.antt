@@ -1,6 +1,6 @@
 use Rattle.std.proofs.Common.{◌≡◌, ◌∙◌, ◌+ℤ◌, to_z, of_z, w64, ap, sym, arith}
 use Rattle.std.proofs.lemmas.Int.{ints}
-use Rattle.break_lines.specs.Marks.{plus, stretch_alone}
+use Rattle.break_lines.specs.Private.Marks.{plus, stretch_alone}
 use Rattle.break_lines.proofs.Amounts.{more_normal, more_fil, more_fill, more_filll}
 use Rattle.break_lines.proofs.item_sums.add_stretch.Goals as goal
 

@@ -1,7 +1,7 @@
 use Rattle.std.proofs.Common.{◌≡◌, ◌+◌, ◌-◌, ◌<◌, ℕ, List}
 use Rattle.node_core.specs.declared.tree.Node.{Node}
 use Rattle.break_lines.specs.Facts.{facts_of}
-use Rattle.break_lines.specs.Marks.{marks_of}
+use Rattle.break_lines.specs.Private.Marks.{marks_of}
 use Rattle.break_lines.specs.Steady.{IsRising}
 use Rattle.break_lines.proofs.steady.is_steady.Given as goal
 

@@ -1,5 +1,5 @@
 use Rattle.std.proofs.Common.{◌≡◌, subst, arith}
-use Rattle.break_lines.specs.Marks.{HasMeasuredFrom}
+use Rattle.break_lines.specs.Private.Marks.{HasMeasuredFrom}
 use Rattle.break_lines.proofs.walk.marks_of.Goals as goal
 
 pub into_marks-requires : goal.into_marks-requires

@@ -1,10 +1,19 @@
 -- The written bytes spell the instruction, since the numbers of an op of a body fit their fields.
-use Rattle.std.proofs.Common.{◌<◌, arith, pos, rules}
-use Rattle.std.proofs.lemmas.Int.{ints}
+use Rattle.std.proofs.Common.{rules}
 use Rattle.dvi_ops.specs.Spelling.{NumberFits}
 use Rattle.dvi_ops.specs.View.{body_view}
 use Rattle.dvi_ops.proofs.Spelled.{written_is_spelled}
 use Rattle.dvi_ops.proofs.body_spelling.spell_body.Goals as goal
+
+pub returns-in-SetChar-clause-spelled : goal.returns-in-SetChar-clause-spelled
+returns-in-SetChar-clause-spelled c =
+    let fits_character : NumberFits c.in-SetChar.character = search rules in
+    written_is_spelled (body_view c.args.op.now) c.requires (rw (c.in-SetChar.is) fits_character)
+
+pub returns-in-PutChar-clause-spelled : goal.returns-in-PutChar-clause-spelled
+returns-in-PutChar-clause-spelled c =
+    let fits_character : NumberFits c.in-PutChar.character = search rules in
+    written_is_spelled (body_view c.args.op.now) c.requires (rw (c.in-PutChar.is) fits_character)
 
 pub returns-in-SetRule-clause-spelled : goal.returns-in-SetRule-clause-spelled
 returns-in-SetRule-clause-spelled c =
@@ -48,23 +57,10 @@ returns-in-Z-clause-spelled c =
     let fits_amount : NumberFits c.in-Z.amount = search rules in
     written_is_spelled (body_view c.args.op.now) c.requires (rw (c.in-Z.is) fits_amount)
 
-pub returns-in-Xxx-clause-spelled : goal.returns-in-Xxx-clause-spelled
-returns-in-Xxx-clause-spelled c = written_is_spelled (body_view c.args.op.now) c.requires (rw (c.in-Xxx.is) tt)
-
-pub returns-in-SetChar-clause-spelled : goal.returns-in-SetChar-clause-spelled
-returns-in-SetChar-clause-spelled c =
-    let few : c.in-SetChar.character < 256 = search rules in
-    let fits_character : NumberFits (pos c.in-SetChar.character) = omega (arith, ints) in
-    written_is_spelled (body_view c.args.op.now) c.requires (rw (c.in-SetChar.is) fits_character)
-
-pub returns-in-PutChar-clause-spelled : goal.returns-in-PutChar-clause-spelled
-returns-in-PutChar-clause-spelled c =
-    let few : c.in-PutChar.character < 256 = search rules in
-    let fits_character : NumberFits (pos c.in-PutChar.character) = omega (arith, ints) in
-    written_is_spelled (body_view c.args.op.now) c.requires (rw (c.in-PutChar.is) fits_character)
-
 pub returns-in-FontNum-clause-spelled : goal.returns-in-FontNum-clause-spelled
 returns-in-FontNum-clause-spelled c =
-    let few : c.in-FontNum.font < 256 = search rules in
-    let fits_font : NumberFits (pos c.in-FontNum.font) = omega (arith, ints) in
+    let fits_font : NumberFits c.in-FontNum.font = search rules in
     written_is_spelled (body_view c.args.op.now) c.requires (rw (c.in-FontNum.is) fits_font)
+
+pub returns-in-Xxx-clause-spelled : goal.returns-in-Xxx-clause-spelled
+returns-in-Xxx-clause-spelled c = written_is_spelled (body_view c.args.op.now) c.requires (rw (c.in-Xxx.is) tt)

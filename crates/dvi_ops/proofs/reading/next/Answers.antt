@@ -1,6 +1,6 @@
 -- The facts about what was read, by the lemmas about `read`.
 use Rattle.std.proofs.Common.{◌≡◌, None, sym}
-use Rattle.dvi_ops.specs.Reading.{read}
+use Rattle.dvi_ops.specs.Private.Reading.{read}
 use Rattle.dvi_ops.specs.View.{view}
 use Rattle.dvi_ops.proofs.Fronts.{got}
 use Rattle.dvi_ops.proofs.FrontLaws.{front_length, front_spells, none_spells, none_read}

@@ -1,7 +1,7 @@
 use Rattle.std.proofs.Common.{inl, map}
 use Rattle.dvi_scan.proofs.ErrLemmas.{handed_on}
 use Rattle.dvi_scan.specs.View.{marked_page}
-use Rattle.dvi_read.specs.OpeningParts.{IsFinishFault}
+use Rattle.dvi_read.specs.Private.OpeningParts.{IsFinishFault}
 use Rattle.dvi_read.proofs.OpenLemmas.{tail_refused}
 use Rattle.dvi_read.specs.Faults.{of_frame}
 use Rattle.dvi_read.specs.Steps.{known_of, places_left, stand_of}

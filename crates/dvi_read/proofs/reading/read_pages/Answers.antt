@@ -3,7 +3,7 @@ use Rattle.std.proofs.lemmas.Result.{IfErr-weaker, IfOk-weaker}
 use Rattle.dvi_scan.proofs.ErrLemmas.{handed_on}
 use Rattle.dvi_ops.specs.View.{postamble}
 use Rattle.dvi_read.specs.Opening.{InThePages, IsDviFault, LookingAhead}
-use Rattle.dvi_read.specs.OpeningParts.{HoldsPages}
+use Rattle.dvi_read.specs.Private.OpeningParts.{HoldsPages}
 use Rattle.dvi_read.proofs.MarkLemmas.{reached_widths}
 use Rattle.dvi_read.proofs.OpenLemmas.{starts_reached, strays}
 use Rattle.dvi_read.specs.PageMarks.{HasGlyphWidths, marks_so_far}

@@ -1,7 +1,7 @@
 use Rattle.std.proofs.Common.{sym, subst}
-use Rattle.dvi_fonts.proofs.KnownLemmas.{defined_all}
-use Rattle.dvi_fonts.proofs.RefusalLemmas.{handed_on, widths_room}
-use Rattle.dvi_fonts.specs.declared.widths.FontRefusal.TheVariants as refusals
+use Rattle.dvi_scan.proofs.FirstDefinitionLemmas.{defined_all}
+use Rattle.dvi_scan.proofs.RefusalLemmas.{handed_on, widths_room}
+use Rattle.dvi_scan.specs.declared.widths.FontRefusal.TheVariants as refusals
 use Rattle.dvi_ops.specs.Fonts.{IsFontSize}
 use Rattle.dvi_ops.specs.Instruction.{Definition}
 use Rattle.dvi_ops.specs.View.{definition}

@@ -1,8 +1,9 @@
 use Rattle.std.proofs.Common.{ℕ, min, subst}
 use Rattle.std.proofs.lemmas.Result.{IfErr-weaker, on_ok_weaker}
-use Rattle.dvi_fonts.proofs.RefusalLemmas.{handed_on}
+use Rattle.dvi_scan.proofs.RefusalLemmas.{handed_on}
 use Rattle.dvi_ops.specs.View.{view}
-use Rattle.dvi_read.specs.Steps.{BreaksNote, BreaksPass, Notes, PassesOn, StopsStep}
+use Rattle.dvi_read.specs.Steps.{StopsStep}
+use Rattle.dvi_read.specs.Private.Steps.{BreaksNote, BreaksPass, Notes, PassesOn}
 use Rattle.dvi_read.proofs.StepLemmas.{note_fault, pass_fault, stepped}
 use Rattle.tfm_core.specs.FileWidths.{file_widths}
 use Rattle.dvi_read.proofs.stepping.step.Goals as goal

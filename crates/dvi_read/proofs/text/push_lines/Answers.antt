@@ -1,7 +1,7 @@
 -- Memory is refused only where there is a line to append.
 use Rattle.std.proofs.Common.{◌++◌, ℕ, List, map, ap, sym, ◌∙◌}
 use Rattle.dvi_scan.specs.View.{marked_page}
-use Rattle.dvi_fonts.proofs.AheadLemmas.{on_any}
+use Rattle.dvi_scan.proofs.AheadLemmas.{on_any}
 use Rattle.dvi_read.specs.Listing.{lines_ahead, listing}
 use Rattle.dvi_read.proofs.NextLines.{some_listed}
 use Rattle.dvi_read.proofs.text.push_lines.Goals as goal

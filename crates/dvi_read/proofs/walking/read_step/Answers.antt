@@ -1,10 +1,10 @@
 use Rattle.std.proofs.Common.{◌-◌, min, sym, subst, arith}
-use Rattle.dvi_fonts.proofs.RefusalLemmas.{handed_on}
+use Rattle.dvi_scan.proofs.RefusalLemmas.{handed_on}
 use Rattle.dvi_ops.specs.Fonts.{widths_of}
 use Rattle.dvi_scan.specs.Ends.{StandsAt}
 use Rattle.dvi_ops.specs.View.{postamble, view}
 use Rattle.dvi_read.specs.Steps.{known_of, stand_of}
-use Rattle.dvi_read.specs.Walks.{StopsReading}
+use Rattle.dvi_read.specs.Private.Walks.{StopsReading}
 use Rattle.dvi_read.specs.declared.fault.DviFault.{DviFault}
 use Rattle.dvi_read.specs.declared.fault.DviFault.TheVariants.{OutOfMemory}
 use Rattle.dvi_read.proofs.MarkLemmas.{places_next, special_fault}

@@ -43,6 +43,6 @@ returns-in_default c =
     let i = view c.args.op.now in
     record {
       turns = at_turn does c.args.most c.args.op.now c.args.op.now c.args.stand.now (stands.Inside c.in-Inside.page) pages _ c.take.result refl c.in-Inside.is
-          (page_turns does c.args.most i pages c.in-Inside.page c.take.new.self c.take.result (c.take.ensures pages));
-      err = page_stays does c.args.most i c.args.done.now.items c.args.stand.now c.in-Inside.page c.take.new.self c.take.result c.in-Inside.is c.take.ensures;
+          (page_turns does c.args.most i pages c.in-Inside.page c.take.new.self c.take.result (c.take.ensures.turns pages));
+      err = page_stays does c.args.most i c.args.done.now.items c.args.stand.now c.in-Inside.page c.take.new.self c.take.result c.in-Inside.is c.take.ensures.turns;
     }

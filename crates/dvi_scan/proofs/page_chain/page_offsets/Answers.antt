@@ -3,11 +3,11 @@ use Rattle.dvi_ops.specs.Instruction.{Postamble}
 use Rattle.dvi_ops.specs.Table.{signed}
 use Rattle.dvi_ops.specs.View.{postamble}
 use Rattle.dvi_scan.specs.Ends.{HasPostamble}
-use Rattle.dvi_scan.specs.Chain.{Links, IsBrokenFrom, IsChainRefusal}
+use Rattle.dvi_scan.specs.Chain.{Links, IsChainRefusal, BreaksChain}
+use Rattle.dvi_scan.specs.Private.Chain.{IsBrokenFrom}
 use Rattle.dvi_scan.specs.declared.fault.FrameFault.{FrameFault}
 use Rattle.dvi_scan.specs.declared.fault.FrameFault.TheVariants.{OutOfMemory, Bad}
 use Rattle.dvi_scan.specs.declared.fault.DviCause.{DviCause}
-use Rattle.dvi_scan.specs.Chain.{BreaksChain}
 use Rattle.dvi_scan.proofs.ChainLemmas.{post_pointer}
 use Rattle.dvi_scan.proofs.ErrLemmas.{handed_on}
 use Rattle.dvi_scan.proofs.page_chain.page_offsets.Goals as goal

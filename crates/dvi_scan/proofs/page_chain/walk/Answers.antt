@@ -3,7 +3,7 @@ use Rattle.dvi_ops.specs.Table.{signed}
 use Rattle.dvi_scan.specs.declared.page_chain.Named.{Named}
 use Rattle.dvi_scan.proofs.ChainLemmas.{Goes, goes_first, goes_more, goes_page, goes_end, goes_lost, page_room, start_left}
 use Rattle.dvi_scan.proofs.ErrLemmas.{handed_on}
-use Rattle.dvi_scan.specs.Chain.{IsBrokenFrom}
+use Rattle.dvi_scan.specs.Private.Chain.{IsBrokenFrom}
 use Rattle.dvi_scan.specs.declared.fault.FrameFault.TheVariants.{OutOfMemory}
 use Rattle.dvi_scan.proofs.page_chain.walk.Goals as goal
 

@@ -1,14 +1,14 @@
 use Rattle.std.proofs.Common.{Ok, Err, refl, ap, sym, ◌∙◌, subst}
 use Rattle.std.specs.Option.{option_copied}
-use Rattle.job_commands.specs.declared.replies.Answer.TheVariants.{Done}
-use Rattle.job_commands.specs.declared.command.Command.TheVariants.{Ship, Void}
-use Rattle.job_commands.specs.declared.replies.Refusal.{Refusal}
-use Rattle.dvi_layout.specs.declared.fault.WriteFault.{WriteFault}
+use Rattle.job_machine.specs.declared.replies.Answer.TheVariants.{Done}
+use Rattle.job_machine.specs.declared.command.Command.TheVariants.{Ship, Void}
+use Rattle.job_machine.specs.declared.replies.Refusal.{Refusal}
+use Rattle.dvi_write.specs.declared.fault.WriteFault.{WriteFault}
 use Rattle.page_core.specs.Pages.{page_with}
 use Rattle.dvi_write.specs.Writing.{Writing}
 use Rattle.job_state.specs.JobStateView.{JobStateView, before_shipping}
 use Rattle.job_core.specs.Jobs.{KeepsTo}
-use Rattle.job_core.specs.Sound.{IsSound, IsBoundedFile, view_of}
+use Rattle.job_core.specs.Private.Sound.{IsSound, IsBoundedFile, view_of}
 use Rattle.job_core.proofs.BoundedFiles.{bounded_next, definable}
 use Rattle.job_core.proofs.Moves.{sound_after}
 use Rattle.job_core.proofs.Ships.{page_is, may_ship, void_refused, shipped, unshipped_for, part_of, is_lost, is_other, bounded_unshipped}
@@ -66,9 +66,6 @@ returns-in-Err-clause-keeps g c =
 
 pub returns-in-Err-clause-same : goal.returns-in-Err-clause-same
 returns-in-Err-clause-same g c = λ other. ap (λ (w : Writing). view_of c.args.kept.now w) (c.in-Err.ensures.same (is_other c.in-Err.fault (λ lost. other (c.refusal_for.ensures ∙ lost))))
-
-pub returns-in-Err-clause-unsent : goal.returns-in-Err-clause-unsent
-returns-in-Err-clause-unsent g c = λ other. ap (λ (w : Writing). w.bytes_written) (c.in-Err.ensures.same (is_other c.in-Err.fault (λ lost. other (c.refusal_for.ensures ∙ lost))))
 
 pub returns-in-Err-clause-part : goal.returns-in-Err-clause-part
 returns-in-Err-clause-part g c =

@@ -1,5 +1,5 @@
 use Rattle.std.proofs.Common.{◌≡◌, ◌+◌, ap, sym, ◌∙◌}
-use Rattle.dvi_layout.specs.Layout.{whole}
+use Rattle.dvi_write.specs.Layout.{whole}
 use Rattle.dvi_device.specs.Pasts.{Past}
 use Rattle.dvi_device.specs.Resumed.{written_by}
 use Rattle.job_core.proofs.RestsOfFiles.{completed, rest_completed, passed_on, no_device}

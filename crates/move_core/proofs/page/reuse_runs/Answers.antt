@@ -3,7 +3,7 @@ use Rattle.std.proofs.lemmas.List.{length-map}
 use Rattle.dvi_ops.specs.Runs.{instructions_of}
 use Rattle.dvi_ops.specs.View.{body_view}
 use Rattle.dvi_ops.specs.declared.body_op.BodyOp.{BodyOp}
-use Rattle.move_core.specs.Passes.{has_empty_group, outside_groups}
+use Rattle.move_core.specs.Private.Passes.{has_empty_group, outside_groups}
 use Rattle.move_core.proofs.Apart.{length-rewritten, reused-woven}
 use Rattle.move_core.proofs.page.reuse_runs.Goals as goal
 

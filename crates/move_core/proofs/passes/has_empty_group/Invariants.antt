@@ -1,6 +1,6 @@
 use Rattle.std.proofs.Common.{◌≡◌, map, drop, false}
 use Rattle.dvi_ops.specs.View.{body_view}
-use Rattle.move_core.specs.Passes.{has_empty_group}
+use Rattle.move_core.specs.Private.Passes.{has_empty_group}
 use Rattle.move_core.proofs.passes.has_empty_group.Given as goal
 
 abbrev pub invariant-loop-op : goal.invariant-loop-op

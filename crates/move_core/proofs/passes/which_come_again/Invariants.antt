@@ -1,6 +1,6 @@
 use Rattle.std.proofs.Common.{◌≡◌, map, reverse, drop}
 use Rattle.dvi_ops.specs.View.{body_view}
-use Rattle.move_core.specs.Passes.{Knows, flags_of}
+use Rattle.move_core.specs.Private.Passes.{Knows, flags_of}
 use Rattle.move_core.proofs.passes.which_come_again.Given as goal
 
 abbrev pub invariant-loop-i : goal.invariant-loop-i

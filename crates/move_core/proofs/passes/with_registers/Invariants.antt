@@ -1,6 +1,6 @@
 use Rattle.std.proofs.Common.{◌≡◌, length, map}
 use Rattle.dvi_ops.specs.View.{body_view}
-use Rattle.move_core.specs.Passes.{HasFlags, outside_groups, makes, rewritten}
+use Rattle.move_core.specs.Private.Passes.{HasFlags, outside_groups, makes, rewritten}
 use Rattle.move_core.proofs.passes.with_registers.Given as goal
 
 abbrev pub invariant-loop-i : goal.invariant-loop-i

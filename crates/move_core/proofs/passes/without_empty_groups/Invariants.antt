@@ -1,6 +1,6 @@
 use Rattle.std.proofs.Common.{◌≡◌, [], map, reverse, drop}
 use Rattle.dvi_ops.specs.View.{body_view}
-use Rattle.move_core.specs.Passes.{trimmed}
+use Rattle.move_core.specs.Private.Passes.{trimmed}
 use Rattle.move_core.proofs.passes.without_empty_groups.Given as goal
 
 abbrev pub invariant-loop-op : goal.invariant-loop-op

@@ -1,6 +1,6 @@
 use Rattle.std.proofs.Common.{◌≡◌, ◌≤◌, map, drop, Some}
 use Rattle.dvi_ops.specs.View.{body_view}
-use Rattle.move_core.specs.Passes.{closes_all}
+use Rattle.move_core.specs.Private.Passes.{closes_all}
 use Rattle.move_core.proofs.plain.is_plain_body.Given as goal
 
 abbrev pub invariant-loop-op : goal.invariant-loop-op

@@ -4,7 +4,7 @@ use Rattle.std.specs.Prelude.{◌-ℤ◌}
 use Rattle.scaled_core.specs.Dimensions.{dimension_of}
 use Rattle.pack_core.specs.Items.{across, above, below}
 use Rattle.pack_core.specs.Totals.{total, greatest}
-use Rattle.pack_core.specs.Steps.{glue_set}
+use Rattle.pack_core.specs.Private.Steps.{glue_set}
 use Rattle.pack_core.proofs.Steps.{dimension-same, hbox-given, hbox-refused, hbox-unfit-width, hbox-unfit-height, hbox-unfit-depth, hbox-unfit-glue}
 use Rattle.pack_core.proofs.pack.hbox_shell.Goals as goal
 

@@ -10,7 +10,7 @@ use Rattle.pack_core.specs.Glue.{stretch_totals, shrink_totals}
 use Rattle.pack_core.specs.Orders.{order_amounts}
 use Rattle.pack_core.specs.ListTotals.{ListTotals}
 use Rattle.pack_core.specs.Boxes.{vbox_depth}
-use Rattle.pack_core.specs.Steps.{glue_set}
+use Rattle.pack_core.specs.Private.Steps.{glue_set}
 use Rattle.pack_core.proofs.Passing.{totals-advance, totals-stretch, totals-shrink, totals-pending}
 use Rattle.pack_core.proofs.Steps.{dimension-same, vbox-given, vbox-refused, vbox-unfit-natural, vbox-unfit-width, vbox-unfit-glue}
 use Rattle.pack_core.proofs.pack.vertical_shell.Goals as goal

@@ -2,7 +2,7 @@ use Rattle.std.proofs.Common.{◌≡◌, ◌∙◌, ◌+ℤ◌, refl, arith}
 use Rattle.std.specs.Prelude.{◌-ℤ◌}
 use Rattle.std.proofs.lemmas.Int.{ints}
 use Rattle.scaled_core.specs.Dimensions.{dimension_of}
-use Rattle.pack_core.specs.Steps.{vtop_shell}
+use Rattle.pack_core.specs.Private.Steps.{vtop_shell}
 use Rattle.pack_core.proofs.Steps.{dimension-same, some_if-refused, vtop-given}
 use Rattle.pack_core.proofs.pack.with_height.Goals as goal
 

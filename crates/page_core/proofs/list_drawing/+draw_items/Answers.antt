@@ -13,7 +13,8 @@ use Rattle.pack_core.proofs.Walks.{reached-more}
 use Rattle.std.specs.Prelude.{ℤ, List, Some, slice_get, true, false, is_some, ◌==◌}
 use Rattle.page_core.specs.Marks.{right_at, down_at, item_h, item_v, list_v, numbers_after}
 use Rattle.page_core.specs.Pictures.{Picture, blank, picture_after}
-use Rattle.page_core.specs.Placing.{strokes_at, point_in, reference_h, reference_v}
+use Rattle.page_core.specs.Placing.{reference_h, reference_v}
+use Rattle.page_core.specs.Private.Placing.{strokes_at, point_in}
 use Rattle.page_core.specs.declared.placing.Point.{Point}
 use Rattle.page_core.proofs.Places.{numbers_left, inside, numbers_inside, picture_left, fits_more, picture_more, item_fits, item_strokes, inner_begin, inner_numbers, inner_picture, inner_depth, leaf_numbers, no_numbers, special_picture, rest_of_and, first_false, second_false, few_passed, reached-none, item_at, item_is, leaf_picture}
 use Rattle.page_core.proofs.Walked.{told, told_on, told_index}

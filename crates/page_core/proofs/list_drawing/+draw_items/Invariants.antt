@@ -6,7 +6,7 @@ use Rattle.scaled_core.specs.Dimensions.{fits}
 use Rattle.pack_core.specs.Cursors.{reached, place_at}
 use Rattle.page_core.specs.Marks.{numbers_after}
 use Rattle.page_core.specs.Pictures.{picture_after}
-use Rattle.page_core.specs.Placing.{point_in}
+use Rattle.page_core.specs.Private.Placing.{point_in}
 use Rattle.page_core.proofs.list_drawing.+draw_items.Given as goal
 
 abbrev pub decreases-draw_group : goal.decreases-draw_group

@@ -1,5 +1,5 @@
 use Rattle.std.proofs.Common.{◌+◌, ◌*◌}
-use Rattle.raster_core.specs.Words.{Ors}
+use Rattle.raster_core.specs.Private.Words.{Ors}
 use Rattle.raster_core.proofs.lanes.or_row.Given as goal
 
 abbrev pub invariant-lanes : goal.invariant-lanes

@@ -1,5 +1,6 @@
 use Rattle.std.proofs.Common.{◌≡◌, ℕ, ◌*◌, ◌<◌, ◌≤◌, slice_index}
-use Rattle.raster_core.specs.Words.{between, in_row}
+use Rattle.raster_core.specs.Words.{between}
+use Rattle.raster_core.specs.Private.Words.{in_row}
 use Rattle.raster_core.proofs.masks.fill.Given as goal
 
 abbrev pub invariant-loop-k : goal.invariant-loop-k

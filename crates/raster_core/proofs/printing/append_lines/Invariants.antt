@@ -1,5 +1,5 @@
 use Rattle.std.proofs.Common.{◌≡◌, ◌≤◌, ◌++◌, ◌+◌, ◌*◌, ℕ, Bool, length, min, vec_len, vec_capacity}
-use Rattle.raster_core.specs.RowPieces.{columns_text, digits}
+use Rattle.raster_core.specs.Private.RowPieces.{columns_text, digits}
 use Rattle.raster_core.proofs.printing.append_lines.Given as goal
 
 abbrev pub invariant-loop-line : goal.invariant-loop-line

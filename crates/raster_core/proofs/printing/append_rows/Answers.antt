@@ -3,7 +3,7 @@ use Rattle.std.specs.List.{flat_map, range_with_len}
 use Rattle.std.proofs.lemmas.Nat.{row_fits}
 use Rattle.raster_core.specs.Words.{in_rows}
 use Rattle.raster_core.specs.PlainText.{row_text, rows_text}
-use Rattle.raster_core.specs.RowPieces.{row_size}
+use Rattle.raster_core.specs.Private.RowPieces.{row_size}
 use Rattle.raster_core.proofs.TextRuns.{appended_more, row_more}
 use Rattle.raster_core.proofs.printing.append_rows.Goals as goal
 

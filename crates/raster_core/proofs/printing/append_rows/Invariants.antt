@@ -2,7 +2,7 @@ use Rattle.std.proofs.Common.{◌≡◌, ◌≤◌, ◌++◌, ◌+◌, ◌*◌, 
 use Rattle.std.specs.List.{flat_map, range_with_len}
 use Rattle.raster_core.specs.Words.{in_rows}
 use Rattle.raster_core.specs.PlainText.{row_text}
-use Rattle.raster_core.specs.RowPieces.{row_size}
+use Rattle.raster_core.specs.Private.RowPieces.{row_size}
 use Rattle.raster_core.proofs.printing.append_rows.Given as goal
 
 abbrev pub invariant-loop-y : goal.invariant-loop-y

@@ -2,7 +2,7 @@ use Rattle.std.proofs.Common.{◌≡◌, ◌∙◌, ◌+◌, ◌-◌, ◌*◌, �
 use Rattle.std.proofs.lemmas.List.{take_all}
 use Rattle.std.proofs.lemmas.Slice.{take-put_mid}
 use Rattle.raster_core.specs.Words.{in_rows}
-use Rattle.raster_core.specs.RowPieces.{digits}
+use Rattle.raster_core.specs.Private.RowPieces.{digits}
 use Rattle.raster_core.proofs.RowLines.{length-digits, more_words}
 use Rattle.raster_core.proofs.printing.put_row.Goals as goal
 

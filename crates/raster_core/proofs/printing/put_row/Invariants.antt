@@ -1,6 +1,6 @@
 use Rattle.std.proofs.Common.{◌≡◌, ◌*◌, take}
 use Rattle.raster_core.specs.Words.{in_rows}
-use Rattle.raster_core.specs.RowPieces.{digits}
+use Rattle.raster_core.specs.Private.RowPieces.{digits}
 use Rattle.raster_core.proofs.printing.put_row.Given as goal
 
 abbrev pub invariant-loop-k : goal.invariant-loop-k

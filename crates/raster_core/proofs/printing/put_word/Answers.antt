@@ -2,7 +2,7 @@ use Rattle.std.proofs.Common.{◌∙◌, ◌==◌, ℕ, Bool, false, take, repli
 use Rattle.std.proofs.lemmas.List.{length-set, take_more_set}
 use Rattle.std.proofs.lemmas.Nat.Bits.{bit_at-zero}
 use Rattle.raster_core.specs.Words.{is_set}
-use Rattle.raster_core.specs.RowPieces.{digit_of, digits}
+use Rattle.raster_core.specs.Private.RowPieces.{digit_of, digits}
 use Rattle.raster_core.proofs.RowLines.{one_digit, even_digits, full_word}
 use Rattle.raster_core.proofs.printing.put_word.Goals as goal
 

@@ -1,6 +1,6 @@
 use Rattle.std.proofs.Common.{◌≡◌, length, take}
 use Rattle.raster_core.specs.Words.{is_set}
-use Rattle.raster_core.specs.RowPieces.{digits}
+use Rattle.raster_core.specs.Private.RowPieces.{digits}
 use Rattle.raster_core.proofs.printing.put_word.Given as goal
 
 abbrev pub invariant-loop-i : goal.invariant-loop-i

@@ -1,6 +1,6 @@
 use Rattle.std.proofs.Common.{◌≡◌, ◌<◌, ◌≤◌, ◌+◌, length, take, ap, sym, refl, rules, arith}
 use Rattle.scaled_core.proofs.Appending.{front_kept}
-use Rattle.shape_core.specs.Texts.{part_length}
+use Rattle.shape_core.specs.Private.Texts.{part_length}
 use Rattle.shape_core.proofs.ShapingLemmas.{on_refused}
 use Rattle.shape_core.proofs.TextLemmas.{part_length-some, part_length-within, text_items-end, text_items-part, text_items-some, text_missing-none, text_missing-part}
 use Rattle.shape_core.proofs.text.shape_parts.Goals as goal

@@ -4,7 +4,7 @@ use Rattle.std.proofs.lemmas.List.{take_all}
 use Rattle.std.proofs.lemmas.Option.{slice_get_within, get_or_from_slice_get}
 use Rattle.scaled_core.proofs.Appending.{front_kept}
 use Rattle.node_core.specs.declared.tree.Node.{Node}
-use Rattle.shape_core.specs.Fronts.{front_of}
+use Rattle.shape_core.specs.Private.Fronts.{front_of}
 use Rattle.shape_core.specs.Shaping.{outcome_at, outcome_next}
 use Rattle.shape_core.proofs.FrontLemmas.{ended, front-items, front-missing}
 use Rattle.shape_core.proofs.ShapingLemmas.{turn-items, turn-missing, end-items, end-missing, turn-some, end-some, on_refused}

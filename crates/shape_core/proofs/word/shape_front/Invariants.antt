@@ -1,5 +1,5 @@
 use Rattle.std.proofs.Common.{◌≡◌, ◌+◌, ◌-◌, ◌++◌, ◌<◌, ◌≤◌, drop, length, take}
-use Rattle.shape_core.specs.Fronts.{front_of}
+use Rattle.shape_core.specs.Private.Fronts.{front_of}
 use Rattle.shape_core.specs.Shaping.{items_from, missing_from, shaped_items, shaped_missing}
 use Rattle.shape_core.proofs.word.shape_front.Given as goal
 

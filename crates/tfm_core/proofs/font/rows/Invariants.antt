@@ -1,5 +1,5 @@
 use Rattle.std.proofs.Common.{◌≡◌, ℕ, ◌<◌, length, get_or}
-use Rattle.tfm_core.specs.FontView.{IsFontRow, no_row}
+use Rattle.tfm_core.specs.Private.FontView.{IsFontRow, no_row}
 use Rattle.tfm_core.proofs.font.rows.Given as goal
 
 abbrev pub invariant-loop-code : goal.invariant-loop-code

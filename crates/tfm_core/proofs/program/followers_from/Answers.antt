@@ -1,6 +1,6 @@
 use Rattle.std.proofs.Common.{◌<◌, ◌∙◌, length, sym, arith, rules}
 use Rattle.std.proofs.lemmas.Option.{slice_get_within}
-use Rattle.tfm_core.specs.FontView.{is_in}
+use Rattle.tfm_core.specs.Private.FontView.{is_in}
 use Rattle.tfm_core.proofs.ProgramLemmas.{found-last, found-next, found-past}
 use Rattle.tfm_core.proofs.program.followers_from.Goals as goal
 

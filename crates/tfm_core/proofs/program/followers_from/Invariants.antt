@@ -1,6 +1,6 @@
 use Rattle.std.proofs.Common.{◌≡◌, ℕ, ◌-◌, ◌<◌, ◌||◌, length}
 use Rattle.std.specs.Option.{is_some}
-use Rattle.tfm_core.specs.FontView.{is_in}
+use Rattle.tfm_core.specs.Private.FontView.{is_in}
 use Rattle.tfm_core.specs.Program.{first_for, taken_steps}
 use Rattle.tfm_core.proofs.program.followers_from.Given as goal
 

@@ -2,12 +2,12 @@ use Rattle.std.proofs.Common.{◌≡◌, ◌∙◌, ◌+◌, ◌<◌, ◌≤◌,
 use Rattle.node_core.specs.declared.limits.TheConstants.{MAX_DEPTH, MAX_ITEMS}
 use Rattle.node_core.specs.declared.tree.Node.{Node}
 use Rattle.node_core.specs.Items.{items_depth}
-use Rattle.node_core.specs.Nodes.{items_of}
+use Rattle.node_core.specs.Nodes.{IsPlain, items_of}
 use Rattle.node_core.proofs.NodeLemmas.{nodes_of-items_of}
 use Rattle.vert_core.specs.Lines.{vertical_items}
 use Rattle.vert_core.specs.Paragraphs.{with_breaks, IsUnsetList}
-use Rattle.vert_core.specs.Planned.{AreInOrder}
-use Rattle.vert_core.specs.PlannedParagraphs.{IsPlanned}
+use Rattle.vert_core.specs.Private.Planned.{AreInOrder}
+use Rattle.vert_core.specs.Private.PlannedParagraphs.{IsPlanned}
 use Rattle.vert_core.proofs.AppendedLines.{set_of, planned_setting, planned_levels, planned_count}
 use Rattle.vert_core.proofs.PlannedOrder.{broken_in_order, moved_items, moved_count}
 use Rattle.vert_core.proofs.appending.append_finished.Goals as goal
@@ -40,6 +40,12 @@ returns-then-saturating_add-gt-MAX_ITEMS-clause-refused c =
       omega (arith, levels, c.if-levels_of_lines-gt-MAX_DEPTH.false, most),
       omega (arith, planned_count list params previous paragraph planned, c.if-saturating_add-gt-MAX_ITEMS.true, c.saturating_add.ensures, c.len.ensures, c.args.around.now.ok.0),
     )
+
+pub levels_of_lines-requires : goal.levels_of_lines-requires
+levels_of_lines-requires c = λ on. subst IsPlain (c.deref.ensures.value ∙ sym c.deref-2.ensures.value) (c.in-Ok.ensures.plain on)
+
+pub stack_planned-requires-clause-plain : goal.stack_planned-requires-clause-plain
+stack_planned-requires-clause-plain c = λ on. subst IsPlain c.deref.ensures.value (c.in-Ok.ensures.plain on)
 
 pub stack_planned-requires-clause-in_order : goal.stack_planned-requires-clause-in_order
 stack_planned-requires-clause-in_order c =

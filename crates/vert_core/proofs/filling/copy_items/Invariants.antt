@@ -1,5 +1,5 @@
 use Rattle.std.proofs.Common.{◌≡◌, ◌≤◌, ◌+◌, ◌++◌, map, reverse, vec_len, vec_capacity}
-use Rattle.vert_core.specs.Planned.{copied}
+use Rattle.vert_core.specs.Private.Planned.{copied}
 use Rattle.vert_core.proofs.filling.copy_items.Given as goal
 
 abbrev pub invariant-loop-line : goal.invariant-loop-line

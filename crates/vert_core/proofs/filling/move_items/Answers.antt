@@ -1,7 +1,7 @@
 use Rattle.std.proofs.Common.{◌≡◌, ◌∙◌, ◌++◌, ◌∷◌, [], List, take, drop, ap, sym, subst, arith}
 use Rattle.node_core.specs.declared.tree.Node.{Node}
 use Rattle.vert_core.specs.declared.planning.PlannedLine.{PlannedLine}
-use Rattle.vert_core.specs.Planned.{with_part}
+use Rattle.vert_core.specs.Private.Planned.{with_part}
 use Rattle.vert_core.proofs.Filled.{IsMoving, begins_within, moving_more}
 use Rattle.vert_core.proofs.filling.move_items.Goals as goal
 

@@ -2,7 +2,7 @@ use Rattle.std.proofs.Common.{◌≡◌, ◌∙◌, ◌+◌, ◌++◌, ◌∷◌
 use Rattle.node_core.specs.declared.tree.BoxNode.{BoxNode}
 use Rattle.node_core.specs.declared.tree.Node.{Node}
 use Rattle.node_core.specs.Nodes.{nodes_of}
-use Rattle.vert_core.specs.Planned.{items_in}
+use Rattle.vert_core.specs.Private.Planned.{items_in}
 use Rattle.vert_core.proofs.Filled.{popped, popped_room, appended_ok}
 use Rattle.vert_core.proofs.filling.rejoin.Goals as goal
 

@@ -1,5 +1,5 @@
 use Rattle.std.proofs.Common.{◌≡◌, ◌≤◌, ◌++◌, reverse, flat_map, vec_len, vec_capacity}
-use Rattle.vert_core.specs.Planned.{items_in}
+use Rattle.vert_core.specs.Private.Planned.{items_in}
 use Rattle.vert_core.proofs.filling.rejoin.Given as goal
 
 -- What is back and what is still in lines make the whole, for which there is room.

@@ -1,8 +1,11 @@
 use Rattle.std.proofs.Common.{ap, arith}
 use Rattle.node_core.specs.Items.{items_depth}
-use Rattle.node_core.proofs.NodeLemmas.{items_depth_more, node_depth, leaf_depth}
+use Rattle.node_core.proofs.NodeLemmas.{items_depth_more, node_depth, leaf_depth, plain_depth}
 use Rattle.vert_core.proofs.levels.levels.Goals as goal
 use Rattle.vert_core.proofs.levels.levels.Goals.{in-Box, in_default}
+
+pub returns-then-plain : goal.returns-then-plain
+returns-then-plain c = omega (arith, plain_depth c.args.nodes.now (c.requires c.if-plain.true))
 
 pub loop-node-preserved : goal.loop-node-preserved
 loop-node-preserved c =

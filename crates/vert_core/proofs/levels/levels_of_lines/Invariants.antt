@@ -1,7 +1,7 @@
 use Rattle.std.proofs.Common.{◌≡◌, min, take, map, flat_map}
 use Rattle.node_core.specs.Items.{items_depth}
 use Rattle.node_core.specs.Nodes.{items_of}
-use Rattle.vert_core.specs.Planned.{copied, stacked}
+use Rattle.vert_core.specs.Private.Planned.{copied, stacked}
 use Rattle.vert_core.proofs.levels.levels_of_lines.Given as goal
 
 abbrev pub invariant-loop-line : goal.invariant-loop-line

@@ -2,9 +2,13 @@ use Rattle.std.proofs.Common.{◌∙◌, List, ap, sym}
 use Rattle.break_core.specs.declared.broken.LineEnd.{LineEnd}
 use Rattle.vert_core.specs.Lines.{broken_list, lines_fit}
 use Rattle.vert_core.specs.Paragraphs.{unstacked_by, IsUnsetList}
-use Rattle.vert_split.proofs.Rests.{handed_on}
+use Rattle.vert_core.proofs.PlainItems.{known_plain}
+use Rattle.vert_core.proofs.Rests.{handed_on}
 use Rattle.vert_core.proofs.Unset.{unplanned_list}
 use Rattle.vert_core.proofs.paragraph.plan_finished.Goals as goal
+
+pub returns-clause-plain : goal.returns-clause-plain
+returns-clause-plain c = λ on. known_plain c.any_has_content-plain.result c.args.nodes.now c.any_has_content-plain.ensures on
 
 pub returns-in_err-plan-clause-refused : goal.returns-in_err-plan-clause-refused
 returns-in_err-plan-clause-refused c =

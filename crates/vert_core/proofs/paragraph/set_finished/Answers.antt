@@ -1,16 +1,19 @@
 use Rattle.std.proofs.Common.{◌≡◌, ◌∙◌, ◌++◌, ◌+◌, [], List, length, flat_map, ap, sym, subst, rules, arith}
 use Rattle.node_core.specs.declared.tree.Node.{Node}
-use Rattle.node_core.specs.Nodes.{items_of}
+use Rattle.node_core.specs.Nodes.{IsPlain, items_of}
 use Rattle.vert_core.specs.declared.paragraph.ParagraphFault.TheVariants.{OutOfMemory}
 use Rattle.vert_core.specs.Lines.{vertical_items}
 use Rattle.vert_core.specs.Paragraphs.{with_breaks, IsUnsetList}
-use Rattle.vert_core.specs.Planned.{AreInOrder, moved, stacked}
-use Rattle.vert_core.specs.PlannedParagraphs.{IsPlanned}
-use Rattle.vert_split.proofs.Rests.{handed_on}
+use Rattle.vert_core.specs.Private.Planned.{AreInOrder, moved, stacked}
+use Rattle.vert_core.specs.Private.PlannedParagraphs.{IsPlanned}
+use Rattle.vert_core.proofs.Rests.{handed_on}
 use Rattle.vert_core.proofs.FewLines.{few_lines, few_items}
 use Rattle.vert_core.proofs.Stacks.{count_places}
 use Rattle.vert_core.proofs.PlannedOrder.{broken_in_order, moved_items, moved_count}
 use Rattle.vert_core.proofs.paragraph.set_finished.Goals as goal
+
+pub stack_planned-requires-clause-plain : goal.stack_planned-requires-clause-plain
+stack_planned-requires-clause-plain c = λ on. subst IsPlain c.deref.ensures.value (c.in_ok-plan.ensures.plain on)
 
 pub stack_planned-requires-clause-in_order : goal.stack_planned-requires-clause-in_order
 stack_planned-requires-clause-in_order c =

@@ -8,7 +8,7 @@ use Rattle.pack_core.specs.Boxes.{packed_of}
 use Rattle.break_lines.specs.Legal.{up_to}
 use Rattle.vert_core.specs.declared.planning.PlannedLine.{PlannedLine}
 use Rattle.vert_core.specs.Lines.{BrokenParagraph, broken_list, line_places, line_items, depth_before, line_fits, lines_fit, last_depth}
-use Rattle.vert_core.specs.Planned.{penalty_between, planned}
+use Rattle.vert_core.specs.Private.Planned.{penalty_between, planned}
 use Rattle.vert_core.proofs.Stacks.{count_places, depth_after_line, fits_one, all_more, all_but}
 use Rattle.vert_core.proofs.Measured.{measured_depth}
 use Rattle.vert_core.proofs.PlannedLines.{planned_one, count_more, map_more}

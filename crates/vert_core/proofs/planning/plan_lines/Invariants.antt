@@ -2,7 +2,7 @@ use Rattle.std.proofs.Common.{◌≡◌, ◌≤◌, ◌*◌, length, map, true, 
 use Rattle.std.specs.List.{list_all}
 use Rattle.break_lines.specs.Legal.{up_to}
 use Rattle.vert_core.specs.Lines.{broken_list, depth_before, line_fits}
-use Rattle.vert_core.specs.Planned.{planned, stacked}
+use Rattle.vert_core.specs.Private.Planned.{planned, stacked}
 use Rattle.vert_core.proofs.planning.plan_lines.Given as goal
 
 abbrev pub invariant-loop-line : goal.invariant-loop-line

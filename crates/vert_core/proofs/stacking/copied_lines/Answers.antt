@@ -2,14 +2,21 @@ use Rattle.std.proofs.Common.{◌≡◌, ◌∙◌, ◌++◌, [], List, length, 
 use Rattle.node_core.specs.declared.tree.Node.{Node}
 use Rattle.vert_core.specs.declared.planning.PlannedLine.{PlannedLine}
 use Rattle.vert_core.specs.Lines.{BrokenParagraph, broken_list}
-use Rattle.vert_core.specs.Planned.{stacked}
+use Rattle.vert_core.specs.Private.Planned.{stacked}
 use Rattle.vert_core.proofs.Stacks.{count_places}
 use Rattle.vert_core.proofs.PlannedLines.{count_copied}
 use Rattle.vert_core.proofs.PlannedOrder.{copied_items}
+use Rattle.vert_core.proofs.PlainItems.{known_plain, plain_copied, plain_filled}
 use Rattle.vert_core.proofs.stacking.copied_lines.Goals as goal
 
-pub stack_lines-requires : goal.stack_lines-requires
-stack_lines-requires c =
+pub stack_lines-requires-clause-plain : goal.stack_lines-requires-clause-plain
+stack_lines-requires-clause-plain c = λ on.
+    plain_filled c.in_ok-filled.filled.items _ c.in_ok-filled.ensures
+    (plain_copied c.args.broken.now.nodes.now c.in_ok-plan.plan.lines.items
+    (known_plain c.any_has_content.result c.args.broken.now.nodes.now c.any_has_content.ensures on))
+
+pub stack_lines-requires-clause-room : goal.stack_lines-requires-clause-room
+stack_lines-requires-clause-room c =
     omega (
       arith,
       c.in_ok-nodes.ensures.len,

@@ -1,6 +1,6 @@
 -- All answers were sent.
 use Rattle.std.proofs.lemmas.Result.{on_ok_weaker, on_err_weaker}
-use Rattle.boxglue_program.specs.Dialogs.{outbox_of}
+use Rattle.boxglue_program.specs.Private.Dialogs.{outbox_of}
 use Rattle.boxglue_program.proofs.DialogLaws.{sent_all}
 use Rattle.boxglue_program.proofs.dialog.Outbox.answer.Goals as goal
 

@@ -1,7 +1,7 @@
 -- The lines, and then the end.
 use Rattle.std.proofs.lemmas.Result.{IfOk-weaker, on_err_weaker}
 use Rattle.boxglue_program.specs.Texts.{end_line}
-use Rattle.boxglue_program.specs.Dialogs.{dialog_of}
+use Rattle.boxglue_program.specs.Private.Dialogs.{dialog_of}
 use Rattle.boxglue_program.proofs.SessionLaws.{sent_both}
 use Rattle.boxglue_program.proofs.DialogLaws.{stops_at_end, sent_no_more}
 use Rattle.boxglue_program.proofs.dialog.Outbox.answer_last.Goals as goal

@@ -1,6 +1,6 @@
 -- The lines before the rest were run, and their answers were sent or wait.
 use Rattle.std.proofs.Common.{ℕ, List, ◌≤◌, ◌+◌, length}
-use Rattle.boxglue_program.specs.Dialogs.{dialog_of, outbox_of, Sends}
+use Rattle.boxglue_program.specs.Private.Dialogs.{dialog_of, outbox_of, Sends}
 use Rattle.boxglue_program.proofs.DialogLaws.{RunsUpTo}
 use Rattle.boxglue_program.proofs.dialog.Outbox.answer_lines.Given as goal
 

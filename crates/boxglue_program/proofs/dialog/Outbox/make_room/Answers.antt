@@ -1,5 +1,5 @@
 -- All that waits was sent, or nothing.
-use Rattle.boxglue_program.specs.Dialogs.{outbox_of}
+use Rattle.boxglue_program.specs.Private.Dialogs.{outbox_of}
 use Rattle.boxglue_program.proofs.DialogLaws.{sends_none, sends_all}
 use Rattle.boxglue_program.proofs.dialog.Outbox.make_room.Goals as goal
 

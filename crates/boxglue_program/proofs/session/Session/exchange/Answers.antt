@@ -1,6 +1,6 @@
 -- What one reading brought, and what was run of it.
 use Rattle.std.proofs.Common.{◌-◌, [], Ok, take, ap, vec_len}
-use Rattle.boxglue_program.specs.Dialogs.{session_of}
+use Rattle.boxglue_program.specs.Private.Dialogs.{session_of}
 use Rattle.boxglue_program.proofs.PieceLaws.{not_both, nothing_exchanged, piece_comes, piece_exchanged, room_lacked}
 use Rattle.boxglue_program.proofs.SessionCalls.{none_consumed}
 use Rattle.boxglue_program.proofs.session.Session.exchange.Goals as goal

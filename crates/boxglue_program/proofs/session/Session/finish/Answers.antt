@@ -1,7 +1,7 @@
 -- The last line was run, and the job was finished.
 use Rattle.std.proofs.Common.{ℕ, List, subst}
 use Rattle.std.specs.Str.Lines.{lines}
-use Rattle.boxglue_program.specs.Dialogs.{dialog_of}
+use Rattle.boxglue_program.specs.Private.Dialogs.{dialog_of}
 use Rattle.boxglue_program.specs.Sessions.{AnswersLines, SessionView}
 use Rattle.boxglue_program.proofs.SessionCalls.{session_finished}
 use Rattle.boxglue_program.proofs.session.Session.finish.Goals as goal

@@ -1,7 +1,7 @@
 use Rattle.std.proofs.Common.{◌≡◌, ◌∙◌, length, sym, subst, ap, arith, rules}
 use Rattle.std.proofs.lemmas.List.{length-replicate}
-use Rattle.break_lines.specs.Marks.{IsMarked}
-use Rattle.break_lines.specs.SmallMarks.{AreSmallMarks}
+use Rattle.break_lines.specs.Private.Marks.{IsMarked}
+use Rattle.break_lines.specs.Private.SmallMarks.{AreSmallMarks}
 use Rattle.break_lines.proofs.Ends.{some_place}
 use Rattle.break_lines.proofs.Marked.{count_is}
 use Rattle.break_lines.proofs.Walks.{few_places}

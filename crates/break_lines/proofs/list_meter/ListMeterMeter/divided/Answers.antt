@@ -1,5 +1,5 @@
 use Rattle.std.proofs.Common.{sym, subst}
-use Rattle.break_lines.specs.SmallMarks.{AreSmallMarks}
+use Rattle.break_lines.specs.Private.SmallMarks.{AreSmallMarks}
 use Rattle.break_lines.proofs.list_meter.ListMeterMeter.divided.Goals as goal
 
 pub is_divided-requires-clause-marks_bounded : goal.is_divided-requires-clause-marks_bounded

@@ -3,8 +3,8 @@ use Rattle.std.specs.Prelude.{negsuc}
 use Rattle.std.proofs.lemmas.List.{append-nil}
 use Rattle.node_core.specs.Nodes.{max_nodes}
 use Rattle.break_lines.specs.declared.mark.MeasuredBreak.{MeasuredBreak}
-use Rattle.break_lines.specs.Marks.{no_sums}
-use Rattle.break_lines.specs.SmallMarks.{AreSmallMarks}
+use Rattle.break_lines.specs.Private.Marks.{no_sums}
+use Rattle.break_lines.specs.Private.SmallMarks.{AreSmallMarks}
 use Rattle.break_lines.proofs.Ends.{end_is_legal}
 use Rattle.break_lines.proofs.Places.{lead_end}
 use Rattle.break_lines.proofs.Smalls.{none}

@@ -2,8 +2,8 @@ use Rattle.std.proofs.Common.{◌≡◌, ◌∙◌, ◌-◌, [], ◌∷◌, ◌+
 use Rattle.std.specs.Prelude.{pos}
 use Rattle.std.proofs.lemmas.List.{reverse-append}
 use Rattle.break_lines.specs.declared.mark.MeasuredBreak.{MeasuredBreak}
-use Rattle.break_lines.specs.Marks.{start_mark}
-use Rattle.break_lines.specs.SmallMarks.{AreSmallMarks}
+use Rattle.break_lines.specs.Private.Marks.{start_mark}
+use Rattle.break_lines.specs.Private.SmallMarks.{AreSmallMarks}
 use Rattle.break_lines.proofs.Smalls.{wide}
 use Rattle.break_lines.proofs.Walks.{small_more, not_refused}
 use Rattle.break_lines.proofs.walk.BreakWalk.into_marks.Goals as goal

@@ -4,8 +4,8 @@ use Rattle.node_core.specs.Nodes.{max_nodes}
 use Rattle.break_lines.specs.declared.mark.MeasuredBreak.{MeasuredBreak}
 use Rattle.break_lines.specs.Legal.{is_dropped, is_legal}
 use Rattle.break_lines.specs.LineItems.{sums_of}
-use Rattle.break_lines.specs.Marks.{plus, amounts_of, measured_break}
-use Rattle.break_lines.specs.SmallMarks.{IsPrefix, AreSmallMarks}
+use Rattle.break_lines.specs.Private.Marks.{plus, amounts_of, measured_break}
+use Rattle.break_lines.specs.Private.SmallMarks.{IsPrefix, AreSmallMarks}
 use Rattle.break_lines.proofs.Smalls.{wide}
 use Rattle.break_lines.proofs.Walks.{sums_back, next_dropped, one_kept, finite_more, marks_stay, marks_more, start_known, start_small, small_more, too_many}
 use Rattle.break_lines.proofs.walk.BreakWalk.pass.Goals as goal

@@ -1,7 +1,7 @@
 use Rattle.std.proofs.Common.{◌≡◌, ◌+◌, ◌-◌, ◌<◌, ◌+ℤ◌, length, to_z, of_z, w64, sym, subst, arith, Some}
 use Rattle.std.proofs.lemmas.Int.{ints}
-use Rattle.break_lines.specs.Marks.{HasMeasuredFrom, width_in_run}
-use Rattle.break_lines.specs.SmallMarks.{IsPrefix}
+use Rattle.break_lines.specs.Private.Marks.{HasMeasuredFrom, width_in_run}
+use Rattle.break_lines.specs.Private.SmallMarks.{IsPrefix}
 use Rattle.break_lines.proofs.Amounts.{prefix_wider}
 use Rattle.break_lines.proofs.Smalls.{wide}
 use Rattle.break_lines.proofs.Walks.{run_kept, run_sums, one_kept}

@@ -1,5 +1,5 @@
 use Rattle.std.proofs.Common.{◌≤◌}
-use Rattle.break_lines.specs.Marks.{HasMeasuredFrom}
+use Rattle.break_lines.specs.Private.Marks.{HasMeasuredFrom}
 use Rattle.break_lines.proofs.walk.BreakWalk.pass_run.Given as goal
 
 abbrev pub invariant-loop-index : goal.invariant-loop-index

@@ -1,7 +1,7 @@
 use Rattle.std.proofs.Common.{◌≡◌, ◌+◌, ◌++◌, ◌∙◌, [], ◌∷◌, ℕ, List, length, map, ap, ap₂, sym, subst, length-append, arith}
 use Rattle.std.proofs.lemmas.List.{map-append, length-map}
 use Rattle.dvi_ops.specs.Instruction.{Instruction}
-use Rattle.dvi_ops.specs.Rising.{IsRising}
+use Rattle.dvi_ops.specs.Private.Rising.{IsRising}
 use Rattle.dvi_ops.specs.Runs.{instructions_of, woven}
 use Rattle.dvi_ops.specs.View.{body_view}
 use Rattle.dvi_ops.specs.declared.body_op.BodyOp.{BodyOp}

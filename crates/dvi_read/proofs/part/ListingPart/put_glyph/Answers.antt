@@ -1,5 +1,5 @@
 use Rattle.std.proofs.Common.{rules, ◌≡◌, ◌++◌, ◌-◌, ℤ, List, ℕ, SFits, w32, ap₂, sym, ◌∙◌, to_z-of_z}
-use Rattle.dvi_read.specs.GlyphHeads.{head_text}
+use Rattle.dvi_read.specs.Private.GlyphHeads.{head_text}
 use Rattle.dvi_read.proofs.HeadLemmas.{head_first, head_grows, head_size, head_written}
 use Rattle.dvi_read.proofs.part.ListingPart.put_glyph.Goals as goal
 

@@ -6,8 +6,8 @@ use Rattle.dvi_scan.specs.declared.page.Mark.{Mark}
 use Rattle.dvi_scan.proofs.TurnLemmas.{no_room}
 use Rattle.dvi_scan.proofs.executing.OpenPage.mark_and_go.Goals as goal
 
-pub returns-in_err-push : goal.returns-in_err-push
-returns-in_err-push c = λ pages to e.
+pub returns-in_err-push-clause-turns : goal.returns-in_err-push-clause-turns
+returns-in_err-push-clause-turns c = λ pages to e.
     let page = c.args.self.now in
     let same : c.push.new.self.items ≡ page.marks.items = search rules in
     let there : c.args.place ≡ Some c.in_ok-place.place = search rules in

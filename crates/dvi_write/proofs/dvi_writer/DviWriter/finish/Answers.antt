@@ -1,8 +1,8 @@
 use Rattle.std.proofs.Common.{◌≢◌, ap, sym, ◌∙◌, length, arith}
 use Rattle.dvi_write.specs.Writing.{Writing}
-use Rattle.dvi_layout.proofs.Files.{file_shows}
-use Rattle.dvi_layout.proofs.ClosedFiles.{file_closes}
-use Rattle.dvi_layout.proofs.Rooms.{small}
+use Rattle.dvi_write.proofs.Files.{file_shows}
+use Rattle.dvi_write.proofs.ClosedFiles.{file_closes}
+use Rattle.dvi_write.proofs.Rooms.{small}
 use Rattle.dvi_write.proofs.Writings.{ended_all, ended_none, ended_part, ended_size, none_ended, past_all, past_lost, past_none, written_small}
 use Rattle.dvi_write.proofs.dvi_writer.DviWriter.finish.Goals as goal
 

@@ -1,6 +1,6 @@
 use Rattle.std.proofs.Common.{ap, sym, subst, refl}
-use Rattle.dvi_layout.specs.Limits.{HasRoom}
-use Rattle.dvi_layout.proofs.Rooms.{first_room}
+use Rattle.dvi_write.specs.Limits.{HasRoom}
+use Rattle.dvi_write.proofs.Rooms.{first_room}
 use Rattle.dvi_write.proofs.Writings.{written_none}
 use Rattle.dvi_write.proofs.dvi_writer.DviWriter.new.Goals as goal
 

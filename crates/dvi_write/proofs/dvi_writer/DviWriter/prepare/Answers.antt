@@ -3,9 +3,9 @@ use Rattle.std.proofs.lemmas.Result.{err_from_is_err_and}
 use Rattle.std.specs.Prelude.{ℤ, None, false}
 use Rattle.page_core.specs.declared.placing.Point.{Point}
 use Rattle.page_core.specs.Pages.{page_at}
-use Rattle.dvi_layout.specs.Limits.{HasRoom, limit_of}
-use Rattle.dvi_layout.specs.Shippable.{IsRightPage}
-use Rattle.dvi_layout.proofs.Rooms.{few_text, room_next}
+use Rattle.dvi_write.specs.Limits.{HasRoom, limit_of}
+use Rattle.dvi_write.specs.Shippable.{IsRightPage}
+use Rattle.dvi_write.proofs.Rooms.{few_text, room_next}
 use Rattle.dvi_write.specs.Writing.{Writing, RefusesPage, refusal_of}
 use Rattle.dvi_write.proofs.Writings.{may_go, refused_by}
 use Rattle.dvi_write.proofs.dvi_writer.DviWriter.prepare.Goals as goal

@@ -1,11 +1,11 @@
 use Rattle.std.proofs.Common.{ap, sym, subst, ◌∙◌, Err}
-use Rattle.dvi_layout.specs.declared.fault.WriteFault.{WriteFault}
+use Rattle.dvi_write.specs.declared.fault.WriteFault.{WriteFault}
 use Rattle.dvi_device.proofs.PastLaws.{keeps_taken}
 use Rattle.tfm_core.specs.Slots.{Slots}
-use Rattle.dvi_layout.specs.Closing.{IsClosedFor}
-use Rattle.dvi_layout.specs.Layout.{whole}
-use Rattle.dvi_layout.specs.Shippable.{GivesFonts, IsFileOfPages}
-use Rattle.job_core.specs.Sound.{view_of}
+use Rattle.dvi_write.specs.Closing.{IsClosedFor}
+use Rattle.dvi_write.specs.Layout.{whole}
+use Rattle.dvi_write.specs.Shippable.{GivesFonts, IsFileOfPages}
+use Rattle.job_core.specs.Private.Sound.{view_of}
 use Rattle.job_core.proofs.Endings.{over_refused, open_refused, may_finish, has_written_by, fonts_are, sent_by, part_by, kept_by, some_where, finished, losing, stopped, said, filed}
 use Rattle.job_core.proofs.BoundedFiles.{small_file}
 use Rattle.job_core.proofs.device_job.Job.finish.Goals as goal

@@ -1,7 +1,7 @@
 use Rattle.std.proofs.Common.{◌≡◌, ◌+◌, ◌++◌, ◌∷◌, [], take, ap, sym, ◌∙◌, subst, append_assoc, arith, List}
 use Rattle.std.proofs.lemmas.List.{take_more}
-use Rattle.job_commands.specs.declared.command.Command.{Command}
-use Rattle.job_commands.specs.Reply.{Reply}
+use Rattle.job_machine.specs.declared.command.Command.{Command}
+use Rattle.job_machine.specs.Reply.{Reply}
 use Rattle.dvi_write.proofs.Writings.{goes_further}
 use Rattle.job_core.specs.Jobs.{JobView, RunsTo}
 use Rattle.job_core.proofs.Moves.{runs_more}

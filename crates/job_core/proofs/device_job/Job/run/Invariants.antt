@@ -1,6 +1,6 @@
 use Rattle.std.proofs.Common.{◌≡◌, true, ◌≤◌, ◌+◌, ◌-◌, ◌++◌, List, length, take, vec_len}
 use Rattle.std.specs.Prelude.{vec_capacity}
-use Rattle.job_commands.specs.Reply.{Reply}
+use Rattle.job_machine.specs.Reply.{Reply}
 use Rattle.dvi_write.specs.Writing.{GoesOn}
 use Rattle.job_core.specs.Jobs.{RunsTo, writing_of}
 use Rattle.job_core.proofs.device_job.Job.run.Given as goal

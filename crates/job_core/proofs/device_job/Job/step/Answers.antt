@@ -3,8 +3,8 @@ use Rattle.job_machine.specs.Runs.{IsShip}
 use Rattle.job_state.specs.JobStateView.{before_shipping}
 use Rattle.job_machine.specs.State.{State}
 use Rattle.dvi_write.proofs.Writings.{goes_not}
-use Rattle.job_core.specs.Sound.{IsSound, IsBoundedFile, view_of}
-use Rattle.job_core.proofs.Moves.{over_replies, obeyed, seen_reply, sound_after, bounded_after, stays_refused, never_device, written_stays, true_or_false}
+use Rattle.job_core.specs.Private.Sound.{IsSound, IsBoundedFile, view_of}
+use Rattle.job_core.proofs.Moves.{over_replies, obeyed, seen_reply, sound_after, bounded_after, stays_refused, never_device, true_or_false}
 use Rattle.job_core.proofs.device_job.Job.step.Goals as goal
 
 pub returns-then-is_over-clause-keeps : goal.returns-then-is_over-clause-keeps
@@ -27,10 +27,9 @@ returns g c =
     let w = c.self.inside.writer in
     rw (← c.self.view_is)
     (record {
-      keeps = obeyed kept w c.args.command.now other running c.obey.new.kept c.in_ok-obey.field-0 c.in_ok-obey.ensures.reply c.in_ok-obey.ensures.state;
-      same = stays_refused kept c.obey.new.kept w c.args.command.now c.in_ok-obey.field-0 c.in_ok-obey.ensures.reply c.in_ok-obey.ensures.state;
+      keeps = obeyed kept w c.args.command.now other running c.obey.new.self c.in_ok-obey.field-0 c.in_ok-obey.ensures.reply c.in_ok-obey.ensures.state;
+      same = stays_refused kept c.obey.new.self w c.args.command.now c.in_ok-obey.field-0 c.in_ok-obey.ensures.reply c.in_ok-obey.ensures.state;
       idle = λ over. absurd (true_or_false over running);
-      unsent = written_stays c.in_ok-obey.field-0 w.bytes_written;
       part = λ is.
           absurd (never_device (view_of kept w).state c.args.command.now c.in_ok-obey.field-0 (seen_reply kept w c.args.command.now other running c.in_ok-obey.field-0 c.in_ok-obey.ensures.reply) is);
       goes_on = goes_not w;

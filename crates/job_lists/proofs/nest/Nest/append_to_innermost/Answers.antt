@@ -3,7 +3,7 @@ use Rattle.scaled_core.proofs.EachOf.{each_at}
 use Rattle.job_machine.specs.declared.OpenList.{OpenList}
 use Rattle.job_machine.specs.State.{innermost}
 use Rattle.job_machine.specs.Checks.{box_checks, first_refusal}
-use Rattle.job_lists.specs.BoundedLists.{IsBounded}
+use Rattle.job_lists.specs.Private.BoundedLists.{IsBounded}
 use Rattle.job_machine.proofs.States.{no_box}
 use Rattle.job_lists.proofs.BoundedLists.{one_changed, box_fits}
 use Rattle.job_lists.proofs.nest.Nest.append_to_innermost.Goals as goal

@@ -3,7 +3,7 @@ use Rattle.std.specs.Prelude.{pos}
 use Rattle.job_machine.specs.declared.OpenList.{OpenList}
 use Rattle.job_machine.specs.State.{innermost, outer}
 use Rattle.job_machine.specs.Checks.{box_checks, first_refusal}
-use Rattle.job_lists.specs.BoundedLists.{IsBounded}
+use Rattle.job_lists.specs.Private.BoundedLists.{IsBounded}
 use Rattle.job_machine.proofs.States.{no_box, none_around}
 use Rattle.job_lists.proofs.Nests.{around_found, closing_into}
 use Rattle.job_lists.proofs.BoundedLists.{changed_and_taken, bounded_with_box}

@@ -1,6 +1,6 @@
 use Rattle.std.proofs.Common.{◌≡◌, ◌∙◌, Option, false, ap, sym, rules}
 use Rattle.std.specs.Prelude.{is_none}
-use Rattle.job_commands.specs.declared.replies.Refusal.{Refusal}
+use Rattle.job_machine.specs.declared.replies.Refusal.{Refusal}
 use Rattle.job_machine.specs.State.{innermost, outer, items_in}
 use Rattle.job_machine.specs.Machine.{reply_by}
 use Rattle.job_machine.specs.Paragraphs.{set_after, paragraph_answer}

@@ -7,5 +7,5 @@ use Rattle.job_state.proofs.job_state.JobState.append_special.Goals as goal
 
 pub returns-in_default-clause-reply : goal.returns-in_default-clause-reply
 returns-in_default-clause-reply c =
-    let closed = none_last c.args.self.now.nest (ap (λ (t : JobStateView). innermost t.nest) (sym c.self.view_is) ∙ (sym c.innermost.ensures ∙ ap option_copied c.in_default.is)) in
+    let closed = none_last c.args.self.now.nest (ap (λ (t : JobStateView). innermost t.nest) (sym c.self.view_is) ∙ (sym c.innermost.ensures.value ∙ ap option_copied c.in_default.is)) in
     rw closed refl

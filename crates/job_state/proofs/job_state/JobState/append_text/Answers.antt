@@ -1,7 +1,7 @@
 use Rattle.std.proofs.Common.{◌≡◌, ◌∙◌, List, length, ap, sym, refl}
 use Rattle.std.specs.Option.{option_copied}
-use Rattle.job_commands.specs.declared.command.Command.TheVariants.{Text}
-use Rattle.job_commands.specs.declared.replies.Refusal.TheVariants.{JobOver}
+use Rattle.job_machine.specs.declared.command.Command.TheVariants.{Text}
+use Rattle.job_machine.specs.declared.replies.Refusal.TheVariants.{JobOver}
 use Rattle.tfm_core.specs.Slots.{font_in}
 use Rattle.node_core.specs.Items.{Items}
 use Rattle.node_core.specs.Nodes.{nodes_of}

@@ -2,8 +2,8 @@ use Rattle.std.proofs.Common.{◌≡◌, ◌==◌, ◌++◌, ◌∷◌, [], ℕ,
 use Rattle.std.specs.Prelude.{◌&&◌, not, is_none, is_some, nat_le}
 use Rattle.std.proofs.lemmas.Bool.{ne_eqb, lt-leb}
 use Rattle.node_core.specs.declared.limits.TheConstants.{MAX_OPEN_LISTS}
-use Rattle.job_commands.specs.declared.command.Opening.{Opening}
-use Rattle.job_commands.specs.declared.command.Command.TheVariants as commands
+use Rattle.job_machine.specs.declared.command.Opening.{Opening}
+use Rattle.job_machine.specs.declared.command.Command.TheVariants as commands
 use Rattle.job_machine.specs.declared.OpenList.{OpenList}
 use Rattle.job_machine.specs.declared.ListPurpose.TheVariants.{Box}
 use Rattle.job_machine.specs.State.{State}

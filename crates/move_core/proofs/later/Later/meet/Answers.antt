@@ -3,7 +3,7 @@ use Rattle.dvi_ops.specs.Instruction.{Push}
 use Rattle.dvi_ops.specs.View.{body_view}
 use Rattle.dvi_ops.specs.declared.body_op.BodyOp.{BodyOp}
 use Rattle.move_core.specs.declared.later.Amounts.{Amounts}
-use Rattle.move_core.specs.Passes.{has}
+use Rattle.move_core.specs.Private.Passes.{has}
 use Rattle.move_core.proofs.Laters.{HasNone, KnowsAt, knows_pop, knows_push}
 use Rattle.move_core.proofs.later.Later.meet.Goals as goal
 

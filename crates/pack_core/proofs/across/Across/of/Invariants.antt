@@ -3,7 +3,7 @@ use Rattle.pack_core.specs.Items.{across, above, below}
 use Rattle.pack_core.specs.Totals.{total, greatest}
 use Rattle.pack_core.specs.Glue.{stretch_totals, shrink_totals}
 use Rattle.pack_core.specs.Orders.{order_amounts}
-use Rattle.pack_core.specs.Measures.{HasPassed}
+use Rattle.pack_core.specs.Private.Measures.{HasPassed}
 use Rattle.pack_core.proofs.across.Across.of.Given as goal
 
 abbrev pub invariant-loop-node : goal.invariant-loop-node

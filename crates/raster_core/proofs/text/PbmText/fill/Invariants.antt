@@ -1,6 +1,6 @@
 -- The bytes so far and the rest are the whole.
 use Rattle.std.proofs.Common.{◌≡◌, ◌++◌, ◌-◌, ◌≤◌, true, vec_capacity}
-use Rattle.raster_core.specs.RowPieces.{row_size}
+use Rattle.raster_core.specs.Private.RowPieces.{row_size}
 use Rattle.raster_core.specs.TextAhead.{pbm_text_ahead}
 use Rattle.raster_core.proofs.text.PbmText.fill.Given as goal
 

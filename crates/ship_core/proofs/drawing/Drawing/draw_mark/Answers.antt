@@ -3,7 +3,7 @@ use Rattle.std.specs.Prelude.{pos, ◌-ℤ◌}
 use Rattle.std.specs.Option.{option_map}
 use Rattle.dvi_ops.specs.Runs.{instructions_of}
 use Rattle.dvi_ops.specs.Instruction.{Across, Downward}
-use Rattle.ship_core.specs.Inking.{movement, inked}
+use Rattle.ship_core.specs.Private.Inking.{movement, inked}
 use Rattle.ship_core.specs.declared.drawing.Drawing.{Drawing}
 use Rattle.ship_core.proofs.Drawings.{drawn_mark, selected_ops, unselected_ops, chosen, left_by, left_font}
 use Rattle.ship_core.proofs.drawing.Drawing.draw_mark.Goals as goal

@@ -2,7 +2,7 @@ use Rattle.std.proofs.Common.{◌≡◌, ◌∙◌, Option, Some, sym, ap}
 use Rattle.std.specs.Option.{is_some}
 use Rattle.tfm_core.specs.declared.record.LigKernStep.{LigKernStep}
 use Rattle.tfm_core.specs.Fonts.{SizedFont}
-use Rattle.tfm_core.specs.FontView.{start_of}
+use Rattle.tfm_core.specs.Private.FontView.{start_of}
 use Rattle.tfm_core.proofs.ProgramLemmas.{matching_step-from, matching_step-without}
 use Rattle.tfm_core.proofs.sized_file.SizedFile.followers.Goals as goal
 

@@ -1,5 +1,6 @@
 use Rattle.std.proofs.Common.{◌∙◌, ap, subst}
-use Rattle.tfm_core.specs.Fonts.{IsWhole, SizedFont}
+use Rattle.tfm_core.specs.Fonts.{SizedFont}
+use Rattle.tfm_core.specs.Private.Fonts.{IsWhole}
 use Rattle.tfm_core.proofs.FontLemmas.{HasAction-from_matching}
 use Rattle.tfm_core.proofs.ProgramLemmas.{step-from}
 use Rattle.tfm_core.proofs.sized_file.SizedFile.step_from.Goals as goal

@@ -1,0 +1,4 @@
+-- What no contract reaches that another crate or a user can call: only proofs and private functions speak of these definitions.
+pub mod KeptCode
+pub mod MarkRows
+pub mod Owned

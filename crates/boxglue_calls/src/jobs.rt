@@ -1,0 +1,19 @@
+//! The calls on a job that is kept between two calls, by a handle, and the calls whose replies are rows of numbers.
+
+mod handle;
+mod jobs;
+mod kept_job;
+pub mod laws;
+mod loose;
+mod numbering;
+mod replied;
+pub mod reply_kind;
+mod rows;
+pub mod status;
+mod whole;
+
+pub use handle::JobHandle;
+pub use jobs::{answers, commands, end, finish, free, new, run, take};
+pub use kept_job::KeptJob;
+pub use rows::{BoxSizes, ReplyRow};
+pub use whole::{ReplySizes, run_replies};

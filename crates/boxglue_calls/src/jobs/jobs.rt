@@ -1,0 +1,179 @@
+//! The calls on a handle.
+
+ghost use Rattle.std.specs.Prelude.{◌≡◌, ◌≢◌, ◌↔◌, ◌⊎◌, None, Some, false, true, IfOk};
+ghost use Rattle.boxglue_calls.specs.Fonts.{are_named, files_of};
+ghost use Rattle.boxglue_calls.specs.Calls.{OnJob};
+ghost use Rattle.boxglue_calls.specs.Jobs.{IsNewJob, KeptState};
+ghost use Rattle.boxglue_calls.specs.Pieces.{DoesCommands, FinishesKept, HandsAnswers, HandsBytes};
+ghost use Rattle.boxglue_calls.specs.Replies.{RepliesTo, RepliesToEnd};
+
+use crate::jobs::handle::{JobHandle, put, take as take_out};
+use crate::jobs::kept_job::KeptJob;
+use crate::jobs::rows::ReplyRow;
+use crate::jobs::status::{JOB_EXISTS, NO_JOB};
+use crate::status::{ACCEPTED, BAD_FONT_NAME, OUT_OF_MEMORY};
+use crate::{Font, are_named, font_files};
+use std::alloc::{AllocError, Global};
+
+/// A new job with these fonts, which have names.
+fn new_job(alloc: Global, fonts: &[Font<'_>]) -> Result<Box<KeptJob>, AllocError>
+    requires { are_named fonts.now ≡ true }
+    ensures { IfOk result (λ kept. IsNewJob (files_of fonts.now) kept.value) }
+{
+    let files = font_files(alloc, fonts)?;
+    let kept = KeptJob::new(alloc, &files)?;
+    match Box::new(alloc, kept) {
+        Ok(kept) => Ok(kept),
+        Err(_) => Err(AllocError),
+    }
+}
+
+/// Makes a job with these fonts, and keeps it in a handle that is null.
+///
+/// Returns ACCEPTED; JOB_EXISTS, BAD_FONT_NAME or OUT_OF_MEMORY, and then the handle is as it was.
+pub fn new(alloc: Global, job: &mut JobHandle, fonts: &[Font<'_>]) -> u32
+    ensures exists { result ≡ 9 ↔ job.old.value ≢ None }
+    ensures named { result ≡ 3 ↔ ((job.old.value ≡ None) × (are_named fonts.now ≡ false)) }
+    ensures made { result ≡ 0 → (kept : KeptState) × (job.new.value ≡ Some kept) × IsNewJob (files_of fonts.now) kept }
+    ensures same { result ≢ 0 → job.new.value ≡ job.old.value }
+    ensures statuses { (result ≡ 0) ⊎ (result ≡ 2) ⊎ (result ≡ 3) ⊎ (result ≡ 9) }
+{
+    if let Some(kept) = take_out(alloc, job) {
+        put(alloc, job, kept);
+        return JOB_EXISTS;
+    }
+    if !are_named(fonts) {
+        return BAD_FONT_NAME;
+    }
+    match new_job(alloc, fonts) {
+        Ok(kept) => {
+            put(alloc, job, kept);
+            ACCEPTED
+        }
+        Err(AllocError) => OUT_OF_MEMORY,
+    }
+}
+
+/// Runs a piece of a script, which is whole lines. The piece is read first, and where a line of it is bad, no line is run. The numbers of lines count
+/// on over the pieces that were run, in the line of a refused piece too.
+///
+/// Returns ACCEPTED, REFUSED or REFUSED_MEMORY, and then the answers are kept; ANSWERS_LOST, and then the commands were run and memory was refused
+/// for the text of their answers; NO_JOB or OUT_OF_MEMORY, and then nothing changed.
+#[tactic(auto, using(crate::proofs::KeptLaws::on_a_job, crate::proofs::KeptLaws::on_no_job, crate::proofs::KeptLaws::there_was_none))]
+pub fn commands(alloc: Global, job: &mut JobHandle, script: &[u8]) -> u32
+    ensures no_job { result ≡ 8 ↔ job.old.value ≡ None }
+    ensures done { OnJob (DoesCommands script.now) job.old.value job.new.value result }
+{
+    let Some(mut kept) = take_out(alloc, job) else {
+        return NO_JOB;
+    };
+    let status = kept.commands(alloc, script);
+    put(alloc, job, kept);
+    status
+}
+
+/// Hands the answers over that were not handed over yet. They go into `text`, and the number of their bytes into `size`.
+///
+/// Returns ACCEPTED; BUFFER_TOO_SMALL, and then `size` alone is written, and the answers are still kept; or NO_JOB, and then nothing is written.
+#[tactic(auto, using(crate::proofs::KeptLaws::on_a_job, crate::proofs::KeptLaws::on_no_job, crate::proofs::KeptLaws::there_was_none, crate::proofs::KeptLaws::answers_on_a_job))]
+pub fn answers(alloc: Global, job: &mut JobHandle, text: &mut [u8], size: &mut usize) -> u32
+    ensures no_job { result ≡ 8 ↔ job.old.value ≡ None }
+    ensures done { OnJob (HandsAnswers text.old text.new size.new) job.old.value job.new.value result }
+    ensures text { result ≡ 8 → text.new ≡ text.old }
+    ensures size { result ≡ 8 → size.new ≡ size.old }
+{
+    let Some(mut kept) = take_out(alloc, job) else {
+        return NO_JOB;
+    };
+    let status = kept.answers(text, size);
+    put(alloc, job, kept);
+    status
+}
+
+/// Hands the bytes of the file over that went out since the last time. They go into `dvi`, and their number into `size`.
+///
+/// Returns ACCEPTED; BUFFER_TOO_SMALL, and then `size` alone is written, and the bytes are handed over by a later call; or NO_JOB, and then nothing
+/// is written.
+#[tactic(auto, using(crate::proofs::KeptLaws::on_a_job, crate::proofs::KeptLaws::on_no_job, crate::proofs::KeptLaws::there_was_none, crate::proofs::KeptLaws::take_on_a_job))]
+pub fn take(alloc: Global, job: &mut JobHandle, dvi: &mut [u8], size: &mut usize) -> u32
+    ensures no_job { result ≡ 8 ↔ job.old.value ≡ None }
+    ensures done { OnJob (HandsBytes dvi.old dvi.new size.new) job.old.value job.new.value result }
+    ensures dvi { result ≡ 8 → dvi.new ≡ dvi.old }
+    ensures size { result ≡ 8 → size.new ≡ size.old }
+{
+    let Some(mut kept) = take_out(alloc, job) else {
+        return NO_JOB;
+    };
+    let status = kept.take(dvi, size);
+    put(alloc, job, kept);
+    status
+}
+
+/// Writes the end of the file. The last of the answers is the `end:` line. After an end that was accepted the job takes no commands: each is answered
+/// JobOver.
+///
+/// Returns ACCEPTED, REFUSED or REFUSED_MEMORY, and then the answer is kept; ANSWERS_LOST, and then memory was refused for its text; or NO_JOB, and
+/// then nothing changed.
+#[tactic(auto, using(crate::proofs::KeptLaws::on_a_job, crate::proofs::KeptLaws::on_no_job, crate::proofs::KeptLaws::there_was_none, crate::proofs::KeptLaws::finish_on_a_job))]
+pub fn finish(alloc: Global, job: &mut JobHandle) -> u32
+    ensures no_job { result ≡ 8 ↔ job.old.value ≡ None }
+    ensures done { OnJob FinishesKept job.old.value job.new.value result }
+{
+    let Some(mut kept) = take_out(alloc, job) else {
+        return NO_JOB;
+    };
+    let status = kept.finish();
+    put(alloc, job, kept);
+    status
+}
+
+/// Runs a piece of a script, as `commands` does, and writes the row of each reply to the front of `rows`, and their number into `count`. A bad
+/// piece has one row. No answer is kept, and those that are kept stay.
+///
+/// Returns ACCEPTED, REFUSED or REFUSED_MEMORY; BUFFER_TOO_SMALL, and then nothing was run, and `count` alone is written: the number of rows that
+/// are needed; NO_JOB or OUT_OF_MEMORY, and then nothing changed.
+#[tactic(auto, using(crate::proofs::KeptLaws::on_a_job, crate::proofs::KeptLaws::on_no_job, crate::proofs::KeptLaws::there_was_none))]
+pub fn run(
+    alloc: Global,
+    job: &mut JobHandle,
+    script: &[u8],
+    rows: &mut [ReplyRow],
+    count: &mut usize,
+) -> u32
+    ensures no_job { result ≡ 8 ↔ job.old.value ≡ None }
+    ensures done { OnJob (RepliesTo script.now (record { rows = rows.old; count = count.old }) (record { rows = rows.new; count = count.new }))
+        job.old.value job.new.value result }
+    ensures rows { result ≡ 8 → rows.new ≡ rows.old }
+    ensures count { result ≡ 8 → count.new ≡ count.old }
+{
+    let Some(mut kept) = take_out(alloc, job) else {
+        return NO_JOB;
+    };
+    let status = kept.run(alloc, script, rows, count);
+    put(alloc, job, kept);
+    status
+}
+
+/// Writes the end of the file, as `finish` does, and the row of its reply. No answer is kept, and those that are kept stay.
+///
+/// Returns ACCEPTED, REFUSED or REFUSED_MEMORY; or NO_JOB, and then nothing changed.
+#[tactic(auto, using(crate::proofs::KeptLaws::on_a_job, crate::proofs::KeptLaws::on_no_job, crate::proofs::KeptLaws::there_was_none, crate::proofs::KeptLaws::end_on_a_job))]
+pub fn end(alloc: Global, job: &mut JobHandle, row: &mut ReplyRow) -> u32
+    ensures no_job { result ≡ 8 ↔ job.old.value ≡ None }
+    ensures done { OnJob (RepliesToEnd row.new) job.old.value job.new.value result }
+    ensures row { result ≡ 8 → row.new ≡ row.old }
+{
+    let Some(mut kept) = take_out(alloc, job) else {
+        return NO_JOB;
+    };
+    let status = kept.end(row);
+    put(alloc, job, kept);
+    status
+}
+
+/// Gives all memory of a job back. The handle is null then. It may be null before.
+pub fn free(alloc: Global, job: &mut JobHandle)
+    ensures { job.new.value ≡ None }
+{
+    let _kept = take_out(alloc, job);
+}

@@ -1,2 +1,0 @@
-pub mod HostLemmas
-pub mod Walks

@@ -1,7 +1,0 @@
--- Nothing was taken so far.
-use Rattle.std.proofs.Common.{}
-use Rattle.std.specs.Io.KnownBytes.{Keeps}
-use Rattle.boxglue_host.proofs.writing.write_some.Given as goal
-
-abbrev pub invariant-loop : goal.invariant-loop
-invariant-loop g l = Keeps (g.W.Write.contents l.initial.writer) (g.W.Write.contents l.writer)

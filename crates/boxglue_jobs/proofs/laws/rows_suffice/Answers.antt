@@ -1,6 +1,0 @@
--- Each line of a piece gives at most one command, and so at most one row.
-use Rattle.boxglue_jobs.proofs.RoomLaws.{enough_rows}
-use Rattle.boxglue_jobs.proofs.laws.rows_suffice.Goals as goal
-
-pub returns : goal.returns
-returns c = enough_rows

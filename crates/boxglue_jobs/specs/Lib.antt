@@ -1,9 +1,0 @@
-pub mod Calls
-pub mod Jobs
-pub mod KeptCode
-pub mod Numbers
-pub mod Owned
-pub mod Pieces
-pub mod Replies
-pub mod Rows
-pub mod Whole

@@ -1,3 +1,0 @@
-pub mod FontLemmas
-pub mod PrintLemmas
-pub mod TextLemmas

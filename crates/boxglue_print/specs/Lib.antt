@@ -1,4 +1,0 @@
-pub mod Faults
-pub mod FontLines
-pub mod Fonts
-pub mod Outputs

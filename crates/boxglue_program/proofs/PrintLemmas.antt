@@ -1,0 +1,71 @@
+-- The texts for refused files, and for pages.
+use Rattle.std.proofs.Common.{◌≡◌, ◌-◌, ℕ, Bool, true, false, List, length, Result, Ok, Err, OnOk, IfOk, inl, inr, refl, arith, ◌∙◌, ap}
+use Rattle.std.proofs.lemmas.Option.{slice_get_within}
+use Rattle.std.specs.Prelude.{◌≢◌}
+use Rattle.std.specs.declared.alloc.AllocError.{AllocError}
+use Rattle.dvi_ops.specs.File.{IsFile, MarkedPage}
+use Rattle.dvi_ops.proofs.Frames.{one_list_of_pages}
+use Rattle.dvi_ops.specs.Instruction.{Units}
+use Rattle.std.specs.Fmt.{digits}
+use Rattle.boxglue_program.specs.Texts.{refusal_line, refusal_text}
+use Rattle.boxglue_program.specs.Faults.{KnownLines, fault_line}
+use Rattle.boxglue_program.specs.Outputs.{IsListed, IsPainted, LacksPage, Paints, RefusesFile, ShowsPage}
+use Rattle.boxglue_program.specs.declared.output.Output.{Output}
+use Rattle.dvi_read.specs.Opened.{HasUnitsOf, IsNoFile, Opened}
+use Rattle.dvi_read.specs.Opening.{IsDviFault}
+use Rattle.dvi_read.specs.declared.fault.DviFault.{DviFault}
+use Rattle.dvi_read.specs.declared.fault.DviFault.TheVariants.{OutOfMemory}
+use Rattle.raster_core.specs.Pictures.{PixelGrid, painted, white}
+use Rattle.raster_core.specs.Pixels.{is_covered, scale_of}
+use Rattle.raster_core.specs.PlainText.{pbm}
+use Rattle.raster_core.specs.Sheets.{Sheet}
+use Rattle.tfm_core.specs.FileWidths.{file_widths}
+use Rattle.tfm_core.specs.NamedBytes.{NamedBytes}
+
+-- The line of a refusal is printed for a file that is refused.
+pub refuses : (files : List NamedBytes) (bytes text : List ℕ) (fault : DviFault) (accepted : Bool) → fault ≢ OutOfMemory → IsDviFault files bytes fault
+    → (fault ≢ OutOfMemory → IsNoFile files bytes) → text ≡ fault_line fault → accepted ≡ false → RefusesFile files bytes text accepted
+refuses files bytes text fault accepted other broken none text_is accepted_is = record {
+  fault = fault;
+  other = other;
+  broken = broken;
+  none = none other;
+  text_is = text_is;
+  accepted_is = accepted_is;
+}
+
+-- The same where memory may be refused for the line.
+pub listed_refusal : (files : List NamedBytes) (bytes : List ℕ) (fault : DviFault) (r : Result Output AllocError) → IsDviFault files bytes fault
+    → (fault ≢ OutOfMemory → IsNoFile files bytes) → OnOk r (fault ≢ OutOfMemory) → IfOk r (λ output. output.text.items ≡ fault_line fault)
+    → IfOk r (λ output. output.accepted ≡ false) → IfOk r (λ output. IsListed files bytes output.text.items output.accepted)
+listed_refusal files bytes fault (Ok output) broken none other text accepted =
+    inr (refuses files bytes output.text.items fault output.accepted other broken none text accepted)
+listed_refusal files bytes fault (Err e) broken none other text accepted = tt
+
+-- The bitmap of a page is printed.
+pub paints : (files : List NamedBytes) (bytes : List ℕ) (sheet : Sheet) (dvi : Opened) (picture : PixelGrid) (text : List ℕ)
+    → IsFile (file_widths files) bytes dvi.pages → HasUnitsOf bytes dvi → ShowsPage dvi sheet picture
+    → text ≡ pbm picture → Paints files bytes sheet text true
+paints files bytes sheet dvi picture text file units shows text_is = record {
+  pages = dvi.pages;
+  file = file;
+  shown = shows.shown;
+  page_is = shows.page_is;
+  text_is = text_is ∙ (ap pbm shows.picture_is ∙ ap (λ (u : Units). pbm (painted (is_covered (scale_of u sheet.dpi) shows.shown.marks) (white sheet.width sheet.height))) (units file.frame));
+  accepted_is = refl;
+}
+
+-- A file whose page is painted has that page.
+pub has_page : (files : List NamedBytes) (bytes : List ℕ) (sheet : Sheet) (text : List ℕ) (accepted : Bool) → IsPainted files bytes sheet text accepted
+    → LacksPage files bytes sheet.page → ⊥
+has_page files bytes sheet text accepted (inl paints) lacks =
+    let same = ap (λ (pages : List MarkedPage). length pages) (one_list_of_pages (file_widths files) bytes paints.pages lacks.pages paints.file lacks.file) in
+    let within = slice_get_within paints.pages (sheet.page - 1) paints.shown paints.page_is in
+    let few = lacks.few in
+    absurd (omega arith)
+has_page files bytes sheet text accepted (inr refuses) lacks = refuses.none lacks.pages lacks.file
+
+-- The known lines, computed by the definitions.
+pub known_lines : KnownLines
+unfolding fault_line refusal_line refusal_text digits
+known_lines = (refl, refl, refl, refl, refl)

@@ -1,0 +1,46 @@
+-- The lines of refusals (own).
+use Rattle.std.specs.Prelude.{◌≡◌, ℕ, List, ◌++◌, codes, decimal}
+use Rattle.dvi_scan.specs.declared.fault.BadDvi.{BadDvi}
+use Rattle.dvi_scan.specs.declared.fault.DviCause.{DviCause}
+use Rattle.dvi_scan.specs.declared.fault.DviCause.TheVariants.{Trailer, Version, Opcode, Pointer, Count, Preamble, Truncated, Stack, Font, Glyph}
+use Rattle.dvi_scan.specs.declared.fault.DviCause.TheVariants.{Range}
+use Rattle.dvi_read.specs.declared.fault.DviFault.{DviFault}
+use Rattle.dvi_read.specs.declared.fault.DviFault.TheVariants.{OutOfMemory, Bad, NoFont, BadTfm, DimensionTooLarge}
+use Rattle.tfm_core.specs.declared.fault.TfmCause.TheVariants.{TooShort, LigKern}
+use Rattle.job_machine.specs.declared.replies.Refusal.TheVariants as refusals
+use Rattle.boxglue_program.specs.Texts.{refusal_line}
+
+-- The name of a rule of a DVI file.
+abbrev pub cause_name : DviCause → List ℕ
+cause_name Trailer = codes "Trailer"
+cause_name Version = codes "Version"
+cause_name Opcode = codes "Opcode"
+cause_name Pointer = codes "Pointer"
+cause_name Count = codes "Count"
+cause_name Preamble = codes "Preamble"
+cause_name Truncated = codes "Truncated"
+cause_name Stack = codes "Stack"
+cause_name Font = codes "Font"
+cause_name Glyph = codes "Glyph"
+cause_name Range = codes "Range"
+
+-- The line of a broken rule: its place and its name.
+unfoldable pub bad_line : BadDvi → List ℕ
+bad_line bad = codes "refused 20 BadDvi " ++ (decimal bad.place ++ (codes " " ++ (cause_name bad.cause ++ codes "\n")))
+
+-- The line of a refusal. Those that a job has too have its numbers and names.
+unfoldable pub fault_line : DviFault → List ℕ
+fault_line OutOfMemory = refusal_line refusals.OutOfMemory
+fault_line DimensionTooLarge = refusal_line refusals.DimensionTooLarge
+fault_line NoFont = refusal_line refusals.NoFont
+fault_line (BadTfm cause) = refusal_line (refusals.BadTfm cause)
+fault_line (Bad bad) = bad_line bad
+
+-- Known lines of refusals.
+abbrev pub KnownLines : Type 0
+KnownLines =
+    (fault_line OutOfMemory ≡ codes "refused 1 OutOfMemory\n")
+    × (fault_line DimensionTooLarge ≡ codes "refused 3 DimensionTooLarge\n")
+    × (fault_line NoFont ≡ codes "refused 4 NoFont\n")
+    × (fault_line (BadTfm TooShort) ≡ codes "refused 5 BadTfm TooShort\n")
+    × (fault_line (BadTfm LigKern) ≡ codes "refused 5 BadTfm LigKern\n")

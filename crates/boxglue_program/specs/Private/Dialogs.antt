@@ -1,0 +1,44 @@
+-- What the functions below a session do (own).
+use Rattle.std.specs.Prelude.{◌≡◌, ◌++◌, ℕ, Bool, List, Contains, Option, refl}
+use Rattle.std.specs.Coded.{Coded, code_by, coded×, coded_ℕ, coded_bool, coded_list}
+use Rattle.job_core.specs.Jobs.{JobView}
+use Rattle.job_core.specs.Private.JobViewCode.{coded_job_view}
+use Rattle.boxglue_script.specs.SaidLines.{IsWhole}
+use Rattle.boxglue_program.specs.Sessions.{DialogView, SessionView, IsSent}
+
+-- A dialog by its parts.
+abbrev pub dialog_of : JobView → ℕ → Bool → DialogView
+dialog_of job lines accepted = record { job = job; lines = lines; accepted = accepted }
+
+-- The answers that wait, and whether the client reads.
+pub record OutboxView : Type 0 where
+  pub waiting : List ℕ
+  pub reads : Bool
+
+-- An outbox by its parts.
+abbrev pub outbox_of : List ℕ → Bool → OutboxView
+outbox_of waiting reads = record { waiting = waiting; reads = reads }
+
+-- A text was added to the answers that wait, and a beginning of all was sent.
+pub record Sends (old new : OutboxView) (before after : Option (List ℕ)) (text : List ℕ) : Type 0 where
+  pub sent : List ℕ
+  pub split : old.waiting ++ text ≡ sent ++ new.waiting
+  pub is_sent : IsSent old.reads new.reads before after sent
+
+-- A session by its parts.
+abbrev pub session_of : JobView → ℕ → Bool → Bool → List ℕ → ℕ → SessionView
+session_of job lines accepted reads kept left = record { dialog = dialog_of job lines accepted; reads = reads; kept = kept; left = left }
+
+-- A piece was cut after its last line feed.
+pub record IsCut (piece whole rest : List ℕ) : Type 0 where
+  pub split : piece ≡ whole ++ rest
+  pub ends : IsWhole whole
+  pub unended : Contains rest 10 → ⊥
+
+-- How the logic stores the view of a session.
+abbrev pub coded_session : Coded SessionView
+coded_session =
+    code_by (((JobView × ℕ) × Bool) × ((Bool × List ℕ) × ℕ))
+    (coded× (coded× (coded× coded_job_view coded_ℕ) coded_bool) (coded× (coded× coded_bool (coded_list coded_ℕ)) coded_ℕ))
+    (λ s. (((s.dialog.job, s.dialog.lines), s.dialog.accepted), ((s.reads, s.kept), s.left)))
+    (λ p. record { dialog = record { job = p.0.0.0; lines = p.0.0.1; accepted = p.0.1 }; reads = p.1.0.0; kept = p.1.0.1; left = p.1.1 }) (λ _. refl)

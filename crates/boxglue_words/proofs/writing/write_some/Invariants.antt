@@ -1,0 +1,7 @@
+-- Nothing was taken so far.
+use Rattle.std.proofs.Common.{}
+use Rattle.std.specs.Io.KnownBytes.{Keeps}
+use Rattle.boxglue_words.proofs.writing.write_some.Given as goal
+
+abbrev pub invariant-loop : goal.invariant-loop
+invariant-loop g l = Keeps (g.W.Write.contents l.initial.writer) (g.W.Write.contents l.writer)

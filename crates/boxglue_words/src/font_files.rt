@@ -1,0 +1,88 @@
+//! The font files that a command line names.
+
+ghost use Rattle.std.specs.Prelude.{◌≡◌, ◌++◌, ◌∷◌, [], List, IfOk, IfErr, OnOk};
+ghost use Rattle.boxglue_words.specs.Hosts.{AreFilesOf, IsFileOf, IsUnread, IsUnreadOf};
+ghost use Rattle.boxglue_words.specs.declared.font_files.Unread.TheVariants.{OutOfMemory};
+
+use crate::NamedPath;
+use crate::host::{FileHost, HostFault};
+use std::alloc::{AllocError, AllocFailed, Global};
+use tfm_core::FontFile;
+
+/// Why font files were not read.
+#[derive(Debug, Drop)]
+pub enum Unread<'a> {
+    /// A growth of memory was refused, for a file that can be read.
+    OutOfMemory,
+    /// The file at this path could not be read.
+    File(&'a str),
+}
+
+impl From<AllocError> for Unread<'_> {
+    ghost from_gives = { λ _ fault. fault ≡ OutOfMemory };
+
+    fn from(_error: AllocError) -> Self {
+        Unread::OutOfMemory
+    }
+}
+
+impl<T: Drop> From<AllocFailed<T>> for Unread<'_> {
+    ghost from_gives = { λ _ fault. fault ≡ OutOfMemory };
+
+    fn from(_failed: AllocFailed<T>) -> Self {
+        Unread::OutOfMemory
+    }
+}
+
+/// The file of a font.
+fn read_font<'a, H: FileHost>(
+    alloc: Global,
+    host: &H,
+    font: &NamedPath<'a>,
+) -> Result<FontFile, Unread<'a>>
+    ensures ok { IfOk result (IsFileOf (H.file host.now) font.now) }
+    ensures err { IfErr result (IsUnreadOf (H.file host.now) font.now) }
+{
+    let bytes = match host.read_file(alloc, font.path) {
+        Ok(bytes) => bytes,
+        Err(HostFault::OutOfMemory) => return Err(Unread::OutOfMemory),
+        Err(HostFault::Failed) => return Err(Unread::File(font.path)),
+    };
+    let name = font.name.copy(alloc)?;
+    Ok(FontFile::new(name, bytes))
+}
+
+/// Appends the file of a font.
+fn push_font<'a, H: FileHost>(
+    alloc: Global,
+    host: &H,
+    font: &NamedPath<'a>,
+    files: &mut Vec<FontFile>,
+) -> Result<(), Unread<'a>>
+    ensures ok { (before : List NamedPath) → AreFilesOf (H.file host.now) before files.old.items
+        → OnOk result (AreFilesOf (H.file host.now) (before ++ font.now ∷ []) files.new.items) }
+    ensures err { IfErr result (IsUnreadOf (H.file host.now) font.now) }
+{
+    let file = read_font(alloc, host, font)?;
+    files.push(file)?;
+    Ok(())
+}
+
+/// Reads the files of fonts, in order.
+///
+/// Errors: File with the path of the first one that cannot be read, OutOfMemory for a refused growth at one that can be. Those before it were read,
+/// and those after it are not.
+pub fn read_fonts<'a, H: FileHost>(
+    alloc: Global,
+    host: &H,
+    fonts: &[NamedPath<'a>],
+) -> Result<Vec<FontFile>, Unread<'a>>
+    ensures ok { IfOk result (λ files. AreFilesOf (H.file host.now) fonts.now files.items) }
+    ensures err { IfErr result (IsUnread (H.file host.now) fonts.now) }
+{
+    let mut files = Vec::new(alloc);
+    for font in fonts {
+        push_font(alloc, host, font, &mut files)?;
+    }
+    Ok(files)
+}

@@ -1,0 +1,10 @@
+use Rattle.std.proofs.Common.{◌≡◌, length}
+use Rattle.break_lines.specs.Tables.{slots}
+use Rattle.break_core.specs.Private.Active.{IsOfferingFirst}
+use Rattle.break_core.proofs.offering.offer_each_waiting.Given as goal
+
+abbrev pub invariant-loop-index : goal.invariant-loop-index
+invariant-loop-index l = record {
+  wide : length l.row.items ≡ slots l.rules.params.now.first_lines;
+  offered : IsOfferingFirst l.table l.rules.params.now l.rules.bound l.lives l.place l.penalty l.index l.initial.row.items l.row.items;
+}

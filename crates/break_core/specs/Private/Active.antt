@@ -1,0 +1,206 @@
+-- The groups of entries from which lines are still tried, and the number of trials (own).
+use Rattle.std.specs.Prelude.{◌≡◌, ◌<◌, ◌≤◌, ◌+◌, ◌-◌, ◌⊎◌, ℕ, ℤ, Bool, true, false, ◌||◌, List, [], ◌∷◌, ◌++◌, ◌==◌, if◌then◌else◌, length, map}
+use Rattle.std.specs.Prelude.{drop, slice_get, Option, Some, None}
+use Rattle.node_core.specs.declared.params.Params.{Params}
+use Rattle.break_lines.specs.declared.group.ActiveGroup.{ActiveGroup}
+use Rattle.break_lines.specs.Problems.{Problem}
+use Rattle.break_lines.specs.Orders.{NotAfter}
+use Rattle.break_lines.specs.declared.state.BreakState.{BreakState}
+use Rattle.break_lines.specs.Tables.{Entry, compared_numbers, IsTable, IsRow, offer}
+use Rattle.break_lines.specs.Private.Live.{IsGroup}
+use Rattle.break_lines.specs.Private.Parts.{part}
+use Rattle.break_lines.specs.Chosen.{AdmitsNone}
+use Rattle.break_lines.specs.declared.cost.Bound.{Bound}
+use Rattle.break_lines.specs.declared.cost.Bound.TheVariants.{Any, AtMost}
+use Rattle.break_core.specs.declared.broken.Pass.{Pass}
+use Rattle.break_lines.specs.Legal.{is_forced}
+use Rattle.break_lines.specs.Costs.{line_fit, line_of, is_loosest}
+use Rattle.break_lines.specs.Private.Costs.{loosest_line}
+use Rattle.break_lines.specs.Facts.{Facts}
+use Rattle.break_lines.specs.Steady.{IsSteady}
+use Rattle.break_core.specs.declared.pass_rules.StopRule.{StopRule}
+use Rattle.break_core.specs.declared.pass_rules.StopRule.TheVariants.{Never, Overfull, Long}
+use Rattle.break_core.specs.declared.active_list.Live.{Live}
+use Rattle.break_core.specs.Passes.{problem_of, bound_of, IsBefore}
+use Rattle.break_core.specs.Trials.{is_overfull, IsStop, places_up_to, passes_run}
+use Rattle.break_core.specs.Private.Leaving.{is_long, over_before, MayLeave}
+use Rattle.break_core.specs.Private.Filling.{IsOf}
+
+-- Whether the place where a line begins leaves the active list after the line, which is overfull or not, and long or not.
+abbrev pub deactivates : StopRule → (overfull long : Bool) → Bool
+deactivates Never overfull long = false
+deactivates Overfull overfull long = overfull
+deactivates Long overfull long = long
+
+-- Whether no line from place a is tried beyond place l.
+abbrev pub stops : Facts → Params → StopRule → (a l : ℕ) → Bool
+stops facts params ending a l = is_forced (facts.penalty l) || deactivates ending (is_overfull facts params a l) (is_long facts params a l)
+
+-- Whether a line, which is long or not, is left out.
+abbrev pub leaves : StopRule → (long : Bool) → Bool
+leaves ending long = deactivates ending false long
+
+-- A pass without the lines that are left out.
+abbrev pub pruned : Facts → Params → Bound → StopRule → Problem
+pruned facts params bound ending = part (problem_of facts params bound) (λ s b. leaves ending (is_long facts params s.place b))
+
+-- Whether a bound refuses overfull lines.
+abbrev pub is_limit : Bound → Bool
+is_limit Any = false
+is_limit (AtMost most) = true
+
+-- Trying can stop after overfull lines.
+abbrev pub MayDrop : Facts → Bound → Type 0
+MayDrop facts bound = IsSteady facts × (is_limit bound ≡ true)
+
+-- Trying can stop in this way.
+abbrev pub MayEnd : StopRule → Facts → Params → Bound → Type 0
+MayEnd Never facts params bound = Unit {0}
+MayEnd Overfull facts params bound = MayDrop facts bound
+MayEnd Long facts params bound = MayLeave facts params × (bound ≡ Any)
+
+-- The entries `from` to `to` have no offers for any place from b on.
+abbrev pub IsQuiet : (p : Problem) (table : List Entry) (b from to : ℕ) → Type 0
+IsQuiet p table b from to =
+    (k : ℕ) (e : Entry) → from ≤ k → k < to → slice_get table k ≡ Some e → (l : ℕ) → b ≤ l → l ≤ p.places → offer p e k l ≡ None
+
+-- Trying lines from place a has not stopped before place b.
+abbrev pub IsTrying : (stop : ℕ → ℕ → Bool) (a b : ℕ) → Type 0
+IsTrying stop a b = (l : ℕ) → a < l → l < b → stop a l ≡ false
+
+-- The next group from an entry on, with quiet entries before it; its place is at least `low`, and trying lines from there has not stopped.
+pub record IsNext (p : Problem) (stop : ℕ → ℕ → Bool) (table : List Entry) (b at low : ℕ) (g : ActiveGroup) : Type 0 where
+  pub gap : at ≤ g.start
+  pub quiet : IsQuiet p table b at g.start
+  pub group : IsGroup p table b g
+  pub trying : IsTrying stop g.place b
+  pub later : low ≤ g.place
+
+-- The rest of the table after all groups, of which the last has a place below `high`.
+pub record IsLast (p : Problem) (table : List Entry) (b high at low : ℕ) : Type 0 where
+  pub gap : at ≤ length table
+  pub quiet : IsQuiet p table b at (length table)
+  pub lower : low ≤ high
+
+-- The part of the table from an entry on consists of these groups, with quiet entries between them; their places increase from `low` on and are below
+-- `high`.
+abbrev pub IsActive : (p : Problem) (stop : ℕ → ℕ → Bool) (table : List Entry) (b high at low : ℕ) → List ActiveGroup → Type 0
+IsActive p stop table b high at low [] = IsLast p table b high at low
+IsActive p stop table b high at low (g ∷ groups) = IsNext p stop table b at low g × IsActive p stop table b high g.end (g.place + 1) groups
+
+-- A list of groups with one more group appended, unless that has no entries.
+abbrev pub with_group : List ActiveGroup → ActiveGroup → List ActiveGroup
+with_group groups g = if g.start == g.end then groups else groups ++ g ∷ []
+
+-- The groups of live groups.
+abbrev pub groups_of : List Live → List ActiveGroup
+groups_of lives = map (λ (live : Live). live.group) lives
+
+-- Each live group has the right `over` for the lines from its place to the places before b.
+abbrev pub AreOver : Facts → Params → (b : ℕ) → List Live → Type 0
+AreOver facts params b lives = (k : ℕ) (live : Live) → slice_get lives k ≡ Some live → live.over ≡ over_before facts params live.group.place b
+
+-- Entry k is the best one of the entries `from` to `to`.
+pub record IsBestOf (table : List Entry) (from to k : ℕ) : Type 0 where
+  pub low : from ≤ k
+  pub high : k < to
+  pub within : to ≤ length table
+  pub entry : Entry
+  pub stands : slice_get table k ≡ Some entry
+  pub best : (j : ℕ) (f : Entry) → from ≤ j → j < to → slice_get table j ≡ Some f → NotAfter (compared_numbers entry) (compared_numbers f)
+
+-- Each live group has entries, and the number of the best one.
+abbrev pub HaveBest : (table : List Entry) → List Live → Type 0
+HaveBest table lives = (k : ℕ) (live : Live) → slice_get lives k ≡ Some live → IsBestOf table live.group.start live.group.end live.best
+
+-- A list of live groups with one more appended, unless that has no entries.
+abbrev pub with_live : List Live → Live → List Live
+with_live lives live = if live.group.start == live.group.end then lives else lives ++ live ∷ []
+
+-- The table is filled up to a place.
+pub record IsFilled (p : Problem) (stop : ℕ → ℕ → Bool) (b : ℕ) (table : List Entry) (live : List ActiveGroup) : Type 0 where
+  pub is_table : IsTable p b table
+  pub is_active : IsActive p stop table b b 0 0 live
+
+-- Lines to place b were tried at most once from each place, and only from places from which trying had not stopped.
+abbrev pub IsSwept : (stop : ℕ → ℕ → Bool) (b : ℕ) (before now : ℕ → ℕ) → Type 0
+IsSwept stop b before now = (a : ℕ) → (now a ≤ before a) ⊎ ((now a ≤ before a + 1) × (a < b) × IsTrying stop a b)
+
+-- The counts of trials never decrease.
+abbrev pub TrialsOnlyGrow : (before now : ℕ → ℕ) → Type 0
+TrialsOnlyGrow before now = (a : ℕ) → before a ≤ now a
+
+-- A line was tried from the place of the first of these groups.
+abbrev pub WasTried : List ActiveGroup → (before now : ℕ → ℕ) → Type 0
+WasTried live before now = (g : ActiveGroup) → slice_get live 0 ≡ Some g → before g.place < now g.place
+
+-- No lines are counted, and the lines to place b from all places from `low` on are stretched by so much that they cost what the loosest line costs.
+pub record AreLoosest (facts : Facts) (params : Params) (bound : Bound) (low b : ℕ) : Type 0 where
+  pub uncounted : params.first_lines ≡ 0
+  pub loosest : (a : ℕ) → low ≤ a → a < b → is_loosest bound (line_fit (facts.sums a b) params.hsize) ≡ true
+
+-- No group is left, or all that are left wait: the lines from them are such lines.
+abbrev pub AllWait : Facts → Params → Bound → (low b : ℕ) → List ActiveGroup → Type 0
+AllWait facts params bound low b groups = (groups ≡ []) ⊎ AreLoosest facts params bound low b
+
+-- The lines to place b from the places of these groups cost what the loosest line costs.
+abbrev pub CostLoosest : Problem → Params → Bound → (penalty : ℤ) → (b : ℕ) → List ActiveGroup → Type 0
+CostLoosest p params bound penalty b groups =
+    (k : ℕ) (g : ActiveGroup) → slice_get groups k ≡ Some g
+    → (s : BreakState) → s.place ≡ g.place → p.line s b ≡ line_of params bound penalty s.class loosest_line
+
+-- The entries of a group that waits can be offered for a place.
+pub record CanWait (first_lines : ℕ) (table : List Entry) (place : ℕ) (group : ActiveGroup) : Type 0 where
+  pub within : group.end ≤ length table
+  pub earlier : group.place < place
+  pub entries : IsOf first_lines table group
+
+-- The entries of each group of a list can be offered.
+abbrev pub CanAllWait : (first_lines : ℕ) → (table : List Entry) → (place : ℕ) → List Live → Type 0
+CanAllWait first_lines table place lives = (k : ℕ) (live : Live) → slice_get lives k ≡ Some live → CanWait first_lines table place live.group
+
+-- The rest of these groups from number `index` on, and the row after the offers of those before.
+pub record IsPassed
+    (p : Problem) (stop : ℕ → ℕ → Bool) (table : List Entry) (b : ℕ) (groups : List ActiveGroup) (index : ℕ)
+    (row : List (Option Entry)) : Type 0 where
+  pub at : ℕ
+  pub low : ℕ
+  pub rest : IsActive p stop table b b at low (drop index groups)
+  pub held : IsRow p table b at row
+
+-- The step from one row to another: the entries of the first groups of a list were offered by lines that cost what the loosest line costs.
+abbrev pub IsOfferingFirst :
+    (table : List Entry) → Params → Bound → List Live → (place : ℕ) → (penalty : ℤ) → (index : ℕ) → (old new : List (Option Entry)) → Type 0
+IsOfferingFirst table params bound lives place penalty index old new =
+    (p : Problem) (stop : ℕ → ℕ → Bool) (at low : ℕ)
+    → p.cut ≡ params.first_lines → place ≤ p.places → CostLoosest p params bound penalty place (groups_of lives)
+    → IsActive p stop table place place at low (groups_of lives) → IsRow p table place at old
+    → IsPassed p stop table place (groups_of lives) index new
+
+-- The same for all groups of a list, after which there are no more offers.
+abbrev pub IsOfferingWaiting :
+    (table : List Entry) → Params → Bound → List Live → (place : ℕ) → (penalty : ℤ) → (old new : List (Option Entry)) → Type 0
+IsOfferingWaiting table params bound lives place penalty old new =
+    (p : Problem) (stop : ℕ → ℕ → Bool) (at low : ℕ)
+    → p.cut ≡ params.first_lines → place ≤ p.places → CostLoosest p params bound penalty place (groups_of lives)
+    → IsActive p stop table place place at low (groups_of lives) → IsRow p table place at old → IsRow p table place (length table) new
+
+-- From each place at most as many lines were tried as there are places after it, both up to b and up to each place where trying stops.
+pub record IsCounted (stop : ℕ → ℕ → Bool) (b : ℕ) (before now : ℕ → ℕ) : Type 0 where
+  pub grown : (a : ℕ) → now a ≤ before a + (b - a)
+  pub stopped : (a l : ℕ) → a < l → l ≤ b → stop a l ≡ true → now a ≤ before a + (l - a)
+
+-- In a pass no line was tried beyond the place where trying stops.
+abbrev pub IsWithin : Facts → Params → Pass → (before now : ℕ → ℕ) → Type 0
+IsWithin facts params pass before now = (a l : ℕ) → IsStop facts params pass a l → now a ≤ before a + (l - a)
+
+-- In these passes no line was tried beyond the place where trying stops in each of them.
+abbrev pub AreAdded : Facts → Params → List Pass → (before now : ℕ → ℕ) → Type 0
+AreAdded facts params passes before now =
+    (a : ℕ) (stop : Pass → ℕ) → ((pass : Pass) → IsStop facts params pass a (stop pass)) → now a ≤ before a + places_up_to a stop passes
+
+-- In the passes up to some pass, before which no pass admits a list of breaks, no line was tried beyond these places, and no later pass was run.
+pub record AreAddedByPasses (facts : Facts) (params : Params) (before now : ℕ → ℕ) : Type 0 where
+  pub last : Pass
+  pub earlier : (pass : Pass) → IsBefore pass last → AdmitsNone (problem_of facts params (bound_of params pass))
+  pub added : AreAdded facts params (passes_run params last) before now

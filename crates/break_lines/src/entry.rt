@@ -1,0 +1,167 @@
+//! Entries of the table: the best way to a state. They correspond to TeX's active and passive nodes.
+
+ghost use Rattle.std.specs.Prelude.{◌≡◌, ◌<◌, ◌≤◌, true, false, Some};
+ghost use Rattle.break_lines.specs.Orders.{NotAfter};
+ghost use Rattle.break_lines.specs.Tables.{Entry, first_entry, extended, compared_numbers, AreBelow, IsSmallLine, IsKept};
+ghost use Rattle.break_lines.specs.Problems.{max_places};
+
+use crate::state::{BreakState, LineCost, order};
+use std::cmp::Ordering;
+use std::marker::Model;
+
+/// An entry of a table: a state, the costs of the best way to it, the state before it, and the number of the entry for that state.
+#[derive(Clone, Copy, Debug, PartialEq, Eq)]
+pub struct ActiveNode {
+    end: BreakState,
+    overhang: i64,
+    demerits: i64,
+    from: BreakState,
+    index: usize,
+}
+
+impl Model for ActiveNode {
+    ghost use Rattle.break_lines.specs.Tables.{Entry};
+    ghost use Rattle.break_lines.specs.Private.Tables.{IsSmall};
+
+    ghost Value = { Entry };
+
+    ghost view = { λ b. record { end = b.end; overhang = b.overhang; demerits = b.demerits; from = b.from; index = b.index } };
+
+    ghost invariant = { λ b. IsSmall (record { end = b.end; overhang = b.overhang; demerits = b.demerits; from = b.from; index = b.index }) };
+
+    ghost inverse = { λ e. record { end = e.end; overhang = e.overhang; demerits = e.demerits; from = e.from; index = e.index } };
+}
+
+impl ActiveNode {
+    /// The entry for the start.
+    pub fn first() -> ActiveNode
+        ensures { result ≡ first_entry }
+    {
+        ActiveNode {
+            end: BreakState::start(),
+            overhang: 0,
+            demerits: 0,
+            from: BreakState::start(),
+            index: 0,
+        }
+    }
+
+    /// The state of the entry.
+    #[inline]
+    pub fn end(self) -> BreakState
+        ensures end { result ≡ self.end }
+        ensures place_bounded { result.place ≤ max_places }
+    {
+        self.end
+    }
+
+    /// The number of the entry before this one.
+    #[inline]
+    pub fn index(self) -> usize
+        ensures { result ≡ self.index }
+    {
+        self.index
+    }
+
+    /// The total overhang of the lines, in scaled points.
+    pub fn overhang(self) -> i64
+        ensures { result ≡ self.overhang }
+    {
+        self.overhang
+    }
+
+    /// The total demerits of the lines.
+    pub fn demerits(self) -> i64
+        ensures { result ≡ self.demerits }
+    {
+        self.demerits
+    }
+
+    /// This entry, number `index` of its table, extended by a line to a later place.
+    #[inline]
+    pub fn extended(self, index: usize, place: usize, line: LineCost, cut: usize) -> ActiveNode
+        requires cut_bounded { cut < 1000 }
+        requires counted { self.end.lines ≤ cut }
+        requires later { self.end.place < place }
+        requires places { place ≤ max_places }
+        requires line_bounded { IsSmallLine line }
+        ensures { result ≡ extended cut self index place line }
+    {
+        ActiveNode {
+            end: self.end.after(place as u32, line, cut),
+            overhang: self.overhang + line.overhang,
+            demerits: self.demerits + line.demerits,
+            from: self.end,
+            index,
+        }
+    }
+
+    /// Whether this entry is as good as another one or better: costs are compared first, and then ends of lines.
+    #[inline]
+    pub fn is_not_after(self, other: ActiveNode) -> bool
+        ensures not_after { result ≡ true → NotAfter (compared_numbers self) (compared_numbers other) }
+        ensures after { result ≡ false → NotAfter (compared_numbers other) (compared_numbers self) }
+    {
+        if self.overhang < other.overhang {
+            return true;
+        }
+        if self.overhang > other.overhang {
+            return false;
+        }
+        if self.demerits < other.demerits {
+            return true;
+        }
+        if self.demerits > other.demerits {
+            return false;
+        }
+        match order(self.end, other.end) {
+            Ordering::Less => true,
+            Ordering::Greater => false,
+            Ordering::Equal => match order(self.from, other.from) {
+                Ordering::Less => true,
+                Ordering::Greater => false,
+                Ordering::Equal => true,
+            },
+        }
+    }
+
+    /// Whether the costs of this entry are below those of another one with a line added: the overhang counts first, then the demerits.
+    #[inline]
+    pub fn is_below(self, other: ActiveNode, line: LineCost) -> bool
+        requires line_bounded { IsSmallLine line }
+        ensures below { result ≡ true → AreBelow self other line }
+        ensures not_below { result ≡ false → AreBelow self other line → ⊥ }
+    {
+        let overhang = other.overhang + line.overhang;
+        if self.overhang < overhang {
+            return true;
+        }
+        if self.overhang > overhang {
+            return false;
+        }
+        self.demerits < other.demerits + line.demerits
+    }
+
+    /// The better one of two entries: this one, unless the other one is strictly better.
+    #[inline]
+    pub fn or_better(self, other: ActiveNode) -> ActiveNode
+        ensures { IsKept (Some self) other result }
+    {
+        if self.is_not_after(other) {
+            return self;
+        }
+        other
+    }
+}
+
+/// Whether an offer replaces the content of a slot: the slot is empty, or its content is worse than the offer.
+#[inline]
+pub fn replaces(held: &Option<ActiveNode>, offered: ActiveNode) -> bool
+    ensures yes { result ≡ true → IsKept held.now offered offered }
+    ensures no { result ≡ false → (kept : Entry) × (held.now ≡ Some kept) × IsKept held.now offered kept }
+{
+    match held {
+        Some(held) => !held.is_not_after(offered),
+        None => true,
+    }
+}

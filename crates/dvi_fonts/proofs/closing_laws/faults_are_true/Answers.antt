@@ -1,5 +1,0 @@
-use Rattle.dvi_fonts.proofs.ClosingLemmas.{broken_closing}
-use Rattle.dvi_fonts.proofs.closing_laws.faults_are_true.Goals as goal
-
-pub returns : goal.returns
-returns c = broken_closing

@@ -1,5 +1,0 @@
-use Rattle.dvi_fonts.proofs.RefusalLemmas.{no_widths}
-use Rattle.dvi_fonts.proofs.font_laws.refused_fonts_have_no_widths.Goals as goal
-
-pub returns : goal.returns
-returns c = no_widths

@@ -1,4 +1,0 @@
-pub mod Known
-pub mod Widths
-pub mod Closing
-pub mod Ahead

@@ -1,0 +1,113 @@
+-- A file that was checked without keeping its marks: its pages are those of the file, and the fonts that were read have the widths of the files.
+use Rattle.std.proofs.Common.{◌≡◌, ◌≤◌, ◌-◌, ◌++◌, min, [], ◌∷◌, List, drop, length, take, ℕ, ℤ, Option, Some, None, append-nil, arith, refl, sym, ◌∙◌, ap, subst, inl, inr}
+use Rattle.std.specs.Prelude.{◌⊎◌, option_and_then}
+use Rattle.std.specs.List.{AllByRecursion}
+use Rattle.scaled_core.proofs.EachOf.{all_weaker}
+use Rattle.scaled_core.specs.Mark.{Mark}
+use Rattle.dvi_ops.specs.Body.{acts, kept}
+use Rattle.dvi_ops.specs.File.{IsFile, MarkedPage}
+use Rattle.dvi_ops.specs.Fonts.{WidthsByName, font, selections, widths_of, width_in as width_of_font}
+use Rattle.dvi_ops.specs.Instruction.{Definition, Instruction, Postamble, Pre}
+use Rattle.dvi_ops.specs.Tokens.{Token, IsSpelled, says, written}
+use Rattle.dvi_ops.proofs.Frames.{begins}
+use Rattle.dvi_ops.proofs.SameMeaning.{SameWidths}
+use Rattle.dvi_scan.proofs.FontLemmas.{same_passes}
+use Rattle.dvi_scan.proofs.ReachedLemmas.{take_next, token}
+use Rattle.dvi_scan.specs.Closing.{ClosesTo}
+use Rattle.dvi_scan.specs.Pass.{PassStateView, Between, Inside, passes}
+use Rattle.dvi_scan.specs.Passed.{framing}
+use Rattle.dvi_scan.specs.Preamble.{HasPreamble}
+use Rattle.dvi_scan.specs.Reached.{IsReached, Left, ReadSoFar}
+use Rattle.dvi_read.specs.Opening.{IsDviFault}
+use Rattle.dvi_read.specs.Private.OpeningParts.{HasPassed, IsFinishFault}
+use Rattle.dvi_read.specs.PageMarks.{read_width}
+use Rattle.dvi_read.specs.ReadFonts.{AreSound, FontIsRead, HaveByteCodes, font_place, read_font_at, width_in}
+use Rattle.dvi_read.specs.SeenAhead.{HasRest}
+use Rattle.dvi_read.specs.Steps.{FontsAreRead, known_of, places_left, stand_of}
+use Rattle.dvi_read.specs.Stops.{IsUnended, PagesHaveEnded}
+use Rattle.dvi_read.specs.Private.Walks.{bare, read_in}
+use Rattle.dvi_read.specs.declared.fault.DviFault.{DviFault}
+use Rattle.dvi_read.specs.declared.fault.DviFault.TheVariants as faults
+use Rattle.dvi_read.specs.declared.read_fonts.ReadFonts.{ReadFonts}
+use Rattle.dvi_read.specs.declared.walk.Walk.{Walk}
+use Rattle.dvi_read.proofs.FaultLemmas.{post_within}
+use Rattle.dvi_read.proofs.OpenLemmas.{finish_refused, opened}
+use Rattle.dvi_read.proofs.SelectLemmas.{some_is}
+use Rattle.tfm_core.specs.FileWidths.{file_widths, width_at}
+use Rattle.tfm_core.specs.Fonts.{SizedFont}
+use Rattle.tfm_core.specs.NamedBytes.{NamedBytes}
+
+-- A font that was read has the widths of the files.
+same_read : (metrics : WidthsByName) (table : List Definition) (fonts : ReadFonts) (f : ℤ) → AreSound metrics table fonts → FontIsRead f fonts → SameWidths (widths_of metrics table) (read_width fonts) f
+same_read metrics table fonts f sound is_read c =
+    let (place, at) = some_is (font_place f fonts) is_read in
+    let (read, there, widths) = sound.widths f place at in
+    let found : option_and_then (read_font_at fonts) (font_place f fonts) ≡ Some read = ap (λ (o : Option ℕ). option_and_then (read_font_at fonts) o) at ∙ there in
+    ap (λ (o : Option (ℤ → Option ℤ)). width_of_font o c) widths ∙ sym (ap (λ (o : Option SizedFont). width_in o c) found)
+
+-- The instructions after the preamble make the pages of the file.
+pub checked_rest : (metrics : WidthsByName) (ahead : List ℤ) (bytes : List ℕ) (stop : Postamble) (chain : List ℕ) (from post : ℕ) (s : ReadSoFar) (fonts : ReadFonts) (pages : List MarkedPage)
+    → post ≤ length bytes → HasPreamble bytes post stop from → IsReached metrics ahead bytes stop chain post s → s.pass ≡ Between pages → FontsAreRead fonts s.selected → AreSound metrics s.known fonts
+    → HasRest bytes from post (min 1024 stop.stack_depth) fonts [] (Between []) pages
+checked_rest metrics ahead bytes stop chain from post s fonts pages high preamble r between read sound =
+    let within = preamble.within in
+    let most : ℕ = min 1024 stop.stack_depth in
+    let front : List ℕ = take from bytes in
+    let left : List ℕ = take (post - from) (drop from bytes) in
+    let one = token (Pre 2 stop.units preamble.comment) front in
+    let whole : written (one ∷ []) ++ left ≡ written r.before =
+    ap (λ (x : List ℕ). x ++ left) (append-nil front) ∙ (sym (take_next bytes from post within high) ∙ sym r.whole) in
+    let (more, same, spelled, more_whole) = begins (one ∷ []) r.before left (preamble.spelled, tt) r.spelled whole in
+    let all : Pre 2 stop.units preamble.comment ∷ says more ≡ Pre 2 stop.units r.comment ∷ r.body = sym (ap says same) ∙ r.front_is in
+    let body : r.body ≡ says more = cc in
+    let chosen : selections r.body ≡ s.selected = sym (ap (λ (is : List Instruction). selections is) r.front_is) ∙ r.selected_is in
+    let all_read : AllByRecursion (λ f. FontIsRead f fonts) (selections r.body) = subst (λ (fs : List ℤ). AllByRecursion (λ f. FontIsRead f fonts) fs) (sym chosen) read in
+    let passed =
+    (same_passes (widths_of metrics s.known) (read_width fonts) most r.body (Between []) s.pass (λ f e. absurd cc)
+    (all_weaker (λ f. FontIsRead f fonts) (SameWidths (widths_of metrics s.known) (read_width fonts)) (selections r.body) (λ f is_read. same_read metrics s.known fonts f sound is_read) all_read) r.passed).0 in
+    record {
+      low = within;
+      high = high;
+      rest = more;
+      spelled = spelled;
+      whole = more_whole;
+      passed = subst (λ (is : List Instruction). passes (kept (acts (read_width fonts))) most is (Between []) ≡ Some (Between pages)) body (passed ∙ ap (λ (p : PassStateView). Some p) between);
+      read = subst (λ (is : List Instruction). FontsAreRead fonts (selections is)) body all_read;
+      codes = sound.codes;
+    }
+
+-- Where a walk without pages and marks is between pages, so is the whole state.
+pub bare_between : (p : PassStateView) (pages : List MarkedPage) → bare p ≡ Between pages → (all : List MarkedPage) × (p ≡ Between all)
+bare_between (Between all) pages e = (all, refl)
+bare_between (Inside all counts marks stack s) pages e = absurd cc
+
+bare_ended : (p : PassStateView) (left : Left) (pages : List MarkedPage) → PagesHaveEnded (bare p) left pages → (all : List MarkedPage) × PagesHaveEnded p left all
+bare_ended p left pages ended = let (all, between) = bare_between p pages ended.between in (all, record { between = between; none = ended.none })
+
+-- A fault at the place of post is one of the whole state.
+pub finish_bare : (bytes : List ℕ) (post after last : ℕ) (p : PassStateView) (left : Left) (known : List Definition) (fault : DviFault) → IsFinishFault bytes post after last (bare p) left known fault
+    → IsFinishFault bytes post after last p left known fault
+finish_bare bytes post after last p left known faults.OutOfMemory (pages, ended, new, wants) = let (all, done) = bare_ended p left pages ended in (all, done, new, wants)
+finish_bare bytes post after last p left known (faults.Bad bad) (inl (place, inl (cause, open_page))) = inl (place, inl (cause, λ pages e. open_page [] (ap bare e)))
+finish_bare bytes post after last p left known (faults.Bad bad) (inl (place, inr (cause, (pages, between), some))) = inl (place, inr (cause, bare_between p pages between, some))
+finish_bare bytes post after last p left known (faults.Bad bad) (inr (pages, ended, new, broken)) = let (all, done) = bare_ended p left pages ended in inr (all, done, new, broken)
+finish_bare bytes post after last p left known fault broken = absurd broken
+
+-- A walk that has passed over a file, and has ended.
+module _ (files : List NamedBytes) (bytes : List ℕ) (post after last : ℕ) (stop : Postamble) (chain : List ℕ) (from : ℕ) (walk : Walk) (passed : HasPassed files bytes (framing post after last stop chain) from walk) where
+  pub checked_fault : (fault : DviFault) → IsFinishFault bytes post after last (stand_of walk) (places_left walk) (known_of walk) fault → IsDviFault files bytes fault
+  checked_fault fault b =
+      finish_refused files bytes post after last stop chain from passed.ahead (read_in passed.pass passed.selected walk) fault passed.has
+      (finish_bare bytes post after last passed.pass (places_left walk) (known_of walk) fault
+      (subst (λ (p : PassStateView). IsFinishFault bytes post after last p (places_left walk) (known_of walk) fault) passed.stand b))
+
+  pub checked_pages : (pages : List MarkedPage) (new : List Definition) → PagesHaveEnded (stand_of walk) (places_left walk) pages → ClosesTo bytes after (last - 5) (known_of walk) new
+      → (all : List MarkedPage) × IsFile (file_widths files) bytes all × HasRest bytes from post (min 1024 stop.stack_depth) walk.fonts [] (Between []) all
+  checked_pages pages new ended closes =
+      let (all, done) = bare_ended passed.pass (places_left walk) pages (subst (λ (p : PassStateView). PagesHaveEnded p (places_left walk) pages) passed.stand ended) in
+      let has = passed.has in
+      let high = post_within files bytes post after last stop chain has.starts.chained.framed in (
+        all,
+        opened files bytes post after last stop chain from passed.ahead (read_in passed.pass passed.selected walk) all new has done closes,
+        checked_rest (file_widths files) passed.ahead bytes stop chain from post (read_in passed.pass passed.selected walk) walk.fonts all high has.starts.preamble has.reached done.between passed.read passed.sound,
+      )

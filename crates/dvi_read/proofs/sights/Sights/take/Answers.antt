@@ -1,0 +1,52 @@
+-- A page begins or ends, or the mark of an instruction comes next.
+use Rattle.std.proofs.Common.{rules, ◌≡◌, false, true, ap, refl}
+use Rattle.dvi_ops.specs.Body.{acts, kept}
+use Rattle.dvi_ops.specs.View.{view}
+use Rattle.dvi_read.specs.PageMarks.{read_width}
+use Rattle.dvi_read.proofs.SightLemmas.{began, draws_on, drew, ended, no_eop, read_first}
+use Rattle.dvi_read.proofs.sights.Sights.take.Goals as goal
+
+pub returns-then-not-self-clause-next : goal.returns-then-not-self-clause-next
+returns-then-not-self-clause-next c = λ seen a.
+    let s = c.args.self.now in
+    let outside : s.inside ≡ false = search rules in
+    let fact : c.begin.result ≡ true = search rules in
+    began (view c.args.op.now) s seen a c.begin.new.page outside (c.begin.ensures.yes fact (kept (acts (read_width s.fonts))) s.most a.pages) c.begin.ensures.none c.begin.ensures.places (c.begin.ensures.font fact)
+
+pub returns-in-Eop-clause-next : goal.returns-in-Eop-clause-next
+returns-in-Eop-clause-next c = λ seen a.
+    let s = c.args.self.now in
+    let within : s.inside ≡ true = search rules in
+    ended (view c.args.op.now) s seen a within (ap view c.in-Eop.is)
+
+pub draw-requires : goal.draw-requires
+draw-requires c =
+    let s = c.args.self.now in
+    let i = view c.args.op.now in
+    let (seen, a) = c.requires in
+    let within : s.inside ≡ true = search rules in
+    record { ready = a.ready; codes = a.rest.codes; read = read_first i s seen a; stays = no_eop c.args.op.now c.in_default.not-Eop; goes_on = draws_on i s seen within a }
+
+pub returns-in-Some : goal.returns-in-Some
+returns-in-Some c =
+    let s = c.args.self.now in
+    let within : s.inside ≡ true = search rules in
+    let draw = c.draw.ensures in
+    let (place, fonts) = draw.fonts in
+    record {
+      next = λ seen a. drew (view c.args.op.now) s seen a c.draw.new.fonts c.draw.new.page c.draw.result _ place within fonts draw.counts draw.ready draw.draws c.in-Some.is;
+      place = refl;
+      post = refl;
+    }
+
+pub returns-in-None : goal.returns-in-None
+returns-in-None c =
+    let s = c.args.self.now in
+    let within : s.inside ≡ true = search rules in
+    let draw = c.draw.ensures in
+    let (place, fonts) = draw.fonts in
+    record {
+      next = λ seen a. drew (view c.args.op.now) s seen a c.draw.new.fonts c.draw.new.page c.draw.result _ place within fonts draw.counts draw.ready draw.draws c.in-None.is;
+      place = refl;
+      post = refl;
+    }

@@ -1,0 +1,44 @@
+-- The rest of `OpeningParts`, which no public contract reaches (own).
+use Rattle.std.specs.Prelude.{◌≡◌, ◌⊎◌, ◌-◌, List, ℕ, ℤ}
+use Rattle.dvi_scan.specs.Closing.{IsClosingFault}
+use Rattle.dvi_scan.specs.declared.fault.FrameFault.TheVariants as frames
+use Rattle.dvi_ops.specs.File.{MarkedPage}
+use Rattle.dvi_ops.specs.Instruction.{Definition}
+use Rattle.dvi_scan.specs.Pass.{PassStateView}
+use Rattle.dvi_scan.specs.Passed.{Framing}
+use Rattle.dvi_scan.specs.Reached.{Left}
+use Rattle.dvi_read.specs.Opening.{HasPages}
+use Rattle.dvi_read.specs.ReadFonts.{AreSound}
+use Rattle.dvi_read.specs.Steps.{FontsAreRead, known_of, so_far, stand_of}
+use Rattle.dvi_read.specs.Stops.{PagesHaveEnded, IsUnended}
+use Rattle.dvi_read.specs.declared.fault.DviFault.{DviFault}
+use Rattle.dvi_read.specs.declared.fault.DviFault.TheVariants.{Bad, OutOfMemory}
+use Rattle.dvi_read.specs.Private.Walks.{bare, read_in}
+use Rattle.dvi_read.specs.declared.walk.Walk.{Walk}
+use Rattle.tfm_core.specs.FileWidths.{file_widths}
+use Rattle.tfm_core.specs.NamedBytes.{NamedBytes}
+
+-- All instructions before post are right, and a walk has what was read there.
+abbrev pub HoldsPages : List NamedBytes → (bytes : List ℕ) → Framing → (from : ℕ) → Walk → Type 0
+HoldsPages files bytes parts from walk = (ahead : List ℤ) × (selected : List ℤ) × HasPages files bytes parts from ahead (so_far selected walk)
+
+-- All instructions before post are right, and a walk that keeps no mark holds the rest of what was read there. Each selected font was read, and has
+-- the widths of the files.
+pub record HasPassed (files : List NamedBytes) (bytes : List ℕ) (parts : Framing) (from : ℕ) (walk : Walk) : Type 0 where
+  pub ahead : List ℤ
+  pub selected : List ℤ
+  pub pass : PassStateView
+  pub has : HasPages files bytes parts from ahead (read_in pass selected walk)
+  pub stand : stand_of walk ≡ bare pass
+  pub read : FontsAreRead walk.fonts selected
+  pub sound : AreSound (file_widths files) (known_of walk) walk.fonts
+
+-- Why the reading does not end at the place of post, or the part after post is wrong, or memory is refused for a definition there.
+abbrev pub IsFinishFault : List ℕ → (post after last : ℕ) → PassStateView → Left → (known : List Definition) → DviFault → Type 0
+IsFinishFault bytes post after last p left known OutOfMemory =
+    (pages : List MarkedPage) × PagesHaveEnded p left pages × (new : List Definition)
+    × IsClosingFault bytes after (last - 5) known new frames.OutOfMemory
+IsFinishFault bytes post after last p left known (Bad bad) =
+    IsUnended p left post bad ⊎ (pages : List MarkedPage) × PagesHaveEnded p left pages × (new : List Definition)
+    × IsClosingFault bytes after (last - 5) known new (frames.Bad bad)
+IsFinishFault bytes post after last p left known fault = ⊥

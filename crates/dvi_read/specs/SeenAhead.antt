@@ -1,0 +1,102 @@
+-- What is still to be seen of a file that was checked (own).
+use Rattle.std.specs.Prelude.{◌≡◌, ◌≤◌, ◌<◌, ◌+◌, ◌-◌, ◌*◌, ◌^◌, ◌++◌, if◌then◌else◌, nat_lt, [], ◌∷◌, Bool, true, false, List, Option, Some, None}
+use Rattle.std.specs.Prelude.{drop, length, map, reverse, take, ℕ, ℤ}
+use Rattle.std.specs.Borrow.{Bor}
+use Rattle.std.specs.List.{AllByRecursion}
+use Rattle.scaled_core.specs.Mark.{Mark}
+use Rattle.dvi_ops.specs.Body.{acts, kept}
+use Rattle.dvi_ops.specs.File.{MarkedPage}
+use Rattle.dvi_ops.specs.Fonts.{selections}
+use Rattle.dvi_ops.specs.Instruction.{Instruction}
+use Rattle.dvi_ops.specs.Tokens.{Token, IsSpelled, says, written}
+use Rattle.dvi_scan.specs.Execution.{HasRoom}
+use Rattle.dvi_scan.specs.Pass.{PassStateView, Between, Inside, passes}
+use Rattle.dvi_scan.specs.View.{mark_of, placed, stated}
+use Rattle.dvi_scan.specs.declared.executing.OpenPage.{OpenPage}
+use Rattle.dvi_read.specs.Listing.{text_ahead}
+use Rattle.dvi_read.specs.PageMarks.{read_width}
+use Rattle.dvi_read.specs.ReadFonts.{HasCurrent, HaveByteCodes}
+use Rattle.dvi_read.specs.Seen.{Seen, Counts, Marked, seen_lines, seen_of, seen_so_far}
+use Rattle.dvi_read.specs.Steps.{FontsAreRead}
+use Rattle.dvi_read.specs.declared.checked.CheckedDvi.{CheckedDvi}
+use Rattle.dvi_read.specs.declared.checked_lines.CheckedLines.{CheckedLines}
+use Rattle.dvi_read.specs.declared.read_fonts.ReadFonts.{ReadFonts}
+use Rattle.dvi_read.specs.declared.sights.Sight.{Sight}
+use Rattle.dvi_read.specs.declared.sights.Sight.TheVariants as sights
+use Rattle.dvi_read.specs.declared.sights.Sights.{Sights}
+
+-- What a value of the code represents.
+abbrev pub sight_of : Sight → Seen
+sight_of (sights.Page counts) = Counts counts
+sight_of (sights.Mark mark) = Marked (mark_of mark)
+
+-- The instructions between two places of a file make these pages, with the widths of these fonts, which are all that they select.
+pub record HasRest (bytes : List ℕ) (at post most : ℕ) (fonts : ReadFonts) (first : List Instruction) (here : PassStateView)
+    (pages : List MarkedPage) : Type 0 where
+  pub low : at ≤ post
+  pub high : post ≤ length bytes
+  pub rest : List Token
+  pub spelled : AllByRecursion IsSpelled rest
+  pub whole : written rest ≡ take (post - at) (drop at bytes)
+  -- The instructions of `first` come before them.
+  pub passed : passes (kept (acts (read_width fonts))) most (first ++ says rest) here ≡ Some (Between pages)
+  pub read : FontsAreRead fonts (selections (first ++ says rest))
+  pub codes : HaveByteCodes fonts
+
+-- A checked file has these pages.
+abbrev pub HasCheckedPages : CheckedDvi → List MarkedPage → Type 0
+HasCheckedPages checked pages = HasRest checked.bytes.now checked.from checked.post checked.most checked.fonts [] (Between []) pages
+
+-- The state of the pass where these pages, and these marks of the open one, were seen.
+abbrev pub standing : (inside : Bool) → List MarkedPage → List Mark → OpenPage → PassStateView
+standing false pages marks page = Between pages
+standing true pages marks page = Inside pages page.counts marks (reverse (map placed page.stack.items)) (stated page.state)
+
+-- An open page has no mark, but room for one; and its font was selected last, if one was.
+pub record IsReady (most : ℕ) (fonts : ReadFonts) (page : OpenPage) : Type 0 where
+  pub none : page.marks.items ≡ []
+  pub room : HasRoom most page
+  pub current : (f : ℤ) → page.state.font ≡ Some f → HasCurrent f fonts
+
+-- What is still to be seen, where the instructions of `first` were read, but not taken.
+pub record IsSeenAfter (first : List Instruction) (s : Sights) (seen : List Seen) : Type 0 where
+  pub pages : List MarkedPage
+  pub marks : List Mark
+  pub all : List MarkedPage
+  pub rest : HasRest s.bytes.now s.at s.post s.most s.fonts first (standing s.inside pages marks s.page) all
+  pub ready : IsReady s.most s.fonts s.page
+  pub seen_is : seen_of all ≡ seen_so_far (standing s.inside pages marks s.page) ++ seen
+
+-- What is still to be seen.
+abbrev pub IsSeenAhead : Sights → List Seen → Type 0
+IsSeenAhead s seen = IsSeenAfter [] s seen
+
+-- After an instruction: what is seen of it comes before what is still to be seen.
+abbrev pub ShowsFirst : List Seen → Sights → Option Sight → Type 0
+ShowsFirst seen new None = IsSeenAhead new seen
+ShowsFirst seen new (Some sight) = (rest : List Seen) × (seen ≡ sight_of sight ∷ rest) × IsSeenAhead new rest
+
+-- What comes next of what is still to be seen; or nothing is.
+abbrev pub ShowsNext : List Seen → Sights → Option Sight → Type 0
+ShowsNext seen new None = (seen ≡ []) × IsSeenAhead new []
+ShowsNext seen new (Some sight) = ShowsFirst seen new (Some sight)
+
+-- The bytes of a listing that are still to come: the rest of a line that was begun, and the lines of what is still to be seen.
+pub record AreLinesAhead (l : CheckedLines) (text : List ℕ) : Type 0 where
+  pub seen : List Seen
+  pub ahead : IsSeenAhead l.sights seen
+  pub text_is : text ≡ text_ahead l.text ++ seen_lines (l.before + 1) seen
+  pub counted : l.before ≤ l.sights.at
+
+-- These bytes come first of a listing, and the rest is still to come.
+abbrev pub GivesFirst : (text first : List ℕ) → CheckedLines → Type 0
+GivesFirst text first new = (rest : List ℕ) × (text ≡ first ++ rest) × AreLinesAhead new rest
+
+-- The bytes of the rest of a line that was begun, and one for its end. A text has fewer than 2^64 bytes.
+abbrev pub text_left : Option (Bor (List ℕ)) → ℕ
+text_left None = 0
+text_left (Some text) = if nat_lt (length text.now) (2 ^ 64) then 1 + length text.now else 0
+
+-- A number that each line makes smaller.
+abbrev pub lines_left : CheckedLines → ℕ
+lines_left l = (l.sights.post - l.sights.at) * 2 ^ 65 + text_left l.text

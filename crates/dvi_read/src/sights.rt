@@ -1,0 +1,239 @@
+//! The pages of a checked file, seen one mark at a time (DVItype, 15).
+
+ghost use Rattle.std.specs.Prelude.{◌≡◌, ◌≢◌, ◌≤◌, ◌<◌, ◌^◌, ◌++◌, ◌∷◌, [], false, true, IfOk, IfSome, IsSome, List, None, Some, ℕ, ℤ};
+ghost use Rattle.dvi_ops.specs.Body.{Acts, acts, kept};
+ghost use Rattle.dvi_ops.specs.File.{MarkedPage};
+ghost use Rattle.dvi_ops.specs.Fonts.{selection_of};
+ghost use Rattle.dvi_ops.specs.Instruction.{Bop, Do, Eop, SetChar};
+ghost use Rattle.dvi_ops.specs.View.{view};
+ghost use Rattle.scaled_core.specs.Mark.{Mark as MarkSeen};
+ghost use Rattle.dvi_scan.specs.Execution.{HasRoom};
+ghost use Rattle.dvi_scan.specs.Pass.{Between, PassStateView, execute};
+ghost use Rattle.dvi_scan.specs.View.{mark_of};
+ghost use Rattle.dvi_scan.specs.Private.View.{marks_in};
+ghost use Rattle.dvi_read.specs.PageMarks.{read_width};
+ghost use Rattle.dvi_read.specs.ReadFonts.{HasCurrent, HaveByteCodes};
+ghost use Rattle.dvi_read.specs.Private.ReadFonts.{Chooses};
+ghost use Rattle.dvi_read.specs.Seen.{Seen};
+ghost use Rattle.dvi_read.specs.SeenAhead.{IsReady, IsSeenAfter, IsSeenAhead, ShowsFirst, ShowsNext, standing};
+ghost use Rattle.dvi_read.specs.Steps.{FontsAreRead};
+ghost use Rattle.dvi_read.specs.declared.read_fonts.ReadFonts.{ReadFonts};
+
+use crate::read_fonts::{CharCode, ReadFonts, width_asked};
+use dvi_ops::{BodyOp, Op};
+use dvi_scan::{DviState, FontNumber, Mark, OpenPage, Position, read_at};
+use smallvec::SmallVec;
+use std::alloc::{AllocError, Global};
+
+/// What is seen of a page: its counts, and then each of its marks.
+#[derive(Clone, Copy, Debug, PartialEq)]
+pub enum Sight<'a> {
+    /// A page begins, with these counts.
+    Page([i32; 10]),
+    /// A mark of the page whose counts came last.
+    Mark(Mark<'a>),
+}
+
+/// What is still to be seen of the pages of a checked file. The file is walked once more, and each mark is handed out where it is met.
+#[derive(Drop)]
+pub struct Sights<'a> {
+    pub(crate) bytes: &'a [u8],
+    /// The place of post, where the pages end.
+    pub(crate) post: usize,
+    /// The greatest number of pushes that may be open at once.
+    pub(crate) most: usize,
+    /// The fonts that the pages select.
+    pub(crate) fonts: ReadFonts,
+    /// The place of the next instruction.
+    pub(crate) at: usize,
+    /// Whether the place is inside a page.
+    pub(crate) inside: bool,
+    /// The page, with room for one mark and for the places that pushes save.
+    pub(crate) page: OpenPage<'a>,
+}
+
+/// A page without marks, with room for one mark and for the places that pushes save.
+pub(crate) fn page_room<'a>(alloc: Global, most: usize) -> Result<OpenPage<'a>, AllocError>
+    ensures none { IfOk result (λ page. page.marks.items ≡ []) }
+    ensures room { IfOk result (HasRoom most) }
+    ensures font { IfOk result (λ page. page.state.font ≡ None) }
+{
+    let marks = Vec::with_capacity(alloc, 1)?;
+    let stack = SmallVec::with_capacity(alloc, most)?;
+    Ok(OpenPage {
+        counts: [0; 10],
+        marks,
+        stack,
+        state: DviState {
+            place: Position::START,
+            font: None,
+        },
+    })
+}
+
+/// Begins a page, if the instruction is a bop. Returns whether it is.
+fn begin(op: &Op<'_>, page: &mut OpenPage<'_>) -> bool
+    ensures yes { result ≡ true → (does : Acts) (most : ℕ) (pages : List MarkedPage)
+        → execute does most (view op.now) (Between pages) ≡ Some (standing true pages [] page.new) }
+    ensures no { result ≡ false → (counts : List ℤ) (pointer : ℤ) → view op.now ≢ Bop counts pointer }
+    ensures same { result ≡ false → page.new ≡ page.old }
+    ensures none { page.new.marks ≡ page.old.marks }
+    ensures places { page.new.stack.capacity ≡ page.old.stack.capacity }
+    ensures font { result ≡ true → page.new.state.font ≡ None }
+{
+    let Op::Bop { counts, .. } = *op else {
+        return false;
+    };
+    page.counts = counts;
+    page.stack.clear();
+    page.state = DviState {
+        place: Position::START,
+        font: None,
+    };
+    true
+}
+
+/// Selects the font of an instruction, if it selects one. The font was read before.
+fn choose_font(op: &Op<'_>, fonts: &mut ReadFonts)
+    requires { FontsAreRead fonts.old (selection_of (view op.now)) }
+    ensures chosen { Chooses (view op.now) fonts.old fonts.new }
+    ensures fonts { (place : ℕ) × (fonts.new ≡ record fonts.old { current = place }) }
+{
+    if let Op::Body(BodyOp::FontNum(value)) = *op {
+        let _ = fonts.choose(FontNumber { value });
+    }
+}
+
+/// The character that an instruction sets, if it sets one.
+fn character_set(op: &Op<'_>) -> Option<i32>
+    ensures { IfSome result (λ code. view op.now ≡ Do (SetChar code)) }
+{
+    match *op {
+        Op::Body(BodyOp::SetChar(code)) => Some(code),
+        _ => None,
+    }
+}
+
+/// Sets a character of an open page, and returns its mark, which needs no room in the page.
+fn set_character<'a>(code: i32, fonts: &ReadFonts, page: &mut OpenPage<'a>) -> Mark<'a>
+    requires codes { HaveByteCodes fonts.now }
+    requires current { (f : ℤ) → page.old.state.font ≡ Some f → HasCurrent f fonts.now }
+    requires goes_on { (most : ℕ) × (pages : List MarkedPage) × (marks : List MarkSeen) × (after : PassStateView)
+        × (execute (kept (acts (read_width fonts.now))) most (Do (SetChar code)) (standing true pages marks page.old) ≡ Some after) }
+    ensures draws { (most : ℕ) (pages : List MarkedPage) (marks : List MarkSeen) (after : PassStateView)
+        → execute (kept (acts (read_width fonts.now))) most (Do (SetChar code)) (standing true pages marks page.old) ≡ Some after
+        → after ≡ standing true pages (marks ++ mark_of result ∷ []) page.new }
+    ensures counts { page.new.counts ≡ page.old.counts }
+    ensures marks { page.new.marks ≡ page.old.marks }
+    ensures stack { page.new.stack ≡ page.old.stack }
+    ensures font { page.new.state.font ≡ page.old.state.font }
+{
+    let Some(font) = page.state.font else {
+        unreachable!()
+    };
+    let Some(width) = fonts.width(CharCode { value: code }) else {
+        unreachable!()
+    };
+    let place = page.state.place;
+    let Some(next) = place.right(width) else {
+        unreachable!()
+    };
+    page.state.place = next;
+    Mark::Glyph {
+        font,
+        code,
+        h: place.h,
+        v: place.v,
+    }
+}
+
+/// Takes an instruction of an open page that does not end it, and returns the mark that it makes.
+fn draw<'a>(
+    most: usize,
+    op: &Op<'a>,
+    fonts: &mut ReadFonts,
+    page: &mut OpenPage<'a>,
+) -> Option<Mark<'a>>
+    requires ready { IsReady most fonts.old page.old }
+    requires codes { HaveByteCodes fonts.old }
+    requires read { FontsAreRead fonts.old (selection_of (view op.now)) }
+    requires stays { view op.now ≢ Eop }
+    requires goes_on { (pages : List MarkedPage) × (marks : List MarkSeen) × (after : PassStateView)
+        × (execute (kept (acts (read_width fonts.old))) most (view op.now) (standing true pages marks page.old) ≡ Some after) }
+    ensures draws { (pages : List MarkedPage) (marks : List MarkSeen) (after : PassStateView)
+        → execute (kept (acts (read_width fonts.old))) most (view op.now) (standing true pages marks page.old) ≡ Some after
+        → after ≡ standing true pages (marks ++ marks_in result) page.new }
+    ensures counts { page.new.counts ≡ page.old.counts }
+    ensures ready { IsReady most fonts.new page.new }
+    ensures fonts { (place : ℕ) × (fonts.new ≡ record fonts.old { current = place }) }
+{
+    if let Some(code) = character_set(op) {
+        return Some(set_character(code, fonts, page));
+    }
+    let width = width_asked(fonts, op);
+    let Ok(()) = page.take(most, op, width) else {
+        unreachable!()
+    };
+    choose_font(op, fonts);
+    page.marks.pop()
+}
+
+impl<'a> Sights<'a> {
+    /// Takes an instruction, and returns what is seen of it.
+    fn take(&mut self, op: &Op<'a>) -> Option<Sight<'a>>
+        requires { (seen : List Seen) × IsSeenAfter (view op.now ∷ []) self.old seen }
+        ensures next { (seen : List Seen) → IsSeenAfter (view op.now ∷ []) self.old seen → ShowsFirst seen self.new result }
+        ensures place { self.new.at ≡ self.old.at }
+        ensures post { self.new.post ≡ self.old.post }
+    {
+        if !self.inside {
+            if !begin(op, &mut self.page) {
+                return None;
+            }
+            self.inside = true;
+            return Some(Sight::Page(self.page.counts));
+        }
+        if let Op::Eop = *op {
+            self.inside = false;
+            return None;
+        }
+        match draw(self.most, op, &mut self.fonts, &mut self.page) {
+            Some(mark) => Some(Sight::Mark(mark)),
+            None => None,
+        }
+    }
+
+    /// Takes the next instruction, and returns what is seen of it.
+    fn step(&mut self) -> Option<Sight<'a>>
+        requires ahead { (seen : List Seen) × IsSeenAhead self.old seen }
+        requires more { self.old.at < self.old.post }
+        ensures next { (seen : List Seen) → IsSeenAhead self.old seen → ShowsFirst seen self.new result }
+        ensures forward { self.old.at < self.new.at }
+        ensures fits { self.new.at < 2 ^ 64 }
+        ensures post { self.new.post ≡ self.old.post }
+    {
+        let Ok((op, next)) = read_at(self.bytes, self.at, self.post) else {
+            unreachable!()
+        };
+        self.at = next;
+        self.take(&op)
+    }
+
+    /// What is seen next; None after all marks of all pages. It takes no memory.
+    pub fn next_sight(&mut self) -> Option<Sight<'a>>
+        requires { (seen : List Seen) × IsSeenAhead self.old seen }
+        // It is the first of what is still to be seen; or nothing is.
+        ensures next { (seen : List Seen) → IsSeenAhead self.old seen → ShowsNext seen self.new result }
+        ensures forward { IsSome result → self.old.at < self.new.at }
+        ensures stays { self.old.at ≤ self.new.at }
+        ensures fits { self.new.at < 2 ^ 64 }
+        ensures post { self.new.post ≡ self.old.post }
+    {
+        while self.at < self.post {
+            if let Some(sight) = self.step() {
+                return Some(sight);
+            }
+        }
+        None
+    }
+}

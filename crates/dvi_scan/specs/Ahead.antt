@@ -1,0 +1,42 @@
+-- The numbers of fonts that are defined after post, found before the pages are read (own). The other fields of these definitions are tested only when
+-- the reader gets there.
+use Rattle.std.specs.Prelude.{◌≡◌, ◌≤◌, ◌<◌, ◌-◌, List, drop, take, None, ℕ, ℤ}
+use Rattle.std.specs.List.{AllByRecursion}
+use Rattle.dvi_ops.specs.File.{IsIdle}
+use Rattle.dvi_ops.specs.Fonts.{defined, definitions}
+use Rattle.dvi_ops.specs.Instruction.{Definition, FontDef, Instruction, Do}
+use Rattle.dvi_ops.specs.Tokens.{Token, IsSpelled, says, written}
+use Rattle.dvi_scan.specs.Ends.{StandsAt}
+use Rattle.dvi_scan.specs.Reached.{AreNumbersOf}
+
+-- Only nops and definitions of fonts are between two places.
+pub record AreIdle (bytes : List ℕ) (from to : ℕ) (tokens : List Token) : Type 0 where
+  pub spelled : AllByRecursion IsSpelled tokens
+  pub whole : written tokens ≡ take (to - from) (drop from bytes)
+  pub idle : AllByRecursion IsIdle (says tokens)
+
+-- No nop and no definition is at a place and ends at or before `to`.
+abbrev pub NothingIdle : List ℕ → (place to : ℕ) → Type 0
+NothingIdle bytes place to = (i : Instruction) → StandsAt bytes place to i → IsIdle i → ⊥
+
+-- The numbers that are found: those of the definitions among the nops and definitions from a place on, up to the first place without such an
+-- instruction.
+pub record IsLookedAhead (bytes : List ℕ) (from to : ℕ) (ahead : List ℤ) : Type 0 where
+  pub place : ℕ
+  pub low : from ≤ place
+  pub high : place ≤ to
+  pub tokens : List Token
+  pub there : AreIdle bytes from place tokens
+  pub stops : NothingIdle bytes place to
+  pub numbers : AreNumbersOf ahead (definitions (says tokens))
+
+-- Memory is refused at some place for a definition of a new number, where only nops and definitions are before it.
+pub record IsUnlooked (bytes : List ℕ) (from to : ℕ) : Type 0 where
+  pub place : ℕ
+  pub low : from ≤ place
+  pub high : place < to
+  pub tokens : List Token
+  pub there : AreIdle bytes from place tokens
+  pub here : Definition
+  pub stands : StandsAt bytes place to (Do (FontDef here))
+  pub new : defined here.number (definitions (says tokens)) ≡ None

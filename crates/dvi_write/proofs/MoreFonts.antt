@@ -1,0 +1,96 @@
+-- The layout of pages is the same with more fonts.
+use Rattle.std.proofs.Common.{◌≡◌, ℕ, List, [], ◌∷◌, ◌++◌, length, refl, ap, ap₂, ◌∙◌}
+use Rattle.std.specs.Prelude.{ℤ, pos, Option, Some, None}
+use Rattle.std.specs.List.{AllByRecursion}
+use Rattle.node_core.specs.declared.tree.BoxNode.{BoxNode}
+use Rattle.node_core.specs.Items.{Leaf, glyph, font_kern, kern, glue, penalty, rule, special}
+use Rattle.dvi_ops.specs.Forest.{flat}
+use Rattle.dvi_ops.specs.Instruction.{Definition}
+use Rattle.dvi_ops.specs.Layout.{Sheet, after_preamble, after_all, front_of}
+use Rattle.dvi_ops.specs.Fonts.{width_in}
+use Rattle.scaled_core.proofs.EachOf.{all_weaker}
+use Rattle.page_core.specs.Marks.{ShippedPage}
+use Rattle.page_core.specs.Pages.{reach_down, reach_right}
+use Rattle.ship_core.specs.Shown.{HasWidth}
+use Rattle.tfm_core.specs.declared.slots.LoadedFont.{LoadedFont}
+use Rattle.tfm_core.specs.Slots.{Slots, font_in}
+use Rattle.dvi_write.specs.MoreFonts.{Extends}
+use Rattle.dvi_write.specs.Sheets.{written_body, definitions_of, fresh_slots, sheet_of}
+use Rattle.dvi_write.specs.Layout.{slots_after, slots_after_all, sheets_of, greatest, load_on, front}
+use Rattle.dvi_write.specs.Shippable.{slot_font_widths, slot_widths, IsShippable, IsRightPage}
+use Rattle.dvi_write.specs.SoFar.{ProgressView, so_far_of}
+use Rattle.dvi_write.proofs.DefinedFonts.{fresh_parts, among_fresh, fresh_same, definitions_same}
+use Rattle.dvi_write.proofs.Files.{has_selected}
+use Rattle.node_core.proofs.Leaves.{each_leaf}
+
+module _ (fonts more : Slots) (extends : Extends fonts more) where
+  width_kept : (slot : ℕ) (c w : ℤ) (held : Option LoadedFont) → font_in fonts slot ≡ held → width_in (slot_font_widths held) c ≡ Some w → slot_widths more (pos slot) c ≡ Some w
+  width_kept slot c w None at is = cc
+  width_kept slot c w (Some l) at is = ap (λ (held : Option LoadedFont). width_in (slot_font_widths held) c) (extends slot l at) ∙ is
+
+  leaf_kept : (x : Leaf) → HasWidth (slot_widths fonts) x → HasWidth (slot_widths more) x
+  leaf_kept (glyph g) has = (width_kept g.slot (pos g.code) g.width (font_in fonts g.slot) refl has.0, has.1)
+  leaf_kept (font_kern width) has = tt
+  leaf_kept (kern width) has = tt
+  leaf_kept (glue g) has = tt
+  leaf_kept (penalty p) has = tt
+  leaf_kept (special text) has = tt
+  leaf_kept (rule sizes) has = tt
+
+  -- A box that may be shipped may be shipped with more fonts.
+  pub shippable_more : (b : BoxNode) → IsShippable fonts b → IsShippable more b
+  shippable_more b sound =
+      record { glyphs = each_leaf (HasWidth (slot_widths fonts)) (HasWidth (slot_widths more)) leaf_kept b.list sound.glyphs; depth = sound.depth }
+
+  right_more : (page : ShippedPage) → IsRightPage fonts page → IsRightPage more page
+  right_more page right = record { ten = right.ten; counts_fit = right.counts_fit; small = right.small; text = right.text; sound = shippable_more page.box_node right.sound }
+
+  pub pages_more : (pages : List ShippedPage) → AllByRecursion (IsRightPage fonts) pages → AllByRecursion (IsRightPage more) pages
+  pages_more pages all = all_weaker (IsRightPage fonts) (IsRightPage more) pages right_more all
+
+  fresh_more : (slots : List ℕ) (page : ShippedPage) → IsRightPage fonts page → fresh_slots fonts slots (flat (written_body page)) ≡ fresh_slots more slots (flat (written_body page))
+  fresh_more slots page right = fresh_same fonts more slots (flat (written_body page)) extends (has_selected fonts page right.sound.glyphs)
+
+  -- What is written for a page is the same, and so are the slots after it.
+  after_more : (slots : List ℕ) (page : ShippedPage) → IsRightPage fonts page → slots_after fonts slots page ≡ slots_after more slots page
+  after_more slots page right = ap (λ fresh. slots ++ fresh) (fresh_more slots page right)
+
+  sheet_more : (slots : List ℕ) (page : ShippedPage) → IsRightPage fonts page → sheet_of fonts slots page ≡ sheet_of more slots page
+  sheet_more slots page right =
+      let is = flat (written_body page) in
+      ap (λ (ds : List Definition). record { counts = page.counts; fresh = ds; body = written_body page })
+      (definitions_same fonts more (fresh_slots fonts slots is) extends (λ s among. (fresh_parts fonts slots is s (among_fresh fonts slots is s among).0).0)
+      ∙ ap (definitions_of more) (fresh_more slots page right))
+
+  sheets_more : (slots : List ℕ) (pages : List ShippedPage) → AllByRecursion (IsRightPage fonts) pages → sheets_of fonts slots pages ≡ sheets_of more slots pages
+  sheets_more slots [] all = refl
+  sheets_more slots (page ∷ pages) (here, all) =
+      ap₂ (λ (sheet : Sheet) (sheets : List Sheet). sheet ∷ sheets) (sheet_more slots page here)
+      (sheets_more (slots_after fonts slots page) pages all ∙ ap (λ slots. sheets_of more slots pages) (after_more slots page here))
+
+  slots_more : (slots : List ℕ) (pages : List ShippedPage) → AllByRecursion (IsRightPage fonts) pages → slots_after_all fonts slots pages ≡ slots_after_all more slots pages
+  slots_more slots [] all = refl
+  slots_more slots (page ∷ pages) (here, all) =
+      slots_more (slots_after fonts slots page) pages all ∙ ap (λ slots. slots_after_all more slots pages) (after_more slots page here)
+
+  -- The bytes up to the last eop are the same, and so are the kept numbers.
+  pub front_more : (pages : List ShippedPage) → AllByRecursion (IsRightPage fonts) pages → front fonts pages ≡ front more pages
+  unfolding front
+  front_more [] all = refl
+  front_more (page ∷ pages) all = ap front_of (sheets_more [] (page ∷ pages) all)
+
+  pub so_far_more : (pages : List ShippedPage) → AllByRecursion (IsRightPage fonts) pages → so_far_of fonts pages ≡ so_far_of more pages
+  so_far_more pages all =
+      let made : List Sheet → List ℕ → List ℕ → ProgressView =
+      λ sheets bytes slots. record {
+        last = (after_all after_preamble sheets).last;
+        size = length bytes;
+        defined = slots;
+        tall = greatest reach_down pages;
+        wide = greatest reach_right pages;
+        deep = (after_all after_preamble sheets).depth;
+        pages = length pages;
+        load = load_on pages;
+      } in
+      ap (λ sheets. made sheets (front fonts pages) (slots_after_all fonts [] pages)) (sheets_more [] pages all)
+      ∙ ap₂ (λ bytes slots. made (sheets_of more [] pages) bytes slots) (front_more pages all) (slots_more [] pages all)

@@ -1,0 +1,133 @@
+-- The writer's numbers are within the limits, so that every place in the file is below 2^31.
+use Rattle.std.proofs.Common.{◌≡◌, ℕ, ◌+◌, ◌*◌, ◌≤◌, ◌<◌, ◌^◌, List, [], ◌∷◌, ◌++◌, length, refl, ap, ap₂, sym, ◌∙◌, subst, arith, append_assoc, length-append}
+use Rattle.dvi_ops.specs.Forest.{flat}
+use Rattle.dvi_ops.specs.Instruction.{Instruction, Bop, Eop}
+use Rattle.dvi_ops.specs.Layout.{bytes_of, define, sheet_from}
+use Rattle.std.specs.Prelude.{Bool, true, false, Some, None, nat_le, nat_lt, if◌then◌else◌, zero, suc, IfSome, Result, Ok, Err, OnOk, OnErr}
+use Rattle.std.proofs.lemmas.Bool.{leb-false, ltb-false}
+use Rattle.dvi_ops.specs.Spelling.{spelling, operand}
+use Rattle.dvi_ops.proofs.Layouts.{length-bytes_of-append}
+use Rattle.node_core.specs.Items.{items_text}
+use Rattle.node_core.specs.Nodes.{box_count, box_text}
+use Rattle.page_core.specs.Marks.{ShippedPage, is_huge}
+use Rattle.dvi_write.specs.declared.fault.WriteFault.TheVariants.{TooManyPages, TooMuchShipped, TooMuchSpecial, HugePage}
+use Rattle.node_core.specs.declared.limits.TheConstants.{MAX_PAGES, MAX_SHIPPED_NODES, MAX_SHIPPED_TEXT}
+use Rattle.tfm_core.specs.declared.slots.LoadedFont.{LoadedFont}
+use Rattle.tfm_core.specs.Slots.{Slots, font_in, IsDefinable, AreDefinable}
+use Rattle.dvi_write.specs.Shippable.{IsShippable, slot_widths}
+use Rattle.dvi_write.specs.Sheets.{written_body, definitions_of, fresh_slots, sheet_of}
+use Rattle.dvi_write.specs.SoFar.{ProgressView, nothing_so_far, opening, next_bytes, with_next}
+use Rattle.dvi_write.specs.Limits.{HasRoom, limit_of}
+use Rattle.dvi_write.proofs.DefinedFonts.{few_defined, none_rising, defined_once}
+use Rattle.scaled_core.proofs.EachOf.{each_held, held_within}
+use Rattle.dvi_write.proofs.PageBytes.{HasShortNames, sheet_bytes}
+use Rattle.dvi_write.proofs.WrittenBodies.{nests_written}
+
+pub small : (s : ProgressView) → HasRoom s → s.size < 2 ^ 31
+small s room = omega (arith, room.nodes, room.text, room.pages, room.size, few_defined s.defined room.defined)
+
+pub first_room : HasRoom nothing_so_far
+first_room = record { nodes = omega arith; text = omega arith; pages = omega arith; deep = omega arith; defined = none_rising; size = omega arith; empty = λ none. refl }
+
+-- The bytes of the next page, with its definitions among those before its bop.
+pub next-is : (fonts : Slots) (s : ProgressView) (page : ShippedPage) (bytes slots : List ℕ) (is : List Instruction)
+    → slots ≡ fresh_slots fonts s.defined (flat (written_body page)) → is ≡ flat (written_body page)
+    → bytes ≡ bytes_of ((opening s.pages ++ define (definitions_of fonts slots)) ++ (Bop page.counts s.last ∷ (is ++ Eop ∷ []))) → bytes ≡ next_bytes fonts s page
+unfolding next_bytes
+next-is fonts s page bytes slots is fresh body same =
+    same
+    ∙ (ap bytes_of (append_assoc (opening s.pages) (define (definitions_of fonts slots)) (Bop page.counts s.last ∷ (is ++ Eop ∷ [])))
+    ∙ ap₂ (λ (slots : List ℕ) (is : List Instruction). bytes_of (opening s.pages ++ (define (definitions_of fonts slots) ++ (Bop page.counts s.last ∷ (is ++ Eop ∷ []))))) fresh body)
+
+pub next_small : (fonts : Slots) (s : ProgressView) (page : ShippedPage) (bytes slots : List ℕ) (is : List Instruction)
+    → HasRoom (with_next fonts s page) → slots ≡ fresh_slots fonts s.defined (flat (written_body page)) → is ≡ flat (written_body page)
+    → bytes ≡ bytes_of ((opening s.pages ++ define (definitions_of fonts slots)) ++ (Bop page.counts s.last ∷ (is ++ Eop ∷ []))) → s.size + length bytes < 2 ^ 31
+unfolding with_next
+next_small fonts s page bytes slots is room fresh body same =
+    omega (arith, small (with_next fonts s page) room, ap length (next-is fonts s page bytes slots is fresh body same))
+
+-- The texts of the specials of the page can be spelled.
+pub next_short : (fonts : Slots) (s : ProgressView) (page : ShippedPage) → HasRoom (with_next fonts s page) → items_text page.box_node.list < 2 ^ 32
+unfolding with_next
+next_short fonts s page room = omega (arith, room.text)
+
+pub next_few : (fonts : Slots) (s : ProgressView) (page : ShippedPage) (slots : List ℕ) → HasRoom (with_next fonts s page) → slots ≡ fresh_slots fonts s.defined (flat (written_body page))
+    → length s.defined + length slots ≤ 256
+unfolding with_next
+next_few fonts s page slots room fresh =
+    omega (arith, few_defined (with_next fonts s page).defined room.defined, length-append s.defined (fresh_slots fonts s.defined (flat (written_body page))), ap length fresh)
+
+-- A font in a slot can be defined, and its slot is below 256.
+pub definable_in : (fonts : Slots) (slot : ℕ) (loaded : LoadedFont) → AreDefinable fonts → font_in fonts slot ≡ Some loaded → IsDefinable loaded × (slot < 256)
+definable_in fonts slot loaded all is =
+    (each_held (λ held. IfSome held IsDefinable) fonts slot loaded all.each is, omega (arith, held_within fonts slot loaded is, all.slots))
+
+pub short_names : (fonts : Slots) → AreDefinable fonts → HasShortNames fonts
+short_names fonts all s l has = let of = definable_in fonts s l all has in (of.1, of.0.name.few)
+
+-- The facts where no limit is exceeded, whether the page is huge or not.
+pub record Admits (s : ProgressView) (page : ShippedPage) : Type 0 where
+  pub pages : nat_le MAX_PAGES s.pages ≡ false
+  pub nodes : nat_lt MAX_SHIPPED_NODES (s.load.nodes + box_count page.box_node) ≡ false
+  pub text : nat_lt MAX_SHIPPED_TEXT (s.load.text + box_text page.box_node) ≡ false
+
+pub admitted : (s : ProgressView) (page : ShippedPage) → limit_of s page ≡ (if is_huge page then Some HugePage else None) → Admits s page
+admitted s page none =
+    by_tests (nat_le MAX_PAGES s.pages) (nat_lt MAX_SHIPPED_NODES (s.load.nodes + box_count page.box_node)) (nat_lt MAX_SHIPPED_TEXT (s.load.text + box_text page.box_node)) (is_huge page) refl refl refl none
+  where
+    by_tests : (a b t c : Bool) → nat_le MAX_PAGES s.pages ≡ a → nat_lt MAX_SHIPPED_NODES (s.load.nodes + box_count page.box_node) ≡ b
+        → nat_lt MAX_SHIPPED_TEXT (s.load.text + box_text page.box_node) ≡ t
+        → (if a then Some TooManyPages else if b then Some TooMuchShipped else if t then Some TooMuchSpecial else if c then Some HugePage else None)
+        ≡ (if c then Some HugePage else None) → Admits s page
+    by_tests true b t true first second third none = cc
+    by_tests true b t false first second third none = cc
+    by_tests false true t true first second third none = cc
+    by_tests false true t false first second third none = cc
+    by_tests false false true true first second third none = cc
+    by_tests false false true false first second third none = cc
+    by_tests false false false c first second third none = record { pages = first; nodes = second; text = third }
+
+-- The texts of the specials of the page are within the limit of a job.
+pub few_text : (s : ProgressView) (page : ShippedPage) → limit_of s page ≡ (if is_huge page then Some HugePage else None) → box_text page.box_node ≤ MAX_SHIPPED_TEXT
+few_text s page none = omega (arith, ltb-false MAX_SHIPPED_TEXT (s.load.text + box_text page.box_node) (admitted s page none).text)
+
+-- Nothing was sent before the preamble.
+opening_fills : (n size nodes text fonts : ℕ) → size ≤ 15 + 46 * n + 19 * nodes + text + 271 * fonts → (n ≡ 0 → size ≡ 0)
+    → size + length (bytes_of (opening n)) ≤ 15 + 46 * n + 19 * nodes + text + 271 * fonts
+unfolding spelling operand
+opening_fills zero size nodes text fonts fits none = omega (arith, none refl)
+opening_fills (suc n) size nodes text fonts fits none = omega (arith, fits)
+
+-- The limits hold with one more page.
+pub room_next : (fonts : Slots) (s : ProgressView) (page : ShippedPage) → AreDefinable fonts → IsShippable fonts page.box_node → length page.counts ≡ 10
+    → limit_of s page ≡ (if is_huge page then Some HugePage else None)
+    → HasRoom s → HasRoom (with_next fonts s page)
+unfolding with_next next_bytes
+room_next fonts s page definable sound ten none room =
+    let admits = admitted s page none in
+    let nodes = ltb-false MAX_SHIPPED_NODES (s.load.nodes + box_count page.box_node) admits.nodes in
+    let text = ltb-false MAX_SHIPPED_TEXT (s.load.text + box_text page.box_node) admits.text in
+    let pages = leb-false MAX_PAGES s.pages admits.pages in
+    let fresh = fresh_slots fonts s.defined (flat (written_body page)) in
+    let sheet = sheet_from s.last (sheet_of fonts s.defined page) in
+    record {
+      nodes = omega (arith, nodes);
+      text = omega (arith, text);
+      pages = omega (arith, pages);
+      deep = omega (arith, room.deep, nests_written page, sound.depth);
+      defined = defined_once fonts s.defined (flat (written_body page)) room.defined;
+      size =
+          omega (
+            arith,
+            opening_fills s.pages s.size s.load.nodes s.load.text (length s.defined) room.size room.empty,
+            length-bytes_of-append (opening s.pages) sheet,
+            length-append s.defined fresh,
+            sheet_bytes (slot_widths fonts) fonts s.defined page s.last (short_names fonts definable) ten sound.glyphs,
+          );
+      empty = λ none. absurd (omega (arith, none));
+    }
+
+-- The limits hold after a page, whether its bytes were made or not.
+pub kept_room : {A E : Type 0} (result : Result A E) (old next new : ProgressView) → OnOk result (new ≡ next) → OnErr result (new ≡ old) → HasRoom next → HasRoom old → HasRoom new
+kept_room (Ok x) old next new ok err there room = subst HasRoom (sym ok) there
+kept_room (Err e) old next new ok err there room = subst HasRoom (sym err) room

@@ -1,0 +1,13 @@
+use Rattle.std.proofs.Common.{◌≡◌, ◌∙◌, ℕ, ap, arith}
+use Rattle.std.specs.Prelude.{filter}
+use Rattle.dvi_write.specs.Sheets.{numbers_below}
+use Rattle.dvi_write.specs.Private.Sheets.{is_marked_fresh}
+use Rattle.dvi_write.proofs.FreshFonts.{marked_below}
+use Rattle.dvi_write.proofs.layout.marked_fresh.Goals as goal
+
+pub returns : goal.returns
+returns c =
+    let all : c.loop-slot.slot ≡ c.args.limit = omega (arith, c.loop-slot-test.false, c.loop-slot.auto.slot-end) in
+    c.loop-slot.invariant
+    ∙ (ap (λ (n : ℕ). filter (is_marked_fresh c.args.fonts.now c.args.defined.now c.args.selected.now) (numbers_below n)) all
+    ∙ marked_below c.args.fonts.now c.args.defined.now c.args.selected.now c.args.limit c.requires.limit_bounded c.requires.limit)

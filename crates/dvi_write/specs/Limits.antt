@@ -1,0 +1,31 @@
+-- The limits of a file (own; the limits of a job).
+use Rattle.std.specs.Prelude.{◌≡◌, ◌+◌, ◌*◌, ◌≤◌, length, Option, Some, None, if◌then◌else◌, nat_le, nat_lt}
+use Rattle.node_core.specs.Nodes.{box_count, box_text}
+use Rattle.page_core.specs.Marks.{ShippedPage, is_huge}
+use Rattle.dvi_write.specs.declared.fault.WriteFault.{WriteFault}
+use Rattle.dvi_write.specs.declared.fault.WriteFault.TheVariants.{TooManyPages, TooMuchShipped, TooMuchSpecial, HugePage}
+use Rattle.node_core.specs.declared.limits.TheConstants.{MAX_PAGES, MAX_SHIPPED_NODES, MAX_SHIPPED_TEXT, MAX_DEPTH}
+use Rattle.dvi_write.specs.Sheets.{in_rising_order}
+use Rattle.dvi_write.specs.SoFar.{ProgressView}
+
+-- Why a page is not written, however much memory there is: the first of these that holds.
+abbrev pub limit_of : ProgressView → ShippedPage → Option WriteFault
+limit_of s page =
+    if nat_le MAX_PAGES s.pages then Some TooManyPages
+    else if nat_lt MAX_SHIPPED_NODES (s.load.nodes + box_count page.box_node) then Some TooMuchShipped
+    else if nat_lt MAX_SHIPPED_TEXT (s.load.text + box_text page.box_node) then Some TooMuchSpecial
+    else if is_huge page then Some HugePage
+    else None
+
+-- The writer's numbers are within the limits, so that every place in the file is below 2^31 (the invariant of the writer).
+pub record HasRoom (s : ProgressView) : Type 0 where
+  pub nodes : s.load.nodes ≤ MAX_SHIPPED_NODES
+  pub text : s.load.text ≤ MAX_SHIPPED_TEXT
+  pub pages : s.pages ≤ MAX_PAGES
+  pub deep : s.deep ≤ MAX_DEPTH
+  -- Each slot is defined once, so there are at most `FONT_SLOTS` definitions.
+  pub defined : length (in_rising_order s.defined) ≡ length s.defined
+  -- Nothing is sent before the first page.
+  pub empty : s.pages ≡ 0 → s.size ≡ 0
+  -- A page takes 46 bytes, 19 bytes for each node, and the texts of its specials; a font definition takes at most 271.
+  pub size : s.size ≤ 15 + 46 * s.pages + 19 * s.load.nodes + s.load.text + 271 * length s.defined

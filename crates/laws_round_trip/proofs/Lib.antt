@@ -1,2 +1,0 @@
-pub mod ReadBackLemmas
-pub mod ListedLemmas

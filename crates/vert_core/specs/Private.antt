@@ -1,0 +1,6 @@
+-- What no contract reaches that another crate or a user can call: only proofs and private functions speak of these definitions.
+pub mod Measuring
+pub mod Planned
+pub mod PlannedParagraphs
+pub mod Steps
+pub mod Walks

@@ -1,6 +1,0 @@
-use Rattle.std.proofs.Common.{◌∙◌}
-use Rattle.vert_split.proofs.Rests.{taken}
-use Rattle.vert_split.proofs.rest.take_rest.Goals as goal
-
-pub returns-clause-items_returned : goal.returns-clause-items_returned
-returns-clause-items_returned c = c.prune_top.ensures ∙ taken c.args.nodes.now.items c.in_ok-left.left.items c.args.rest.now c.in_ok-left.ensures.tail c.requires
