@@ -44,7 +44,7 @@ class Function:
 
     def is_law(self):
         """Whether it has only to state something: its body is empty, or its module is one of laws."""
-        return [*self.body] == EMPTY or self.crate.startswith("laws_") or "laws" in os.path.basename(self.path)
+        return [*self.body] == EMPTY or "laws" in os.path.basename(self.path)
 
 
 def is_method(tokens, at):

@@ -6,13 +6,14 @@ import os
 import re
 from functools import partial
 
-TITLE = "the names of code in documents and in each crate's README.md are in the sources, as the clauses that PROVED.md and these name; no comment writes the test attribute, no code has floating-point numbers; the job knows no crate of DVI; no export has a premise"
+TITLE = "the names of code in documents and in each crate's README.md are in the sources, as the clauses that PROVED.md and these name; no comment writes the test attribute, no code has floating-point numbers; the job knows no crate of DVI; no export has a premise; no line of code is above 150 columns"
 TRIES = False
 DOCUMENTS = ("docs/PROVED.md", "docs/ARCHITECTURE.md", "docs/EVIDENCE.md", "docs/DECISIONS.md", "docs/LIBRARY.md", "CHANGELOG.md", "bench/trials/README.md", "crates/*/README.md")
-SOURCES = ("crates/*/src/**/*.rt", "crates/*/specs/*.antt", "crates/*/proofs/**/*.antt", "crates/rows_scripts/stdin", "tests/steps/*.py", "bindings/python/boxglue/*.py", "bindings/rust/*/src/*.rs", "include/*.h", "crates.txt")
+SOURCES = ("crates/*/src/**/*.rt", "crates/*/specs/**/*.antt", "crates/*/proofs/**/*.antt", "crates/rows_scripts/stdin", "tests/steps/*.py", "bindings/python/boxglue/*.py", "bindings/rust/*/src/*.rs", "include/*.h", "crates.txt")
 # These crates know pages, and no crate of DVI.
-BEFORE_DVI = ("page_core", "job_commands", "job_machine", "job_lists", "job_state")
+BEFORE_DVI = ("page_core", "job_machine", "job_lists", "job_state")
 WORD = re.compile(r"[A-Za-z_][A-Za-z_0-9]*")
+MOST_COLUMNS = 150
 # `rt ci` knows a crate with tests by this attribute, wherever it is.
 IN_COMMENT = re.compile(r"(?m)//.*#\s*\[[^]]*\btest\b")
 
@@ -80,6 +81,16 @@ def premises_of_exports(root):
     return f"an export has a premise in {', '.join(sorted(wrong))}" if wrong else None
 
 
+def long_lines(root):
+    """Lines of code and of definitions above 150 columns. An attribute may be longer, since `rt fmt` writes it on one line, and a line with a text of more than 100 columns."""
+    wrong = []
+    for path in sorted(glob.glob(f"{root}/crates/*/src/**/*.rt", recursive=True) + glob.glob(f"{root}/crates/*/specs/**/*.antt", recursive=True)):
+        for number, line in enumerate(read(path).split("\n"), 1):
+            if len(line) > MOST_COLUMNS and not line.lstrip().startswith("#[") and not re.search(r'"[^"]{100,}"', line):
+                wrong.append(f"{os.path.relpath(path, root)}:{number}")
+    return f"lines above {MOST_COLUMNS} columns: {', '.join(wrong)}" if wrong else None
+
+
 @functools.lru_cache(None)
 def contracts(root, crate):
     """The names of clauses of each function of a crate, or of all crates together."""
@@ -127,3 +138,4 @@ def cases(_programs, root):
     yield "float_types", partial(float_types, root)
     yield "exports_without_premises", partial(premises_of_exports, root)
     yield "job_before_dvi", partial(job_before_dvi, root)
+    yield "long_lines", partial(long_lines, root)

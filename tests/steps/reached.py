@@ -137,6 +137,13 @@ class Tree:
         return found, imports(text)
 
     @functools.lru_cache(None)
+    def modules(self, crate):
+        """The modules of definitions of a crate, those of specs/Private too. The root files declare modules alone."""
+        folder = f"{self.root}/crates/{crate}/specs"
+        found = (os.path.relpath(it, folder)[:-len(".antt")].replace("/", ".") for it in glob.glob(f"{folder}/**/*.antt", recursive=True))
+        return sorted(it for it in found if it not in ("Lib", "Private"))
+
+    @functools.lru_cache(None)
     def files(self, crate):
         """The sources of a crate."""
         return sorted(glob.glob(f"{self.root}/crates/{crate}/src/**/*.rt", recursive=True))
@@ -250,8 +257,7 @@ class Tree:
         crates, found = [it for it in before if it in self.crates()], []
         kind = next((it for it in before if it not in crates), None)
         for crate in [] if kind else crates or self.crates():
-            for path in sorted(glob.glob(f"{self.root}/crates/{crate}/specs/*.antt")):
-                module = os.path.basename(path)[:-len(".antt")]
+            for module in self.modules(crate):
                 own = self.module(crate, module)[0]
                 if name in own and name in own[name].names:
                     found.append(Name(crate, module, own[name].names[0]))
