@@ -27,11 +27,12 @@ def exports(root):
 
 
 def home(root, name):
-    """The crate that has a struct, and the names and types of its fields."""
+    """The crate that has a struct, with the module whose folder it is in, and the names and types of its fields."""
     for path in sorted(glob.glob(f"{root}/crates/*/src/**/*.rt", recursive=True)):
         found = re.search(STRUCT % name, read(path), flags=re.S)
         if found:
-            return path.removeprefix(f"{root}/crates/").split("/")[0], re.findall(r"(?m)^ +pub (\w+): (.+),$", found[1])
+            crate, _, *modules = path.removeprefix(f"{root}/crates/").split("/")[:-1]
+            return "::".join([crate, *modules]), re.findall(r"(?m)^ +pub (\w+): (.+),$", found[1])
     raise ValueError(f"no crate has the struct {name}, which {EXPORTS} takes")
 
 
@@ -42,8 +43,8 @@ def zero(root, kind):
         return f"[{zero(root, array[1])}; {array[2]}]"
     if NUMBER.fullmatch(kind):
         return f"0{kind}"
-    crate, fields = home(root, kind)
-    return f"{crate}::{kind} {{ {', '.join(f'{name}: {zero(root, its)}' for name, its in fields)} }}"
+    place, fields = home(root, kind)
+    return f"{place}::{kind} {{ {', '.join(f'{name}: {zero(root, its)}' for name, its in fields)} }}"
 
 
 def argument(root, name, kind):
@@ -63,5 +64,5 @@ def lines_of(root, call):
 
 def main_of(root):
     """The lines of the library's crate as those of a program, whose `main` makes each call of the header."""
-    body = ["let alloc = rt.alloc();", "let mut job = boxglue_jobs::JobHandle::null();", *(line for it in calls(root) for line in lines_of(root, it)), "job.release(alloc);"]
+    body = ["let alloc = rt.alloc();", "let mut job = boxglue_calls::jobs::JobHandle::null();", *(line for it in calls(root) for line in lines_of(root, it)), "job.release(alloc);"]
     return [read(f"{root}/{EXPORTS}"), "\nfn main(rt: HostRuntime) {\n", *(f"    {it}\n" for it in body), "}\n"]
