@@ -185,6 +185,8 @@ def main(root, given):
         print("".join(f"FAILED: no {it}\n" for it in absent) + f"0 passed, {len(absent)} failed, 0 skipped", flush=True)
         return 1
     signal.signal(signal.SIGTERM, lambda number, _: sys.exit(128 + number))
+    # A part that computes keeps the interpreter for that long from one that reads a pipe in small pieces.
+    sys.setswitchinterval(0.0005)
     results = run_all(parts, built, words.gate, root)
     passed, failed, skipped = (sum(it) for it in zip(*((it.passed, len(it.failed), len(it.skipped)) for it in results)))
     if words.gate:

@@ -1,8 +1,6 @@
 """Makes large inputs and the expected answers: by arithmetic from docs/COMMANDS.md and docs/FORMATS.md, never by the program.
 
 Each function returns a `Work`: files, and runs over them. The lengths 80,104 and 230,341 are asserted, since they were worked out by hand."""
-import time
-
 from steps.dvi_writer import Font, Page, down, dvi_file, put_rule, right, select, set_char, set_rule
 from steps.long_runs import Run, Sparse, Work
 
@@ -117,13 +115,13 @@ def script_from_a_file():
 def script_line_by_line():
     """The same through a pipe: a reading gets one line."""
     text, printed = long_script()
-    return Work({}, [Run((), text, feed=lambda it: it.splitlines(True), stdout=(printed,))])
+    return Work({}, [Run((), text, feed="lines", stdout=(printed,))])
 
 
 def script_byte_by_byte():
     """The same: a reading gets one byte."""
     text, printed = long_script()
-    return Work({}, [Run((), text, feed=lambda it: (it[at:at + 1] for at in range(len(it))), stdout=(printed,))])
+    return Work({}, [Run((), text, feed="bytes", stdout=(printed,))])
 
 
 # A page of 8,000 rules
@@ -503,21 +501,12 @@ def too_large_file():
 
 # Slow pipes
 
-def uneven(data):
-    """Pieces of 1 to 997 bytes, with time between them."""
-    at, size = 0, 1
-    while at < len(data):
-        yield data[at:at + size]
-        time.sleep(0.0005)
-        at, size = at + size, size * 7 % 997 + 1
-
-
 def slow_pipes():
     """A script comes in uneven pieces, and its answers, the bytes of its file and a listing go into a pipe of 4,096 bytes that is read slowly."""
     text, printed = rules_script()
     file, listing = rules_file(), listed([(ZERO_COUNTS, rules_marks())])
     return Work({"f.dvi": file.data}, [
-        Run((), text, feed=uneven, slowly=True, stdout=(printed, hexadecimal(file.data))),
-        Run(("typeset", "/dev/stdout"), text, feed=uneven, slowly=True, stdout=(file.data, printed)),
-        Run(("list", "/dev/stdin"), file.data, feed=uneven, slowly=True, stdout=(listing,)),
+        Run((), text, feed="uneven", slowly=True, stdout=(printed, hexadecimal(file.data))),
+        Run(("typeset", "/dev/stdout"), text, feed="uneven", slowly=True, stdout=(file.data, printed)),
+        Run(("list", "/dev/stdin"), file.data, feed="uneven", slowly=True, stdout=(listing,)),
     ])

@@ -4,14 +4,15 @@ import os
 import select
 import signal
 import subprocess
+import sys
 import tempfile
-import threading
 import time
 from dataclasses import dataclass, field
 
 SET_PIPE_SIZE = 1031  # F_SETPIPE_SZ, which Python has from 3.10 on
 SMALLEST_PIPE = 4096
 LIMIT = 60
+FEEDER = os.path.join(os.path.dirname(os.path.abspath(__file__)), "feeder.py")
 
 
 @dataclass(frozen=True)
@@ -25,7 +26,7 @@ class Run:
     """A run of the program, and its expected results.
 
     stdin    the bytes of standard input, or the name of a file in the folder
-    feed     makes the pieces in which these bytes are written into a pipe; by default standard input is a file
+    feed     the pieces in which these bytes are written into a pipe, a name of feeder.py; by default standard input is a file
     slowly   standard output is a small pipe that is read slowly, by a reader that stops the program now and then
     stdout   the blocks of the expected output
     made     the files that must then be in the folder, by name; None if there must be none with this name"""
@@ -82,22 +83,17 @@ class Comparison:
         return self.wrong
 
 
-def write_pieces(end, pieces):
-    """Writes pieces into a pipe, and closes it. A program that has ended may leave some of them."""
+def fed(data, how):
+    """The reading end of a pipe into which a process writes pieces of bytes, and the process. The pipe keeps them apart: each read gets one."""
+    output, end = os.pipe2(os.O_CLOEXEC | os.O_DIRECT)
     try:
-        for piece in pieces:
-            os.write(end, piece)
-    except BrokenPipeError:
-        pass
+        with tempfile.TemporaryFile() as it:
+            it.write(data)
+            it.seek(0)
+            feeder = subprocess.Popen([sys.executable, "-B", FEEDER, how], stdin=it, stdout=end)
     finally:
         os.close(end)
-
-
-def fed(pieces):
-    """The reading end of a pipe into which a thread writes pieces, and the thread. The pipe keeps them apart: each read gets one piece."""
-    output, end = os.pipe2(os.O_CLOEXEC | os.O_DIRECT)
-    writer = threading.Thread(target=write_pieces, args=(end, pieces))
-    return output, writer
+    return output, feeder
 
 
 def stopped_and_continued(process):
@@ -127,9 +123,9 @@ def pieces_of(output, slowly, process, until):
 
 
 def opened_input(run, folder):
-    """Standard input of a run as a file descriptor, and the thread that feeds it, if one does."""
+    """Standard input of a run as a file descriptor, and the process that feeds it, if one does."""
     if run.feed:
-        return fed(run.feed(run.stdin))
+        return fed(run.stdin, run.feed)
     if isinstance(run.stdin, str):
         return os.open(f"{folder}/{run.stdin}", os.O_RDONLY), None
     with tempfile.TemporaryFile() as it:
@@ -150,8 +146,8 @@ def compared(run, process, output):
 
 
 def started(program, run, folder, errors):
-    """Starts a program. Returns its process, the reading end of its standard output, and the thread that feeds it, if one does."""
-    source, writer = opened_input(run, folder)
+    """Starts a program. Returns its process, the reading end of its standard output, and the process that feeds it, if one does."""
+    source, feeder = opened_input(run, folder)
     output, end = os.pipe2(os.O_CLOEXEC)
     if run.slowly:
         fcntl.fcntl(end, SET_PIPE_SIZE, SMALLEST_PIPE)
@@ -161,15 +157,13 @@ def started(program, run, folder, errors):
     finally:
         os.close(source)
         os.close(end)
-    if writer:
-        writer.start()
-    return process, output, writer
+    return process, output, feeder
 
 
 def ended(program, run, folder):
     """Runs a program, and returns its status, what is wrong with its output, and its standard error."""
     with tempfile.TemporaryFile() as errors:
-        process, output, writer = started(program, run, folder, errors)
+        process, output, feeder = started(program, run, folder, errors)
         try:
             wrong = compared(run, process, output)
             os.close(output)
@@ -177,8 +171,9 @@ def ended(program, run, folder):
         finally:
             process.kill()
             process.wait()
-            if writer:
-                writer.join()
+            if feeder:
+                feeder.kill()
+                feeder.wait()
         errors.seek(0)
         return status, wrong, errors.read()
 
