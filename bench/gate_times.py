@@ -126,13 +126,18 @@ def main():
     begun = time.time()
     running = subprocess.Popen(asked.command)
     samples = Samples(running.pid)
-    while running.poll() is None:
-        samples.take()
-        time.sleep(asked.every)
-    table = list(rows(samples, os.getcwd()))
-    show(table)
-    if asked.write:
-        write(asked.write, table, asked.command)
+    # What the command ends with is the gate's answer: a table that cannot be made does not change it.
+    try:
+        while running.poll() is None:
+            samples.take()
+            time.sleep(asked.every)
+        table = list(rows(samples, os.getcwd()))
+        show(table)
+        if asked.write:
+            write(asked.write, table, asked.command)
+    except (KeyError, IndexError, ValueError, OSError) as error:
+        print("no table of times: %r" % error)
+    running.wait()
     used = resource.getrusage(resource.RUSAGE_CHILDREN)
     print("%.1f minutes, %.0f of processor, status %d" % ((time.time() - begun) / 60, (used.ru_utime + used.ru_stime) / 60, running.returncode))
     raise SystemExit(running.returncode)
