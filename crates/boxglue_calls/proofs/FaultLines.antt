@@ -3,7 +3,7 @@ use Rattle.std.proofs.Common.{◌≡◌, ◌≤◌, ◌<◌, ◌+◌, ◌^◌, �
 use Rattle.std.proofs.lemmas.Fmt.{length-decimal-le}
 use Rattle.std.specs.Fmt.{digits}
 use Rattle.boxglue_program.specs.Texts.{refusal_line, refusal_text}
-use Rattle.boxglue_program.specs.Faults.{bad_line, cause_name, fault_line}
+use Rattle.boxglue_program.specs.Faults.{bad_line, dvi_cause_name, fault_line}
 use Rattle.dvi_read.specs.declared.fault.DviFault.{DviFault}
 use Rattle.dvi_read.specs.declared.fault.DviFault.TheVariants.{OutOfMemory, Bad, NoFont, BadTfm, DimensionTooLarge}
 use Rattle.dvi_scan.specs.declared.fault.BadDvi.{BadDvi}
@@ -11,7 +11,7 @@ use Rattle.dvi_scan.specs.declared.fault.DviCause.{DviCause}
 use Rattle.dvi_scan.specs.declared.fault.DviCause.TheVariants.{Trailer, Version, Opcode, Pointer, Count, Preamble, Truncated, Stack, Font, Glyph, Range}
 use Rattle.tfm_core.specs.declared.fault.TfmCause.TheVariants as causes
 
-cause_short : (cause : DviCause) → length (cause_name cause) ≤ 9
+cause_short : (cause : DviCause) → length (dvi_cause_name cause) ≤ 9
 cause_short Trailer = lit≤ tt
 cause_short Version = lit≤ tt
 cause_short Opcode = lit≤ tt
@@ -27,7 +27,7 @@ cause_short Range = lit≤ tt
 bad_short : (bad : BadDvi) → bad.place < 2 ^ 64 → length (bad_line bad) ≤ 64
 unfolding bad_line
 bad_short bad below =
-    let name = cause_name bad.cause in
+    let name = dvi_cause_name bad.cause in
     let number = decimal bad.place in
     let first : length (codes "refused 20 BadDvi ") ≡ 18 = refl in
     let space : length (codes " ") ≡ 1 = refl in

@@ -12,7 +12,7 @@ use Rattle.dvi_read.specs.declared.fault.DviFault.{DviFault}
 use Rattle.dvi_read.specs.declared.fault.DviFault.TheVariants.{OutOfMemory}
 use Rattle.boxglue_calls.specs.Buffers.{HandsOverBoth}
 use Rattle.boxglue_calls.specs.FontTables.{HandsOverFonts, IsFontTable, names_of, row_at, rows_from}
-use Rattle.boxglue_calls.specs.Pages.{status_of}
+use Rattle.boxglue_calls.specs.Pages.{read_status}
 use Rattle.boxglue_calls.specs.declared.font_table.DviFont.{DviFont}
 use Rattle.boxglue_calls.specs.declared.font_table.FontSizes.{FontSizes}
 
@@ -61,7 +61,7 @@ refuses bytes rows text accepted fault other text_is accepted_is rows_is broken 
 
 -- A table that is handed over.
 pub handed_fonts : (bytes : List ℕ) (old new : List DviFont) (text_old text_new : List ℕ) (sizes : FontSizes) (done status : ℕ) (rows put : List DviFont) (text sent : List ℕ) (accepted : Bool)
-    → IsFontTable bytes rows text accepted → put ≡ rows → sent ≡ text → done ≡ status_of accepted → HandsOverBoth (record { old = old; new = new; items = put }) (record { old = text_old; new = text_new; items = sent }) done status
+    → IsFontTable bytes rows text accepted → put ≡ rows → sent ≡ text → done ≡ read_status accepted → HandsOverBoth (record { old = old; new = new; items = put }) (record { old = text_old; new = text_new; items = sent }) done status
     → sizes.fonts ≡ length rows → sizes.text ≡ length text → HandsOverFonts bytes old new text_old text_new sizes status
 handed_fonts bytes old new text_old text_new sizes done status rows put text sent accepted table put_is sent_is done_is handed fonts_size text_size =
     record {
@@ -70,8 +70,8 @@ handed_fonts bytes old new text_old text_new sizes done status rows put text sen
       accepted = accepted;
       table = table;
       handed =
-          subst (λ (items : List DviFont). HandsOverBoth (record { old = old; new = new; items = items }) (record { old = text_old; new = text_new; items = text }) (status_of accepted) status) put_is
-          (subst (λ (bytes : List ℕ). HandsOverBoth (record { old = old; new = new; items = put }) (record { old = text_old; new = text_new; items = bytes }) (status_of accepted) status) sent_is
+          subst (λ (items : List DviFont). HandsOverBoth (record { old = old; new = new; items = items }) (record { old = text_old; new = text_new; items = text }) (read_status accepted) status) put_is
+          (subst (λ (bytes : List ℕ). HandsOverBoth (record { old = old; new = new; items = put }) (record { old = text_old; new = text_new; items = bytes }) (read_status accepted) status) sent_is
           (subst (λ (n : ℕ). HandsOverBoth (record { old = old; new = new; items = put }) (record { old = text_old; new = text_new; items = sent }) n status) done_is handed));
       fonts_size = fonts_size;
       text_size = text_size;

@@ -7,15 +7,15 @@ use Rattle.std.specs.declared.option.Option.TheVariants.{None, Some}
 use Rattle.dvi_device.specs.Written.{written_then}
 use Rattle.dvi_write.specs.Writing.{GoesOn}
 use Rattle.job_core.specs.Jobs.{JobView, writing_of}
-use Rattle.boxglue_calls.specs.Jobs.{HasHanded, KeptState, reported, sent_by}
+use Rattle.boxglue_calls.specs.Jobs.{HasHanded, KeptState, reported_bytes, sent_by}
 use Rattle.boxglue_calls.specs.Pieces.{DoesCommands, FinishesKept, HandsAnswers, HandsBytes}
 use Rattle.boxglue_calls.specs.Replies.{RepliesTo, RepliesToEnd, RowRoom}
 use Rattle.boxglue_calls.specs.declared.jobs.rows.ReplyRow.{ReplyRow}
 
 -- More was reported after what was reported.
-reported_more : (old new : Option (List ℕ)) (more : List ℕ) → new ≡ written_then old more → (rest : List ℕ) × (reported new ≡ reported old ++ rest)
-reported_more None new more is = ([], ap reported is)
-reported_more (Some bytes) new more is = (more, ap reported is)
+reported_more : (old new : Option (List ℕ)) (more : List ℕ) → new ≡ written_then old more → (rest : List ℕ) × (reported_bytes new ≡ reported_bytes old ++ rest)
+reported_more None new more is = ([], ap reported_bytes is)
+reported_more (Some bytes) new more is = (more, ap reported_bytes is)
 
 -- A call that hands no byte over, and after which the bytes that were sent stand.
 pub still_handed : (old new : KeptState) (handed : List ℕ) → HasHanded old handed → GoesOn (writing_of old.job) (writing_of new.job) → new.taken ≡ old.taken

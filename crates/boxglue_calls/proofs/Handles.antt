@@ -21,7 +21,7 @@ use Rattle.std.specs.declared.option.Option.TheVariants.{None, Some}
 use Rattle.std.specs.declared.alloc.Global.{Global}
 use Rattle.std.proofs.GlobalToken.{dealloc_token-Testable}
 use Rattle.std_alloc.specs.Box.Ownership.{box_owns}
-use Rattle.boxglue_calls.specs.Private.Owned.{token, held}
+use Rattle.boxglue_calls.specs.Private.Owned.{token, owned_by_handle}
 use Rattle.boxglue_calls.specs.contracts.jobs.handle.JobHandle as handle
 use Rattle.boxglue_calls.specs.contracts.jobs.kept_job.KeptJob.{the_row as K}
 
@@ -37,7 +37,7 @@ tested {𝓤 = 𝓤} 𝓛 R a p x =
 
 module _ {M : Type 1} {𝓤 : Ura M} {𝓛 : Logic 𝓤} {X : Type 0} {Γ : List (Item 𝓤)} {G : Goal 𝓤 𝓛.H} where
   pub held_out : X → (R : RattleType) (p : Ptr) (x : Option R.Denot) → (p ≡ null_ptr → x ≡ None → Seq X 𝓛 Γ G)
-      → ((b o : ℕ) (y : R.Denot) → p ≡ block_ptr b o → x ≡ Some y → Seq X 𝓛 (‵ (box_owns token R (block_ptr b o) y) ∷ Γ) G) → Seq X 𝓛 (‵ (held R p x) ∷ Γ) G
+      → ((b o : ℕ) (y : R.Denot) → p ≡ block_ptr b o → x ≡ Some y → Seq X 𝓛 (‵ (box_owns token R (block_ptr b o) y) ∷ Γ) G) → Seq X 𝓛 (‵ (owned_by_handle R p x) ∷ Γ) G
   held_out t R null_ptr None k l = drop t $ k refl refl
   held_out t R null_ptr (Some y) k l = use1 𝓛 (given ⊥ (‵ ftrue)) (never_e 𝓤 _) $ learn t (λ z. absurd z)
   held_out t R (block_ptr b o) None k l = use1 𝓛 (given ⊥ (‵ ftrue)) (never_e 𝓤 _) $ learn t (λ z. absurd z)
@@ -52,7 +52,7 @@ module _ {M : Type 1} {𝓤 : Ura M} {𝓛 : Logic 𝓤} {X : Type 0} {Γ : List
       (λ e f. k e f (subst (λ (q : Ptr). vs ≡ word q ∷ []) e (subst (λ (ps : List Val). vs ≡ vstruct (of_list (ps ++ [])) ∷ []) ep ev)))
       (λ b o x e f. l b o x e f (subst (λ (q : Ptr). vs ≡ word q ∷ []) e (subst (λ (ps : List Val). vs ≡ vstruct (of_list (ps ++ [])) ∷ []) ep ev))))))
 
-  pub handle_in : X → (p : Ptr) (x : Option K.Denot) → Step X 𝓛 (‵ ((handle.the_row).own_val (record { at = p; value = x }) (word p ∷ [])) ∷ Γ) G (‵ (held K p x) ∷ Γ) G
+  pub handle_in : X → (p : Ptr) (x : Option K.Denot) → Step X 𝓛 (‵ ((handle.the_row).own_val (record { at = p; value = x }) (word p ∷ [])) ∷ Γ) G (‵ (owned_by_handle K p x) ∷ Γ) G
   handle_in t p x = step (λ s.
       nothing t $ feq_i t (List Val) (ptr_val p ∷ []) (ptr_val p ∷ []) refl $ fjoin t $ feq_i t (List Val) (word p ∷ []) (word p ∷ []) refl $ fjoin t $
       fpack t (Valss (RawPtr ∷ [])) (within (shape handle.the_type) (p, tt) (word p ∷ [])) (ptr_val p ∷ [], tt) $ fjoin t $ s)

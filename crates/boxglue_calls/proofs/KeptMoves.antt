@@ -18,7 +18,7 @@ use Rattle.boxglue_script.specs.Script.{IsScript}
 use Rattle.boxglue_program.specs.Runs.{commands_of, line_numbers}
 use Rattle.boxglue_program.specs.Texts.{answer_lines, end_line}
 use Rattle.boxglue_calls.specs.Jobs.{KeptState}
-use Rattle.boxglue_calls.specs.Numbers.{number_after, numbered, line_count}
+use Rattle.boxglue_calls.specs.Numbers.{number_after, numbered_lines, line_count}
 use Rattle.boxglue_calls.specs.Buffers.{Holds}
 use Rattle.boxglue_calls.specs.RunStatus.{replies_status, reply_status}
 use Rattle.boxglue_calls.specs.Pieces.{Answers, EndsJob, FinishesKept, RunsLines, RunsPiece}
@@ -29,7 +29,7 @@ use Rattle.boxglue_calls.proofs.PieceLaws.{commands_numbered, length_numbered}
 
 -- Numbered lines that were run.
 abbrev pub ran_lines : (old new : KeptState) (job : JobView) (script : List ℕ) (lines counted : List Line) (replies : List Reply)
-    → counted ≡ numbered old.lines lines → IsScript script lines → RunsTo old.job (commands_of counted) replies job → (old.job.state.over ≡ true → job ≡ old.job) → GoesOn (writing_of old.job) (writing_of job) → length replies ≡ length counted
+    → counted ≡ numbered_lines old.lines lines → IsScript script lines → RunsTo old.job (commands_of counted) replies job → (old.job.state.over ≡ true → job ≡ old.job) → GoesOn (writing_of old.job) (writing_of job) → length replies ≡ length counted
     → new.job ≡ job → new.lines ≡ number_after old.lines (line_count script) → new.taken ≡ old.taken → RunsLines old script new
 ran_lines old new job script lines counted replies is piece ran idle goes each job_is lines_is taken_is = record {
   lines = lines;
@@ -58,18 +58,18 @@ appended_answer (Err e) old new text kept done status is added cut status_is = i
 
 -- Numbered lines that were run and answered are a piece that was run.
 pub ran_piece : (old new : KeptState) (job : JobView) (script : List ℕ) (lines counted : List Line) (replies : List Reply) (done status : ℕ)
-    → counted ≡ numbered old.lines lines → IsScript script lines → RunsTo old.job (commands_of counted) replies job → (old.job.state.over ≡ true → job ≡ old.job) → GoesOn (writing_of old.job) (writing_of job) → length replies ≡ length counted
+    → counted ≡ numbered_lines old.lines lines → IsScript script lines → RunsTo old.job (commands_of counted) replies job → (old.job.state.over ≡ true → job ≡ old.job) → GoesOn (writing_of old.job) (writing_of job) → length replies ≡ length counted
     → new.job ≡ job → new.lines ≡ number_after old.lines (line_count script) → new.taken ≡ old.taken
     → Answers old.answers new.answers (answer_lines (line_numbers counted) replies) done status → done ≡ replies_status replies → RunsPiece old script new status
 ran_piece old new job script lines counted replies done status is piece ran idle goes each job_is lines_is taken_is answered done_is = record {
   run = ran_lines old new job script lines counted replies is piece ran idle goes each job_is lines_is taken_is;
-  answered = subst (λ (n : ℕ). Answers old.answers new.answers (answer_lines (line_numbers (numbered old.lines lines)) replies) n status) done_is
+  answered = subst (λ (n : ℕ). Answers old.answers new.answers (answer_lines (line_numbers (numbered_lines old.lines lines)) replies) n status) done_is
       (subst (λ (ls : List Line). Answers old.answers new.answers (answer_lines (line_numbers ls) replies) done status) is answered);
 }
 
 -- Numbered lines that were run, and whose rows were written, are a piece that was run.
 pub replied_piece : (old new : KeptState) (job : JobView) (script : List ℕ) (lines counted : List Line) (replies : List Reply) (rows_old rows_new : List ReplyRow) (status : ℕ)
-    → counted ≡ numbered old.lines lines → IsScript script lines → RunsTo old.job (commands_of counted) replies job → (old.job.state.over ≡ true → job ≡ old.job) → GoesOn (writing_of old.job) (writing_of job) → length replies ≡ length counted
+    → counted ≡ numbered_lines old.lines lines → IsScript script lines → RunsTo old.job (commands_of counted) replies job → (old.job.state.over ≡ true → job ≡ old.job) → GoesOn (writing_of old.job) (writing_of job) → length replies ≡ length counted
     → new.job ≡ job → new.lines ≡ number_after old.lines (line_count script) → new.taken ≡ old.taken
     → Holds rows_old rows_new (reply_rows (line_numbers counted) replies) → status ≡ replies_status replies → new.answers ≡ old.answers
     → (count : ℕ) → RepliesToPiece script (record { rows = rows_old; count = count }) (record { rows = rows_new; count = length lines }) old new status

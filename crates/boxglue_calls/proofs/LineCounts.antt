@@ -12,7 +12,7 @@ use Rattle.boxglue_script.specs.declared.script.Line.{Line}
 use Rattle.boxglue_script.specs.Script.{SayFrom, IsScript}
 use Rattle.boxglue_script.specs.SaidLines.{IsWhole}
 use Rattle.boxglue_script.proofs.LineLemmas.{is_feed, lines_joined}
-use Rattle.boxglue_calls.specs.Numbers.{line_count, line_feeds, is_whole, number_after, numbered}
+use Rattle.boxglue_calls.specs.Numbers.{line_count, line_feeds, is_whole, number_after, numbered_lines}
 
 -- Whether the last of some parts is empty.
 abbrev ends_empty : List ℕ → List (List ℕ) → Bool
@@ -131,39 +131,39 @@ count_joined before middle after text more whole first second =
     ∙ (ap (λ (n : ℕ). number_after n (line_count more)) first
     ∙ (sym (added_twice before (line_count text) (line_count more)) ∙ ap (λ (n : ℕ). number_after before n) (sym (count_of_both text more whole))))
 
-numbered_twice : (before count : ℕ) (found : List Line) → numbered before (numbered count found) ≡ numbered (number_after before count) found
+numbered_twice : (before count : ℕ) (found : List Line) → numbered_lines before (numbered_lines count found) ≡ numbered_lines (number_after before count) found
 numbered_twice before count [] = refl
 numbered_twice before count (line ∷ found) =
     let put : ℕ → List Line → List Line = λ n rest. record { number = n; command = line.command } ∷ rest in
-    ap (λ (n : ℕ). put n (numbered before (numbered count found))) (added_twice before count line.number)
+    ap (λ (n : ℕ). put n (numbered_lines before (numbered_lines count found))) (added_twice before count line.number)
     ∙ ap (λ (rest : List Line). put (number_after (number_after before count) line.number) rest) (numbered_twice before count found)
 
 -- Lines with numbers that count on from those before them.
-pub numbers_joined : (before count : ℕ) (front rest : List Line) → numbered before (front ++ numbered count rest) ≡ numbered before front ++ numbered (number_after before count) rest
+pub numbers_joined : (before count : ℕ) (front rest : List Line) → numbered_lines before (front ++ numbered_lines count rest) ≡ numbered_lines before front ++ numbered_lines (number_after before count) rest
 numbers_joined before count [] rest = numbered_twice before count rest
 numbers_joined before count (line ∷ front) rest =
     let put : List Line → List Line = λ found. record { number = number_after before line.number; command = line.command } ∷ found in
     ap put (numbers_joined before count front rest)
 
 numbered_first : (before : ℕ) (line : Line) (found later : List Line) → before + line.number < 2 ^ 64 → found ≡ line ∷ later
-    → numbered before found ≡ record { number = before + line.number; command = line.command } ∷ numbered before later
+    → numbered_lines before found ≡ record { number = before + line.number; command = line.command } ∷ numbered_lines before later
 numbered_first before line found later fits is =
     let one : number_after before line.number ≡ before + line.number = min-eq_left (omega (arith, fits)) in
-    let put : ℕ → List Line = λ n. record { number = n; command = line.command } ∷ numbered before later in
-    ap (λ (all : List Line). numbered before all) is ∙ ap put one
+    let put : ℕ → List Line = λ n. record { number = n; command = line.command } ∷ numbered_lines before later in
+    ap (λ (all : List Line). numbered_lines before all) is ∙ ap put one
 
 -- Lines that are numbered on say what they said.
 numbered_say : (before number : ℕ) (all : List (List ℕ)) (found : List Line) → before + number + length all ≤ 2 ^ 64 → SayFrom number all found
-    → SayFrom (before + number) all (numbered before found)
-numbered_say before number [] found fits none = ap (λ (all : List Line). numbered before all) none
+    → SayFrom (before + number) all (numbered_lines before found)
+numbered_say before number [] found fits none = ap (λ (all : List Line). numbered_lines before all) none
 numbered_say before number (line ∷ all) found fits (inl (passed, more)) =
     let next : before + (number + 1) ≡ before + number + 1 = omega arith in
-    inl (passed, subst (λ (n : ℕ). SayFrom n all (numbered before found)) next (numbered_say before (number + 1) all found (omega (arith, fits)) more))
+    inl (passed, subst (λ (n : ℕ). SayFrom n all (numbered_lines before found)) next (numbered_say before (number + 1) all found (omega (arith, fits)) more))
 numbered_say before number (line ∷ all) found fits (inr (command, later, is, says, more)) =
     let next : before + (number + 1) ≡ before + number + 1 = omega arith in
     let rest = numbered_say before (number + 1) all later (omega (arith, fits)) more in
     let first = numbered_first before (record { number = number; command = command }) found later (omega (arith, fits)) is in
-    inr (command, numbered before later, first, says, subst (λ (n : ℕ). SayFrom n all (numbered before later)) next rest)
+    inr (command, numbered_lines before later, first, says, subst (λ (n : ℕ). SayFrom n all (numbered_lines before later)) next rest)
 
 say_joined : (number : ℕ) (all rest : List (List ℕ)) (front later : List Line) → SayFrom number all front → SayFrom (number + length all) rest later
     → SayFrom number (all ++ rest) (front ++ later)
@@ -185,13 +185,13 @@ say_joined number (line ∷ all) rest front later (inr (command, others, is, say
 
 -- Two pieces are one script, whose lines are numbered on.
 pub script_joined : (text more : List ℕ) (front later : List Line) → IsWhole text → length (lines (text ++ more)) < 2 ^ 64 → IsScript text front → IsScript more later
-    → IsScript (text ++ more) (front ++ numbered (line_count text) later)
+    → IsScript (text ++ more) (front ++ numbered_lines (line_count text) later)
 script_joined text more front later whole fits h k =
     let size = lines_of_both text more whole in
     let count : line_count text ≡ length (lines text) = count_is text ∙ min-eq_left (omega (arith, size, fits)) in
     let one : length (lines text) + 1 ≡ 1 + length (lines text) = omega arith in
     let numbered_on = numbered_say (length (lines text)) 1 (lines more) later (omega (arith, size, fits)) k in
-    let both = say_joined 1 (lines text) (lines more) front (numbered (length (lines text)) later) h
-    (subst (λ (n : ℕ). SayFrom n (lines more) (numbered (length (lines text)) later)) one numbered_on) in
-    subst (λ (all : List (List ℕ)). SayFrom 1 all (front ++ numbered (line_count text) later)) (sym (lines_joined text more whole))
-    (subst (λ (n : ℕ). SayFrom 1 (lines text ++ lines more) (front ++ numbered n later)) (sym count) both)
+    let both = say_joined 1 (lines text) (lines more) front (numbered_lines (length (lines text)) later) h
+    (subst (λ (n : ℕ). SayFrom n (lines more) (numbered_lines (length (lines text)) later)) one numbered_on) in
+    subst (λ (all : List (List ℕ)). SayFrom 1 all (front ++ numbered_lines (line_count text) later)) (sym (lines_joined text more whole))
+    (subst (λ (n : ℕ). SayFrom 1 (lines text ++ lines more) (front ++ numbered_lines n later)) (sym count) both)

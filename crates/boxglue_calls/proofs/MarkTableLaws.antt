@@ -3,7 +3,7 @@ use Rattle.std.proofs.Common.{◌≡◌, ◌≢◌, ◌≤◌, ◌<◌, ◌+◌,
 use Rattle.std.specs.Prelude.{◌⊎◌}
 use Rattle.dvi_ops.specs.Fonts.{widths_of, definitions}
 use Rattle.dvi_ops.specs.Instruction.{Definition, Units}
-use Rattle.dvi_ops.specs.Tokens.{says}
+use Rattle.dvi_ops.specs.Tokens.{token_instructions}
 use Rattle.dvi_ops.specs.View.{units as view_units}
 use Rattle.dvi_read.specs.Opened.{IsNoFile, IsReadFrom}
 use Rattle.dvi_read.specs.Opening.{IsDviFault}
@@ -16,7 +16,7 @@ use Rattle.tfm_core.specs.NamedBytes.{NamedBytes}
 use Rattle.boxglue_program.specs.Outputs.{RefusesFile}
 use Rattle.boxglue_calls.specs.Private.MarkRows.{FitsIn, HasRowsOf, IsRefusal, outputs_of}
 use Rattle.boxglue_calls.specs.MarkTables.{AreMarkRows, HandsOverAll, HandsOverMarks, IsMarkTable, LacksRoom, MarkOutputs}
-use Rattle.boxglue_calls.specs.Pages.{status_of}
+use Rattle.boxglue_calls.specs.Pages.{read_status}
 use Rattle.boxglue_calls.specs.declared.mark_table.DviMark.{DviMark}
 use Rattle.boxglue_calls.specs.declared.mark_table.DviPage.{DviPage}
 use Rattle.boxglue_calls.specs.declared.mark_table.MarkSizes.{MarkSizes}
@@ -38,7 +38,7 @@ module _ (files : List NamedBytes) (bytes : List ℕ) where
     tabulated =
         let rows = are_rows bytes (file_widths files) read.dvi.fonts read.fonts read.specials.items (marks_of read.dvi.pages) places widths.widths in
         let frame = from.pages.frame in
-        let given : AreMarkRows bytes (widths_of (file_widths files) (definitions (says frame.front ++ says frame.tail))) table.marks.items (marks_of read.dvi.pages) =
+        let given : AreMarkRows bytes (widths_of (file_widths files) (definitions (token_instructions frame.front ++ token_instructions frame.tail))) table.marks.items (marks_of read.dvi.pages) =
         subst₂ (λ (ds : List Definition) (ms : List DviMark). AreMarkRows bytes (widths_of (file_widths files) ds) ms (marks_of read.dvi.pages)) (from.fonts frame) (sym has.marks_are) rows in
         inl (
           record { pages = read.dvi.pages; file = from.pages; rows_are = has.pages_are; marks_are = given; units_are = has.units_are ∙ from.units frame },
@@ -77,20 +77,20 @@ module _ (files : List NamedBytes) (bytes : List ℕ) where
         let short = refusal.text_short in record { pages_fit = omega arith; marks_fit = omega arith; text_fits = omega arith }
 
 -- The status of a file that was read is 0 or 1.
-pub done_small : (accepted : Bool) (done : ℕ) → done ≡ status_of accepted → done ≤ 1
+pub done_small : (accepted : Bool) (done : ℕ) → done ≡ read_status accepted → done ≤ 1
 done_small true done is = omega arith
 done_small false done is = omega arith
 
 -- The status of what is handed over is neither 2 nor 3.
-pub handed_loud : (old new outputs : MarkOutputs) (accepted : Bool) (status : ℕ) → HandsOverAll old new outputs (status_of accepted) status → (status ≡ 2) ⊎ (status ≡ 3) → ⊥
-handed_loud old new outputs accepted status (inl (pages, marks, text, is)) (inl two) = let small = done_small accepted (status_of accepted) refl in absurd (omega arith)
-handed_loud old new outputs accepted status (inl (pages, marks, text, is)) (inr three) = let small = done_small accepted (status_of accepted) refl in absurd (omega arith)
+pub handed_loud : (old new outputs : MarkOutputs) (accepted : Bool) (status : ℕ) → HandsOverAll old new outputs (read_status accepted) status → (status ≡ 2) ⊎ (status ≡ 3) → ⊥
+handed_loud old new outputs accepted status (inl (pages, marks, text, is)) (inl two) = let small = done_small accepted (read_status accepted) refl in absurd (omega arith)
+handed_loud old new outputs accepted status (inl (pages, marks, text, is)) (inr three) = let small = done_small accepted (read_status accepted) refl in absurd (omega arith)
 handed_loud old new outputs accepted status (inr (few, pages, marks, text, is)) (inl two) = absurd (omega arith)
 handed_loud old new outputs accepted status (inr (few, pages, marks, text, is)) (inr three) = absurd (omega arith)
 
 -- The outputs that are handed over, with their sizes.
 pub handed_marks : (files : List NamedBytes) (bytes : List ℕ) (old new : MarkOutputs) (sizes : MarkSizes) (status : ℕ) (table : MarkTable) → IsTableOf files bytes table
-    → HandsOverAll old new (outputs_of table) (status_of table.accepted) status
+    → HandsOverAll old new (outputs_of table) (read_status table.accepted) status
     → sizes.pages ≡ length table.pages.items → sizes.marks ≡ length table.marks.items → sizes.text ≡ length table.text.items
     → view_units table.units ≡ record { num = sizes.num; den = sizes.den; mag = sizes.mag } → HandsOverMarks files bytes old new sizes status
 handed_marks files bytes old new sizes status table is_table handed pages_size marks_size text_size units =

@@ -1,14 +1,14 @@
 -- What is handed over has a status that says so.
 use Rattle.std.proofs.Common.{◌≡◌, ◌⊎◌, List, ℕ, Bool, true, false, inl, inr, arith, ◌∙◌}
 use Rattle.boxglue_calls.specs.Buffers.{HandsOver}
-use Rattle.boxglue_calls.specs.Pages.{status_of}
+use Rattle.boxglue_calls.specs.Pages.{read_status}
 
 -- The status of what is handed over is 0, 1 or 4.
-done_small : (accepted : Bool) (done : ℕ) → done ≡ status_of accepted → (done ≡ 0) ⊎ (done ≡ 1)
+done_small : (accepted : Bool) (done : ℕ) → done ≡ read_status accepted → (done ≡ 0) ⊎ (done ≡ 1)
 done_small true done is = inl is
 done_small false done is = inr is
 
-pub handed_status : (old new output : List ℕ) (accepted : Bool) (done status : ℕ) → done ≡ status_of accepted → HandsOver old new output done status → (status ≡ 0) ⊎ ((status ≡ 1) ⊎ (status ≡ 4))
+pub handed_status : (old new output : List ℕ) (accepted : Bool) (done status : ℕ) → done ≡ read_status accepted → HandsOver old new output done status → (status ≡ 0) ⊎ ((status ≡ 1) ⊎ (status ≡ 4))
 handed_status old new output accepted done status done_is (inr (few, kept, is)) = inr (inr is)
 handed_status old new output accepted done status done_is (inl (holds, is)) = by_done (done_small accepted done done_is)
   where

@@ -9,7 +9,7 @@ use Rattle.job_machine.specs.declared.replies.Summary.{Summary}
 use Rattle.job_machine.specs.Reply.{Reply}
 use Rattle.boxglue_program.specs.declared.outcome.Outcome.{Outcome}
 use Rattle.boxglue_program.specs.declared.outcome.Outcome.TheVariants.{Accepted, Refused, LackedMemory}
-use Rattle.boxglue_program.specs.Outcomes.{outcome_of, refusal_outcome, replies_outcome, run_outcome, worse}
+use Rattle.boxglue_program.specs.Outcomes.{outcome_of, refusal_outcome, replies_outcome, run_outcome, worse_outcome}
 use Rattle.boxglue_program.specs.Runs.{is_accepted}
 use Rattle.boxglue_calls.specs.Buffers.{HandsOverBoth}
 use Rattle.boxglue_calls.specs.RunStatus.{outcome_status, refusal_status, replies_status, reply_status, run_status}
@@ -43,7 +43,7 @@ pub reply_status_is : {A : Type 0} (reply : Result A Refusal) → outcome_status
 reply_status_is (Ok answer) = refl
 reply_status_is (Err refusal) = refusal_status_is refusal
 
-worse_status : (a b : Outcome) → outcome_status (worse a b) ≡ max (outcome_status a) (outcome_status b)
+worse_status : (a b : Outcome) → outcome_status (worse_outcome a b) ≡ max (outcome_status a) (outcome_status b)
 worse_status Accepted b = omega arith
 worse_status Refused Accepted = refl
 worse_status Refused Refused = refl

@@ -5,7 +5,7 @@ use Rattle.std.specs.List.{flat_map}
 use Rattle.dvi_ops.specs.Instruction.{Definition, Units}
 use Rattle.boxglue_program.specs.Fonts.{DefinesFonts, RefusesFonts}
 use Rattle.boxglue_calls.specs.Buffers.{HandsOverBoth}
-use Rattle.boxglue_calls.specs.Pages.{status_of}
+use Rattle.boxglue_calls.specs.Pages.{read_status}
 use Rattle.boxglue_calls.specs.declared.font_table.DviFont.{DviFont}
 use Rattle.boxglue_calls.specs.declared.font_table.FontSizes.{FontSizes}
 
@@ -43,6 +43,6 @@ pub record HandsOverFonts (bytes : List ℕ) (old new : List DviFont) (text_old 
   pub accepted : Bool
   pub table : IsFontTable bytes fonts text accepted
   pub handed : HandsOverBoth (record { old = old; new = new; items = fonts }) (record { old = text_old; new = text_new; items = text })
-      (status_of accepted) status
+      (read_status accepted) status
   pub fonts_size : sizes.fonts ≡ length fonts
   pub text_size : sizes.text ≡ length text

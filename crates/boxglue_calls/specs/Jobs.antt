@@ -13,13 +13,13 @@ pub record KeptState : Type 0 where
   pub taken : ℕ
 
 -- The bytes that a device has reported.
-abbrev pub reported : Option (List ℕ) → List ℕ
-reported None = []
-reported (Some bytes) = bytes
+abbrev pub reported_bytes : Option (List ℕ) → List ℕ
+reported_bytes None = []
+reported_bytes (Some bytes) = bytes
 
 -- The bytes that a job has sent to its device.
 abbrev pub sent_by : JobView → List ℕ
-sent_by job = reported job.bytes_written
+sent_by job = reported_bytes job.bytes_written
 
 -- These are the bytes of the file that were handed over. The job has sent them, and then the rest.
 pub record HasHanded (kept : KeptState) (handed : List ℕ) : Type 0 where

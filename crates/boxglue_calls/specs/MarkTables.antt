@@ -4,14 +4,14 @@ use Rattle.dvi_ops.specs.Body.{Widths}
 use Rattle.dvi_ops.specs.File.{IsFile, MarkedPage}
 use Rattle.dvi_ops.specs.Fonts.{definitions, widths_of}
 use Rattle.dvi_ops.specs.Instruction.{Units}
-use Rattle.dvi_ops.specs.Tokens.{says}
+use Rattle.dvi_ops.specs.Tokens.{token_instructions}
 use Rattle.dvi_read.specs.PageMarks.{TextStandsAt, marks_of}
 use Rattle.scaled_core.specs.Mark.{Mark, Glyph, Rule, Special}
 use Rattle.tfm_core.specs.FileWidths.{file_widths}
 use Rattle.tfm_core.specs.NamedBytes.{NamedBytes}
 use Rattle.boxglue_program.specs.Outputs.{RefusesFile}
 use Rattle.boxglue_calls.specs.Buffers.{Holds}
-use Rattle.boxglue_calls.specs.Pages.{status_of}
+use Rattle.boxglue_calls.specs.Pages.{read_status}
 use Rattle.boxglue_calls.specs.declared.mark_table.DviMark.{DviMark}
 use Rattle.boxglue_calls.specs.declared.mark_table.DviPage.{DviPage}
 use Rattle.boxglue_calls.specs.declared.mark_table.MarkSizes.{MarkSizes}
@@ -59,7 +59,8 @@ pub record TabulatesMarks (files : List NamedBytes) (bytes : List ℕ) (rows : L
   pub pages : List MarkedPage
   pub file : IsFile (file_widths files) bytes pages
   pub rows_are : rows ≡ page_rows 0 pages
-  pub marks_are : AreMarkRows bytes (widths_of (file_widths files) (definitions (says file.frame.front ++ says file.frame.tail))) marks
+  pub marks_are : AreMarkRows bytes (widths_of (file_widths files)
+      (definitions (token_instructions file.frame.front ++ token_instructions file.frame.tail))) marks
       (marks_of pages)
   pub units_are : units ≡ file.frame.stop.units
 
@@ -99,7 +100,7 @@ pub record HandsOverMarks (files : List NamedBytes) (bytes : List ℕ) (old new 
   pub outputs : MarkOutputs
   pub accepted : Bool
   pub table : IsMarkTable files bytes outputs (record { num = sizes.num; den = sizes.den; mag = sizes.mag }) accepted
-  pub handed : HandsOverAll old new outputs (status_of accepted) status
+  pub handed : HandsOverAll old new outputs (read_status accepted) status
   pub pages_size : sizes.pages ≡ length outputs.pages
   pub marks_size : sizes.marks ≡ length outputs.marks
   pub text_size : sizes.text ≡ length outputs.text

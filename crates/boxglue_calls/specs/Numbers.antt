@@ -7,8 +7,8 @@ abbrev pub number_after : (before number : ℕ) → ℕ
 number_after before number = min (before + number) (2 ^ 64 - 1)
 
 -- The lines of a piece, with their numbers in the whole script.
-abbrev pub numbered : (before : ℕ) → List Line → List Line
-numbered before lines = map (λ line. record { number = number_after before line.number; command = line.command }) lines
+abbrev pub numbered_lines : (before : ℕ) → List Line → List Line
+numbered_lines before lines = map (λ line. record { number = number_after before line.number; command = line.command }) lines
 
 -- The line feeds of a text.
 abbrev pub line_feeds : List ℕ → ℕ

@@ -4,8 +4,8 @@ use Rattle.raster_core.specs.Sheets.{is_paintable, sheet_of}
 use Rattle.boxglue_calls.specs.Buffers.{HandsOver}
 
 -- The status of a DVI file that was read: 0 where it is accepted, 1 where it is refused.
-abbrev pub status_of : (accepted : Bool) → ℕ
-status_of accepted = if accepted then 0 else 1
+abbrev pub read_status : (accepted : Bool) → ℕ
+read_status accepted = if accepted then 0 else 1
 
 -- Whether the numbers of a page are in their ranges: the page 1 or more, the pixels an inch, width and height 1 to 10,000.
 abbrev pub is_in_range : (page dpi width height : ℕ) → Bool
@@ -16,5 +16,5 @@ pub record HandsOverPages (Is : (text : List ℕ) → (accepted : Bool) → Type
   pub text : List ℕ
   pub accepted : Bool
   pub output : Is text accepted
-  pub handed : HandsOver old new text (status_of accepted) status
+  pub handed : HandsOver old new text (read_status accepted) status
   pub size_is : size ≡ length text

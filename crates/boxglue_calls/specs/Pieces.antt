@@ -19,7 +19,7 @@ use Rattle.boxglue_program.specs.Texts.{answer_lines, end_line, script_refusal_t
 use Rattle.boxglue_calls.specs.Buffers.{HandsOver}
 use Rattle.boxglue_calls.specs.RunStatus.{replies_status, reply_status}
 use Rattle.boxglue_calls.specs.Jobs.{KeptState, sent_by}
-use Rattle.boxglue_calls.specs.Numbers.{number_after, numbered, line_count}
+use Rattle.boxglue_calls.specs.Numbers.{number_after, numbered_lines, line_count}
 
 -- A text becomes the last of the answers, and the status is this one; or memory was refused for it: the answers are as they were, and the status
 -- is 10.
@@ -41,7 +41,7 @@ pub record RunsLines (old : KeptState) (script : List ℕ) (new : KeptState) : T
 -- A piece of a script was run and answered. Its lines are numbered after those of the pieces before it.
 pub record RunsPiece (old : KeptState) (script : List ℕ) (new : KeptState) (status : ℕ) : Type 0 where
   pub run : RunsLines old script new
-  pub answered : Answers old.answers new.answers (answer_lines (line_numbers (numbered old.lines run.lines)) run.replies)
+  pub answered : Answers old.answers new.answers (answer_lines (line_numbers (numbered_lines old.lines run.lines)) run.replies)
       (replies_status run.replies) status
 
 -- A piece is bad: its one line becomes the last of the answers, nothing else changes, and the status is 1.

@@ -7,7 +7,7 @@ use Rattle.boxglue_program.specs.Runs.{line_numbers}
 use Rattle.boxglue_calls.specs.Buffers.{Holds}
 use Rattle.boxglue_calls.specs.RunStatus.{replies_status, reply_status}
 use Rattle.boxglue_calls.specs.Jobs.{KeptState}
-use Rattle.boxglue_calls.specs.Numbers.{number_after, numbered}
+use Rattle.boxglue_calls.specs.Numbers.{number_after, numbered_lines}
 use Rattle.boxglue_calls.specs.Pieces.{RunsLines, EndsJob}
 use Rattle.boxglue_calls.specs.Rows.{bad_row, end_row, reply_rows}
 use Rattle.boxglue_calls.specs.declared.jobs.rows.ReplyRow.{ReplyRow}
@@ -21,7 +21,7 @@ pub record RowRoom : Type 0 where
 -- before. The status is that of the replies.
 pub record RepliesToPiece (script : List ℕ) (before after : RowRoom) (old new : KeptState) (status : ℕ) : Type 0 where
   pub run : RunsLines old script new
-  pub written : Holds before.rows after.rows (reply_rows (line_numbers (numbered old.lines run.lines)) run.replies)
+  pub written : Holds before.rows after.rows (reply_rows (line_numbers (numbered_lines old.lines run.lines)) run.replies)
   pub count_is : after.count ≡ length run.lines
   pub status_is : status ≡ replies_status run.replies
   pub answers : new.answers ≡ old.answers

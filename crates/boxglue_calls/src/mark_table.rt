@@ -9,7 +9,7 @@ ghost use Rattle.boxglue_calls.specs.Fonts.{are_named, files_of};
 ghost use Rattle.boxglue_calls.specs.Private.MarkRows.{FitsIn, HasRowsOf, IsRefusal, first_place, later_places, mark_rows, outputs_of, place_of};
 ghost use Rattle.boxglue_calls.specs.Private.MarkRows.{places_after, places_left, row_of, size_of};
 ghost use Rattle.boxglue_calls.specs.MarkTables.{HandsOverAll, HandsOverMarks, IsMarkTable, empty_row, mark_outputs, page_row, page_rows};
-ghost use Rattle.boxglue_calls.specs.Pages.{status_of};
+ghost use Rattle.boxglue_calls.specs.Pages.{read_status};
 
 use crate::buffers::{hand_over_both, put};
 use crate::given::{Font, are_named, font_files};
@@ -285,7 +285,7 @@ fn hand_over_table(
     text: &mut [u8],
 ) -> u32
     ensures { HandsOverAll (mark_outputs pages.old marks.old text.old) (mark_outputs pages.new marks.new text.new) (outputs_of table.now)
-        (status_of table.now.accepted) result }
+        (read_status table.now.accepted) result }
 {
     if table.pages.len() > pages.len() {
         return BUFFER_TOO_SMALL;

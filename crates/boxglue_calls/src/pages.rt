@@ -2,7 +2,7 @@
 
 ghost use Rattle.std.specs.Prelude.{◌≡◌, ◌↔◌, ◌⊎◌, false, true, Err, IfOk, IsTrue, SomeIff};
 ghost use Rattle.boxglue_calls.specs.Fonts.{are_named, files_of};
-ghost use Rattle.boxglue_calls.specs.Pages.{HandsOverPages, is_in_range, status_of};
+ghost use Rattle.boxglue_calls.specs.Pages.{HandsOverPages, is_in_range, read_status};
 ghost use Rattle.boxglue_program.specs.Outputs.{IsListed, IsPainted, LacksPage};
 ghost use Rattle.boxglue_program.specs.declared.output.PaintFault.TheVariants.{NoSuchPage};
 ghost use Rattle.raster_core.specs.Sheets.{sheet_of};
@@ -15,7 +15,7 @@ use std::alloc::{AllocError, Global};
 
 /// The status of a DVI file that was read.
 pub(crate) fn file_status(accepted: bool) -> u32
-    ensures { result ≡ status_of accepted }
+    ensures { result ≡ read_status accepted }
 {
     if accepted { ACCEPTED } else { REFUSED }
 }

@@ -13,8 +13,8 @@ abbrev pub TakesText : (old new : Option (List ℕ)) → List ℕ → Type 0
 TakesText old new text = Appends old new text ⊎ WritesFront old new text
 
 -- A line of two parts.
-abbrev pub line_of : List ℕ → List ℕ → List ℕ
-line_of what name = what ++ (name ++ codes "\n")
+abbrev pub message_line : List ℕ → List ℕ → List ℕ
+message_line what name = what ++ (name ++ codes "\n")
 
 -- The version was printed, with status 0, or only a beginning of its line, with status 1.
 abbrev pub PrintsVersion : (old new : Option (List ℕ)) → (status : ℕ) → Type 0
@@ -32,7 +32,7 @@ status_of NoSuchPage = 2
 
 -- What the errors take at an end: a message for a file that could not be read or a missing page.
 abbrev pub TellsErrors : TaskEnd → (old new : Option (List ℕ)) → Type 0
-TellsErrors (Unreadable path) old new = TakesText old new (line_of (codes "boxglue: cannot read ") path.now)
+TellsErrors (Unreadable path) old new = TakesText old new (message_line (codes "boxglue: cannot read ") path.now)
 TellsErrors NoSuchPage old new = TakesText old new (codes "boxglue: no such page\n")
 TellsErrors _ old new = Keeps old new
 

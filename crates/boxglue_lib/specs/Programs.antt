@@ -9,7 +9,7 @@ use Rattle.boxglue_words.specs.declared.fonts.WordFault.{WordFault}
 use Rattle.boxglue_words.specs.declared.fonts.WordFault.TheVariants as faults
 use Rattle.boxglue_words.specs.declared.task.Task.{Task}
 use Rattle.boxglue_words.specs.declared.task.Task.TheVariants as tasks
-use Rattle.boxglue_lib.specs.Ends.{TaskHasEnded, TaskRules, PrintsVersion, TakesText, line_of}
+use Rattle.boxglue_lib.specs.Ends.{TaskHasEnded, TaskRules, PrintsVersion, TakesText, message_line}
 use Rattle.boxglue_lib.specs.FontListings.{font_rules}
 use Rattle.boxglue_lib.specs.Printed.{listing_rules, painting_rules}
 use Rattle.boxglue_lib.specs.Sessions.{HasSession}
@@ -39,10 +39,10 @@ RefusesWords (faults.Line text) before after status =
     Keeps before.output after.output × TakesText before.errors after.errors (string_bytes text) × (status ≡ 2)
 RefusesWords (faults.NotPair word) before after status =
     Keeps before.output after.output
-    × TakesText before.errors after.errors (line_of (codes "boxglue: not NAME=TFM: ") word.now) × (status ≡ 2)
+    × TakesText before.errors after.errors (message_line (codes "boxglue: not NAME=TFM: ") word.now) × (status ≡ 2)
 RefusesWords (faults.NameTwice name) before after status =
     Keeps before.output after.output
-    × TakesText before.errors after.errors (line_of (codes "boxglue: name given twice: ") name.now) × (status ≡ 2)
+    × TakesText before.errors after.errors (message_line (codes "boxglue: name given twice: ") name.now) × (status ≡ 2)
 
 -- A task was done with the files and the standard input of a host. The version is printed. Without words the script of standard input is run in
 -- memory; `typeset` runs it on a file, `session` does so line by line as it comes; `list` prints the pages of a DVI file, `fonts` its fonts and

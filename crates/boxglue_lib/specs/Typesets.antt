@@ -8,7 +8,7 @@ use Rattle.boxglue_words.specs.declared.font_files.Unread.TheVariants.{OutOfMemo
 use Rattle.boxglue_program.specs.Runs.{IsUntouched, RanScript, RefusedScript}
 use Rattle.tfm_core.specs.NamedBytes.{NamedBytes}
 use Rattle.boxglue_words.specs.declared.fonts.NamedPath.{NamedPath}
-use Rattle.boxglue_lib.specs.Ends.{EndsOutput, TakesText, TaskRules, TellsErrors, line_of, status_of}
+use Rattle.boxglue_lib.specs.Ends.{EndsOutput, TakesText, TaskRules, TellsErrors, message_line, status_of}
 use Rattle.boxglue_lib.specs.Inputs.{IsUnreadScript}
 use Rattle.boxglue_lib.specs.Views.{HostView, IsSame, Streams}
 use Rattle.boxglue_lib.specs.declared.task_end.TaskEnd.{TaskEnd}
@@ -88,7 +88,7 @@ pub record LeavesHost {H : Type 0} (out : List ℕ) (old new : HostView H) (file
 -- The message about a file that did not take all bytes.
 abbrev pub TellsUnwritten : (done : Bool) → (out : List ℕ) → (old new : Option (List ℕ)) → Type 0
 TellsUnwritten true out old new = Keeps old new
-TellsUnwritten false out old new = TakesText old new (line_of (codes "boxglue: cannot write ") out)
+TellsUnwritten false out old new = TakesText old new (message_line (codes "boxglue: cannot write ") out)
 
 -- What the errors take at the end of `typeset`: a message if the file did not take all, and after it what they take at that end of a task.
 pub record TellsTypeset (out : List ℕ) (done : Bool) (end : TaskEnd) (old new : Option (List ℕ)) : Type 0 where

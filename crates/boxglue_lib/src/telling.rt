@@ -3,7 +3,7 @@
 ghost use Rattle.std.specs.Prelude.{◌≡◌, ◌++◌, codes, IfOk, OnOk, OnErr};
 ghost use Rattle.std.specs.Io.KnownBytes.{Appends};
 ghost use Rattle.boxglue_program.specs.Runs.{WritesFront, memory_line};
-ghost use Rattle.boxglue_lib.specs.Ends.{PrintsVersion, TakesText, TellsErrors, TellsOutput, line_of, status_of};
+ghost use Rattle.boxglue_lib.specs.Ends.{PrintsVersion, TakesText, TellsErrors, TellsOutput, message_line, status_of};
 
 use crate::task_end::TaskEnd;
 use boxglue_program::{Unwritten, refuse_memory, write_text};
@@ -26,8 +26,8 @@ pub fn say_out_of_memory<W: Write>(writer: &mut W)
 }
 
 /// A line of two parts.
-fn line_of(alloc: Global, what: &str, name: &str) -> Result<Vec<u8>, AllocError>
-    ensures { IfOk result (λ line. line.items ≡ line_of what.now name.now) }
+fn message_line(alloc: Global, what: &str, name: &str) -> Result<Vec<u8>, AllocError>
+    ensures { IfOk result (λ line. line.items ≡ message_line what.now name.now) }
 {
     let mut line = Vec::from_slice(alloc, what.as_bytes())?;
     line.extend_from_slice(name.as_bytes())?;
@@ -61,7 +61,7 @@ fn tell_in_parts<W: Write>(writer: &mut W, what: &str, name: &str)
 pub fn tell<W: Write>(alloc: Global, writer: &mut W, what: &str, name: &str)
     ensures { TakesText (W.contents writer.old) (W.contents writer.new) (what.now ++ (name.now ++ codes "\n")) }
 {
-    match line_of(alloc, what, name) {
+    match message_line(alloc, what, name) {
         Ok(line) => say(writer, &line),
         Err(_) => tell_in_parts(writer, what, name),
     }

@@ -7,7 +7,7 @@ use Rattle.job_core.specs.Jobs.{JobView, RunsTo}
 use Rattle.job_core.proofs.WholeRuns.{runs_joined}
 use Rattle.boxglue_script.specs.declared.script.Line.{Line}
 use Rattle.boxglue_program.specs.declared.outcome.Outcome.{Outcome}
-use Rattle.boxglue_program.specs.Outcomes.{replies_outcome, worse}
+use Rattle.boxglue_program.specs.Outcomes.{replies_outcome, worse_outcome}
 use Rattle.boxglue_program.specs.Runs.{commands_of, line_numbers}
 use Rattle.boxglue_program.specs.Texts.{answer_line, answer_lines}
 use Rattle.boxglue_program.proofs.OutcomeLaws.{outcome_joined}
@@ -30,7 +30,7 @@ answers_joined (line ∷ lines) more (reply ∷ replies) others h =
 -- Lines that were run after others.
 pub run_further : (old middle new : JobView) (start now later : List ℕ) (kept next all : Bool) (outcome after whole : Outcome) (lines more : List Line)
     → WereRun old middle start now kept outcome lines → WereRun middle new now later next after more
-    → whole ≡ worse outcome after → (all ≡ true → (kept ≡ true) × (next ≡ true)) → WereRun old new start later all whole (lines ++ more)
+    → whole ≡ worse_outcome outcome after → (all ≡ true → (kept ≡ true) × (next ≡ true)) → WereRun old new start later all whole (lines ++ more)
 run_further old middle new start now later kept next all outcome after whole lines more first second is both = (
   first.0 ++ second.0,
   subst (λ (xs : List Command). RunsTo old xs (first.0 ++ second.0) new) (sym (map-append (λ (line : Line). line.command) lines more))
@@ -42,5 +42,5 @@ run_further old middle new start now later kept next all outcome after whole lin
       ∙ (ap (λ (text : List ℕ). text ++ answer_lines (line_numbers more) second.0) (first.3 here)
       ∙ (append_assoc start (answer_lines (line_numbers lines) first.0) (answer_lines (line_numbers more) second.0)
       ∙ ap (λ (text : List ℕ). start ++ text) (sym (answers_joined lines more first.0 second.0 first.2)))),
-  is ∙ (ap (λ (o : Outcome). worse o after) first.4 ∙ (ap (λ (o : Outcome). worse (replies_outcome first.0) o) second.4 ∙ sym (outcome_joined first.0 second.0))),
+  is ∙ (ap (λ (o : Outcome). worse_outcome o after) first.4 ∙ (ap (λ (o : Outcome). worse_outcome (replies_outcome first.0) o) second.4 ∙ sym (outcome_joined first.0 second.0))),
 )

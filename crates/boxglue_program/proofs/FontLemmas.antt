@@ -15,7 +15,7 @@ use Rattle.dvi_scan.proofs.PlaceLemmas.{same_front}
 use Rattle.dvi_ops.proofs.Appends.{fonts_back}
 use Rattle.dvi_ops.specs.Fonts.{known_after}
 use Rattle.dvi_ops.specs.Instruction.{Definition, Post, Postamble, Units}
-use Rattle.dvi_ops.specs.Tokens.{says}
+use Rattle.dvi_ops.specs.Tokens.{token_instructions}
 use Rattle.dvi_ops.specs.View.{postamble}
 use Rattle.dvi_read.proofs.FaultLemmas.{after_within, no_fault, no_front_fault}
 use Rattle.dvi_read.specs.Opened.{IsNoFile}
@@ -61,13 +61,13 @@ tail_fault files bytes post after last stop chain from new frames.OutOfMemory fa
 tail_fault files bytes post after last stop chain from new (frames.Bad bad) fault other starts broken is pages f =
     let framed = starts.chained.framed in
     let passed = file_passed bytes post after last stop chain framed (file_widths files) pages f in
-    let fonts = fonts_back [] (says passed.front) (says passed.tail) passed.fonts in
+    let fonts = fonts_back [] (token_instructions passed.front) (token_instructions passed.tail) passed.fonts in
     let closes : Closes bytes after (last - 5) [] passed.tail =
     record {
       spelled = passed.tail_spelled;
       whole = passed.tail_whole;
       idle = passed.tail_is;
-      fonts = fonts_fewer (known_after [] (says passed.front)) [] (says passed.tail) passed.tail_is (λ d among. absurd among) fonts;
+      fonts = fonts_fewer (known_after [] (token_instructions passed.front)) [] (token_instructions passed.tail) passed.tail_is (λ d among. absurd among) fonts;
     } in
     broken_closing bytes after (last - 5) [] new [] bad passed.tail (after_within files bytes post after last stop chain framed) (same_self []) broken closes
 

@@ -7,10 +7,10 @@ use Rattle.job_machine.specs.declared.replies.Summary.{Summary}
 use Rattle.job_machine.specs.Reply.{Reply}
 use Rattle.boxglue_program.specs.declared.outcome.Outcome.{Outcome}
 use Rattle.boxglue_program.specs.declared.outcome.Outcome.TheVariants.{Accepted, Refused, LackedMemory}
-use Rattle.boxglue_program.specs.Outcomes.{is_accepting, outcome_of, refusal_outcome, replies_outcome, run_outcome, worse}
+use Rattle.boxglue_program.specs.Outcomes.{is_accepting, outcome_of, refusal_outcome, replies_outcome, run_outcome, worse_outcome}
 use Rattle.boxglue_program.specs.Runs.{is_accepted}
 
-worse_turned : (a b c : Outcome) → worse a (worse b c) ≡ worse (worse a b) c
+worse_turned : (a b c : Outcome) → worse_outcome a (worse_outcome b c) ≡ worse_outcome (worse_outcome a b) c
 worse_turned Accepted b c = refl
 worse_turned Refused Accepted c = refl
 worse_turned Refused Refused Accepted = refl
@@ -19,33 +19,33 @@ worse_turned Refused Refused LackedMemory = refl
 worse_turned Refused LackedMemory c = refl
 worse_turned LackedMemory b c = refl
 
-worse_at_last : (a : Outcome) → worse a Accepted ≡ a
+worse_at_last : (a : Outcome) → worse_outcome a Accepted ≡ a
 worse_at_last Accepted = refl
 worse_at_last Refused = refl
 worse_at_last LackedMemory = refl
 
 -- What was refused of some commands and one more.
-outcome_more : (replies : List Reply) (reply : Reply) → replies_outcome (replies ++ reply ∷ []) ≡ worse (replies_outcome replies) (outcome_of reply)
+outcome_more : (replies : List Reply) (reply : Reply) → replies_outcome (replies ++ reply ∷ []) ≡ worse_outcome (replies_outcome replies) (outcome_of reply)
 outcome_more [] reply = worse_at_last (outcome_of reply)
 outcome_more (first ∷ rest) reply =
-    ap (λ (outcome : Outcome). worse (outcome_of first) outcome) (outcome_more rest reply) ∙ worse_turned (outcome_of first) (replies_outcome rest) (outcome_of reply)
+    ap (λ (outcome : Outcome). worse_outcome (outcome_of first) outcome) (outcome_more rest reply) ∙ worse_turned (outcome_of first) (replies_outcome rest) (outcome_of reply)
 
 -- What was refused of some commands and of others after them.
-pub outcome_joined : (replies others : List Reply) → replies_outcome (replies ++ others) ≡ worse (replies_outcome replies) (replies_outcome others)
+pub outcome_joined : (replies others : List Reply) → replies_outcome (replies ++ others) ≡ worse_outcome (replies_outcome replies) (replies_outcome others)
 outcome_joined [] others = refl
 outcome_joined (first ∷ rest) others =
-    ap (λ (outcome : Outcome). worse (outcome_of first) outcome) (outcome_joined rest others) ∙ worse_turned (outcome_of first) (replies_outcome rest) (replies_outcome others)
+    ap (λ (outcome : Outcome). worse_outcome (outcome_of first) outcome) (outcome_joined rest others) ∙ worse_turned (outcome_of first) (replies_outcome rest) (replies_outcome others)
 
-pub outcome_one_more : (outcome next new : Outcome) (replies : List Reply) (reply : Reply) → outcome ≡ replies_outcome replies → next ≡ outcome_of reply → new ≡ worse outcome next
+pub outcome_one_more : (outcome next new : Outcome) (replies : List Reply) (reply : Reply) → outcome ≡ replies_outcome replies → next ≡ outcome_of reply → new ≡ worse_outcome outcome next
     → new ≡ replies_outcome (replies ++ reply ∷ [])
 outcome_one_more outcome next new replies reply h k is =
-    is ∙ (ap (λ (o : Outcome). worse o next) h ∙ (ap (λ (o : Outcome). worse (replies_outcome replies) o) k ∙ sym (outcome_more replies reply)))
+    is ∙ (ap (λ (o : Outcome). worse_outcome o next) h ∙ (ap (λ (o : Outcome). worse_outcome (replies_outcome replies) o) k ∙ sym (outcome_more replies reply)))
 
-pub outcome_at_end : (outcome next new : Outcome) (replies : List Reply) (end : Result Summary Refusal) → outcome ≡ replies_outcome replies → next ≡ outcome_of end → new ≡ worse outcome next
+pub outcome_at_end : (outcome next new : Outcome) (replies : List Reply) (end : Result Summary Refusal) → outcome ≡ replies_outcome replies → next ≡ outcome_of end → new ≡ worse_outcome outcome next
     → new ≡ run_outcome replies end
-outcome_at_end outcome next new replies end h k is = is ∙ (ap (λ (o : Outcome). worse o next) h ∙ ap (λ (o : Outcome). worse (replies_outcome replies) o) k)
+outcome_at_end outcome next new replies end h k is = is ∙ (ap (λ (o : Outcome). worse_outcome o next) h ∙ ap (λ (o : Outcome). worse_outcome (replies_outcome replies) o) k)
 
-both_accepting : (a b : Outcome) → is_accepting (worse a b) ≡ (is_accepting a && is_accepting b)
+both_accepting : (a b : Outcome) → is_accepting (worse_outcome a b) ≡ (is_accepting a && is_accepting b)
 both_accepting Accepted b = refl
 both_accepting Refused Accepted = refl
 both_accepting Refused Refused = refl

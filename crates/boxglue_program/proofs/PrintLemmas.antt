@@ -15,7 +15,7 @@ use Rattle.dvi_read.specs.Opened.{HasUnitsOf, IsNoFile, Opened}
 use Rattle.dvi_read.specs.Opening.{IsDviFault}
 use Rattle.dvi_read.specs.declared.fault.DviFault.{DviFault}
 use Rattle.dvi_read.specs.declared.fault.DviFault.TheVariants.{OutOfMemory}
-use Rattle.raster_core.specs.Pictures.{PixelGrid, painted, white}
+use Rattle.raster_core.specs.Pictures.{PixelGrid, painted_picture, white}
 use Rattle.raster_core.specs.Pixels.{is_covered, scale_of}
 use Rattle.raster_core.specs.PlainText.{pbm}
 use Rattle.raster_core.specs.Sheets.{Sheet}
@@ -51,7 +51,7 @@ paints files bytes sheet dvi picture text file units shows text_is = record {
   file = file;
   shown = shows.shown;
   page_is = shows.page_is;
-  text_is = text_is ∙ (ap pbm shows.picture_is ∙ ap (λ (u : Units). pbm (painted (is_covered (scale_of u sheet.dpi) shows.shown.marks) (white sheet.width sheet.height))) (units file.frame));
+  text_is = text_is ∙ (ap pbm shows.picture_is ∙ ap (λ (u : Units). pbm (painted_picture (is_covered (scale_of u sheet.dpi) shows.shown.marks) (white sheet.width sheet.height))) (units file.frame));
   accepted_is = refl;
 }
 

@@ -12,11 +12,11 @@ use Rattle.dvi_device.specs.Pasts.{Past, Differs, KeepsPast, no_past}
 use Rattle.dvi_device.specs.Seen.{DeviceView, device_view}
 use Rattle.dvi_device.specs.Resumed.{Resumed, written_by, began_by, past_by, GoesOnAs, PassesOn}
 use Rattle.dvi_device.proofs.PastLaws.{no_difference}
-use Rattle.dvi_write.specs.Layout.{front, whole}
+use Rattle.dvi_write.specs.Layout.{unfinished_file, whole}
 use Rattle.job_core.specs.Shown.{GivesFiles, FilesPages}
 use Rattle.job_core.specs.Closing.{ClosesFile}
 use Rattle.job_machine.specs.Machine.{Machine, first_machine}
-use Rattle.job_core.specs.Jobs.{JobView, due, Represents, KeepsTo, RunsTo, FinishesTo}
+use Rattle.job_core.specs.Jobs.{JobView, due_bytes, Represents, KeepsTo, RunsTo, FinishesTo}
 use Rattle.job_core.proofs.Moves.{runs_more}
 use Rattle.dvi_device.specs.Held.{MemoryState, new_memory}
 use Rattle.job_machine.proofs.RunLaws.{files_kept}
@@ -78,17 +78,17 @@ was_run files commands replies end job run done holds runs finishes dvi file siz
       front = λ e. part e middle.0 middle.2;
       part = λ over. sent_part last.0 done.bytes_written (last.2.sent over);
       held = pages_held last.0 done.bytes_written last.2.held;
-      sent = λ running. said done.bytes_written done.bytes_written (front last.0.state.fonts last.0.pages) (λ bytes. bytes ≡ front last.0.state.fonts last.0.pages) (last.2.written running).bytes_written refl;
+      sent = λ running. said done.bytes_written done.bytes_written (unfinished_file last.0.state.fonts last.0.pages) (λ bytes. bytes ≡ unfinished_file last.0.state.fonts last.0.pages) (last.2.written running).bytes_written refl;
     }
 
 -- What its device made of the bytes that it was to meet.
 pub was_run_past : (files : List NamedBytes) (commands : List Command) (replies : List Reply) (end : Result Summary Refusal) (job run done : JobView)
     → (holds : Represents job (first_machine files)) → (runs : RunsTo job commands replies run) → (finishes : FinishesTo run end done) → done.began ≡ job.began
-    → KeepsPast job.began (due (finishes (runs (first_machine files) holds).0 (runs (first_machine files) holds).2).0) done.past
+    → KeepsPast job.began (due_bytes (finishes (runs (first_machine files) holds).0 (runs (first_machine files) holds).2).0) done.past
 was_run_past files commands replies end job run done holds runs finishes began =
     let middle = runs (first_machine files) holds in
     let last = finishes middle.0 middle.2 in
-    subst (λ (p : Past). KeepsPast p (due last.0) done.past) began last.2.past
+    subst (λ (p : Past). KeepsPast p (due_bytes last.0) done.past) began last.2.past
 
 -- A run of which this is known stays one if the numbers and bytes of its device are replaced by equal ones.
 pub same_run_with : (files : List NamedBytes) (n n' : ℕ) (commands : List Command) (replies : List Reply) (end : Result Summary Refusal) (k k' : ℕ) (bytes_written bytes_written' : Option (List ℕ))
@@ -263,9 +263,9 @@ module _ {D : Type 0} (bytes_written : D → Option (List ℕ)) (failed : D → 
       → ((all : List ℕ) → IfSome (written_by bytes_written rest) (λ bytes. bytes ≡ all) → IsFrontOf rest.sent all
       → bytes_written inner ≡ written_then (bytes_written rest.start) (drop (length rest.sent) all))
       → (ran : RanScript text files (failed device) (failed inner + rest.failures) (written_by bytes_written rest) answer fine)
-      → KeepsPast (past_by bytes_written failed start) (due ran.run.last) (past_by bytes_written failed rest) → RanOverRest text files sent (seen device) (seen inner) answer fine
+      → KeepsPast (past_by bytes_written failed start) (due_bytes ran.run.last) (past_by bytes_written failed rest) → RanOverRest text files sent (seen device) (seen inner) answer fine
   ran_over_rest text files answer fine got ran keeps =
-      let own = own_failures (due ran.run.last) keeps in
+      let own = own_failures (due_bytes ran.run.last) keeps in
       let m = ran.run.middle in
       let all = whole m.state.fonts m.pages in
       record {
@@ -275,7 +275,7 @@ module _ {D : Type 0} (bytes_written : D → Option (List ℕ)) (failed : D → 
         ran = ran;
         own = own;
         lossless = λ file front goes unfailed.
-            let none = none_own (due ran.run.last) file own front goes in
+            let none = none_own (due_bytes ran.run.last) file own front goes in
             let first = run_rises (first_machine files) (failed device) (commands_of ran.lines) ran.replies m ran.run.failed ran.run.ran in
             let last = end_rises m ran.run.failed ran.end ran.run.last (failed inner + rest.failures) ran.run.finished in
             let runs = run_kept (first_machine files) (failed device) (commands_of ran.lines) ran.replies m ran.run.failed ran.run.ran (omega (arith, last, none, unfailed)) refl in
@@ -287,7 +287,7 @@ module _ {D : Type 0} (bytes_written : D → Option (List ℕ)) (failed : D → 
   -- The same for a run whose device counts from n to k.
   abbrev Counted : (text : List ℕ) → (files : List NamedBytes) → (answer : List ℕ) → (fine : Bool) → (n k : ℕ) → Type 0
   Counted text files answer fine n k = (ran : RanScript text files n k (written_by bytes_written rest) answer fine)
-      → KeepsPast (past_by bytes_written failed start) (due ran.run.last) (past_by bytes_written failed rest) → RanOverRest text files sent (seen device) (seen inner) answer fine
+      → KeepsPast (past_by bytes_written failed start) (due_bytes ran.run.last) (past_by bytes_written failed rest) → RanOverRest text files sent (seen device) (seen inner) answer fine
 
   -- A script that was run on it was run over the rest of a file.
   over_rest_on : (text : List ℕ) (files : List NamedBytes) (answer : List ℕ) (fine : Bool)

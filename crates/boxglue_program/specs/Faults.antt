@@ -11,22 +11,22 @@ use Rattle.job_machine.specs.declared.replies.Refusal.TheVariants as refusals
 use Rattle.boxglue_program.specs.Texts.{refusal_line}
 
 -- The name of a rule of a DVI file.
-abbrev pub cause_name : DviCause → List ℕ
-cause_name Trailer = codes "Trailer"
-cause_name Version = codes "Version"
-cause_name Opcode = codes "Opcode"
-cause_name Pointer = codes "Pointer"
-cause_name Count = codes "Count"
-cause_name Preamble = codes "Preamble"
-cause_name Truncated = codes "Truncated"
-cause_name Stack = codes "Stack"
-cause_name Font = codes "Font"
-cause_name Glyph = codes "Glyph"
-cause_name Range = codes "Range"
+abbrev pub dvi_cause_name : DviCause → List ℕ
+dvi_cause_name Trailer = codes "Trailer"
+dvi_cause_name Version = codes "Version"
+dvi_cause_name Opcode = codes "Opcode"
+dvi_cause_name Pointer = codes "Pointer"
+dvi_cause_name Count = codes "Count"
+dvi_cause_name Preamble = codes "Preamble"
+dvi_cause_name Truncated = codes "Truncated"
+dvi_cause_name Stack = codes "Stack"
+dvi_cause_name Font = codes "Font"
+dvi_cause_name Glyph = codes "Glyph"
+dvi_cause_name Range = codes "Range"
 
 -- The line of a broken rule: its place and its name.
 unfoldable pub bad_line : BadDvi → List ℕ
-bad_line bad = codes "refused 20 BadDvi " ++ (decimal bad.place ++ (codes " " ++ (cause_name bad.cause ++ codes "\n")))
+bad_line bad = codes "refused 20 BadDvi " ++ (decimal bad.place ++ (codes " " ++ (dvi_cause_name bad.cause ++ codes "\n")))
 
 -- The line of a refusal. Those that a job has too have its numbers and names.
 unfoldable pub fault_line : DviFault → List ℕ

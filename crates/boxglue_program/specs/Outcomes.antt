@@ -18,20 +18,20 @@ outcome_of (Ok answer) = Accepted
 outcome_of (Err refusal) = refusal_outcome refusal
 
 -- What was refused of both: refused memory outweighs other refusals, and these outweigh none.
-abbrev pub worse : Outcome → Outcome → Outcome
-worse Accepted other = other
-worse Refused Accepted = Refused
-worse Refused other = other
-worse LackedMemory other = LackedMemory
+abbrev pub worse_outcome : Outcome → Outcome → Outcome
+worse_outcome Accepted other = other
+worse_outcome Refused Accepted = Refused
+worse_outcome Refused other = other
+worse_outcome LackedMemory other = LackedMemory
 
 -- What was refused of the commands with these replies.
 abbrev pub replies_outcome : List Reply → Outcome
 replies_outcome [] = Accepted
-replies_outcome (reply ∷ rest) = worse (outcome_of reply) (replies_outcome rest)
+replies_outcome (reply ∷ rest) = worse_outcome (outcome_of reply) (replies_outcome rest)
 
 -- What was refused of a run with these replies and this end.
 abbrev pub run_outcome : List Reply → Result Summary Refusal → Outcome
-run_outcome replies end = worse (replies_outcome replies) (outcome_of end)
+run_outcome replies end = worse_outcome (replies_outcome replies) (outcome_of end)
 
 -- Nothing was refused.
 abbrev pub is_accepting : Outcome → Bool

@@ -6,7 +6,7 @@ use Rattle.dvi_read.specs.Opened.{IsNoFile, Opened}
 use Rattle.dvi_read.specs.Opening.{IsDviFault}
 use Rattle.dvi_read.specs.declared.fault.DviFault.{DviFault}
 use Rattle.dvi_read.specs.declared.fault.DviFault.TheVariants.{OutOfMemory}
-use Rattle.raster_core.specs.Pictures.{PixelGrid, painted, white}
+use Rattle.raster_core.specs.Pictures.{PixelGrid, painted_picture, white}
 use Rattle.raster_core.specs.Pixels.{is_covered, scale_of}
 use Rattle.raster_core.specs.PlainText.{pbm}
 use Rattle.raster_core.specs.Sheets.{Sheet}
@@ -37,14 +37,14 @@ pub record Paints (files : List NamedBytes) (bytes : List ℕ) (sheet : Sheet) (
   pub shown : MarkedPage
   pub page_is : slice_get pages (sheet.page - 1) ≡ Some shown
   pub text_is : text
-      ≡ pbm (painted (is_covered (scale_of file.frame.stop.units sheet.dpi) shown.marks) (white sheet.width sheet.height))
+      ≡ pbm (painted_picture (is_covered (scale_of file.frame.stop.units sheet.dpi) shown.marks) (white sheet.width sheet.height))
   pub accepted_is : accepted ≡ true
 
 -- The picture is this page, counted from 1, of an opened file: its rules black, the rest white.
 pub record ShowsPage (dvi : Opened) (sheet : Sheet) (picture : PixelGrid) : Type 0 where
   pub shown : MarkedPage
   pub page_is : slice_get dvi.pages (sheet.page - 1) ≡ Some shown
-  pub picture_is : picture ≡ painted (is_covered (scale_of dvi.units sheet.dpi) shown.marks) (white sheet.width sheet.height)
+  pub picture_is : picture ≡ painted_picture (is_covered (scale_of dvi.units sheet.dpi) shown.marks) (white sheet.width sheet.height)
 
 -- The bytes are a file that has no such page.
 pub record LacksPage (files : List NamedBytes) (bytes : List ℕ) (page : ℕ) : Type 0 where

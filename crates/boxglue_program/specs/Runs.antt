@@ -14,9 +14,9 @@ use Rattle.dvi_device.specs.Pasts.{Differs, KeepsPast}
 use Rattle.dvi_device.specs.Seen.{DeviceView, device_view}
 use Rattle.dvi_device.specs.Resumed.{PassesOn}
 use Rattle.dvi_ops.specs.Fonts.{WidthsByName}
-use Rattle.dvi_write.specs.Layout.{front, whole}
+use Rattle.dvi_write.specs.Layout.{unfinished_file, whole}
 use Rattle.dvi_write.specs.Shippable.{IsFileOfPages}
-use Rattle.job_core.specs.Jobs.{due}
+use Rattle.job_core.specs.Jobs.{due_bytes}
 use Rattle.job_core.specs.Shown.{GivesFiles}
 use Rattle.dvi_write.specs.Closing.{IsClosedFor}
 use Rattle.dvi_device.specs.Held.{MemoryState, new_memory}
@@ -50,7 +50,7 @@ IsProperFrontOf front whole = (n : ℕ) × (n < length whole) × (front ≡ take
 abbrev pub IsSentPart : Machine → List ℕ → Type 0
 IsSentPart m bytes =
     ((m.flight ≡ []) × ((bytes ≡ whole m.state.fonts m.pages) ⊎ IsProperFrontOf bytes (whole m.state.fonts m.pages)))
-    ⊎ ((m.flight ≢ []) × IsProperFrontOf bytes (front m.state.fonts (m.pages ++ m.flight)))
+    ⊎ ((m.flight ≢ []) × IsProperFrontOf bytes (unfinished_file m.state.fonts (m.pages ++ m.flight)))
 
 -- A new job with these font files ran these commands with these replies, and was then finished with this end. The count of failures of its device
 -- went from n to k, and the device then reported these bytes. If the end succeeded, they are a DVI file of exactly the machine's pages, by the
@@ -70,8 +70,8 @@ pub record WasRun (files : List NamedBytes) (n : ℕ) (commands : List Command) 
   pub size : IfOk end (λ summary. IfSome bytes_written (λ bytes. summary.bytes ≡ length bytes))
   pub count : IfOk end (λ summary. summary.bytes ≡ length (whole middle.state.fonts middle.pages))
   pub closed : middle.pages ≢ [] → OnOk end (IfSome bytes_written (λ bytes. IsClosedFor middle.state.fonts bytes middle.pages))
-  pub sent : last.state.over ≡ false → IfSome bytes_written (λ bytes. bytes ≡ front last.state.fonts last.pages)
-  pub held : IfSome bytes_written (λ bytes. IsFrontOf (front last.state.fonts last.pages) bytes)
+  pub sent : last.state.over ≡ false → IfSome bytes_written (λ bytes. bytes ≡ unfinished_file last.state.fonts last.pages)
+  pub held : IfSome bytes_written (λ bytes. IsFrontOf (unfinished_file last.state.fonts last.pages) bytes)
   pub front : end ≡ Err refusals.Device → IfSome bytes_written (λ bytes. IsProperFrontOf bytes (whole middle.state.fonts middle.pages))
   pub part : last.state.over ≡ true → IfSome bytes_written (IsSentPart last)
 
@@ -102,7 +102,7 @@ fault_view seen (Answers back) = Answers (seen back)
 -- A script was run on a device. If this has one more failure of its own, the bytes of the run differ from those that it was to meet.
 pub record RanOn {D : Type 0} (text : List ℕ) (files : List NamedBytes) (device back : DeviceView D) (answer : List ℕ) (fine : Bool) : Type 0 where
   pub ran : RanScript text files device.failed back.failed back.bytes_written answer fine
-  pub past : KeepsPast device.past (due ran.run.last) back.past
+  pub past : KeepsPast device.past (due_bytes ran.run.last) back.past
 
 -- The answer to a script, and the device after it: the answers and the device on which the script was run; or the one line and the device as it was.
 abbrev pub IsAnswered : {D : Type 0} → List ℕ → List NamedBytes → (device back : DeviceView D) → (answer : List ℕ) → (fine : Bool) → Type 0
@@ -197,8 +197,8 @@ pub record RanOverRest {D : Type 0} (text : List ℕ) (files : List NamedBytes) 
   pub differing : ℕ
   pub passes_on : PassesOn sent device.bytes_written back.bytes_written reported
   pub ran : RanScript text files device.failed (back.failed + differing) reported answer fine
-  pub own : (differing ≡ 0) ⊎ ((differing ≡ 1) × Differs sent (due ran.run.last))
-  pub lossless : (file : List ℕ) → IsFrontOf sent file → IsFrontOf (due ran.run.last) file → back.failed ≡ device.failed
+  pub own : (differing ≡ 0) ⊎ ((differing ≡ 1) × Differs sent (due_bytes ran.run.last))
+  pub lossless : (file : List ℕ) → IsFrontOf sent file → IsFrontOf (due_bytes ran.run.last) file → back.failed ≡ device.failed
       → NeverLost ran.replies ran.end
   pub rest : let all = whole ran.run.middle.state.fonts ran.run.middle.pages in
       IsFrontOf sent all → OnOk ran.end (back.bytes_written ≡ written_then device.bytes_written (drop (length sent) all))

@@ -1,7 +1,7 @@
 //! The lines of refusals.
 
 ghost use Rattle.std.specs.Prelude.{◌≡◌, ◌++◌, OnOk};
-ghost use Rattle.boxglue_program.specs.Faults.{bad_line, cause_name, fault_line};
+ghost use Rattle.boxglue_program.specs.Faults.{bad_line, dvi_cause_name, fault_line};
 
 use crate::{push_number, push_refusal_line, push_text};
 use dvi_read::DviFault;
@@ -10,8 +10,8 @@ use job_machine::Refusal;
 use std::alloc::AllocError;
 
 /// The name of a rule of a DVI file.
-fn cause_name(cause: DviCause) -> &'static str
-    ensures { result.now ≡ cause_name cause }
+fn dvi_cause_name(cause: DviCause) -> &'static str
+    ensures { result.now ≡ dvi_cause_name cause }
 {
     match cause {
         DviCause::Trailer => "Trailer",
@@ -36,7 +36,7 @@ fn push_bad(bad: &BadDvi, out: &mut Vec<u8>) -> Result<(), AllocError>
     push_text("refused 20 BadDvi ", out)?;
     push_number(bad.place as u64, out)?;
     push_text(" ", out)?;
-    push_text(cause_name(bad.cause), out)?;
+    push_text(dvi_cause_name(bad.cause), out)?;
     push_text("\n", out)
 }
 

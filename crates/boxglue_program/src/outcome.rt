@@ -1,7 +1,7 @@
 //! What was refused of some commands, taken together.
 
 ghost use Rattle.std.specs.Prelude.{◌≡◌};
-ghost use Rattle.boxglue_program.specs.Outcomes.{is_accepting, outcome_of, refusal_outcome, worse};
+ghost use Rattle.boxglue_program.specs.Outcomes.{is_accepting, outcome_of, refusal_outcome, worse_outcome};
 
 use job_core::Refusal;
 
@@ -39,7 +39,7 @@ impl Outcome {
 
     /// What was refused of both.
     pub fn worse(self, other: Outcome) -> Outcome
-        ensures { result ≡ worse self other }
+        ensures { result ≡ worse_outcome self other }
     {
         match self {
             Outcome::Accepted => other,

@@ -7,7 +7,7 @@ ghost use Rattle.dvi_scan.specs.View.{marked_page};
 ghost use Rattle.boxglue_program.specs.Faults.{fault_line};
 ghost use Rattle.boxglue_program.specs.declared.output.PaintFault.TheVariants.{OutOfMemory};
 ghost use Rattle.boxglue_program.specs.Outputs.{IsListed, IsPainted, LacksPage, ShowsPage};
-ghost use Rattle.raster_core.specs.Pictures.{painted, white};
+ghost use Rattle.raster_core.specs.Pictures.{painted_picture, white};
 ghost use Rattle.raster_core.specs.Pixels.{is_covered, scale_of};
 
 use crate::faults::push_fault;
@@ -98,7 +98,7 @@ fn painted_page(
 ) -> Result<Bitmap, AllocError>
     requires { AreUnits (units_of units) }
     ensures { IfOk result (λ bitmap. bitmap
-        ≡ painted (is_covered (scale_of (units_of units) sheet.dpi) (marked_page page.now).marks) (white sheet.width sheet.height)) }
+        ≡ painted_picture (is_covered (scale_of (units_of units) sheet.dpi) (marked_page page.now).marks) (white sheet.width sheet.height)) }
 {
     let Ok(mut bitmap) = Bitmap::new(alloc, sheet.width(), sheet.height()) else {
         return Err(AllocError);

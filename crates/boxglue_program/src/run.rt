@@ -9,10 +9,10 @@ ghost use Rattle.job_machine.specs.Reply.{Reply};
 ghost use Rattle.dvi_device.specs.Pasts.{KeepsPast};
 ghost use Rattle.dvi_device.specs.Seen.{device_view};
 ghost use Rattle.dvi_write.specs.Writing.{GoesOn};
-ghost use Rattle.job_core.specs.Jobs.{RunsTo, due, writing_of};
+ghost use Rattle.job_core.specs.Jobs.{RunsTo, due_bytes, writing_of};
 ghost use Rattle.boxglue_program.specs.Texts.{answer_line, answer_lines, answers_text, end_line};
 ghost use Rattle.boxglue_script.specs.Blocks.{lines_of};
-ghost use Rattle.boxglue_program.specs.Outcomes.{replies_outcome, run_outcome, worse};
+ghost use Rattle.boxglue_program.specs.Outcomes.{replies_outcome, run_outcome, worse_outcome};
 ghost use Rattle.boxglue_program.specs.Runs.{commands_of, line_numbers, fault_view, WasRun, IsAnswered, IsUnanswered, IsLeft, IsAnswerOfRest};
 ghost use Rattle.boxglue_program.specs.Runs.{IsAnsweredOverRest, IsLeftOverRest};
 
@@ -181,7 +181,7 @@ pub fn run_whole<D: Device>(
     requires fresh { IfSome (D.bytes_written device) (λ bytes. bytes ≡ []) }
     ensures ran { IfOk result (λ ran. (replies : List Reply) × (end : Result ASummary ARefusal)
         × (run : WasRun files.now (D.failed device) (commands_of (lines_of lines)) replies end (D.failed ran.device) (D.bytes_written ran.device))
-        × KeepsPast (D.past device) (due run.last) (D.past ran.device)
+        × KeepsPast (D.past device) (due_bytes run.last) (D.past ran.device)
         × IfSome ran.answers (λ text. text.items ≡ answers_text (line_numbers (lines_of lines)) replies end)
         × (ran.outcome ≡ run_outcome replies end)) }
     ensures none { IfErr result (λ back. back ≡ device) }
@@ -221,7 +221,7 @@ pub struct LinesRun {
 impl LinesRun {
     /// How lines were run of which some were run so and the others after them so.
     fn then(self, next: LinesRun) -> LinesRun
-        ensures outcome { result.outcome ≡ worse self.outcome next.outcome }
+        ensures outcome { result.outcome ≡ worse_outcome self.outcome next.outcome }
         ensures kept { result.kept ≡ true → (self.kept ≡ true) × (next.kept ≡ true) }
     {
         LinesRun {

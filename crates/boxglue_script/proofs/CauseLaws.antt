@@ -12,7 +12,7 @@ use Rattle.boxglue_script.specs.declared.name.Name.TheVariants as names
 use Rattle.boxglue_script.specs.Private.Names.{box_name, register_name, item_name, name_of}
 use Rattle.boxglue_script.specs.Grammar.{register_count, slot_count, character_count}
 use Rattle.boxglue_script.specs.Causes.{IsWord, GivesSize, IsFieldCause}
-use Rattle.boxglue_script.specs.Private.Reading.{dimension_or, map_ok, size_of, no_field_left, last_number, last_dimension, last_penalty, right_and, unboxing, rule_of, command_named, named_by, command_of, value_first}
+use Rattle.boxglue_script.specs.Private.Reading.{dimension_or, map_ok, size_of, no_field_left, last_number, last_dimension, last_penalty, right_and, unboxing_command, rule_of, command_named, named_by, command_of, value_first}
 use Rattle.scaled_core.specs.declared.fault.DimenFault.{DimenFault}
 use Rattle.scaled_core.specs.ParsedTexts.{read_dimension}
 use Rattle.boxglue_script.proofs.NameLaws.{name_text, name_written, named}
@@ -174,7 +174,7 @@ named_cause names.Kern rest cause h = kern_cause rest cause h
 named_cause names.Glue rest cause h = glue_cause rest cause (named names.Glue rest ∙ h)
 named_cause names.Penalty rest cause h = penalties_cause rest cause h
 named_cause (names.Append taking) rest cause h = append_cause taking rest cause (named (names.Append taking) rest ∙ h)
-named_cause (names.Unbox kind taking) rest cause h = alone_cause register_count (omega arith) (names.Unbox kind taking) (unboxing kind taking) rest cause (λ fields. refl) h
+named_cause (names.Unbox kind taking) rest cause h = alone_cause register_count (omega arith) (names.Unbox kind taking) (unboxing_command kind taking) rest cause (λ fields. refl) h
 named_cause names.LastBox rest cause h = alone_cause register_count (omega arith) names.LastBox LastBox rest cause (λ fields. refl) h
 named_cause names.Split rest cause h = split_cause rest cause (named names.Split rest ∙ h)
 named_cause names.Measure rest cause h = alone_cause register_count (omega arith) names.Measure Measure rest cause (λ fields. refl) h

@@ -18,8 +18,8 @@ use Rattle.boxglue_script.specs.declared.name.Name.TheVariants as names
 use Rattle.boxglue_script.specs.Private.Names.{name_of}
 use Rattle.boxglue_script.specs.ParameterNames.{first_lines_text, size_name, skip_name, number_name}
 use Rattle.boxglue_script.specs.Private.ParameterNames.{names_first_lines}
-use Rattle.boxglue_script.specs.Grammar.{register_count, slot_count, character_count, count_count, first_lines_count, IsNumberAmong, IsCount, IsDimension, form_text, IsTarget, taking_text, unboxing_text, SaysParameter, SaysCommand}
-use Rattle.boxglue_script.specs.Private.Reading.{rest_of, some_or, count_of, last_count, counting, counting_of, number_first, dimension_first, map_ok, no_field_left, last_number, last_dimension, right_and, font_of, rule_of, last_penalty, opening, opening_with_register, opening_into, opening_with_size, opening_of, append, shift_of, append_of, unboxing, split, split_into, split_height, split_to, split_of, glue_of, parameter_by, parameter_of, command_named, named_by, command_of, last_value, value_first}
+use Rattle.boxglue_script.specs.Grammar.{register_count, slot_count, character_count, counter_count, first_lines_count, IsNumberAmong, IsCount, IsDimension, form_text, IsTarget, taking_text, unboxing_text, SaysParameter, SaysCommand}
+use Rattle.boxglue_script.specs.Private.Reading.{rest_of, some_or, count_of, last_count, count_command, counting_of, number_first, dimension_first, map_ok, no_field_left, last_number, last_dimension, right_and, font_of, rule_of, last_penalty, opening_command, opening_with_register, opening_into, opening_with_size, opening_of, append, shift_of, append_of, unboxing_command, split, split_into, split_height, split_to, split_of, glue_of, parameter_by, parameter_of, command_named, named_by, command_of, last_value, value_first}
 use Rattle.boxglue_script.proofs.FieldLaws.{same_bytes}
 use Rattle.boxglue_script.proofs.CountNumbers.{writes_count}
 use Rattle.boxglue_script.proofs.NameLaws.{name_text, name_written}
@@ -32,7 +32,7 @@ along fields c d e h = let P : Command → Type 0 = λ x. SaysCommand fields x i
 says_open : (form : BoxForm) (target : Target) (size : List (List ℕ)) (rest : List (List ℕ)) (command : Command) → IsTarget size target → opening_with_register form target rest ≡ Ok command → SaysCommand (form_text form ∷ (size ++ codes "into" ∷ rest)) command
 unfolding opening_with_register
 says_open form target size rest command is h =
-    let make = made (λ register. opening form target (Some register)) (last_number register_count rest) command h in
+    let make = made (λ register. opening_command form target (Some register)) (last_number register_count rest) command h in
     let last = number_last register_count rest make.0 make.1 in
     along _ _ _ make.2 (size, codes "into" ∷ last.0 ∷ [], ap (λ (xs : List (List ℕ)). form_text form ∷ (size ++ codes "into" ∷ xs)) last.1, is, (last.0, refl, last.2))
 
@@ -46,7 +46,7 @@ into_by form target size w rest command false e is h = let s : Err Word ≡ Ok c
 says_into : (form : BoxForm) (target : Target) (size : List (List ℕ)) (rest : List (List ℕ)) (command : Command) → IsTarget size target → opening_into form target rest ≡ Ok command → SaysCommand (form_text form ∷ (size ++ rest)) command
 unfolding opening_into
 says_into form target size [] command is h =
-    let e : opening form target None ≡ command = cc in
+    let e : opening_command form target None ≡ command = cc in
     along _ _ _ e (size, [], refl, is, refl)
 says_into form target size (w ∷ rest) command is h = into_by form target size w rest command (bytes_eq w (codes "into")) refl is h
 
@@ -76,7 +76,7 @@ by_into form w rest command false e h = by_to form w rest command (bytes_eq w (c
 says_opening : (form : BoxForm) (rest : List (List ℕ)) (command : Command) → opening_of form rest ≡ Ok command → SaysCommand (form_text form ∷ rest) command
 unfolding opening_of
 says_opening form [] command h =
-    let e : opening form Natural None ≡ command = cc in
+    let e : opening_command form Natural None ≡ command = cc in
     along _ _ _ e ([], [], refl, refl, refl)
 says_opening form (w ∷ rest) command h = by_into form w rest command (bytes_eq w (codes "into")) refl h
 
@@ -159,9 +159,9 @@ count_last (f ∷ rest) z h =
 says_count : (rest : List (List ℕ)) (command : Command) → counting_of rest ≡ Ok command → SaysCommand (codes "count" ∷ rest) command
 unfolding counting_of
 says_count rest command h =
-    let read = then_read (number_first count_count rest) (λ count. map_ok (counting count) (last_count (rest_of rest))) command h in
-    let i = number_read count_count rest read.0 read.1 in
-    let m = made (counting read.0) (last_count (rest_of rest)) command read.2 in
+    let read = then_read (number_first counter_count rest) (λ count. map_ok (count_command count) (last_count (rest_of rest))) command h in
+    let i = number_read counter_count rest read.0 read.1 in
+    let m = made (count_command read.0) (last_count (rest_of rest)) command read.2 in
     let last = count_last (rest_of rest) m.0 m.1 in
     let all : rest ≡ i.0 ∷ last.0 ∷ [] = i.1 ∙ ap (λ (xs : List (List ℕ)). i.0 ∷ xs) last.1 in
     along _ _ _ m.2 (i.0, last.0, ap (λ (xs : List (List ℕ)). codes "count" ∷ xs) all, i.2, last.2)
@@ -266,7 +266,7 @@ says_named names.Kern rest command h = says_kern rest command h
 says_named names.Glue rest command h = says_glue rest command h
 says_named names.Penalty rest command h = says_penalty rest command h
 says_named (names.Append taking) rest command h = says_append taking rest command h
-says_named (names.Unbox kind taking) rest command h = says_alone register_count (unboxing_text kind taking) rest (unboxing kind taking) command (λ r n is. (r, refl, is)) h
+says_named (names.Unbox kind taking) rest command h = says_alone register_count (unboxing_text kind taking) rest (unboxing_command kind taking) command (λ r n is. (r, refl, is)) h
 says_named names.LastBox rest command h = says_alone register_count (codes "lastbox") rest LastBox command (λ r n is. (r, refl, is)) h
 says_named names.Split rest command h = says_split rest command h
 says_named names.Measure rest command h = says_alone register_count (codes "measure") rest Measure command (λ r n is. (r, refl, is)) h

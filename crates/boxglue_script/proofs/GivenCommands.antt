@@ -12,8 +12,8 @@ use Rattle.job_machine.specs.declared.command.Command.{Command}
 use Rattle.job_machine.specs.declared.command.Command.TheVariants.{LoadFont, UseFont, Open, Paragraph, End, Text, Character, Rule, Kern, Glue, Penalty, Append, Unbox, LastBox, Split, Measure, Void, Set, Count, Special, Ship}
 use Rattle.boxglue_script.specs.declared.name.Name.TheVariants as names
 use Rattle.boxglue_script.specs.declared.amounts.Amount.{Amount}
-use Rattle.boxglue_script.specs.Grammar.{register_count, slot_count, character_count, count_count, first_lines_count, IsCountNumber, IsCount, IsNumberAmong, IsRegister, IsChosenSize, IsTarget, IsDestination, IsShift, IsDimension, IsAmount, IsGluePart, IsGlue, SaysParameter, SaysCommand}
-use Rattle.boxglue_script.specs.Private.Reading.{counting, counting_of, size_of_font_first, name_first, map_ok, last_number, chosen_size_of, font_of, rule_of, amount, last_amount, opening, opening_with_register, opening_into, opening_with_size, opening_of, append, shift_of, append_of, unboxing, split, split_into, split_height, split_to, split_of, no_amount, glue, last_shrink_of, shrink_of, parts_of, glue_of, parameter_of, command_named, command_of, last_value, value_first}
+use Rattle.boxglue_script.specs.Grammar.{register_count, slot_count, character_count, counter_count, first_lines_count, IsCountNumber, IsCount, IsNumberAmong, IsRegister, IsChosenSize, IsTarget, IsDestination, IsShift, IsDimension, IsAmount, IsGluePart, IsGlue, SaysParameter, SaysCommand}
+use Rattle.boxglue_script.specs.Private.Reading.{count_command, counting_of, size_of_font_first, name_first, map_ok, last_number, chosen_size_of, font_of, rule_of, amount, last_amount, opening_command, opening_with_register, opening_into, opening_with_size, opening_of, append, shift_of, append_of, unboxing_command, split, split_into, split_height, split_to, split_of, no_amount, glue, last_shrink_of, shrink_of, parts_of, glue_of, parameter_of, command_named, command_of, last_value, value_first}
 use Rattle.boxglue_script.proofs.AmountLaws.{amount_given}
 use Rattle.boxglue_script.proofs.FieldLaws.{number_written, penalty_written, dimension_read, size_given, font_named, size_of_font_is}
 use Rattle.boxglue_script.proofs.CountNumbers.{count_written}
@@ -32,18 +32,18 @@ chosen_size_given fields None h = rw h refl
 chosen_size_given fields (Some z) (d, e, h) = rw (e, dimension_read d z h.dimension, size_of_font_is z h.size) refl
 
 -- What follows a size.
-destination_given : (form : BoxForm) (target : Target) (fields : List (List ℕ)) (into : Option ℕ) → IsDestination fields into → opening_into form target fields ≡ Ok (opening form target into)
+destination_given : (form : BoxForm) (target : Target) (fields : List (List ℕ)) (into : Option ℕ) → IsDestination fields into → opening_into form target fields ≡ Ok (opening_command form target into)
 unfolding opening_into opening_with_register
 destination_given form target fields None h = rw h refl
-destination_given form target fields (Some n) (r, e, h) = rw e (number_alone register_count (λ register. opening form target (Some register)) r n h)
+destination_given form target fields (Some n) (r, e, h) = rw e (number_alone register_count (λ register. opening_command form target (Some register)) r n h)
 
-natural_given : (form : BoxForm) (fields : List (List ℕ)) (into : Option ℕ) → IsDestination fields into → opening_of form fields ≡ Ok (opening form Natural into)
+natural_given : (form : BoxForm) (fields : List (List ℕ)) (into : Option ℕ) → IsDestination fields into → opening_of form fields ≡ Ok (opening_command form Natural into)
 unfolding opening_of opening_with_register
 natural_given form fields None h = rw h refl
-natural_given form fields (Some n) (r, e, h) = rw e (number_alone register_count (λ register. opening form Natural (Some register)) r n h)
+natural_given form fields (Some n) (r, e, h) = rw e (number_alone register_count (λ register. opening_command form Natural (Some register)) r n h)
 
 -- A size and what follows it.
-opening_given : (form : BoxForm) (size : List (List ℕ)) (target : Target) (fields : List (List ℕ)) (into : Option ℕ) → IsTarget size target → IsDestination fields into → opening_of form (size ++ fields) ≡ Ok (opening form target into)
+opening_given : (form : BoxForm) (size : List (List ℕ)) (target : Target) (fields : List (List ℕ)) (into : Option ℕ) → IsTarget size target → IsDestination fields into → opening_of form (size ++ fields) ≡ Ok (opening_command form target into)
 unfolding opening_of opening_with_size value_first
 opening_given form size Natural fields into e h = rw e (natural_given form fields into h)
 opening_given form size (To z) fields into (d, e, is) h = rw (e, dimension_read d z is) (destination_given form (To z) fields into h)
@@ -63,9 +63,9 @@ split_given : (r : List ℕ) (n : ℕ) (d : List ℕ) (z : ℤ) (q : List ℕ) (
 unfolding split_of split_to split_height split_into value_first
 split_given r n d z q m h is at = rw (number_written register_count r n h, dimension_read d z is) (number_alone register_count (split n z) q m at)
 
-counting_given : (i : List ℕ) (count : ℕ) (n : List ℕ) (value : ℤ) → IsCountNumber i count → IsCount n value → counting_of (i ∷ n ∷ []) ≡ Ok (counting count value)
+counting_given : (i : List ℕ) (count : ℕ) (n : List ℕ) (value : ℤ) → IsCountNumber i count → IsCount n value → counting_of (i ∷ n ∷ []) ≡ Ok (count_command count value)
 unfolding counting_of value_first last_value
-counting_given i count n value h is = rw (number_written count_count i count h, count_written n value is) refl
+counting_given i count n value h is = rw (number_written counter_count i count h, count_written n value is) refl
 
 last_amount_given : (make : Amount → glues.Glue) (x : List ℕ) (order : Order) (z : ℤ) → IsAmount x order z → map_ok make (last_amount (x ∷ [])) ≡ Ok (make (amount order z))
 unfolding last_value value_first
@@ -123,7 +123,7 @@ complete fields (Kern z) (d, e, h) = rw e (named names.Kern (d ∷ []) ∙ (rw (
 complete fields (Glue g) (more, e, h) = rw e (named names.Glue more ∙ (rw (glue_given more g h) refl))
 complete fields (Penalty z) (p, e, h) = rw e (named names.Penalty (p ∷ []) ∙ (rw (penalty_written p z h) refl))
 complete fields (Append taken) (r, more, e, h, is) = rw e (named (names.Append taken.taking) (r ∷ more) ∙ append_given taken.taking r taken.register more taken.shift h is)
-complete fields (Unbox unboxed) (r, e, h) = rw e (named (names.Unbox unboxed.kind unboxed.taking) (r ∷ []) ∙ number_alone register_count (unboxing unboxed.kind unboxed.taking) r unboxed.register h)
+complete fields (Unbox unboxed) (r, e, h) = rw e (named (names.Unbox unboxed.kind unboxed.taking) (r ∷ []) ∙ number_alone register_count (unboxing_command unboxed.kind unboxed.taking) r unboxed.register h)
 complete fields (LastBox n) (r, e, h) = rw e (named names.LastBox (r ∷ []) ∙ number_alone register_count LastBox r n h)
 complete fields (Split splitting) (r, d, q, e, from, height, into) =
     rw e (named names.Split (r ∷ codes "to" ∷ d ∷ codes "into" ∷ q ∷ []) ∙ split_given r splitting.register d splitting.height q splitting.into from height into)

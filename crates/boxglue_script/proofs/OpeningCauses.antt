@@ -13,7 +13,7 @@ use Rattle.boxglue_script.specs.declared.cause.Cause.TheVariants.{Word, Missing,
 use Rattle.boxglue_script.specs.declared.name.Name.TheVariants as names
 use Rattle.boxglue_script.specs.Grammar.{register_count, form_text}
 use Rattle.boxglue_script.specs.Causes.{IsWord, IsFieldCause}
-use Rattle.boxglue_script.specs.Private.Reading.{last_number, map_ok, opening, opening_with_register, opening_into, opening_with_size, opening_of, command_named, command_of, last_value, value_first}
+use Rattle.boxglue_script.specs.Private.Reading.{last_number, map_ok, opening_command, opening_with_register, opening_into, opening_with_size, opening_of, command_named, command_of, last_value, value_first}
 use Rattle.boxglue_script.proofs.FieldLaws.{same_bytes}
 use Rattle.boxglue_script.proofs.NameLaws.{named}
 use Rattle.boxglue_script.proofs.CauseForms.{missing, has_bad_elsewhere, as_cause, not_made, zero_text, zero_names, zero_dimension, into_is_word, letter, letter_no_dimension, no_dimension_cause, number_cause}
@@ -24,10 +24,10 @@ opening_named form rest = named (names.Open form) rest
 
 -- The opening of a list for a register, and for the enclosing list.
 abbrev for_register : BoxForm → Target → ℕ → Command
-for_register form target register = opening form target (Some register)
+for_register form target register = opening_command form target (Some register)
 
 abbrev for_list : BoxForm → Target → Command
-for_list form target = opening form target None
+for_list form target = opening_command form target None
 
 -- The register after a size.
 register_reads : (form : BoxForm) (target : Target) (rest : List (List ℕ)) → opening_with_register form target rest ≡ map_ok (for_register form target) (last_number register_count rest)

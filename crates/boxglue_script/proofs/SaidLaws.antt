@@ -11,7 +11,7 @@ use Rattle.boxglue_script.specs.Causes.{IsCause}
 use Rattle.boxglue_script.specs.Script.{SaysLine, SayFrom}
 use Rattle.boxglue_script.specs.SaidLines.{Says, SayEach, SayOne, IsWhole, lines_said, has_no_bad}
 use Rattle.boxglue_script.specs.declared.script.ScriptFault.TheVariants.{BadScript}
-use Rattle.boxglue_script.specs.Private.Reading.{line_of, Found, lines_then, reads, GivesCommand, ReadsOn, StopsAtLine}
+use Rattle.boxglue_script.specs.Private.Reading.{command_of_line, Found, lines_then, reading_from, GivesCommand, ReadsOn, StopsAtLine}
 use Rattle.boxglue_script.proofs.LineLemmas.{lines_joined}
 use Rattle.boxglue_script.proofs.ScriptLaws.{line_said, line_read, line_fault}
 use Rattle.boxglue_script.proofs.OneCause.{one_line_cause, not_said}
@@ -27,13 +27,13 @@ pub say_in_pieces : (text more : List ℕ) (first second : List Said) → IsWhol
 say_in_pieces text more first second whole h k =
     subst (λ (all : List (List ℕ)). SayEach all (first ++ second)) (sym (lines_joined text more whole)) (say_joined (lines text) (lines more) first second h k)
 
-fault_by : (line : List ℕ) (cause : Cause) (r : Result ACommand Cause) → line_of line ≡ r → is_passed_over line ≡ false → IsCause cause line → r ≡ Err cause
+fault_by : (line : List ℕ) (cause : Cause) (r : Result ACommand Cause) → command_of_line line ≡ r → is_passed_over line ≡ false → IsCause cause line → r ≡ Err cause
 fault_by line cause (Ok command) e counted holds = absurd (not_said line cause command holds (line_said line command counted e))
 fault_by line cause (Err other) e counted holds = ap Err (one_line_cause line other cause (line_fault line other _ refl e) holds)
 
 -- The cause that holds of a line is the one that is read.
-pub fault_read : (line : List ℕ) (cause : Cause) → is_passed_over line ≡ false → IsCause cause line → line_of line ≡ Err cause
-fault_read line cause counted holds = fault_by line cause (line_of line) refl counted holds
+pub fault_read : (line : List ℕ) (cause : Cause) → is_passed_over line ≡ false → IsCause cause line → command_of_line line ≡ Err cause
+fault_read line cause counted holds = fault_by line cause (command_of_line line) refl counted holds
 
 -- What a line says, by what is read of it.
 said_by : Bool → Result ACommand Cause → Said
@@ -42,9 +42,9 @@ said_by false (Ok command) = Command command
 said_by false (Err cause) = Bad cause
 
 abbrev what_says : List ℕ → Said
-what_says line = said_by (is_passed_over line) (line_of line)
+what_says line = said_by (is_passed_over line) (command_of_line line)
 
-says_by : (line : List ℕ) (b : Bool) (r : Result ACommand Cause) → is_passed_over line ≡ b → line_of line ≡ r → Says line (said_by b r)
+says_by : (line : List ℕ) (b : Bool) (r : Result ACommand Cause) → is_passed_over line ≡ b → command_of_line line ≡ r → Says line (said_by b r)
 unfolding said_by
 says_by line true r e read = e
 says_by line false (Ok command) e read = line_said line command e read
@@ -118,8 +118,8 @@ read_command (Ok command) is = (command, refl)
 read_command (Err cause) is = absurd (cc)
 
 -- A line of which a command is read gives one.
-pub read_gives : (line : List ℕ) → is_passed_over line ≡ false → IsOk (line_of line) → (command : ACommand) × SaysLine line command
-read_gives line counted is = let (command, read) = read_command (line_of line) is in (command, line_said line command counted read)
+pub read_gives : (line : List ℕ) → is_passed_over line ≡ false → IsOk (command_of_line line) → (command : ACommand) × SaysLine line command
+read_gives line counted is = let (command, read) = read_command (command_of_line line) is in (command, line_said line command counted read)
 
 pub on_any_err : {A E : Type 0} {P : Type 0} (r : Result A E) → P → OnErr r P
 on_any_err (Ok x) p = tt
@@ -136,7 +136,7 @@ then_more old line (Ok found) = ap (λ (all : List Line). read_lines all) (sym (
 pub reads_on : (number : ℕ) (line : List ℕ) (old : List Line) (command : ACommand) → SaysLine line command → ReadsOn number line old (old ++ record { number = number; command = command } ∷ [])
 reads_on number line old command h rest =
     let record_is : Line = record { number = number; command = command } in
-    rw (h.counted, line_read line command h) (then_more old record_is (reads (number + 1) rest))
+    rw (h.counted, line_read line command h) (then_more old record_is (reading_from (number + 1) rest))
 
 -- Reading stops at a bad line.
 pub stops_at : (number : ℕ) (line : List ℕ) (old : List Line) (cause : Cause) → is_passed_over line ≡ false → IsCause cause line → StopsAtLine number line old (BadScript number cause)

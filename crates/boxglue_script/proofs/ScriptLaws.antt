@@ -16,7 +16,7 @@ use Rattle.boxglue_script.specs.Private.Names.{box_name, register_name, item_nam
 use Rattle.boxglue_script.specs.Grammar.{SaysCommand}
 use Rattle.boxglue_script.specs.Causes.{IsPrintable, IsFieldCause, IsCause}
 use Rattle.boxglue_script.specs.Script.{IsPassedOver, Gives, SaysLine, SayFrom, IsScript, IsRightLine, IsFirstBad, Explains, IsOneFault, IsRightSoFar}
-use Rattle.boxglue_script.specs.Private.Reading.{front_field, after_field, command_of, kept_text, given, line_of, Found, lines_then, reads_by, reads, GivesCommand, ReadsOn}
+use Rattle.boxglue_script.specs.Private.Reading.{front_field, after_field, command_of, kept_text, given, command_of_line, Found, lines_then, reads_by, reading_from, GivesCommand, ReadsOn}
 use Rattle.boxglue_script.proofs.GivenCommands.{complete}
 use Rattle.boxglue_script.proofs.CommandLaws.{sound}
 use Rattle.boxglue_script.proofs.FieldLaws.{same_bytes, bytes_same}
@@ -73,18 +73,18 @@ given_read line (Special text) h = let read = special_read line text h in rw (re
 given_read line command h = fields_by line command _ _ refl refl h
 
 -- What is read of a line.
-line_by : (line : List ℕ) (command : Command) (b : Bool) → list_all is_printable line ≡ b → line_of line ≡ Ok command → IsPrintable line × Gives line command
-unfolding line_of
+line_by : (line : List ℕ) (command : Command) (b : Bool) → list_all is_printable line ≡ b → command_of_line line ≡ Ok command → IsPrintable line × Gives line command
+unfolding command_of_line
 line_by line command true e h = (e, given_in line command _ _ refl refl (rw e at h))
 line_by line command false e h = let s : Err Byte ≡ Ok command = rw e at h in absurd (cc)
 
-pub line_said : (line : List ℕ) (command : Command) → is_passed_over line ≡ false → line_of line ≡ Ok command → SaysLine line command
+pub line_said : (line : List ℕ) (command : Command) → is_passed_over line ≡ false → command_of_line line ≡ Ok command → SaysLine line command
 line_said line command counted h =
     let said = line_by line command _ refl h in
     record { counted = counted; printable = said.0; says = said.1 }
 
-pub line_read : (line : List ℕ) (command : Command) → SaysLine line command → line_of line ≡ Ok command
-unfolding line_of
+pub line_read : (line : List ℕ) (command : Command) → SaysLine line command → command_of_line line ≡ Ok command
+unfolding command_of_line
 line_read line command h = rw h.printable (given_read line command h.says)
 
 no_text_line : (line text : List ℕ) → bytes_eq (front_field line) (codes "text") ≡ false → bytes_eq (front_field line) (codes "special") ≡ false → HasText line text → ⊥
@@ -99,8 +99,8 @@ given_fault line cause true c e f h = let s : Ok (Text (kept_text line)) ≡ Err
 given_fault line cause false true e f h = let s : Ok (Special (kept_text line)) ≡ Err cause = rw (e, f) at h in absurd (cc)
 given_fault line cause false false e f h = (λ text said. no_text_line line text e f said, cause_holds (fields_of line) cause (rw (e, f) at h))
 
-pub line_fault : (line : List ℕ) (cause : Cause) (b : Bool) → list_all is_printable line ≡ b → line_of line ≡ Err cause → IsCause cause line
-unfolding line_of
+pub line_fault : (line : List ℕ) (cause : Cause) (b : Bool) → list_all is_printable line ≡ b → command_of_line line ≡ Err cause → IsCause cause line
+unfolding command_of_line
 line_fault line cause true e h =
     let fault = given_fault line cause _ _ refl refl (rw e at h) in
     inr (e, fault.0, fault.1)
@@ -114,25 +114,25 @@ after_one : (line : Line) (more : Found) (found : List Line) → lines_then (lin
 after_one line (Err fault) found h = absurd (cc)
 after_one line (Ok rest) found h = (rest, refl, cc)
 
-read_by : (number : ℕ) (line : List ℕ) (r : Result Command Cause) (more : Found) (found : List Line) → line_of line ≡ r → reads_by number r more ≡ Ok found → (command : Command) × (rest : List Line) × (line_of line ≡ Ok command) × (more ≡ Ok rest) × (found ≡ record { number = number; command = command } ∷ rest)
+read_by : (number : ℕ) (line : List ℕ) (r : Result Command Cause) (more : Found) (found : List Line) → command_of_line line ≡ r → reads_by number r more ≡ Ok found → (command : Command) × (rest : List Line) × (command_of_line line ≡ Ok command) × (more ≡ Ok rest) × (found ≡ record { number = number; command = command } ∷ rest)
 read_by number line (Err cause) more found e h = absurd (cc)
 read_by number line (Ok command) more found e h =
     let rest = after_one (record { number = number; command = command }) more found h in
     (command, rest.0, e, rest.1, rest.2)
 
-said_line : (number : ℕ) (line : List ℕ) (rest : List (List ℕ)) (found : List Line) (b : Bool) → is_passed_over line ≡ b → ((later : List Line) → reads (number + 1) rest ≡ Ok later → SayFrom (number + 1) rest later) → reads number (line ∷ rest) ≡ Ok found → SayFrom number (line ∷ rest) found
+said_line : (number : ℕ) (line : List ℕ) (rest : List (List ℕ)) (found : List Line) (b : Bool) → is_passed_over line ≡ b → ((later : List Line) → reading_from (number + 1) rest ≡ Ok later → SayFrom (number + 1) rest later) → reading_from number (line ∷ rest) ≡ Ok found → SayFrom number (line ∷ rest) found
 said_line number line rest found true e more h = inl (e, more found (rw e at h))
 said_line number line rest found false e more h =
-    let read = read_by number line (line_of line) (reads (number + 1) rest) found refl (rw e at h) in
+    let read = read_by number line (command_of_line line) (reading_from (number + 1) rest) found refl (rw e at h) in
     inr (read.0, read.1, read.4, line_said line read.0 e read.2, more read.1 read.3)
 
 -- The commands that are read are given.
-pub said_from : (number : ℕ) (all : List (List ℕ)) (found : List Line) → reads number all ≡ Ok found → SayFrom number all found
+pub said_from : (number : ℕ) (all : List (List ℕ)) (found : List Line) → reading_from number all ≡ Ok found → SayFrom number all found
 said_from number [] found h = cc
 said_from number (line ∷ rest) found h = said_line number line rest found _ refl (λ later e. said_from (number + 1) rest later e) h
 
 -- The commands that are given are read.
-pub read_from : (number : ℕ) (all : List (List ℕ)) (found : List Line) → SayFrom number all found → reads number all ≡ Ok found
+pub read_from : (number : ℕ) (all : List (List ℕ)) (found : List Line) → SayFrom number all found → reading_from number all ≡ Ok found
 read_from number [] found h = rw h refl
 read_from number (line ∷ rest) found h = ⊎_elim
     (λ (passed : IsPassedOver line × SayFrom (number + 1) rest found). rw passed.0 (read_from (number + 1) rest found passed.1))
@@ -166,7 +166,7 @@ first_bad_after number line rest fault right bad = record {
   holds = bad.holds;
 }
 
-first_bad_here : (number : ℕ) (line : List ℕ) (rest : List (List ℕ)) (cause : Cause) → is_passed_over line ≡ false → line_of line ≡ Err cause → BadFrom number (line ∷ rest) (BadScript number cause)
+first_bad_here : (number : ℕ) (line : List ℕ) (rest : List (List ℕ)) (cause : Cause) → is_passed_over line ≡ false → command_of_line line ≡ Err cause → BadFrom number (line ∷ rest) (BadScript number cause)
 first_bad_here number line rest cause counted h = record {
   front = [];
   line = line;
@@ -183,19 +183,19 @@ fault_after : (line : Line) (more : Found) (fault : ScriptFault) → lines_then 
 fault_after line (Err other) fault h = cc
 fault_after line (Ok rest) fault h = absurd (cc)
 
-first_bad_by : (number : ℕ) (line : List ℕ) (rest : List (List ℕ)) (fault : ScriptFault) (r : Result Command Cause) → is_passed_over line ≡ false → line_of line ≡ r → (reads (number + 1) rest ≡ Err fault → BadFrom (number + 1) rest fault) → reads_by number r (reads (number + 1) rest) ≡ Err fault → BadFrom number (line ∷ rest) fault
+first_bad_by : (number : ℕ) (line : List ℕ) (rest : List (List ℕ)) (fault : ScriptFault) (r : Result Command Cause) → is_passed_over line ≡ false → command_of_line line ≡ r → (reading_from (number + 1) rest ≡ Err fault → BadFrom (number + 1) rest fault) → reads_by number r (reading_from (number + 1) rest) ≡ Err fault → BadFrom number (line ∷ rest) fault
 first_bad_by number line rest fault (Err cause) counted e more h =
     let here : BadScript number cause ≡ fault = cc in
     let P : ScriptFault → Type 0 = λ f. BadFrom number (line ∷ rest) f in
     subst P here (first_bad_here number line rest cause counted e)
 first_bad_by number line rest fault (Ok command) counted e more h =
-    first_bad_after number line rest fault (inr (command, line_said line command counted e)) (more (fault_after _ (reads (number + 1) rest) fault h))
+    first_bad_after number line rest fault (inr (command, line_said line command counted e)) (more (fault_after _ (reading_from (number + 1) rest) fault h))
 
-first_bad_at_line : (number : ℕ) (line : List ℕ) (rest : List (List ℕ)) (fault : ScriptFault) (b : Bool) → is_passed_over line ≡ b → (reads (number + 1) rest ≡ Err fault → BadFrom (number + 1) rest fault) → reads number (line ∷ rest) ≡ Err fault → BadFrom number (line ∷ rest) fault
+first_bad_at_line : (number : ℕ) (line : List ℕ) (rest : List (List ℕ)) (fault : ScriptFault) (b : Bool) → is_passed_over line ≡ b → (reading_from (number + 1) rest ≡ Err fault → BadFrom (number + 1) rest fault) → reading_from number (line ∷ rest) ≡ Err fault → BadFrom number (line ∷ rest) fault
 first_bad_at_line number line rest fault true e more h = first_bad_after number line rest fault (inl e) (more (rw e at h))
-first_bad_at_line number line rest fault false e more h = first_bad_by number line rest fault (line_of line) e refl more (rw e at h)
+first_bad_at_line number line rest fault false e more h = first_bad_by number line rest fault (command_of_line line) e refl more (rw e at h)
 
-pub first_bad_from : (number : ℕ) (all : List (List ℕ)) (fault : ScriptFault) → reads number all ≡ Err fault → BadFrom number all fault
+pub first_bad_from : (number : ℕ) (all : List (List ℕ)) (fault : ScriptFault) → reading_from number all ≡ Err fault → BadFrom number all fault
 first_bad_from number [] fault h = absurd (cc)
 first_bad_from number (line ∷ rest) fault h = first_bad_at_line number line rest fault _ refl (λ e. first_bad_from (number + 1) rest fault e) h
 
@@ -218,29 +218,29 @@ explained text number cause bad =
     }
 
 -- A text that is read is a script of these lines.
-pub script_read : (text : List ℕ) (found : List Line) → reads 1 (lines text) ≡ Ok found → IsScript text found
+pub script_read : (text : List ℕ) (found : List Line) → reading_from 1 (lines text) ≡ Ok found → IsScript text found
 script_read text found h = said_from 1 (lines text) found h
 
 -- A text that is not read is no script, and its first bad line is named.
-pub script_refused : (text : List ℕ) (fault : ScriptFault) → reads 1 (lines text) ≡ Err fault → Explains text fault
+pub script_refused : (text : List ℕ) (fault : ScriptFault) → reading_from 1 (lines text) ≡ Err fault → Explains text fault
 script_refused text OutOfMemory h = tt
 script_refused text (BadScript number cause) h =
     let bad = first_bad_from 1 (lines text) (BadScript number cause) h in
     (explained text number cause bad, λ found said. let o = read_from 1 (lines text) found said in cc)
 
 -- No other line is the first bad one, and no other cause holds of it.
-pub script_one_fault : (text : List ℕ) (fault : ScriptFault) → reads 1 (lines text) ≡ Err fault → IsOneFault text fault
+pub script_one_fault : (text : List ℕ) (fault : ScriptFault) → reading_from 1 (lines text) ≡ Err fault → IsOneFault text fault
 script_one_fault text OutOfMemory h = tt
 script_one_fault text (BadScript number cause) h = λ other reason bad.
     let named = script_refused text (BadScript number cause) h in
     one_first_bad text number other cause reason named.0 bad
 
 -- A script has no other lines than those that are read.
-pub script_one : (text : List ℕ) (found : List Line) → reads 1 (lines text) ≡ Ok found → (others : List Line) → IsScript text others → others ≡ found
+pub script_one : (text : List ℕ) (found : List Line) → reading_from 1 (lines text) ≡ Ok found → (others : List Line) → IsScript text others → others ≡ found
 script_one text found h others said = let o = read_from 1 (lines text) others said in cc
 
 -- The end of a text.
-pub read_whole : (number : ℕ) (text rest : List ℕ) (found : List Line) → length rest ≡ 0 → lines_then found (reads number (lines rest)) ≡ reads 1 (lines text) → reads 1 (lines text) ≡ Ok found
+pub read_whole : (number : ℕ) (text rest : List ℕ) (found : List Line) → length rest ≡ 0 → lines_then found (reading_from number (lines rest)) ≡ reading_from 1 (lines text) → reading_from 1 (lines text) ≡ Ok found
 read_whole number text [] found empty h = sym h ∙ ap (λ (xs : List Line). read_lines xs) (append-nil found)
 read_whole number text (byte ∷ rest) found empty h = absurd (omega arith)
 
@@ -255,7 +255,7 @@ right_line number line found (inr said) = inr (said.0, said.3)
 
 read_on_right : (number : ℕ) (line : List ℕ) (old new : List Line) → ReadsOn number line old new → IsRightLine line
 read_on_right number line old new on =
-    let (found, read) = found_more old (reads number (line ∷ [])) (new ++ []) (on []) in
+    let (found, read) = found_more old (reading_from number (line ∷ [])) (new ++ []) (on []) in
     right_line number line found (said_from number (line ∷ []) found read)
 
 all_more : (front : List (List ℕ)) (line : List ℕ) → AllByRecursion IsRightLine front → IsRightLine line → AllByRecursion IsRightLine (front ++ line ∷ [])
@@ -279,10 +279,10 @@ right_up_to number text rest line after old new before first on = record {
 }
 
 -- What is read after one more line.
-pub read_more : (number : ℕ) (text rest line after : List ℕ) (old new : List Line) → lines_then old (reads (number + 1) (lines rest)) ≡ reads 1 (lines text) → lines rest ≡ line ∷ lines after
-    → ReadsOn (number + 1) line old new → lines_then new (reads (number + 1 + 1) (lines after)) ≡ reads 1 (lines text)
+pub read_more : (number : ℕ) (text rest line after : List ℕ) (old new : List Line) → lines_then old (reading_from (number + 1) (lines rest)) ≡ reading_from 1 (lines text) → lines rest ≡ line ∷ lines after
+    → ReadsOn (number + 1) line old new → lines_then new (reading_from (number + 1 + 1) (lines after)) ≡ reading_from 1 (lines text)
 read_more number text rest line after old new before first on =
-    sym (on (lines after)) ∙ (ap (λ (ls : List (List ℕ)). lines_then old (reads (number + 1) ls)) (sym first) ∙ before)
+    sym (on (lines after)) ∙ (ap (λ (ls : List (List ℕ)). lines_then old (reading_from (number + 1) ls)) (sym first) ∙ before)
 
 read_command : (r : Result Command Cause) → IsOk r → (command : Command) × (r ≡ Ok command)
 read_command (Ok command) is = (command, refl)
@@ -291,7 +291,7 @@ read_command (Err cause) is = absurd (cc)
 -- Memory was refused at the first line of the rest.
 pub right_so_far : (text rest line after : List ℕ) → IsRightUpTo text rest → lines rest ≡ line ∷ lines after → GivesCommand line → IsRightSoFar text
 right_so_far text rest line after before first gives =
-    let (command, read) = read_command (line_of line) gives.1 in
+    let (command, read) = read_command (command_of_line line) gives.1 in
     record {
       front = before.front;
       line = line;

@@ -47,8 +47,8 @@ abbrev pub character_count : ℕ
 character_count = 256
 
 -- The number of counts of a page, which are counted from 0 (DVItype, 15).
-abbrev pub count_count : ℕ
-count_count = COUNTS
+abbrev pub counter_count : ℕ
+counter_count = COUNTS
 
 -- A field that writes this whole number, which is below the count.
 pub record IsNumberAmong (count : ℕ) (field : List ℕ) (n : ℕ) : Type 0 where
@@ -69,7 +69,7 @@ IsCharacterCode field n = IsNumberAmong character_count field n
 
 -- A field that writes the number of this count of a page.
 abbrev pub IsCountNumber : List ℕ → ℕ → Type 0
-IsCountNumber field n = IsNumberAmong count_count field n
+IsCountNumber field n = IsNumberAmong counter_count field n
 
 -- How many numbers of first lines there are: 0 to 32 (own).
 abbrev pub first_lines_count : ℕ

@@ -5,9 +5,11 @@ ghost use Rattle.tfm_core.specs.NamedBytes.{IsFontName};
 ghost use Rattle.job_machine.specs.declared.command.Command.TheVariants as commands;
 ghost use Rattle.boxglue_script.specs.Grammar.{register_count};
 ghost use Rattle.boxglue_script.specs.ScriptLines.{fields_of};
-ghost use Rattle.boxglue_script.specs.Private.Reading.{last_count, counting, counting_of, size_of_font, last_number, map_ok, chosen_size_of, font_of};
-ghost use Rattle.boxglue_script.specs.Private.Reading.{last_penalty, last_amount, opening, opening_with_register, opening_into, opening_of, shift_of};
-ghost use Rattle.boxglue_script.specs.Private.Reading.{append_of, unboxing, split_into, split_height, split_to, split_of, glue, shrink_of};
+ghost use Rattle.boxglue_script.specs.Private.Reading.{last_count, count_command, counting_of, size_of_font, last_number, map_ok, chosen_size_of};
+ghost use Rattle.boxglue_script.specs.Private.Reading.{font_of};
+ghost use Rattle.boxglue_script.specs.Private.Reading.{last_penalty, last_amount, opening_command, opening_with_register, opening_into, opening_of};
+ghost use Rattle.boxglue_script.specs.Private.Reading.{shift_of};
+ghost use Rattle.boxglue_script.specs.Private.Reading.{append_of, unboxing_command, split_into, split_height, split_to, split_of, glue, shrink_of};
 ghost use Rattle.boxglue_script.specs.Private.Reading.{last_shrink_of, parts_of, glue_of, parameter_of, rule_of, command_named, command_by};
 ghost use Rattle.boxglue_script.specs.Private.Reading.{first_word};
 
@@ -135,7 +137,7 @@ impl<'a> Fields<'a> {
 
     /// What follows `unhbox`, `unhcopy`, `unvbox` or `unvcopy`: a register.
     fn unboxing(&mut self, kind: Kind, taking: Transfer) -> Result<Command, Cause>
-        ensures { result ≡ map_ok (unboxing kind taking) (last_number register_count (fields_of self.old.rest.now)) }
+        ensures { result ≡ map_ok (unboxing_command kind taking) (last_number register_count (fields_of self.old.rest.now)) }
     {
         let register = self.last_value::<Register>()?;
         Ok(Command::Unbox(Unboxing {
@@ -369,7 +371,7 @@ impl<'a> FontWords<'a> {
 
 /// The opening of a list of that form and size, for that register or for the enclosing list.
 fn opening(form: BoxForm, target: Target, into: Option<Register>) -> Command
-    ensures { result ≡ opening form target into }
+    ensures { result ≡ opening_command form target into }
 {
     Command::Open(Opening { form, target, into })
 }

@@ -2,7 +2,7 @@
 //!
 //! All numbers have one form, an optional sign and digits; only their range differs.
 
-ghost use Rattle.boxglue_script.specs.Grammar.{register_count, slot_count, count_count, first_lines_count};
+ghost use Rattle.boxglue_script.specs.Grammar.{register_count, slot_count, counter_count, first_lines_count};
 ghost use Rattle.boxglue_script.specs.Private.Reading.{number_field, count_field, penalty_field, dimension_field, size_of, amount_of};
 
 use crate::amounts::{Amount, amount_of};
@@ -47,7 +47,7 @@ impl FieldValue for u8 {
 
 /// The number of a count.
 impl FieldValue for CountNumber {
-    ghost reading = { number_field count_count };
+    ghost reading = { number_field counter_count };
 
     fn of_field(field: &[u8]) -> Result<CountNumber, Cause> {
         count_number_of(field).ok_or(Cause::Number)

@@ -5,7 +5,7 @@ ghost use Rattle.std.specs.Str.Lines.{lines};
 ghost use Rattle.boxglue_script.specs.Blocks.{lines_of};
 ghost use Rattle.boxglue_script.specs.Causes.{IsPrintable};
 ghost use Rattle.boxglue_script.specs.Script.{IsScript, Explains, IsOneFault, IsRightSoFar};
-ghost use Rattle.boxglue_script.specs.Private.Reading.{GivesCommand, ReadsOn, StopsAtLine, reads};
+ghost use Rattle.boxglue_script.specs.Private.Reading.{GivesCommand, ReadsOn, StopsAtLine, reading_from};
 ghost use Rattle.boxglue_script.specs.declared.script.ScriptFault.TheVariants.{OutOfMemory};
 
 use crate::blocks::{BLOCK_SIZE, LineBlocks};
@@ -80,8 +80,8 @@ pub fn read_blocks(alloc: Global, text: &[u8]) -> Result<LineBlocks, ScriptFault
 
 /// Reads the text of a script into blocks of at most so many lines: one block, if the text has no more bytes.
 fn read_lines(alloc: Global, text: &[u8], most: usize) -> Result<LineBlocks, ScriptFault>
-    ensures found { IfOk result (λ found. reads 1 (lines text.now) ≡ Ok (lines_of found)) }
-    ensures refused { IfErr result (λ fault. (fault ≡ ScriptFault.OutOfMemory) ⊎ (reads 1 (lines text.now) ≡ Err fault)) }
+    ensures found { IfOk result (λ found. reading_from 1 (lines text.now) ≡ Ok (lines_of found)) }
+    ensures refused { IfErr result (λ fault. (fault ≡ ScriptFault.OutOfMemory) ⊎ (reading_from 1 (lines text.now) ≡ Err fault)) }
     ensures memory { result ≡ Err ScriptFault.OutOfMemory → IsRightSoFar text.now }
     ensures one { length text.now ≤ most → IfOk result (λ found. found.full.items ≡ []) }
 {

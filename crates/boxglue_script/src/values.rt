@@ -4,7 +4,7 @@ ghost use Rattle.std.specs.Prelude.{◌≡◌, ℤ, Ok, Err, IfNone, IfSome, IsT
 ghost use Rattle.std.specs.Int.{w64};
 ghost use Rattle.std.specs.List.{list_all};
 ghost use Rattle.tfm_core.specs.NamedBytes.{IsFontName};
-ghost use Rattle.boxglue_script.specs.Grammar.{register_count, slot_count, count_count, first_lines_count, IsInteger, is_name_byte};
+ghost use Rattle.boxglue_script.specs.Grammar.{register_count, slot_count, counter_count, first_lines_count, IsInteger, is_name_byte};
 ghost use Rattle.boxglue_script.specs.Private.Reading.{number_among, number_of, count_value, count_of, size_of_font, is_short, is_name, size_of};
 ghost use Rattle.boxglue_script.specs.Private.Reading.{penalty_of};
 
@@ -104,7 +104,7 @@ pub(crate) fn byte_numbered(number: i64) -> Option<u8>
 /// The count whose number a field writes.
 #[tactic(auto, using(crate::proofs::Numbers::numbers))]
 pub(crate) fn count_number_of(field: &[u8]) -> Option<CountNumber>
-    ensures { result ≡ number_of count_count field.now }
+    ensures { result ≡ number_of counter_count field.now }
 {
     match integer_of(field) {
         Some(number) => count_numbered(number),
@@ -114,7 +114,7 @@ pub(crate) fn count_number_of(field: &[u8]) -> Option<CountNumber>
 
 /// The count of that number.
 pub(crate) fn count_numbered(number: i64) -> Option<CountNumber>
-    ensures { result ≡ number_among count_count number }
+    ensures { result ≡ number_among counter_count number }
 {
     if number < 0 {
         return None;

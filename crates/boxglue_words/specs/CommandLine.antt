@@ -44,13 +44,13 @@ paint =
     (path_rule (codes "DVI"))) fonts_rule
 
 -- The program without a subcommand. It has a version, and the words begin after its name.
-abbrev pub alone : App
-alone =
+abbrev pub plain_program : App
+plain_program =
     let named = new_app (codes "boxglue") in
     record named { top = record named.top { no_binary_name = true; disable_help_subcommand = true; has_version = true } }
 
 -- The program with these five as subcommands.
 abbrev pub boxglue : App
 boxglue =
-    with_subcommand (with_subcommand (with_subcommand (with_subcommand (with_subcommand alone typeset.top) session.top) lists.top)
+    with_subcommand (with_subcommand (with_subcommand (with_subcommand (with_subcommand plain_program typeset.top) session.top) lists.top)
     names_fonts.top) paint.top

@@ -4,7 +4,8 @@ ghost use Rattle.std.specs.Prelude.{◌≡◌, ◌≤◌, false, pos, IfOk};
 ghost use Rattle.clap.specs.Words.{app_of, rule_of};
 ghost use Rattle.clap.specs.declared.builder.Command.TheViews.{out-Command};
 ghost use Rattle.clap.specs.declared.builder.value_parser.ValueParser.TheVariants.{Signed};
-ghost use Rattle.boxglue_words.specs.CommandLine.{alone, boxglue, fonts_rule, lists, names_fonts, number_rule, paint, path_rule, session, typeset};
+ghost use Rattle.boxglue_words.specs.CommandLine.{plain_program, boxglue, fonts_rule, lists, names_fonts, number_rule, paint, path_rule, session};
+ghost use Rattle.boxglue_words.specs.CommandLine.{typeset};
 
 use crate::task::VERSION_LINE;
 use clap::builder::ValueParser;
@@ -126,7 +127,7 @@ fn paint<'a>(alloc: Global) -> Result<Command<'a>, AllocError>
 
 /// The command line without its subcommands.
 fn alone<'a>(alloc: Global) -> Result<Command<'a>, AllocError>
-    ensures { IfOk result (λ command. app_of command ≡ alone) }
+    ensures { IfOk result (λ command. app_of command ≡ plain_program) }
 {
     let command = Command::new(alloc, "boxglue").bin_name("boxglue")?;
     Ok(

@@ -11,16 +11,16 @@ use Rattle.break_lines.specs.declared.state.LineCost.{LineCost}
 use Rattle.break_lines.specs.declared.state.BreakState.{BreakState}
 use Rattle.break_lines.specs.Orders.{NotAfter}
 use Rattle.break_lines.specs.Problems.{Problem}
-use Rattle.break_lines.specs.Ways.{since}
-use Rattle.break_lines.specs.Tables.{Entry, extended, compared_numbers, offer, IsOffered, IsRow, IsKept, IsPut}
+use Rattle.break_lines.specs.Ways.{last_forced_below}
+use Rattle.break_lines.specs.Tables.{Entry, extended_entry, compared_numbers, offer, IsOffered, IsRow, IsKept, IsPut}
 use Rattle.break_lines.proofs.Dictionary.{state_same, not_after_refl, not_after_trans}
 use Rattle.break_lines.proofs.Reached.{offer_is}
 use Rattle.break_lines.proofs.Rows.{row_best}
 use Rattle.break_lines.specs.declared.sums.Sums.{Sums}
 use Rattle.break_lines.specs.declared.cost.LineFit.{LineFit}
 use Rattle.break_lines.specs.declared.cost.Bound.{Bound}
-use Rattle.break_lines.specs.Costs.{line_fit, line_of, line_alone, line_after, after_class}
-use Rattle.break_lines.specs.Sizes.{line_fits, fit_after}
+use Rattle.break_lines.specs.Costs.{line_fit, admitted_line, line_alone, line_after, after_class}
+use Rattle.break_lines.specs.Sizes.{fits_of_sums, fit_after}
 use Rattle.break_lines.proofs.Parts.{parts}
 use Rattle.break_lines.proofs.Widths.{both_overfull, greatest_none}
 use Rattle.break_core.specs.Private.Filling.{IsOf, IsOfferingUnless, offer_from, IsBestOffer, IsOfferingBest}
@@ -30,11 +30,11 @@ use Rattle.break_core.proofs.Overfull.{no_offer}
 -- The offer of an entry of the group.
 pub offers :
     (p : Problem) (params : Params) (group : ActiveGroup) (place : ℕ) (alone : LineCost) (e : Entry) (k : ℕ)
-    → p.cut ≡ 0 → since p place ≤ group.place → ((s : BreakState) → s.place ≡ group.place → p.line s place ≡ Some (line_after params s.class alone))
+    → p.cut ≡ 0 → last_forced_below p place ≤ group.place → ((s : BreakState) → s.place ≡ group.place → p.line s place ≡ Some (line_after params s.class alone))
     → e.end.place ≡ group.place → offer p e k place ≡ Some (offer_from params e k place alone)
 offers p params group place alone e k cut late follow at =
-    offer_is p e k place (Some (line_after params e.end.class alone)) (subst (λ n. since p place ≤ n) (sym at) late) (follow e.end at)
-    ∙ ap Some (ap (λ n. extended n e k place (line_after params e.end.class alone)) cut)
+    offer_is p e k place (Some (line_after params e.end.class alone)) (subst (λ n. last_forced_below p place ≤ n) (sym at) late) (follow e.end at)
+    ∙ ap Some (ap (λ n. extended_entry n e k place (line_after params e.end.class alone)) cut)
 
 -- All offers of a group are for one state.
 one_end :
@@ -148,18 +148,18 @@ best_offered table params group place alone best old new of is put p cut late fo
 fit_once :
     (params : Params) (bound : Bound) (penalty : ℤ) (sums : Sums) (lines : ℕ) (before : Fitness) (found : Option LineCost)
     → params.first_lines ≡ 0 → found ≡ line_alone params bound penalty (line_fit sums params.hsize)
-    → line_of params bound penalty before (fit_after params.first_lines lines (line_fits params sums)) ≡ after_class params before found
-unfolding line_fits
+    → admitted_line params bound penalty before (fit_after params.first_lines lines (fits_of_sums params sums)) ≡ after_class params before found
+unfolding fits_of_sums
 fit_once params bound penalty sums lines before found none is =
-    ap (line_of params bound penalty before) rest ∙ sym (parts params bound penalty before (line_fit sums params.hsize)) ∙ ap (after_class params before) (sym is)
+    ap (admitted_line params bound penalty before) rest ∙ sym (parts params bound penalty before (line_fit sums params.hsize)) ∙ ap (after_class params before) (sym is)
   where
     not_first : (nat_lt lines params.first_lines ≡ true) ⊎ (nat_lt lines params.first_lines ≡ false) → nat_lt lines params.first_lines ≡ false
     not_first (inl h) = let less : lines < params.first_lines = grind arith in absurd (omega (arith, none))
     not_first (inr h) = h
 
-    rest : fit_after params.first_lines lines (line_fits params sums) ≡ line_fit sums params.hsize
+    rest : fit_after params.first_lines lines (fits_of_sums params sums) ≡ line_fit sums params.hsize
     rest =
-        cond-false (nat_lt lines params.first_lines) (line_fits params sums).first (line_fits params sums).rest
+        cond-false (nat_lt lines params.first_lines) (fits_of_sums params sums).first (fits_of_sums params sums).rest
         (not_first (cases_Bool (nat_lt lines params.first_lines)))
 
 pub best_line :
@@ -167,12 +167,12 @@ pub best_line :
     (old new : List (Option Entry))
     → params.first_lines ≡ 0 → left ≡ false → Some alone ≡ line_alone params bound penalty (line_fit sums params.hsize)
     → IsOfferingBest table params group place alone old new
-    → IsOfferingUnless left table params bound group place penalty (line_fits params sums) old new
+    → IsOfferingUnless left table params bound group place penalty (fits_of_sums params sums) old new
 unfolding after_class
 best_line left table params bound group place penalty sums alone old new none not_left is offering p cut late line_fit before =
     offering p (cut ∙ none) late
     (λ s at. line_fit s at
-    ∙ cond-false left None (line_of params bound penalty s.class (fit_after params.first_lines s.lines (line_fits params sums))) not_left
+    ∙ cond-false left None (admitted_line params bound penalty s.class (fit_after params.first_lines s.lines (fits_of_sums params sums))) not_left
     ∙ fit_once params bound penalty sums s.lines s.class (Some alone) none is)
     before
 
@@ -180,7 +180,7 @@ pub none_line :
     (left : Bool) (table : List Entry) (params : Params) (bound : Bound) (group : ActiveGroup) (place : ℕ) (penalty : ℤ) (sums : Sums) (row : List (Option Entry))
     → params.first_lines ≡ 0 → left ≡ false → None ≡ line_alone params bound penalty (line_fit sums params.hsize)
     → group.start ≤ group.end → IsOf params.first_lines table group
-    → IsOfferingUnless left table params bound group place penalty (line_fits params sums) row row
+    → IsOfferingUnless left table params bound group place penalty (fits_of_sums params sums) row row
 unfolding after_class
 none_line left table params bound group place penalty sums row none not_left is rises of p cut late line_fit before =
     row_passed p table place group.start group.end row rises (λ k e low high at. no_offer p e k place (no_line e (of k e low high at).0)) before
@@ -188,12 +188,12 @@ none_line left table params bound group place penalty sums row none not_left is 
     no_line : (e : Entry) → e.end.place ≡ group.place → p.line e.end place ≡ None
     no_line e at =
         line_fit e.end at
-        ∙ cond-false left None (line_of params bound penalty e.end.class (fit_after params.first_lines e.end.lines (line_fits params sums))) not_left
+        ∙ cond-false left None (admitted_line params bound penalty e.end.class (fit_after params.first_lines e.end.lines (fits_of_sums params sums))) not_left
         ∙ fit_once params bound penalty sums e.end.lines e.end.class None none is
 
 pub overfull_once :
     (params : Params) (sums : Sums) (line : LineFit)
     → params.first_lines ≡ 0 → line ≡ line_fit sums params.hsize
-    → line.overfull ≡ ((line_fits params sums).first.overfull && (line_fits params sums).rest.overfull)
+    → line.overfull ≡ ((fits_of_sums params sums).first.overfull && (fits_of_sums params sums).rest.overfull)
 overfull_once params sums line none is =
     ap (λ j. j.overfull) is ∙ sym (both_overfull params sums ∙ ap (λ n. (line_fit sums n).overfull) (greatest_none params none))

@@ -17,14 +17,14 @@ use Rattle.break_core.specs.declared.pass_rules.StopRule.{StopRule}
 use Rattle.break_core.specs.declared.pass_rules.StopRule.TheVariants.{Overfull}
 use Rattle.break_core.specs.Private.Leaving.{is_long}
 use Rattle.break_core.specs.Trials.{is_overfull, is_bounded, passes_run, places_up_to, AreBounded, AreBoundedByPasses, HasNoTrials}
-use Rattle.break_core.specs.Private.Active.{deactivates, stops, IsCounted, IsWithin, AreAdded, AreAddedByPasses}
+use Rattle.break_core.specs.Private.Active.{deactivates, stops_at, IsCounted, IsWithin, AreAdded, AreAddedByPasses}
 use Rattle.break_core.proofs.Admitting.{before_first, before_second, before_third}
 
 -- The counted trials are within the bound of the definition of stops.
 pub within_pass :
     (facts : Facts) (params : Params) (pass : Pass) (ending : StopRule) (before now : ℕ → ℕ)
     → (IsSteady facts → is_bounded pass ≡ true → ending ≡ Overfull)
-    → IsCounted (stops facts params ending) facts.places before now → IsWithin facts params pass before now
+    → IsCounted (stops_at facts params ending) facts.places before now → IsWithin facts params pass before now
 within_pass facts params pass ending before now short counted a l (inl last) = omega (arith, counted.grown a, last)
 within_pass facts params pass ending before now short counted a l (inr (earlier, within, inl forced)) =
     counted.stopped a l earlier within (ap (λ t. t || deactivates ending (is_overfull facts params a l) (is_long facts params a l)) forced)
@@ -39,7 +39,7 @@ grown_pass stop places before now few counted a = omega (arith, counted.grown a,
 
 -- No pass was run.
 pub added_none : (facts : Facts) (params : Params) (before : ℕ → ℕ) → AreAdded facts params [] before before
-added_none facts params before a stop stops = omega arith
+added_none facts params before a stop stops_at = omega arith
 
 joined : (a : ℕ) (stop : Pass → ℕ) (ps qs : List Pass) → places_up_to a stop (ps ++ qs) ≡ places_up_to a stop ps + places_up_to a stop qs
 joined a stop [] qs = omega arith
@@ -49,14 +49,14 @@ joined a stop (pass ∷ ps) qs = omega (arith, joined a stop ps qs)
 pub added_more :
     (facts : Facts) (params : Params) (passes : List Pass) (pass : Pass) (before middle now : ℕ → ℕ)
     → AreAdded facts params passes before middle → IsWithin facts params pass middle now → AreAdded facts params (passes ++ pass ∷ []) before now
-added_more facts params passes pass before middle now is within a stop stops =
-    omega (arith, is a stop stops, within a (stop pass) (stops pass), joined a stop passes (pass ∷ []))
+added_more facts params passes pass before middle now is within a stop stops_at =
+    omega (arith, is a stop stops_at, within a (stop pass) (stops_at pass), joined a stop passes (pass ∷ []))
 
 -- If there were no trials before, the added trials are all trials.
 pub all_added :
     (facts : Facts) (params : Params) (passes : List Pass) (before now : ℕ → ℕ)
     → HasNoTrials before → AreAdded facts params passes before now → AreBounded facts params passes now
-all_added facts params passes before now none is a stop stops = omega (arith, none a, is a stop stops)
+all_added facts params passes before now none is a stop stops_at = omega (arith, none a, is a stop stops_at)
 
 -- The second pass was run after the first one, and the last one after the second.
 pub second_added :

@@ -17,7 +17,7 @@ use Rattle.break_lines.proofs.Lists.{way_of_break_list, break_list_of_way}
 use Rattle.break_lines.specs.declared.cost.LineFit.{LineFit}
 use Rattle.break_lines.specs.declared.cost.Bound.{Bound}
 use Rattle.break_lines.specs.declared.cost.Bound.TheVariants.{Any, AtMost}
-use Rattle.break_lines.specs.Costs.{line_fit, admits, line_of, demerits_of}
+use Rattle.break_lines.specs.Costs.{line_fit, admits, admitted_line, demerits_of}
 use Rattle.break_lines.specs.Sizes.{line_size}
 use Rattle.break_core.specs.declared.broken.Pass.{Pass}
 use Rattle.break_core.specs.declared.broken.Pass.TheVariants.{First, Second, Third}
@@ -26,12 +26,12 @@ use Rattle.break_core.specs.Passes.{problem_of, bound_of, IsBefore}
 use Rattle.break_core.specs.Private.Filling.{AreEndsInParagraph}
 use Rattle.break_core.specs.declared.pass_rules.StopRule.{StopRule}
 use Rattle.break_core.specs.declared.pass_rules.StopRule.TheVariants.{Never, Overfull, Long}
-use Rattle.break_core.specs.Private.Active.{pruned, MayEnd}
+use Rattle.break_core.specs.Private.Active.{pruned_problem, MayEnd}
 use Rattle.break_core.proofs.Detours.{answer_without, none_without}
 
 -- A bound below 0 admits no line.
-none_below : (params : Params) (most penalty : ℤ) (before : Fitness) (line : LineFit) → most <ℤ pos 0 → line_of params (AtMost most) penalty before line ≡ None
-unfolding line_of admits
+none_below : (params : Params) (most penalty : ℤ) (before : Fitness) (line : LineFit) → most <ℤ pos 0 → admitted_line params (AtMost most) penalty before line ≡ None
+unfolding admitted_line admits
 none_below params (pos n) penalty before line below = absurd (omega (arith, ints))
 none_below params (negsuc n) penalty before line below = refused (not line.overfull)
   where
@@ -43,8 +43,8 @@ none_below params (negsuc n) penalty before line below = refused (not line.overf
     refused false = refl
 
 -- Without a bound every line is admitted.
-some_line : (params : Params) (penalty : ℤ) (before : Fitness) (line : LineFit) → (l : LineCost) × (line_of params Any penalty before line ≡ Some l)
-unfolding line_of admits
+some_line : (params : Params) (penalty : ℤ) (before : Fitness) (line : LineFit) → (l : LineCost) × (admitted_line params Any penalty before line ≡ Some l)
+unfolding admitted_line admits
 some_line params penalty before line = (record { class = line.class; overhang = line.overhang; demerits = demerits_of params penalty before line }, refl)
 
 no_way : (p : Problem) (q : Path) → Way p q → ((s : BreakState) (b : ℕ) → p.line s b ≡ None) → 0 < q.last.place → ⊥
@@ -140,20 +140,20 @@ found_some facts other params bound found least same some is =
 pub found_whole :
     (facts : Facts) (params : Params) (bound : Bound) (ending : StopRule) (found : Option ChosenBreaks)
     → MayEnd ending facts params bound
-    → MatchOption found (AdmitsNone (pruned facts params bound ending)) (IsAnswer (pruned facts params bound ending)) → Found facts params bound found
+    → MatchOption found (AdmitsNone (pruned_problem facts params bound ending)) (IsAnswer (pruned_problem facts params bound ending)) → Found facts params bound found
 found_whole facts params bound Never found may is = is
 found_whole facts params bound Overfull found may is = is
 found_whole facts params bound Long None may is =
     subst (λ b. AdmitsNone (problem_of facts params b)) (sym may.1)
-    (none_without facts params may.0 (subst (λ b. AdmitsNone (pruned facts params b Long)) may.1 is))
+    (none_without facts params may.0 (subst (λ b. AdmitsNone (pruned_problem facts params b Long)) may.1 is))
 found_whole facts params bound Long (Some least) may is =
     subst (λ b. IsAnswer (problem_of facts params b) least) (sym may.1)
-    (answer_without facts params least may.0 (subst (λ b. IsAnswer (pruned facts params b Long) least) may.1 is))
+    (answer_without facts params least may.0 (subst (λ b. IsAnswer (pruned_problem facts params b Long) least) may.1 is))
 
 pub all_found :
     {E : Type 0} (facts : Facts) (params : Params) (bound : Bound) (ending : StopRule) (result : Result (Option ChosenBreaks) E)
     → MayEnd ending facts params bound
-    → IfOk result (λ found. MatchOption found (AdmitsNone (pruned facts params bound ending)) (IsAnswer (pruned facts params bound ending)))
+    → IfOk result (λ found. MatchOption found (AdmitsNone (pruned_problem facts params bound ending)) (IsAnswer (pruned_problem facts params bound ending)))
     → IfOk result (Found facts params bound)
 all_found facts params bound ending (Ok found) may is = found_whole facts params bound ending found may is
 all_found facts params bound ending (Err fault) may is = tt

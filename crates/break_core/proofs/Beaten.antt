@@ -10,7 +10,7 @@ use Rattle.break_lines.specs.declared.group.ActiveGroup.{ActiveGroup}
 use Rattle.break_lines.specs.declared.state.Fitness.{Fitness}
 use Rattle.break_lines.specs.declared.state.LineCost.{LineCost}
 use Rattle.break_lines.specs.Orders.{NotAfter}
-use Rattle.break_lines.specs.Problems.{rank}
+use Rattle.break_lines.specs.Problems.{class_index}
 use Rattle.break_lines.specs.Tables.{Entry, compared_numbers, slot, AreBelow, IsOffered, IsHeld, IsMet}
 use Rattle.break_lines.proofs.Dictionary.{not_after_refl, not_after_trans}
 use Rattle.break_lines.proofs.Entries.{get_left}
@@ -111,7 +111,7 @@ below_after h b e o line (inr less) (inr (same, inr rest)) overhang demerits =
 -- If the offer that is held for their state is better, the offers of a group change nothing.
 pub beaten_offered :
     (table : List Entry) (params : Params) (group : ActiveGroup) (place : ℕ) (alone least : LineCost) (k : ℕ) (b : Entry) (held : Option Entry) (row : List (Option Entry))
-    → IsLeastLine params alone least → IsOf 0 table group → IsBestOf table group.start group.end k → slice_get table k ≡ Some b → slice_get row (rank alone.class) ≡ Some held
+    → IsLeastLine params alone least → IsOf 0 table group → IsBestOf table group.start group.end k → slice_get table k ≡ Some b → slice_get row (class_index alone.class) ≡ Some held
     → IsBeaten held b least → IsOfferingBest table params group place alone row row
 beaten_offered table params group place alone fewest k b held row few of best stands_b stands is p cut late follow before =
     record {
@@ -129,12 +129,12 @@ beaten_offered table params group place alone fewest k b held row few of best st
         let in_group = of j e low high offered.stands in
         let made : offer_from params e j place alone ≡ o =
         same_Some (offer_from params e j place alone) o (sym (offers p params group place alone e j cut late follow in_group.0) ∙ offered.offers) in
-        let there : slice_get row (rank alone.class) ≡ Some (Some is.entry) = stands ∙ ap Some is.is in
-        let h = before.held (rank alone.class) is.entry there in
+        let there : slice_get row (class_index alone.class) ≡ Some (Some is.entry) = stands ∙ ap Some is.is in
+        let h = before.held (class_index alone.class) is.entry there in
         let at_h = offered_at p table place h.k is.entry h.offered in
         let at_o = offered_at p table place j o offered in
         let class : o.end.class ≡ alone.class = ap (λ x. x.end.class) (sym made) in
-        let here : slot o.end ≡ rank alone.class = omega (arith, at_o.1, cut, ap rank class) in
+        let here : slot o.end ≡ class_index alone.class = omega (arith, at_o.1, cut, ap class_index class) in
         let same : is.entry.end ≡ o.end = slot_apart is.entry.end o.end (at_h.0 ∙ sym at_o.0) (h.here ∙ sym here) in
         let one : b ≡ best.entry = same_Some b best.entry (sym stands_b ∙ best.stands) in
         let least : NotAfter (compared_numbers b) (compared_numbers e) =

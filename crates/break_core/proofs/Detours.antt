@@ -16,7 +16,7 @@ use Rattle.break_lines.specs.Private.Parts.{IsNoWorse, IsOrder, HasDetours}
 use Rattle.break_lines.proofs.TableParts.{answer_of_part, none_of_part}
 use Rattle.break_lines.specs.declared.cost.LineFit.{LineFit}
 use Rattle.break_lines.specs.declared.cost.Bound.TheVariants.{Any}
-use Rattle.break_lines.specs.Costs.{line_fit, admits, line_of, demerits_of}
+use Rattle.break_lines.specs.Costs.{line_fit, admits, admitted_line, demerits_of}
 use Rattle.break_lines.specs.Sizes.{line_size, least_width}
 use Rattle.break_lines.proofs.Bounds.{hangs_not}
 use Rattle.break_lines.proofs.Widths.{overhang_is, overhang_less, overfull_each, size_counted, size_some, size_rest}
@@ -31,8 +31,8 @@ use Rattle.break_core.proofs.Overfull.{both_true, overfull_stays}
 abbrev any_line : Params → (penalty : ℤ) → Fitness → LineFit → LineCost
 any_line params penalty before line = record { class = line.class; overhang = line.overhang; demerits = demerits_of params penalty before line }
 
-any_is : (params : Params) (penalty : ℤ) (before : Fitness) (line : LineFit) → line_of params Any penalty before line ≡ Some (any_line params penalty before line)
-unfolding line_of admits
+any_is : (params : Params) (penalty : ℤ) (before : Fitness) (line : LineFit) → admitted_line params Any penalty before line ≡ Some (any_line params penalty before line)
+unfolding admitted_line admits
 any_is params penalty before line = refl
 
 -- A state is ahead of another one for the same place if the lines that follow it are at least as wide.

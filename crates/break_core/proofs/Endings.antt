@@ -10,8 +10,8 @@ use Rattle.break_lines.specs.Private.Live.{IsGroup}
 use Rattle.break_lines.specs.declared.sums.Sums.{Sums}
 use Rattle.break_lines.specs.declared.cost.Bound.{Bound}
 use Rattle.break_lines.specs.declared.sizes.LineFits.{LineFits}
-use Rattle.break_lines.specs.Costs.{line_of}
-use Rattle.break_lines.specs.Sizes.{least_width, line_fits, fit_after}
+use Rattle.break_lines.specs.Costs.{admitted_line}
+use Rattle.break_lines.specs.Sizes.{least_width, fits_of_sums, fit_after}
 use Rattle.break_lines.specs.Legal.{is_forced}
 use Rattle.break_lines.specs.Facts.{Facts}
 use Rattle.break_lines.specs.Steady.{IsSteady}
@@ -21,7 +21,7 @@ use Rattle.break_core.specs.Passes.{problem_of}
 use Rattle.break_core.specs.Private.Filling.{IsOf, IsOffering, IsOfferingUnless}
 use Rattle.break_core.specs.Trials.{is_overfull}
 use Rattle.break_core.specs.Private.Leaving.{is_long, over_before, is_more, kept_over}
-use Rattle.break_core.specs.Private.Active.{deactivates, leaves, stops, pruned, MayEnd, IsQuiet}
+use Rattle.break_core.specs.Private.Active.{deactivates, leaves_out, stops_at, pruned_problem, MayEnd, IsQuiet}
 use Rattle.break_core.proofs.Active.{row_passed}
 use Rattle.break_core.proofs.Filled.{fit_is}
 use Rattle.break_core.proofs.Overfull.{no_offer, overfull_quiet}
@@ -48,11 +48,11 @@ over_found f h params a b sums over kept width overfull later is is_over is_over
 -- The line of the pass without those that are left out.
 pub pruned_is :
     (f h : Facts) (params : Params) (bound : Bound) (ending : StopRule) (g : ActiveGroup) (place : ℕ) (penalty : ℤ) (sums : Sums) (line : LineFits) (left long : Bool)
-    → penalty ≡ f.penalty place → line ≡ line_fits params sums → sums ≡ h.sums g.place place → h ≡ f
+    → penalty ≡ f.penalty place → line ≡ fits_of_sums params sums → sums ≡ h.sums g.place place → h ≡ f
     → left ≡ deactivates ending false long → long ≡ is_long f params g.place place
     → (s : BreakState) → s.place ≡ g.place
-    → (pruned f params bound ending).line s place
-    ≡ cond left None (line_of params bound penalty s.class (fit_after params.first_lines s.lines line))
+    → (pruned_problem f params bound ending).line s place
+    ≡ cond left None (admitted_line params bound penalty s.class (fit_after params.first_lines s.lines line))
 pruned_is f h params bound ending g place penalty sums line left long is_penalty is_line is_sums same is_left is_long_line s at =
     ap (λ t. cond (deactivates ending false t) None ((problem_of f params bound).line s place)) (ap (λ a. is_long f params a place) at ∙ sym is_long_line)
     ∙ ap (λ t. cond t None ((problem_of f params bound).line s place)) (sym is_left)
@@ -67,7 +67,7 @@ left_out left table params bound group place penalty line row is rises of p cut 
     row_passed p table place group.start group.end row rises (λ k e low high at. no_offer p e k place (none e (of k e low high at).0)) before
   where
     none : (e : Entry) → e.end.place ≡ group.place → p.line e.end place ≡ None
-    none e at = line_fit e.end at ∙ cond-true left None (line_of params bound penalty e.end.class (fit_after params.first_lines e.end.lines line)) is
+    none e at = line_fit e.end at ∙ cond-true left None (admitted_line params bound penalty e.end.class (fit_after params.first_lines e.end.lines line)) is
 
 pub not_left_out :
     (left : Bool) (table : List Entry) (params : Params) (bound : Bound) (group : ActiveGroup) (place : ℕ) (penalty : ℤ) (line : LineFits) (old new : List (Option Entry))
@@ -75,10 +75,10 @@ pub not_left_out :
     → IsOfferingUnless left table params bound group place penalty line old new
 not_left_out left table params bound group place penalty line old new is offering p cut late line_fit before =
     offering p cut late
-    (λ s at. line_fit s at ∙ cond-false left None (line_of params bound penalty s.class (fit_after params.first_lines s.lines line)) is) before
+    (λ s at. line_fit s at ∙ cond-false left None (admitted_line params bound penalty s.class (fit_after params.first_lines s.lines line)) is) before
 
 -- For a line that is left out, it is enough to know that.
-pub ended_is : (ending : StopRule) (overfull long : Bool) → deactivates ending overfull (leaves ending long) ≡ deactivates ending overfull long
+pub ended_is : (ending : StopRule) (overfull long : Bool) → deactivates ending overfull (leaves_out ending long) ≡ deactivates ending overfull long
 ended_is Never overfull long = refl
 ended_is Overfull overfull long = refl
 ended_is Long overfull long = refl
@@ -87,7 +87,7 @@ ended_is Long overfull long = refl
 pub goes_on :
     (f : Facts) (params : Params) (ending : StopRule) (a b : ℕ) (o long ended : Bool)
     → ended ≡ deactivates ending o long → o ≡ is_overfull f params a b → long ≡ is_long f params a b → is_forced (f.penalty b) ≡ false → ended ≡ false
-    → stops f params ending a b ≡ false
+    → stops_at f params ending a b ≡ false
 goes_on f params ending a b o long ended is same_over same_long free not_ended =
     ap (λ t. t || deactivates ending (is_overfull f params a b) (is_long f params a b)) free ∙ ap (λ t. deactivates ending t (is_long f params a b)) (sym same_over)
     ∙ ap (deactivates ending o) (sym same_long) ∙ sym is ∙ not_ended
@@ -95,19 +95,19 @@ goes_on f params ending a b o long ended is same_over same_long free not_ended =
 -- If long lines are left out, no entry of a group offers anything after one.
 long_quiet :
     (facts : Facts) (params : Params) (bound : Bound) (table : List Entry) (b : ℕ) (g : ActiveGroup)
-    → IsSteady facts → IsGroup (pruned facts params bound Long) table b g → is_long facts params g.place b ≡ true
-    → IsQuiet (pruned facts params bound Long) table (b + 1) g.start g.end
+    → IsSteady facts → IsGroup (pruned_problem facts params bound Long) table b g → is_long facts params g.place b ≡ true
+    → IsQuiet (pruned_problem facts params bound Long) table (b + 1) g.start g.end
 long_quiet facts params bound table b g steady group is k e low high at l after within =
     let place = group.entries k e low high at in
     let late : is_long facts params e.end.place l ≡ true =
     ap (λ a. is_long facts params a l) place ∙ long_stays facts params g.place b l steady group.earlier (omega arith) within is in
-    no_offer (pruned facts params bound Long) e k l (cond-true (is_long facts params e.end.place l) None ((problem_of facts params bound).line e.end l) late)
+    no_offer (pruned_problem facts params bound Long) e k l (cond-true (is_long facts params e.end.place l) None ((problem_of facts params bound).line e.end l) late)
 
 -- If trying has stopped, the entries of the group are quiet.
 pub ended_quiet :
     (f : Facts) (params : Params) (bound : Bound) (table : List Entry) (b : ℕ) (g : ActiveGroup) (ending : StopRule) (o long ended : Bool)
     → ended ≡ deactivates ending o long → o ≡ is_overfull f params g.place b → long ≡ is_long f params g.place b → MayEnd ending f params bound
-    → IsGroup (pruned f params bound ending) table b g → ended ≡ true → IsQuiet (pruned f params bound ending) table (b + 1) g.start g.end
+    → IsGroup (pruned_problem f params bound ending) table b g → ended ≡ true → IsQuiet (pruned_problem f params bound ending) table (b + 1) g.start g.end
 ended_quiet f params bound table b g Never o long ended is same_over same_long may group yes_ended =
     let no : false ≡ true = sym is ∙ yes_ended in
     absurd (cc)

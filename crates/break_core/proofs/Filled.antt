@@ -10,9 +10,9 @@ use Rattle.break_lines.specs.declared.sums.Sums.{Sums}
 use Rattle.break_lines.specs.declared.sizes.LineFits.{LineFits}
 use Rattle.break_lines.specs.declared.cost.Bound.{Bound}
 use Rattle.break_lines.specs.declared.state.LineCost.{LineCost}
-use Rattle.break_lines.specs.Costs.{line_fit, line_of, line_alone, after_class}
+use Rattle.break_lines.specs.Costs.{line_fit, admitted_line, line_alone, after_class}
 use Rattle.break_lines.proofs.Parts.{after_none, alone_is}
-use Rattle.break_lines.specs.Sizes.{line_size, line_fits, fit_after}
+use Rattle.break_lines.specs.Sizes.{line_size, fits_of_sums, fit_after}
 use Rattle.break_lines.proofs.Widths.{after_is}
 use Rattle.break_lines.specs.Facts.{Facts}
 use Rattle.break_core.specs.Passes.{problem_of}
@@ -27,14 +27,14 @@ group_of p table b g is group k e low high at = (group.entries k e low high at, 
 -- A line that was judged by its sums is the line of the problem.
 pub fit_is :
     (f h : Facts) (params : Params) (bound : Bound) (g : ActiveGroup) (place : ℕ) (penalty : ℤ) (sums : Sums) (line : LineFits)
-    → penalty ≡ f.penalty place → line ≡ line_fits params sums → sums ≡ h.sums g.place place → h ≡ f
+    → penalty ≡ f.penalty place → line ≡ fits_of_sums params sums → sums ≡ h.sums g.place place → h ≡ f
     → IsFitOf (problem_of f params bound) params bound g place penalty line
 fit_is f h params bound g place penalty sums line is_penalty is_line is_sums same s at =
     let all : sums ≡ f.sums s.place place = is_sums ∙ ap (λ x. x.sums g.place place) same ∙ ap (λ n. f.sums n place) (sym at) in
     let line_is : fit_after params.first_lines s.lines line ≡ line_fit (f.sums s.place place) (line_size params s.lines) =
     ap (fit_after params.first_lines s.lines) is_line ∙ after_is params sums s.lines ∙ ap (λ x. line_fit x (line_size params s.lines)) all in
-    ap (λ x. line_of params bound x s.class (line_fit (f.sums s.place place) (line_size params s.lines))) (sym is_penalty)
-    ∙ ap (λ x. line_of params bound penalty s.class x) (sym line_is)
+    ap (λ x. admitted_line params bound x s.class (line_fit (f.sums s.place place) (line_size params s.lines))) (sym is_penalty)
+    ∙ ap (λ x. admitted_line params bound penalty s.class x) (sym line_is)
 
 -- If a line is admitted after no number of lines, the entries of its group offer nothing.
 pub none_offered :

@@ -16,7 +16,7 @@ use Rattle.break_core.specs.declared.pass_rules.StopRule.{StopRule}
 use Rattle.break_core.specs.declared.active_list.Live.{Live}
 use Rattle.break_lines.specs.declared.cost.Bound.{Bound}
 use Rattle.break_core.specs.Private.Leaving.{over_before, kept_over}
-use Rattle.break_core.specs.Private.Active.{stops, pruned, groups_of, with_group, with_live, AreOver, IsBestOf, HaveBest, IsNext, IsActive, IsFilled}
+use Rattle.break_core.specs.Private.Active.{stops_at, pruned_problem, groups_of, with_group, with_live, AreOver, IsBestOf, HaveBest, IsNext, IsActive, IsFilled}
 use Rattle.break_core.proofs.Active.{next_active, filled_first}
 use Rattle.break_core.proofs.Long.{over_start}
 
@@ -127,11 +127,11 @@ filled_start p stop table lives live is_table is_lives place start end =
 -- The next group from which a line is tried, and those after it.
 pub next_live :
     (f : Facts) (params : Params) (bound : Bound) (ending : StopRule) (table : List Entry) (b at low : ℕ) (lives : List Live) (i : ℕ) (live : Live)
-    → slice_get lives i ≡ Some live → IsActive (pruned f params bound ending) (stops f params ending) table b b at low (drop i (groups_of lives))
-    → IsNext (pruned f params bound ending) (stops f params ending) table b at low live.group
-    × IsActive (pruned f params bound ending) (stops f params ending) table b b live.group.end (live.group.place + 1) (drop (i + 1) (groups_of lives))
+    → slice_get lives i ≡ Some live → IsActive (pruned_problem f params bound ending) (stops_at f params ending) table b b at low (drop i (groups_of lives))
+    → IsNext (pruned_problem f params bound ending) (stops_at f params ending) table b at low live.group
+    × IsActive (pruned_problem f params bound ending) (stops_at f params ending) table b b live.group.end (live.group.place + 1) (drop (i + 1) (groups_of lives))
 next_live f params bound ending table b at low lives i live here is =
-    next_active (pruned f params bound ending) (stops f params ending) table b b at low i (groups_of lives) live.group (group_at lives i live here) is
+    next_active (pruned_problem f params bound ending) (stops_at f params ending) table b b at low i (groups_of lives) live.group (group_at lives i live here) is
 
 -- The stored value does not change after a line that is not overfull.
 pub same_over : (over : Option ℤ) (overfull : Bool) (width : ℤ) → overfull ≡ false → kept_over over overfull width ≡ over

@@ -7,7 +7,7 @@ use Rattle.break_lines.specs.declared.state.Fitness.{Fitness}
 use Rattle.break_lines.specs.declared.state.LineCost.{LineCost}
 use Rattle.break_lines.specs.declared.group.ActiveGroup.{ActiveGroup}
 use Rattle.break_lines.specs.Problems.{Problem}
-use Rattle.break_lines.specs.Ways.{since}
+use Rattle.break_lines.specs.Ways.{last_forced_below}
 use Rattle.break_lines.specs.Tables.{Entry, offer_of, offer}
 use Rattle.break_lines.specs.Private.Live.{IsGroup}
 use Rattle.break_lines.specs.declared.sums.Sums.{Sums}
@@ -15,8 +15,8 @@ use Rattle.break_lines.specs.declared.cost.LineFit.{LineFit}
 use Rattle.break_lines.specs.declared.cost.Bound.{Bound}
 use Rattle.break_lines.specs.declared.cost.Bound.TheVariants.{Any, AtMost}
 use Rattle.break_lines.specs.declared.sizes.LineFits.{LineFits}
-use Rattle.break_lines.specs.Costs.{line_fit, admits, line_of}
-use Rattle.break_lines.specs.Sizes.{line_size, greatest_size, line_fits}
+use Rattle.break_lines.specs.Costs.{line_fit, admits, admitted_line}
+use Rattle.break_lines.specs.Sizes.{line_size, greatest_size, fits_of_sums}
 use Rattle.break_lines.proofs.Widths.{overfull_means, overfull_is, overfull_each, both_overfull}
 use Rattle.break_lines.specs.Facts.{Facts}
 use Rattle.break_core.specs.Passes.{problem_of}
@@ -53,8 +53,8 @@ overfull_stays facts params a b l steady earlier after within is =
 -- A bound admits no overfull line.
 overfull_none :
     (params : Params) (bound : Bound) (penalty : ℤ) (before : Fitness) (line : LineFit)
-    → is_limit bound ≡ true → line.overfull ≡ true → line_of params bound penalty before line ≡ None
-unfolding line_of admits
+    → is_limit bound ≡ true → line.overfull ≡ true → admitted_line params bound penalty before line ≡ None
+unfolding admitted_line admits
 overfull_none params Any penalty before line limit is = absurd (cc)
 overfull_none params (AtMost most) penalty before line limit is = refused line.overfull (int_le (pos line.badness) most) _ is
   where
@@ -63,7 +63,7 @@ overfull_none params (AtMost most) penalty before line limit is = refused line.o
     refused false b x h = absurd (cc)
 
 pub no_offer : (p : Problem) (e : Entry) (k l : ℕ) → p.line e.end l ≡ None → offer p e k l ≡ None
-no_offer p e k l none = cases (nat_le (since p l) e.end.place) _ (ap (offer_of p.cut e k l) none)
+no_offer p e k l none = cases (nat_le (last_forced_below p l) e.end.place) _ (ap (offer_of p.cut e k l) none)
   where
     cases : (t : Bool) (x : Option Entry) → x ≡ None → cond t x None ≡ None
     cases true x is = is
@@ -85,7 +85,7 @@ overfull_quiet facts params bound table b g may group is k e low high at l after
 -- A judged line is overfull exactly when the line of the paragraph is.
 pub overfull_of :
     (f h : Facts) (params : Params) (a b : ℕ) (sums : Sums) (line : LineFits)
-    → line ≡ line_fits params sums → sums ≡ h.sums a b → h ≡ f → (line.first.overfull && line.rest.overfull) ≡ is_overfull f params a b
+    → line ≡ fits_of_sums params sums → sums ≡ h.sums a b → h ≡ f → (line.first.overfull && line.rest.overfull) ≡ is_overfull f params a b
 overfull_of f h params a b sums line is_line is_sums same =
     ap (λ j. j.first.overfull && j.rest.overfull) is_line ∙ both_overfull params sums
     ∙ ap (λ s. (line_fit s (greatest_size params)).overfull) (is_sums ∙ ap (λ x. x.sums a b) same)

@@ -14,7 +14,7 @@ use Rattle.break_lines.specs.Tables.{Entry, IsTable, IsRow}
 use Rattle.break_lines.proofs.Entries.{get_cases}
 use Rattle.break_lines.specs.declared.sums.Sums.{Sums}
 use Rattle.break_lines.specs.declared.cost.Bound.{Bound}
-use Rattle.break_lines.specs.Costs.{line_fit, line_of, line_alone, is_loosest, after_class}
+use Rattle.break_lines.specs.Costs.{line_fit, admitted_line, line_alone, is_loosest, after_class}
 use Rattle.break_lines.specs.Private.Costs.{loosest_line}
 use Rattle.break_lines.specs.Sizes.{least_width}
 use Rattle.break_lines.specs.Legal.{is_forced}
@@ -30,7 +30,7 @@ use Rattle.break_core.specs.Passes.{problem_of}
 use Rattle.break_core.specs.Trials.{is_overfull}
 use Rattle.break_core.specs.Private.Leaving.{first_over, is_long, over_before}
 use Rattle.break_core.specs.Private.Filling.{IsOfferingBest}
-use Rattle.break_core.specs.Private.Active.{deactivates, leaves, stops, pruned, groups_of, AreOver, HaveBest, MayEnd, IsBestOf, IsActive, AreLoosest, AllWait, CostLoosest, CanWait, CanAllWait, IsOfferingFirst, IsOfferingWaiting, WasTried}
+use Rattle.break_core.specs.Private.Active.{deactivates, leaves_out, stops_at, pruned_problem, groups_of, AreOver, HaveBest, MayEnd, IsBestOf, IsActive, AreLoosest, AllWait, CostLoosest, CanWait, CanAllWait, IsOfferingFirst, IsOfferingWaiting, WasTried}
 use Rattle.break_core.proofs.Active.{later_quiet, kept_active, row_quiet, row_passed, row_end, next_active, IsFront}
 use Rattle.break_core.proofs.Detours.{first_is, long_means}
 use Rattle.break_core.proofs.Filled.{group_of}
@@ -63,7 +63,7 @@ not_overfull facts params bound a b none is =
 not_long :
     (facts : Facts) (params : Params) (bound : Bound) (ending : StopRule) (a b : ℕ)
     → MayEnd ending facts params bound → a < b → b ≤ facts.places → is_overfull facts params a b ≡ false
-    → (deactivates ending false (is_long facts params a b) ≡ false) × (leaves ending (is_long facts params a b) ≡ false)
+    → (deactivates ending false (is_long facts params a b) ≡ false) × (leaves_out ending (is_long facts params a b) ≡ false)
 not_long facts params bound Never a b may earlier within fits = (refl, refl)
 not_long facts params bound Overfull a b may earlier within fits = (refl, refl)
 not_long facts params bound Long a b may earlier within fits = cases (cases_Bool (is_long facts params a b))
@@ -85,7 +85,7 @@ not_long facts params bound Long a b may earlier within fits = cases (cases_Bool
 no_stop :
     (facts : Facts) (params : Params) (bound : Bound) (ending : StopRule) (a b : ℕ)
     → MayEnd ending facts params bound → a < b → b ≤ facts.places → is_forced (facts.penalty b) ≡ false → is_overfull facts params a b ≡ false
-    → stops facts params ending a b ≡ false
+    → stops_at facts params ending a b ≡ false
 no_stop facts params bound ending a b may earlier within free fits =
     ap (λ t. t || deactivates ending (is_overfull facts params a b) (is_long facts params a b)) free
     ∙ ap (λ t. deactivates ending t (is_long facts params a b)) fits
@@ -97,14 +97,14 @@ waiting_line :
     → MayEnd ending facts params bound → a < b → b ≤ facts.places → params.first_lines ≡ 0
     → is_loosest bound (line_fit (facts.sums a b) params.hsize) ≡ true
     → (s : BreakState) → s.place ≡ a
-    → (pruned facts params bound ending).line s b ≡ line_of params bound (facts.penalty b) s.class loosest_line
+    → (pruned_problem facts params bound ending).line s b ≡ admitted_line params bound (facts.penalty b) s.class loosest_line
 waiting_line facts params bound ending a b may earlier within none is s at =
     let fits = not_overfull facts params bound a b none is in
-    let left : leaves ending (is_long facts params s.place b) ≡ false =
-    ap (λ n. leaves ending (is_long facts params n b)) at ∙ (not_long facts params bound ending a b may earlier within fits).1 in
-    cond-false (leaves ending (is_long facts params s.place b)) None ((problem_of facts params bound).line s b) left
-    ∙ ap (λ x. line_of params bound (facts.penalty b) s.class (line_fit (facts.sums s.place b) x)) (size_none params s.lines none)
-    ∙ ap (λ n. line_of params bound (facts.penalty b) s.class (line_fit (facts.sums n b) params.hsize)) at
+    let left : leaves_out ending (is_long facts params s.place b) ≡ false =
+    ap (λ n. leaves_out ending (is_long facts params n b)) at ∙ (not_long facts params bound ending a b may earlier within fits).1 in
+    cond-false (leaves_out ending (is_long facts params s.place b)) None ((problem_of facts params bound).line s b) left
+    ∙ ap (λ x. admitted_line params bound (facts.penalty b) s.class (line_fit (facts.sums s.place b) x)) (size_none params s.lines none)
+    ∙ ap (λ n. admitted_line params bound (facts.penalty b) s.class (line_fit (facts.sums n b) params.hsize)) at
     ∙ loosest_costs params bound (facts.penalty b) s.class (facts.sums a b) params.hsize is
 
 -- If a group is left, it waits.
@@ -125,14 +125,14 @@ fewer_wait facts params bound low more b later wait =
 pub costs_waiting :
     (facts : Facts) (params : Params) (bound : Bound) (ending : StopRule) (table : List Entry) (b high at low : ℕ) (groups : List ActiveGroup)
     → MayEnd ending facts params bound → b ≤ facts.places → AllWait facts params bound low b groups
-    → IsActive (pruned facts params bound ending) (stops facts params ending) table b high at low groups
-    → CostLoosest (pruned facts params bound ending) params bound (facts.penalty b) b groups
+    → IsActive (pruned_problem facts params bound ending) (stops_at facts params ending) table b high at low groups
+    → CostLoosest (pruned_problem facts params bound ending) params bound (facts.penalty b) b groups
 costs_waiting facts params bound ending table b high at low [] may within wait is k h there = absurd (cc)
 costs_waiting facts params bound ending table b high at low (g ∷ groups) may within wait is zero h there =
     let next = is.0 in
     let all = one_waits facts params bound low b g groups wait in
     subst (λ (x : ActiveGroup). (s : BreakState) → s.place ≡ x.place
-    → (pruned facts params bound ending).line s b ≡ line_of params bound (facts.penalty b) s.class loosest_line) (same_Some g h there)
+    → (pruned_problem facts params bound ending).line s b ≡ admitted_line params bound (facts.penalty b) s.class loosest_line) (same_Some g h there)
     (waiting_line facts params bound ending g.place b may next.group.earlier within all.uncounted (all.loosest g.place next.later next.group.earlier))
 costs_waiting facts params bound ending table b high at low (g ∷ groups) may within wait is (suc k) h there =
     let next = is.0 in
@@ -144,19 +144,19 @@ costs_waiting facts params bound ending table b high at low (g ∷ groups) may w
 pub active_waiting :
     (facts : Facts) (params : Params) (bound : Bound) (ending : StopRule) (table : List Entry) (b high at low : ℕ) (groups : List ActiveGroup)
     → MayEnd ending facts params bound → b ≤ facts.places → is_forced (facts.penalty b) ≡ false → AllWait facts params bound low b groups
-    → IsActive (pruned facts params bound ending) (stops facts params ending) table b high at low groups
-    → IsActive (pruned facts params bound ending) (stops facts params ending) table (b + 1) high at low groups
+    → IsActive (pruned_problem facts params bound ending) (stops_at facts params ending) table b high at low groups
+    → IsActive (pruned_problem facts params bound ending) (stops_at facts params ending) table (b + 1) high at low groups
 active_waiting facts params bound ending table b high at low [] may within free wait is =
     record {
       gap = is.gap;
-      quiet = later_quiet (pruned facts params bound ending) table b (b + 1) at (length table) (omega arith) is.quiet;
+      quiet = later_quiet (pruned_problem facts params bound ending) table b (b + 1) at (length table) (omega arith) is.quiet;
       lower = is.lower;
     }
 active_waiting facts params bound ending table b high at low (g ∷ groups) may within free wait is =
     let next = is.0 in
     let all = one_waits facts params bound low b g groups wait in
     let fits = not_overfull facts params bound g.place b all.uncounted (all.loosest g.place next.later next.group.earlier) in
-    kept_active (pruned facts params bound ending) (stops facts params ending) table b high at low g groups free
+    kept_active (pruned_problem facts params bound ending) (stops_at facts params ending) table b high at low g groups free
     (no_stop facts params bound ending g.place b may next.group.earlier within free fits) next
     (active_waiting facts params bound ending table b high g.end (g.place + 1) groups may within free
     (inr (fewer_wait facts params bound low (g.place + 1) b (omega (arith, next.later)) all)) is.1)
@@ -165,7 +165,7 @@ active_waiting facts params bound ending table b high at low (g ∷ groups) may 
 pub over_waiting :
     (facts : Facts) (params : Params) (bound : Bound) (ending : StopRule) (table : List Entry) (b high at low : ℕ) (lives : List Live)
     → AllWait facts params bound low b (groups_of lives)
-    → IsActive (pruned facts params bound ending) (stops facts params ending) table b high at low (groups_of lives)
+    → IsActive (pruned_problem facts params bound ending) (stops_at facts params ending) table b high at low (groups_of lives)
     → AreOver facts params b lives → AreOver facts params (b + 1) lives
 over_waiting facts params bound ending table b high at low [] wait is over k x there = absurd (cc)
 over_waiting facts params bound ending table b high at low (live ∷ lives) wait is over zero x there =
@@ -218,7 +218,7 @@ none_waiting p stop table params bound penalty b high at low (g ∷ groups) row 
     (λ k e from to there. no_offer p e k b (costs 0 g refl e.end (next.group.entries k e from to there) ∙ refused e.end))
     (row_quiet p table b at g.start row next.gap within next.quiet here))
   where
-    refused : (s : BreakState) → line_of params bound penalty s.class loosest_line ≡ None
+    refused : (s : BreakState) → admitted_line params bound penalty s.class loosest_line ≡ None
     refused s = sym (parts params bound penalty s.class loosest_line) ∙ ap (after_class params s.class) none
 
 pub none_offered_waiting :
@@ -333,7 +333,7 @@ left_wait facts params bound low b lives end (inl all) = inl (ap groups_of (past
 -- The groups from which no line is tried, after the others.
 pub record AreLeft
     (facts : Facts) (params : Params) (bound : Bound) (ending : StopRule) (table : List Entry) (b at low : ℕ) (rest : List Live) : Type 0 where
-  pub active : IsActive (pruned facts params bound ending) (stops facts params ending) table b b at low (groups_of rest)
+  pub active : IsActive (pruned_problem facts params bound ending) (stops_at facts params ending) table b b at low (groups_of rest)
   pub wait : AllWait facts params bound low b (groups_of rest)
   pub over : AreOver facts params b rest
   pub best : HaveBest table rest
@@ -343,12 +343,12 @@ pub are_left :
     (facts : Facts) (params : Params) (bound : Bound) (ending : StopRule) (table : List Entry) (b at low index end : ℕ) (lives now : List Live)
     → index ≡ end → length now ≡ length lives → ((k : ℕ) → index ≤ k → slice_get now k ≡ slice_get lives k)
     → (length lives ≤ end) ⊎ AreLoosest facts params bound low b → AreOver facts params b lives → HaveBest table lives
-    → IsActive (pruned facts params bound ending) (stops facts params ending) table b b at low (drop index (groups_of lives))
+    → IsActive (pruned_problem facts params bound ending) (stops_at facts params ending) table b b at low (drop index (groups_of lives))
     → AreLeft facts params bound ending table b at low (drop end now)
 are_left facts params bound ending table b at low index end lives now last long rest wait over best is =
     subst (AreLeft facts params bound ending table b at low) (sym same)
     (record {
-      active = subst (IsActive (pruned facts params bound ending) (stops facts params ending) table b b at low)
+      active = subst (IsActive (pruned_problem facts params bound ending) (stops_at facts params ending) table b b at low)
           (ap (λ n. drop n (groups_of lives)) last ∙ drop-map (λ (x : Live). x.group) end lives) is;
       wait = left_wait facts params bound low b lives end wait;
       over = over_from facts params b end lives over;
@@ -374,10 +374,10 @@ pub front_left :
     (facts : Facts) (params : Params) (bound : Bound) (ending : StopRule) (table : List Entry) (b at low : ℕ) (kept rest : List Live)
     → MayEnd ending facts params bound → b ≤ facts.places → is_forced (facts.penalty b) ≡ false
     → AreLeft facts params bound ending table b at low rest
-    → IsFront (pruned facts params bound ending) (stops facts params ending) table b b at low (groups_of kept)
-    → IsActive (pruned facts params bound ending) (stops facts params ending) table (b + 1) b 0 0 (groups_of (kept ++ rest))
+    → IsFront (pruned_problem facts params bound ending) (stops_at facts params ending) table b b at low (groups_of kept)
+    → IsActive (pruned_problem facts params bound ending) (stops_at facts params ending) table (b + 1) b 0 0 (groups_of (kept ++ rest))
 front_left facts params bound ending table b at low kept rest may within free left front =
-    subst (λ xs. IsActive (pruned facts params bound ending) (stops facts params ending) table (b + 1) b 0 0 xs)
+    subst (λ xs. IsActive (pruned_problem facts params bound ending) (stops_at facts params ending) table (b + 1) b 0 0 xs)
     (sym (map-append (λ (x : Live). x.group) kept rest))
     (front (groups_of rest) free (active_waiting facts params bound ending table b b at low (groups_of rest) may within free left.wait left.active))
 

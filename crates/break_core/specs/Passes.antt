@@ -13,7 +13,7 @@ use Rattle.break_core.specs.declared.broken.Breaks.{Breaks}
 use Rattle.break_core.specs.declared.broken.LineEnd.{LineEnd}
 use Rattle.break_lines.specs.Legal.{is_forced}
 use Rattle.break_lines.specs.Facts.{Facts}
-use Rattle.break_lines.specs.Costs.{line_fit, line_of}
+use Rattle.break_lines.specs.Costs.{line_fit, admitted_line}
 use Rattle.break_lines.specs.Sizes.{line_size}
 
 -- The lines that a pass admits: in the first pass those up to pretolerance, in the second pass those up to tolerance, and in the last pass all lines.
@@ -30,7 +30,7 @@ problem_of facts params bound =
       forced = λ place. is_forced (facts.penalty place);
       cut = params.first_lines;
       line = λ before place.
-          line_of params bound (facts.penalty place) before.class (line_fit (facts.sums before.place place) (line_size params before.lines));
+          admitted_line params bound (facts.penalty place) before.class (line_fit (facts.sums before.place place) (line_size params before.lines));
     }
 
 -- A pass comes before another one.

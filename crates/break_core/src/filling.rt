@@ -6,7 +6,8 @@ ghost use Rattle.break_lines.specs.Problems.{max_places};
 ghost use Rattle.break_lines.specs.Even.{IsEven};
 ghost use Rattle.break_lines.specs.Legal.{is_forced};
 ghost use Rattle.break_core.specs.Private.Filling.{CountsMayGrow};
-ghost use Rattle.break_core.specs.Private.Active.{stops, pruned, groups_of, MayEnd, AreOver, HaveBest, IsActive, IsFilled, IsSwept, IsCounted};
+ghost use Rattle.break_core.specs.Private.Active.{stops_at, pruned_problem, groups_of, MayEnd, AreOver, HaveBest, IsActive, IsFilled, IsSwept};
+ghost use Rattle.break_core.specs.Private.Active.{IsCounted};
 ghost use Rattle.break_core.specs.Private.Active.{TrialsOnlyGrow, WasTried};
 
 use crate::active_list::{
@@ -39,23 +40,23 @@ fn try_lines<M: Meter>(
     requires first { 0 < place }
     requires last { place ≤ (M.facts meter.old).places }
     requires places { place ≤ max_places }
-    requires filled { IsFilled (pruned (M.facts meter.old) rules.now.params.now rules.now.bound rules.now.ending)
-        (stops (M.facts meter.old) rules.now.params.now rules.now.ending) place table.now (groups_of lives.old.items) }
+    requires filled { IsFilled (pruned_problem (M.facts meter.old) rules.now.params.now rules.now.bound rules.now.ending)
+        (stops_at (M.facts meter.old) rules.now.params.now rules.now.ending) place table.now (groups_of lives.old.items) }
     requires over { AreOver (M.facts meter.old) rules.now.params.now place lives.old.items }
     requires best { HaveBest table.now lives.old.items }
     requires empty { row.old.items ≡ replicate (slots rules.now.params.now.first_lines) None }
     requires may { MayEnd rules.now.ending (M.facts meter.old) rules.now.params.now rules.now.bound }
     requires waits { rules.now.waits ≡ true → IsEven (M.facts meter.old) }
     requires trials_bounded { CountsMayGrow 1 (M.trials meter.old) }
-    ensures row { IsRow (pruned (M.facts meter.old) rules.now.params.now rules.now.bound rules.now.ending) table.now place
+    ensures row { IsRow (pruned_problem (M.facts meter.old) rules.now.params.now rules.now.bound rules.now.ending) table.now place
         (length table.now) row.new.items }
     ensures live { is_forced ((M.facts meter.old).penalty place) ≡ false →
-        IsActive (pruned (M.facts meter.old) rules.now.params.now rules.now.bound rules.now.ending)
-        (stops (M.facts meter.old) rules.now.params.now rules.now.ending) table.now (place + 1) place 0 0 (groups_of lives.new.items) }
+        IsActive (pruned_problem (M.facts meter.old) rules.now.params.now rules.now.bound rules.now.ending)
+        (stops_at (M.facts meter.old) rules.now.params.now rules.now.ending) table.now (place + 1) place 0 0 (groups_of lives.new.items) }
     ensures over { AreOver (M.facts meter.old) rules.now.params.now (place + 1) lives.new.items }
     ensures best { HaveBest table.now lives.new.items }
     ensures facts { M.facts meter.new ≡ M.facts meter.old }
-    ensures trials { IsSwept (stops (M.facts meter.old) rules.now.params.now rules.now.ending) place (M.trials meter.old) (M.trials meter.new) }
+    ensures trials { IsSwept (stops_at (M.facts meter.old) rules.now.params.now rules.now.ending) place (M.trials meter.old) (M.trials meter.new) }
     ensures kept { TrialsOnlyGrow (M.trials meter.old) (M.trials meter.new) }
     ensures tried { WasTried (groups_of lives.old.items) (M.trials meter.old) (M.trials meter.new) }
 {
@@ -95,8 +96,8 @@ fn add_place<M: Meter>(
     requires first { 0 < place }
     requires last { place ≤ (M.facts meter.old).places }
     requires places { place ≤ max_places }
-    requires filled { IsFilled (pruned (M.facts meter.old) rules.now.params.now rules.now.bound rules.now.ending)
-        (stops (M.facts meter.old) rules.now.params.now rules.now.ending) place reached.old.table.items (groups_of reached.old.live.items) }
+    requires filled { IsFilled (pruned_problem (M.facts meter.old) rules.now.params.now rules.now.bound rules.now.ending)
+        (stops_at (M.facts meter.old) rules.now.params.now rules.now.ending) place reached.old.table.items (groups_of reached.old.live.items) }
     requires over { AreOver (M.facts meter.old) rules.now.params.now place reached.old.live.items }
     requires best { HaveBest reached.old.table.items reached.old.live.items }
     requires empty { row.old.items ≡ replicate (slots rules.now.params.now.first_lines) None }
@@ -104,13 +105,13 @@ fn add_place<M: Meter>(
     requires waits { rules.now.waits ≡ true → IsEven (M.facts meter.old) }
     requires trials_bounded { CountsMayGrow 1 (M.trials meter.old) }
     ensures filled { OnOk result (
-        IsFilled (pruned (M.facts meter.old) rules.now.params.now rules.now.bound rules.now.ending)
-        (stops (M.facts meter.old) rules.now.params.now rules.now.ending) (place + 1) reached.new.table.items (groups_of reached.new.live.items)) }
+        IsFilled (pruned_problem (M.facts meter.old) rules.now.params.now rules.now.bound rules.now.ending)
+        (stops_at (M.facts meter.old) rules.now.params.now rules.now.ending) (place + 1) reached.new.table.items (groups_of reached.new.live.items)) }
     ensures over { OnOk result (AreOver (M.facts meter.old) rules.now.params.now (place + 1) reached.new.live.items) }
     ensures best { OnOk result (HaveBest reached.new.table.items reached.new.live.items) }
     ensures empty { OnOk result (row.new.items ≡ replicate (slots rules.now.params.now.first_lines) None) }
     ensures facts { M.facts meter.new ≡ M.facts meter.old }
-    ensures trials { IsSwept (stops (M.facts meter.old) rules.now.params.now rules.now.ending) place (M.trials meter.old) (M.trials meter.new) }
+    ensures trials { IsSwept (stops_at (M.facts meter.old) rules.now.params.now rules.now.ending) place (M.trials meter.old) (M.trials meter.new) }
     ensures kept { TrialsOnlyGrow (M.trials meter.old) (M.trials meter.new) }
     ensures tried { OnOk result (WasTried (groups_of reached.old.live.items) (M.trials meter.old) (M.trials meter.new)) }
 {
@@ -138,9 +139,10 @@ pub(crate) fn fill<M: Meter>(
     requires waits { rules.now.waits ≡ true → IsEven (M.facts meter.old) }
     requires trials_bounded { CountsMayGrow 8192 (M.trials meter.old) }
     ensures table { IfOk result (λ table.
-        IsTable (pruned (M.facts meter.old) rules.now.params.now rules.now.bound rules.now.ending) ((M.facts meter.old).places + 1) table.items) }
+        IsTable (pruned_problem (M.facts meter.old) rules.now.params.now rules.now.bound rules.now.ending)
+        ((M.facts meter.old).places + 1) table.items) }
     ensures facts { M.facts meter.new ≡ M.facts meter.old }
-    ensures trials { IsCounted (stops (M.facts meter.old) rules.now.params.now rules.now.ending) (M.facts meter.old).places
+    ensures trials { IsCounted (stops_at (M.facts meter.old) rules.now.params.now rules.now.ending) (M.facts meter.old).places
         (M.trials meter.old) (M.trials meter.new) }
     ensures kept { TrialsOnlyGrow (M.trials meter.old) (M.trials meter.new) }
     ensures tried { OnOk result (M.trials meter.old 0 < M.trials meter.new 0) }

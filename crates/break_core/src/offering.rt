@@ -5,7 +5,7 @@ ghost use Rattle.break_lines.specs.declared.state.Fitness.{Fitness};
 ghost use Rattle.break_lines.specs.Tables.{Entry, slots, IsSmallLine};
 ghost use Rattle.break_lines.specs.Problems.{max_places};
 ghost use Rattle.break_lines.specs.Costs.{line_fit, is_loosest, line_after};
-ghost use Rattle.break_lines.specs.Sizes.{line_fits, IsSmallLineFits};
+ghost use Rattle.break_lines.specs.Sizes.{fits_of_sums, IsSmallLineFits};
 ghost use Rattle.break_lines.specs.SmallCosts.{IsSmallAlone};
 ghost use Rattle.break_core.specs.Private.Filling.{IsOf, CanOffer, IsOffering, IsOfferingUnless, offer_from, IsBestOffer, IsLeastLine, IsBeaten};
 ghost use Rattle.break_core.specs.Private.Filling.{IsOfferingBest};
@@ -86,10 +86,10 @@ fn offer_counted(
 ) -> Judged
     requires can { CanOffer rules.now.params.now.first_lines row.old.items table.now group tried.now }
     ensures row { IsOfferingUnless left table.now rules.now.params.now rules.now.bound group tried.now.place tried.now.penalty
-        (line_fits rules.now.params.now tried.now.sums) row.old.items row.new.items }
+        (fits_of_sums rules.now.params.now tried.now.sums) row.old.items row.new.items }
     ensures wide { length row.new.items ≡ slots rules.now.params.now.first_lines }
     ensures overfull { result.overfull
-        ≡ ((line_fits rules.now.params.now tried.now.sums).first.overfull && (line_fits rules.now.params.now tried.now.sums).rest.overfull) }
+        ≡ ((fits_of_sums rules.now.params.now tried.now.sums).first.overfull && (fits_of_sums rules.now.params.now tried.now.sums).rest.overfull) }
     ensures loosest { result.loosest ≡ false }
 {
     let line = fit_both(&tried.sums, rules.params);
@@ -248,7 +248,7 @@ fn offer_best(
     ensures wide { length row.new.items ≡ slots 0 }
 {
     if is_beaten(
-        &row[line.alone.class.rank()],
+        &row[line.alone.class.class_index()],
         &table[live.best],
         &line.least,
     ) {
@@ -271,10 +271,10 @@ pub(crate) fn offer_line(
     requires can { CanOffer rules.now.params.now.first_lines row.old.items table.now live.now.group tried }
     requires best { IsBestOf table.now live.now.group.start live.now.group.end live.now.best }
     ensures row { IsOfferingUnless left table.now rules.now.params.now rules.now.bound live.now.group tried.place tried.penalty
-        (line_fits rules.now.params.now tried.sums) row.old.items row.new.items }
+        (fits_of_sums rules.now.params.now tried.sums) row.old.items row.new.items }
     ensures wide { length row.new.items ≡ slots rules.now.params.now.first_lines }
     ensures overfull { result.overfull
-        ≡ ((line_fits rules.now.params.now tried.sums).first.overfull && (line_fits rules.now.params.now tried.sums).rest.overfull) }
+        ≡ ((fits_of_sums rules.now.params.now tried.sums).first.overfull && (fits_of_sums rules.now.params.now tried.sums).rest.overfull) }
     ensures loosest { result.loosest ≡ true → is_loosest rules.now.bound (line_fit tried.sums rules.now.params.now.hsize) ≡ true }
     ensures uncounted { result.loosest ≡ true → rules.now.params.now.first_lines ≡ 0 }
 {

@@ -2,7 +2,7 @@
 
 ghost use Rattle.std.specs.Prelude.{◌≡◌};
 ghost use Rattle.break_core.specs.Private.Leaving.{is_more};
-ghost use Rattle.break_core.specs.Private.Active.{deactivates, leaves};
+ghost use Rattle.break_core.specs.Private.Active.{deactivates, leaves_out};
 
 use crate::active_list::is_more;
 use break_lines::Bound;
@@ -31,7 +31,7 @@ impl StopRule {
     /// Whether a line of this width, shrunk as far as possible, is left out.
     #[inline]
     pub(crate) fn leaves(self, over: Option<i64>, width: i64) -> bool
-        ensures { result ≡ leaves self (is_more over width) }
+        ensures { result ≡ leaves_out self (is_more over width) }
     {
         match self {
             StopRule::Never | StopRule::Overfull => false,

@@ -8,7 +8,7 @@ use Rattle.node_core.specs.declared.tree.Node.{Node}
 use Rattle.node_core.specs.declared.tree.Node.TheVariants as nodes
 use Rattle.node_core.specs.declared.tree.Order.{Order}
 use Rattle.node_core.specs.declared.tree.Order.TheVariants.{Normal, Fil, Fill, Filll}
-use Rattle.pack_core.specs.Items.{across, stretch_in, shrink_in, is_order}
+use Rattle.pack_core.specs.Items.{item_width, stretch_in, shrink_in, is_order}
 use Rattle.pack_core.proofs.Passing.{no_stretch, no_shrink}
 use Rattle.break_lines.specs.declared.sums.Sums.{Sums}
 use Rattle.break_lines.specs.Private.Marks.{amounts_of, plus, no_sums, stretch_alone, shrink_alone}
@@ -96,7 +96,7 @@ glue_amounts s g =
 
 -- An item that is not glue adds only its width.
 pub other_sums :
-    (s : Sums) (x : Node) → ((g : Glue) → x ≢ nodes.Glue g) → record s { width = s.width +ℤ across x } ≡ plus s (amounts_of x)
+    (s : Sums) (x : Node) → ((g : Glue) → x ≢ nodes.Glue g) → record s { width = s.width +ℤ item_width x } ≡ plus s (amounts_of x)
 other_sums s x other =
     let stretch : s.stretch ≡ s.stretch +ℤ stretch_in Normal x = omega (arith, ints, no_stretch x other Normal) in
     let fil : s.fil ≡ s.fil +ℤ stretch_in Fil x = omega (arith, ints, no_stretch x other Fil) in

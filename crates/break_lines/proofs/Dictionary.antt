@@ -8,7 +8,7 @@ use Rattle.break_lines.specs.declared.state.Fitness.TheVariants.{VeryLoose, Loos
 use Rattle.break_lines.specs.declared.state.BreakState.{BreakState}
 use Rattle.break_lines.specs.declared.state.LineCost.{LineCost}
 use Rattle.break_lines.specs.Orders.{NotAfter}
-use Rattle.break_lines.specs.Problems.{Problem, Path, rank, end_after, with_line, tie_numbers, key}
+use Rattle.break_lines.specs.Problems.{Problem, Path, class_index, end_after, with_line, tie_numbers, key}
 
 pub not_after_refl : (xs : List ℤ) → NotAfter xs xs
 not_after_refl [] = tt
@@ -78,16 +78,16 @@ class_of (suc zero) = Loose
 class_of (suc (suc zero)) = Decent
 class_of (suc (suc (suc n))) = Tight
 
-class_of-rank : (c : Fitness) → class_of (rank c) ≡ c
+class_of-rank : (c : Fitness) → class_of (class_index c) ≡ c
 class_of-rank VeryLoose = refl
 class_of-rank Loose = refl
 class_of-rank Decent = refl
 class_of-rank Tight = refl
 
-pub rank_apart : (c d : Fitness) → rank c ≡ rank d → c ≡ d
+pub rank_apart : (c d : Fitness) → class_index c ≡ class_index d → c ≡ d
 rank_apart c d same = sym (class_of-rank c) ∙ ap class_of same ∙ class_of-rank d
 
-pub rank_few : (c : Fitness) → rank c < 4
+pub rank_few : (c : Fitness) → class_index c < 4
 rank_few VeryLoose = omega arith
 rank_few Loose = omega arith
 rank_few Decent = omega arith
@@ -106,7 +106,7 @@ pub state_apart :
 state_apart s t ss ts same =
     let place : neg_ℤ (pos s.place) ≡ neg_ℤ (pos t.place) = cc in
     let lines : pos s.lines ≡ pos t.lines = cc in
-    let class : pos (rank s.class) ≡ pos (rank t.class) = cc in
+    let class : pos (class_index s.class) ≡ pos (class_index t.class) = cc in
     let rest : tie_numbers ss ≡ tie_numbers ts = cc in
     (state_same s t (omega (arith, ints)) (omega (arith, ints)) (rank_apart s.class t.class (omega (arith, ints))), rest)
 

@@ -7,12 +7,12 @@ use Rattle.std.proofs.lemmas.Bool.{cases_Bool, cond-true, cond-false}
 use Rattle.node_core.specs.declared.tree.Node.{Node}
 use Rattle.node_core.specs.declared.tree.Node.TheVariants as nodes
 use Rattle.node_core.specs.declared.tree.Order.TheVariants.{Normal, Fil, Fill, Filll}
-use Rattle.pack_core.specs.Items.{across, stretch_in, shrink_in}
+use Rattle.pack_core.specs.Items.{item_width, stretch_in, shrink_in}
 use Rattle.pack_core.specs.Totals.{total}
 use Rattle.pack_core.proofs.Sums.{total-append}
 use Rattle.break_lines.specs.declared.sums.Sums.{Sums}
 use Rattle.break_lines.specs.Legal.{is_dropped}
-use Rattle.break_lines.specs.LineItems.{BeginsBefore, at_break, without_first, kept, sums_of, lead, first_item_kept, minus}
+use Rattle.break_lines.specs.LineItems.{BeginsBefore, at_break, without_first, kept_items, sums_of, lead, first_item_kept, minus}
 
 take_none : (n : ℕ) → take {A = Node} n [] ≡ []
 take_none zero = refl
@@ -69,7 +69,7 @@ IsNothingAtBreaks f = (node : Option Node) → total f (at_break node) ≡ pos 0
 
 pub kept_total :
     (f : Node → ℤ) (list : List Node) (from : Option ℕ) (b : ℕ) → IsNothingAtBreaks f → BeginsBefore from b
-    → total f (kept list from b) ≡ total f (take b list) -ℤ total f (take (min b (first_item_kept list from)) list)
+    → total f (kept_items list from b) ≡ total f (take b list) -ℤ total f (take (min b (first_item_kept list from)) list)
 kept_total f list None b none before =
     let end = none (slice_get list b) in
     let parts = total-append f (take b list) (at_break (slice_get list b)) in
@@ -95,10 +95,10 @@ nothing f kern penalty (Some (nodes.Box shift b)) = refl
 -- The sums over the items of a line are a difference of sums over first items.
 pub kept_sums :
     (list : List Node) (from : Option ℕ) (b : ℕ) → BeginsBefore from b
-    → sums_of (kept list from b) ≡ minus (sums_of (take b list)) (sums_of (take (min b (first_item_kept list from)) list))
+    → sums_of (kept_items list from b) ≡ minus (sums_of (take b list)) (sums_of (take (min b (first_item_kept list from)) list))
 unfolding sums_of
 kept_sums list from b before =
-    let width = kept_total across list from b (nothing across refl (λ p. refl)) before in
+    let width = kept_total item_width list from b (nothing item_width refl (λ p. refl)) before in
     let stretch = kept_total (stretch_in Normal) list from b (nothing (stretch_in Normal) refl (λ p. refl)) before in
     let fil = kept_total (stretch_in Fil) list from b (nothing (stretch_in Fil) refl (λ p. refl)) before in
     let fill = kept_total (stretch_in Fill) list from b (nothing (stretch_in Fill) refl (λ p. refl)) before in
@@ -109,7 +109,7 @@ kept_sums list from b before =
 -- If all items are dropped, the sums are 0.
 pub kept_nothing :
     (list : List Node) (from : Option ℕ) (b : ℕ) → BeginsBefore from b → b ≤ first_item_kept list from
-    → sums_of (kept list from b) ≡ record { width = pos 0; stretch = pos 0; fil = pos 0; fill = pos 0; filll = pos 0; shrink = pos 0 }
+    → sums_of (kept_items list from b) ≡ record { width = pos 0; stretch = pos 0; fil = pos 0; fill = pos 0; filll = pos 0; shrink = pos 0 }
 kept_nothing list from b before all =
     let n : min b (first_item_kept list from) ≡ b = omega arith in
     kept_sums list from b before ∙ ap (λ k. minus (sums_of (take b list)) (sums_of (take k list))) n ∙ none (sums_of (take b list))
@@ -126,7 +126,7 @@ kept_nothing list from b before all =
 
 pub kept_some :
     (list : List Node) (from : Option ℕ) (b : ℕ) → BeginsBefore from b → first_item_kept list from ≤ b
-    → sums_of (kept list from b) ≡ minus (sums_of (take b list)) (sums_of (take (first_item_kept list from) list))
+    → sums_of (kept_items list from b) ≡ minus (sums_of (take b list)) (sums_of (take (first_item_kept list from) list))
 kept_some list from b before some =
     let n : min b (first_item_kept list from) ≡ first_item_kept list from = omega arith in
     kept_sums list from b before ∙ ap (λ k. minus (sums_of (take b list)) (sums_of (take k list))) n

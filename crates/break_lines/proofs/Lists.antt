@@ -6,9 +6,9 @@ use Rattle.std.proofs.lemmas.Bool.{cases_lt}
 use Rattle.std.proofs.lemmas.Option.{same_Some}
 use Rattle.std.proofs.lemmas.List.Elements.{Contains-append_right, Contains-append_left, Contains-push, Contains-append_cases, Contains-push_cases}
 use Rattle.break_lines.specs.declared.state.LineCost.{LineCost}
-use Rattle.break_lines.specs.Problems.{Problem, Path, first_path, with_line, with_line_if, lengthened, path_of, ends_of, places_of}
+use Rattle.break_lines.specs.Problems.{Problem, Path, first_path, with_line, with_line_if, lengthened_path, path_of, ends_of, places_of}
 use Rattle.break_lines.specs.Chosen.{top, IsFalling, IsBreakList}
-use Rattle.break_lines.specs.Ways.{since, Way, starts, goes}
+use Rattle.break_lines.specs.Ways.{last_forced_below, Way, starts, goes}
 use Rattle.break_lines.proofs.Since.{since_forced, forced_within}
 
 contains_none : (x : ℕ) → Contains [] x → ⊥
@@ -56,12 +56,12 @@ way_of p (b ∷ rest) q falls forced is =
     fewer : HasForced p (top rest) rest
     fewer f some within here = contains_rest b rest f (forced f some (omega (arith, falls.0)) here) (omega (arith, falls.0))
 
-    late : (x : ℕ) → x ≡ top rest → (0 < since p b) ⊎ (since p b ≤ 0) → since p b ≤ x
+    late : (x : ℕ) → x ≡ top rest → (0 < last_forced_below p b) ⊎ (last_forced_below p b ≤ 0) → last_forced_below p b ≤ x
     late x is_top (inr none) = omega arith
     late x is_top (inl above) =
         let at = since_forced p b above in
-        let has = forced (since p b) above (omega (arith, at.1)) at.0 in
-        omega (arith, contained_top rest (since p b) falls.1 (contains_rest b rest (since p b) has at.1))
+        let has = forced (last_forced_below p b) above (omega (arith, at.1)) at.0 in
+        omega (arith, contained_top rest (last_forced_below p b) falls.1 (contains_rest b rest (last_forced_below p b) has at.1))
 
     lines :
         (r : Path) (l : Option LineCost) → Way p r × (r.last.place ≡ top rest) → p.line r.last b ≡ l → with_line_if p r b l ≡ Some q
@@ -69,12 +69,12 @@ way_of p (b ∷ rest) q falls forced is =
     lines r None way at gives = absurd (cc)
     lines r (Some l) way at gives =
         let same : with_line p r b l ≡ q = same_Some (with_line p r b l) q gives in
-        let goes_on = goes r b l way.0 (omega (arith, way.1, falls.0)) (late r.last.place way.1 (cases_lt 0 (since p b))) at in
+        let goes_on = goes r b l way.0 (omega (arith, way.1, falls.0)) (late r.last.place way.1 (cases_lt 0 (last_forced_below p b))) at in
         (subst (λ s. Way p s) same goes_on, sym (ap (λ s. s.last.place) same))
 
     cases :
         ((r : Path) → HasForced p (top rest) rest → path_of p rest ≡ Some r → Way p r × (r.last.place ≡ top rest))
-        → (r : Option Path) → path_of p rest ≡ r → lengthened p r b ≡ Some q → Way p q × (q.last.place ≡ b)
+        → (r : Option Path) → path_of p rest ≡ r → lengthened_path p r b ≡ Some q → Way p q × (q.last.place ≡ b)
     cases shorter None before gives = absurd (cc)
     cases shorter (Some r) before gives = lines r (p.line r.last b) (shorter r fewer before) refl gives
 
@@ -106,7 +106,7 @@ list_of p _ (goes q b l way later since_b is) = more (list_of p q way)
           falls = (omega (arith, before.ends), before.falls);
           ends = refl;
           forced = λ f some within here. at f some here (cases_lt f b) within;
-          admitted = ap (λ r. lengthened p r b) before.admitted ∙ ap (with_line_if p q b) is;
+          admitted = ap (λ r. lengthened_path p r b) before.admitted ∙ ap (with_line_if p q b) is;
           same = ap (λ xs. b ∷ xs) before.same;
         }
       where

@@ -6,7 +6,7 @@ use Rattle.std.proofs.lemmas.Bool.{cases_Bool, cond-false, leb-true}
 use Rattle.std.proofs.lemmas.Option.{same_Some, slice_get_within}
 use Rattle.break_lines.specs.declared.group.ActiveGroup.{ActiveGroup}
 use Rattle.break_lines.specs.Problems.{Problem}
-use Rattle.break_lines.specs.Ways.{since}
+use Rattle.break_lines.specs.Ways.{last_forced_below}
 use Rattle.break_lines.specs.Tables.{Entry, first_entry, IsTable, offer_of, offer, IsRow, row_entries}
 use Rattle.break_lines.specs.Private.Live.{IsGroup, IsSilent, IsLive}
 use Rattle.break_lines.proofs.Entries.{get_cases}
@@ -14,12 +14,12 @@ use Rattle.break_lines.proofs.Since.{since_grows, since_below, since_free, force
 use Rattle.break_lines.proofs.Rows.{offered_at, held_from}
 
 -- Entries before a forced place offer nothing after it.
-early_silent : (p : Problem) (e : Entry) (k b l : ℕ) → e.end.place < since p b → b ≤ l → offer p e k l ≡ None
-early_silent p e k b l early after = cases (cases_Bool (nat_le (since p l) e.end.place))
+early_silent : (p : Problem) (e : Entry) (k b l : ℕ) → e.end.place < last_forced_below p b → b ≤ l → offer p e k l ≡ None
+early_silent p e k b l early after = cases (cases_Bool (nat_le (last_forced_below p l) e.end.place))
   where
-    cases : (nat_le (since p l) e.end.place ≡ true) ⊎ (nat_le (since p l) e.end.place ≡ false) → offer p e k l ≡ None
-    cases (inl late) = absurd (omega (arith, leb-true (since p l) e.end.place late, since_grows p b l after))
-    cases (inr is) = cond-false (nat_le (since p l) e.end.place) (offer_of p.cut e k l (p.line e.end l)) None is
+    cases : (nat_le (last_forced_below p l) e.end.place ≡ true) ⊎ (nat_le (last_forced_below p l) e.end.place ≡ false) → offer p e k l ≡ None
+    cases (inl late) = absurd (omega (arith, leb-true (last_forced_below p l) e.end.place late, since_grows p b l after))
+    cases (inr is) = cond-false (nat_le (last_forced_below p l) e.end.place) (offer_of p.cut e k l (p.line e.end l)) None is
 
 -- An entry of a longer table with a number below the length of the shorter one is in the shorter one too.
 shorter : (table more : List Entry) (k : ℕ) (e : Entry) → k < length table → slice_get (table ++ more) k ≡ Some e → slice_get table k ≡ Some e

@@ -17,7 +17,7 @@ use Rattle.break_lines.specs.declared.cost.LineFit.{LineFit}
 use Rattle.break_lines.specs.declared.cost.Bound.{Bound}
 use Rattle.break_lines.specs.declared.cost.Bound.TheVariants.{Any, AtMost}
 use Rattle.node_core.specs.declared.params.Params.{Params}
-use Rattle.break_lines.specs.Costs.{stretches_forever, stretched_class, shrunk_class, fit_short, fit_long, line_fit, is_loose, looseness_limit, is_loosest, line_of, admits}
+use Rattle.break_lines.specs.Costs.{stretches_forever, stretched_class, shrunk_class, fit_short, fit_long, line_fit, is_loose, looseness_limit, is_loosest, admitted_line, admits}
 use Rattle.break_lines.specs.Private.Costs.{loosest_line}
 use Rattle.break_lines.specs.Even.{Covers, HasNoNegativeFil}
 use Rattle.break_lines.proofs.Bounds.{ratio_most, badness_most}
@@ -313,8 +313,8 @@ worst_line most s size is worst = loose_line most s size is ∙ ap stretched wor
 -- It costs what the loosest line costs.
 pub loosest_costs :
     (params : Params) (bound : Bound) (penalty : ℤ) (before : Fitness) (s : Sums) (size : ℤ) → is_loosest bound (line_fit s size) ≡ true
-    → line_of params bound penalty before (line_fit s size) ≡ line_of params bound penalty before loosest_line
-unfolding looseness_limit line_of admits
+    → admitted_line params bound penalty before (line_fit s size) ≡ admitted_line params bound penalty before loosest_line
+unfolding looseness_limit admitted_line admits
 loosest_costs params bound penalty before s size is = cases bound (loose_means bound s size is)
   where
     b : ℕ
@@ -324,15 +324,15 @@ loosest_costs params bound penalty before s size is = cases bound (loose_means b
     most_badness short = badness_most (size -ℤ s.width) s.stretch (omega (arith, ints, short))
 
     worst : (most : ℤ) (bound : Bound) → IsLoose most s size → b ≡ 10000
-        → line_of params bound penalty before (line_fit s size) ≡ line_of params bound penalty before loosest_line
-    worst most bound is same = ap (line_of params bound penalty before) (worst_line most s size is same)
+        → admitted_line params bound penalty before (line_fit s size) ≡ admitted_line params bound penalty before loosest_line
+    worst most bound is same = ap (admitted_line params bound penalty before) (worst_line most s size is same)
 
     cases : (bound : Bound) → IsLoose (looseness_limit bound) s size
-        → line_of params bound penalty before (line_fit s size) ≡ line_of params bound penalty before loosest_line
+        → admitted_line params bound penalty before (line_fit s size) ≡ admitted_line params bound penalty before loosest_line
     cases Any is = worst (pos 9999) Any is (omega (arith, ints, is.above, most_badness is.short))
     cases (AtMost most) is = limit (cases_Bool (int_lt (pos 9999) most))
       where
-        refused : (line : LineFit) → most <ℤ pos line.badness → line_of params (AtMost most) penalty before line ≡ None
+        refused : (line : LineFit) → most <ℤ pos line.badness → admitted_line params (AtMost most) penalty before line ≡ None
         refused line above =
             let test : int_le (pos line.badness) most ≡ false = under (pos line.badness) most above in
             cond-false (not line.overfull && int_le (pos line.badness) most) _ None (ap (λ t. not line.overfull && t) test ∙ last line.overfull)
@@ -346,7 +346,7 @@ loosest_costs params bound penalty before s size is = cases bound (loose_means b
 
         limit :
             (int_lt (pos 9999) most ≡ true) ⊎ (int_lt (pos 9999) most ≡ false)
-            → line_of params (AtMost most) penalty before (line_fit s size) ≡ line_of params (AtMost most) penalty before loosest_line
+            → admitted_line params (AtMost most) penalty before (line_fit s size) ≡ admitted_line params (AtMost most) penalty before loosest_line
         limit (inl high) =
             let same : cond (int_lt (pos 9999) most) (pos 9999) most ≡ pos 9999 = cond-true (int_lt (pos 9999) most) (pos 9999) most high in
             worst (cond (int_lt (pos 9999) most) (pos 9999) most) (AtMost most) is (omega (arith, ints, is.above, same, most_badness is.short))
@@ -354,5 +354,5 @@ loosest_costs params bound penalty before s size is = cases bound (loose_means b
             let same : cond (int_lt (pos 9999) most) (pos 9999) most ≡ most = cond-false (int_lt (pos 9999) most) (pos 9999) most low in
             let above : most <ℤ pos b = omega (arith, ints, is.above, same) in
             let line = loose_line (cond (int_lt (pos 9999) most) (pos 9999) most) s size is in
-            ap (line_of params (AtMost most) penalty before) line ∙ refused (stretched b) above
+            ap (admitted_line params (AtMost most) penalty before) line ∙ refused (stretched b) above
             ∙ sym (refused loosest_line (omega (arith, ints, above, most_badness is.short)))

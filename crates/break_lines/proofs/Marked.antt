@@ -8,7 +8,7 @@ use Rattle.std.proofs.lemmas.Bool.Decides.{nat_tests}
 use Rattle.std.proofs.lemmas.Option.{same_Some}
 use Rattle.node_core.specs.declared.tree.Node.{Node}
 use Rattle.node_core.specs.declared.tree.Order.TheVariants.{Normal, Fil, Fill, Filll}
-use Rattle.pack_core.specs.Items.{across, stretch_in, shrink_in}
+use Rattle.pack_core.specs.Items.{item_width, stretch_in, shrink_in}
 use Rattle.pack_core.specs.Totals.{total}
 use Rattle.break_lines.proofs.Entries.{get_at}
 use Rattle.break_lines.specs.declared.mark.MeasuredBreak.{MeasuredBreak}
@@ -70,7 +70,7 @@ pub turned : (list : List Node) (a b : ℕ) → minus (sums_of (take b list)) (s
 unfolding sums_of
 turned list a b =
     let of = λ (f : Node → ℤ). one f in
-    let width = one across in
+    let width = one item_width in
     let stretch = one (stretch_in Normal) in
     let fil = one (stretch_in Fil) in
     let fill = one (stretch_in Fill) in

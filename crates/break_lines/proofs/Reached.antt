@@ -8,8 +8,8 @@ use Rattle.break_lines.specs.declared.state.BreakState.{BreakState}
 use Rattle.break_lines.specs.declared.state.LineCost.{LineCost}
 use Rattle.break_lines.specs.Orders.{NotAfter}
 use Rattle.break_lines.specs.Problems.{Problem, Path, start, first_path, end_after, tie_numbers, key}
-use Rattle.break_lines.specs.Ways.{since, Way, starts, goes, IsLeast}
-use Rattle.break_lines.specs.Tables.{Entry, first_entry, extended, compared_numbers, ExtendsLeastWay, way_to, IsTable, offer_of, offer, IsOffered}
+use Rattle.break_lines.specs.Ways.{last_forced_below, Way, starts, goes, IsLeast}
+use Rattle.break_lines.specs.Tables.{Entry, first_entry, extended_entry, compared_numbers, ExtendsLeastWay, way_to, IsTable, offer_of, offer, IsOffered}
 use Rattle.break_lines.proofs.Dictionary.{not_after_refl, not_after_trans, not_after_antisym, not_after_front, longer_not_after, state_apart, key_apart}
 
 -- There is only one best way to a state.
@@ -66,32 +66,32 @@ short_decides p e f left right h =
 
 -- The facts about an offer.
 pub record IsExtended (p : Problem) (e : Entry) (k b : ℕ) (o : Entry) : Type 0 where
-  pub since : since p b ≤ e.end.place
+  pub since : last_forced_below p b ≤ e.end.place
   pub line : LineCost
   pub admitted : p.line e.end b ≡ Some line
-  pub is : o ≡ extended p.cut e k b line
+  pub is : o ≡ extended_entry p.cut e k b line
 
 pub extended_is : (p : Problem) (e : Entry) (k b : ℕ) (o : Entry) → offer p e k b ≡ Some o → IsExtended p e k b o
-extended_is p e k b o is = cases (cases_Bool (nat_le (since p b) e.end.place))
+extended_is p e k b o is = cases (cases_Bool (nat_le (last_forced_below p b) e.end.place))
   where
-    lines : (l : Option LineCost) → since p b ≤ e.end.place → p.line e.end b ≡ l → offer_of p.cut e k b l ≡ Some o → IsExtended p e k b o
+    lines : (l : Option LineCost) → last_forced_below p b ≤ e.end.place → p.line e.end b ≡ l → offer_of p.cut e k b l ≡ Some o → IsExtended p e k b o
     lines None late at gives = absurd (cc)
     lines (Some l) late at gives =
-        record { since = late; line = l; admitted = at; is = sym (same_Some (extended p.cut e k b l) o gives) }
+        record { since = late; line = l; admitted = at; is = sym (same_Some (extended_entry p.cut e k b l) o gives) }
 
-    cases : (nat_le (since p b) e.end.place ≡ true) ⊎ (nat_le (since p b) e.end.place ≡ false) → IsExtended p e k b o
+    cases : (nat_le (last_forced_below p b) e.end.place ≡ true) ⊎ (nat_le (last_forced_below p b) e.end.place ≡ false) → IsExtended p e k b o
     cases (inl late) =
-        lines (p.line e.end b) (leb-true (since p b) e.end.place late) refl
-        (sym (cond-true (nat_le (since p b) e.end.place) (offer_of p.cut e k b (p.line e.end b)) None late) ∙ is)
+        lines (p.line e.end b) (leb-true (last_forced_below p b) e.end.place late) refl
+        (sym (cond-true (nat_le (last_forced_below p b) e.end.place) (offer_of p.cut e k b (p.line e.end b)) None late) ∙ is)
     cases (inr early) =
-        let none = sym (cond-false (nat_le (since p b) e.end.place) (offer_of p.cut e k b (p.line e.end b)) None early) ∙ is in
+        let none = sym (cond-false (nat_le (last_forced_below p b) e.end.place) (offer_of p.cut e k b (p.line e.end b)) None early) ∙ is in
         absurd (cc)
 
 -- An admitted line that passes over no forced place is offered.
 pub offer_is :
-    (p : Problem) (e : Entry) (k b : ℕ) (l : Option LineCost) → since p b ≤ e.end.place → p.line e.end b ≡ l → offer p e k b ≡ offer_of p.cut e k b l
+    (p : Problem) (e : Entry) (k b : ℕ) (l : Option LineCost) → last_forced_below p b ≤ e.end.place → p.line e.end b ≡ l → offer p e k b ≡ offer_of p.cut e k b l
 offer_is p e k b l late is =
-    cond-true (nat_le (since p b) e.end.place) (offer_of p.cut e k b (p.line e.end b)) None (le-leb (since p b) e.end.place late)
+    cond-true (nat_le (last_forced_below p b) e.end.place) (offer_of p.cut e k b (p.line e.end b)) None (le-leb (last_forced_below p b) e.end.place late)
     ∙ ap (offer_of p.cut e k b) is
 
 -- Each entry of a table has the costs of the best way to its state.
@@ -155,11 +155,11 @@ matches p table _ (goes q b l way later since_b at) is some =
     let same : e.end ≡ q.last = found.3 in
     let r = right p b table k e is found.2 in
     let line : p.line e.end b ≡ Some l = ap (λ s. p.line s b) same ∙ at in
-    let late : since p b ≤ e.end.place = omega (arith, ap (λ s. s.place) same) in
-    let ext : IsExtended p e k b (extended p.cut e k b l) = record { since = late; line = l; admitted = line; is = refl } in
+    let late : last_forced_below p b ≤ e.end.place = omega (arith, ap (λ s. s.place) same) in
+    let ext : IsExtended p e k b (extended_entry p.cut e k b l) = record { since = late; line = l; admitted = line; is = refl } in
     record {
       k = k;
-      o = extended p.cut e k b l;
+      o = extended_entry p.cut e k b l;
       offered = record { by = e; stands = found.2; offers = offer_is p e k b (Some l) late line };
       reached = record {
         before = r.path;

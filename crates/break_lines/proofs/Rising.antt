@@ -7,7 +7,7 @@ use Rattle.std.proofs.lemmas.Bool.{cases_Bool, cases_lt, cond-true, cond-false}
 use Rattle.node_core.specs.declared.tree.Node.{Node}
 use Rattle.break_lines.specs.declared.sums.Sums.{Sums}
 use Rattle.break_lines.specs.Legal.{is_dropped, legal_places}
-use Rattle.break_lines.specs.LineItems.{kept, sums_of, lead, first_item_kept, minus}
+use Rattle.break_lines.specs.LineItems.{kept_items, sums_of, lead, first_item_kept, minus}
 use Rattle.break_lines.specs.Facts.{facts_of, position_of, begins_at}
 use Rattle.break_lines.specs.Steady.{IsNoNarrower, IsRising, IsSteady}
 use Rattle.break_lines.proofs.KeptSums.{kept_sums, kept_some}
@@ -54,14 +54,14 @@ begun list a b earlier within rises low is =
     let t = sums_of (take (position_of list (b + 1)) list) in
     let z = sums_of (take 0 list) in
     let f = sums_of (take (first_item_kept list from) list) in
-    let s_a : sums_of (kept list from (position_of list b)) ≡ minus s f =
+    let s_a : sums_of (kept_items list from (position_of list b)) ≡ minus s f =
     kept_some list from (position_of list b) (begins_before list a b earlier (omega arith)) low in
-    let t_a : sums_of (kept list from (position_of list (b + 1))) ≡ minus t f =
+    let t_a : sums_of (kept_items list from (position_of list (b + 1))) ≡ minus t f =
     kept_some list from (position_of list (b + 1)) (begins_before list a (b + 1) (omega arith) (omega arith)) (omega arith) in
-    let s_0 : sums_of (kept list None (position_of list b)) ≡ minus s z = kept_some list None (position_of list b) tt (omega arith) in
-    let t_0 : sums_of (kept list None (position_of list (b + 1))) ≡ minus t z = kept_some list None (position_of list (b + 1)) tt (omega arith) in
-    let first : IsNoNarrower (minus t z) (minus s z) = subst (λ x. IsNoNarrower (minus t z) x) s_0 (subst (λ x. IsNoNarrower x (sums_of (kept list None (position_of list b)))) t_0 is) in
-    subst (λ x. IsNoNarrower x (sums_of (kept list from (position_of list b)))) (sym t_a) (subst (λ x. IsNoNarrower (minus t f) x) (sym s_a) (rising_from s t z f first))
+    let s_0 : sums_of (kept_items list None (position_of list b)) ≡ minus s z = kept_some list None (position_of list b) tt (omega arith) in
+    let t_0 : sums_of (kept_items list None (position_of list (b + 1))) ≡ minus t z = kept_some list None (position_of list (b + 1)) tt (omega arith) in
+    let first : IsNoNarrower (minus t z) (minus s z) = subst (λ x. IsNoNarrower (minus t z) x) s_0 (subst (λ x. IsNoNarrower x (sums_of (kept_items list None (position_of list b)))) t_0 is) in
+    subst (λ x. IsNoNarrower x (sums_of (kept_items list from (position_of list b)))) (sym t_a) (subst (λ x. IsNoNarrower (minus t f) x) (sym s_a) (rising_from s t z f first))
 
 -- A line that has not begun is the line from the place directly before its end.
 not_begun :
@@ -89,8 +89,8 @@ not_begun list a b some earlier within early is = cases (cases_lt a (b - 1))
         ∙ sym (kept_sums list (begins_at list a) (position_of list n) (begins_before list a n (omega (arith, less, low)) last)) in
         let here = to b (omega arith) (omega arith) in
         let next = to (b + 1) (omega arith) (omega arith) in
-        subst (λ x. IsNoNarrower x (sums_of (kept list (begins_at list a) (position_of list b)))) next
-        (subst (λ x. IsNoNarrower (sums_of (kept list (begins_at list c) (position_of list (b + 1)))) x) here is)
+        subst (λ x. IsNoNarrower x (sums_of (kept_items list (begins_at list a) (position_of list b)))) next
+        (subst (λ x. IsNoNarrower (sums_of (kept_items list (begins_at list c) (position_of list (b + 1)))) x) here is)
 
 pub steady_by :
     (list : List Node)

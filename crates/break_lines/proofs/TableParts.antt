@@ -11,21 +11,21 @@ use Rattle.break_lines.specs.declared.state.LineCost.{LineCost}
 use Rattle.break_lines.specs.Orders.{NotAfter}
 use Rattle.break_lines.specs.Problems.{Problem, Path, first_path, end_after, with_line, path_of, ends_of, places_of, key}
 use Rattle.break_lines.specs.Chosen.{IsBreakList, AdmitsNone, IsAnswer}
-use Rattle.break_lines.specs.Ways.{since, Way, starts, goes}
-use Rattle.break_lines.specs.Private.Parts.{part, IsNoWorse, IsOrder, IsDetour, HasDetours}
+use Rattle.break_lines.specs.Ways.{last_forced_below, Way, starts, goes}
+use Rattle.break_lines.specs.Private.Parts.{problem_without, IsNoWorse, IsOrder, IsDetour, HasDetours}
 use Rattle.break_lines.proofs.Since.{since_grows}
 use Rattle.break_lines.proofs.Lists.{way_of_break_list, break_list_of_way}
 
-since_part : (p : Problem) (leaves : BreakState → ℕ → Bool) (b : ℕ) → since (part p leaves) b ≡ since p b
+since_part : (p : Problem) (leaves : BreakState → ℕ → Bool) (b : ℕ) → last_forced_below (problem_without p leaves) b ≡ last_forced_below p b
 since_part p leaves zero = refl
 since_part p leaves (suc b) = ap (λ n. cond (p.forced b) b n) (since_part p leaves b)
 
 kept_line :
     (p : Problem) (leaves : BreakState → ℕ → Bool) (s : BreakState) (b : ℕ) (l : LineCost)
-    → leaves s b ≡ false → p.line s b ≡ Some l → (part p leaves).line s b ≡ Some l
+    → leaves s b ≡ false → p.line s b ≡ Some l → (problem_without p leaves).line s b ≡ Some l
 kept_line p leaves s b l stays is = cond-false (leaves s b) None (p.line s b) stays ∙ is
 
-line_kept : (p : Problem) (leaves : BreakState → ℕ → Bool) (s : BreakState) (b : ℕ) (l : LineCost) → (part p leaves).line s b ≡ Some l → p.line s b ≡ Some l
+line_kept : (p : Problem) (leaves : BreakState → ℕ → Bool) (s : BreakState) (b : ℕ) (l : LineCost) → (problem_without p leaves).line s b ≡ Some l → p.line s b ≡ Some l
 line_kept p leaves s b l is = cases (cases_Bool (leaves s b))
   where
     cases : (leaves s b ≡ true) ⊎ (leaves s b ≡ false) → p.line s b ≡ Some l
@@ -33,7 +33,7 @@ line_kept p leaves s b l is = cases (cases_Bool (leaves s b))
     cases (inr kept) = sym (cond-false (leaves s b) None (p.line s b) kept) ∙ is
 
 -- A way of the smaller problem is a way.
-way_in : (p : Problem) (leaves : BreakState → ℕ → Bool) (w : Path) → Way (part p leaves) w → Way p w
+way_in : (p : Problem) (leaves : BreakState → ℕ → Bool) (w : Path) → Way (problem_without p leaves) w → Way p w
 way_in p leaves _ starts = starts
 way_in p leaves _ (goes q b l way later since_b is) =
     goes q b l (way_in p leaves q way) later (subst (λ n. n ≤ q.last.place) (since_part p leaves b) since_b) (line_kept p leaves q.last b l is)
@@ -41,21 +41,21 @@ way_in p leaves _ (goes q b l way later since_b is) =
 -- A way of the smaller problem that leads to a state that is ahead, and is this path or has less overhang.
 pub record IsShifted (p : Problem) (leaves : BreakState → ℕ → Bool) (Ahead : BreakState → BreakState → Type 0) (w : Path) : Type 0 where
   pub by : Path
-  pub way : Way (part p leaves) by
+  pub way : Way (problem_without p leaves) by
   pub ahead : Ahead by.last w.last
   pub better : (by ≡ w) ⊎ (by.overhang <ℤ w.overhang)
 
 -- A line after a way of the smaller problem, or its detours.
 line_shifted :
     (p : Problem) (leaves : BreakState → ℕ → Bool) (Ahead : BreakState → BreakState → Type 0) (n : ℕ) (q : Path) (b : ℕ) (l : LineCost)
-    → IsOrder p Ahead → HasDetours p leaves Ahead → b ≤ q.last.place + n → Way (part p leaves) q
-    → q.last.place < b → since p b ≤ q.last.place → b ≤ p.places → p.line q.last b ≡ Some l → IsShifted p leaves Ahead (with_line p q b l)
+    → IsOrder p Ahead → HasDetours p leaves Ahead → b ≤ q.last.place + n → Way (problem_without p leaves) q
+    → q.last.place < b → last_forced_below p b ≤ q.last.place → b ≤ p.places → p.line q.last b ≡ Some l → IsShifted p leaves Ahead (with_line p q b l)
 line_shifted p leaves Ahead zero q b l order detours near way later since_b within is = absurd (omega arith)
 line_shifted p leaves Ahead (suc n) q b l order detours near way later since_b within is =
     cases (λ r m k. line_shifted p leaves Ahead n r m k order detours) (cases_Bool (leaves q.last b))
   where
     cases :
-        ((r : Path) (m : ℕ) (k : LineCost) → m ≤ r.last.place + n → Way (part p leaves) r → r.last.place < m → since p m ≤ r.last.place → m ≤ p.places
+        ((r : Path) (m : ℕ) (k : LineCost) → m ≤ r.last.place + n → Way (problem_without p leaves) r → r.last.place < m → last_forced_below p m ≤ r.last.place → m ≤ p.places
         → p.line r.last m ≡ Some k → IsShifted p leaves Ahead (with_line p r m k))
         → (leaves q.last b ≡ true) ⊎ (leaves q.last b ≡ false) → IsShifted p leaves Ahead (with_line p q b l)
     cases shorter (inr kept) =
@@ -70,7 +70,7 @@ line_shifted p leaves Ahead (suc n) q b l order detours near way later since_b w
         round : IsDetour p leaves Ahead q.last b l → IsShifted p leaves Ahead (with_line p q b l)
         round d =
             let grows = since_grows p d.by b (omega (arith, d.before)) in
-            let middle : Way (part p leaves) (with_line p q d.by d.first) =
+            let middle : Way (problem_without p leaves) (with_line p q d.by d.first) =
             goes q d.by d.first way d.later
             (subst (λ n. n ≤ q.last.place) (sym (since_part p leaves d.by)) (omega (arith, grows, since_b)))
             (kept_line p leaves q.last d.by d.first d.kept d.first_is) in
@@ -137,7 +137,7 @@ first_less q v r (inr same) less = inl (omega (arith, ints, same.0, less))
 -- The answer of the smaller problem is the answer.
 pub answer_of_part :
     (p : Problem) (leaves : BreakState → ℕ → Bool) (Ahead : BreakState → BreakState → Type 0) (answer : ChosenBreaks)
-    → IsOrder p Ahead → HasDetours p leaves Ahead → IsAnswer (part p leaves) answer → IsAnswer p answer
+    → IsOrder p Ahead → HasDetours p leaves Ahead → IsAnswer (problem_without p leaves) answer → IsAnswer p answer
 answer_of_part p leaves Ahead answer order detours is =
     record {
       path = is.path;
@@ -150,8 +150,8 @@ answer_of_part p leaves Ahead answer order detours is =
     q : Path
     q = is.path
 
-    way : Way (part p leaves) q × (q.last.place ≡ p.places)
-    way = way_of_break_list (part p leaves) (places_of (ends_of q)) q is.chosen.is_list is.chosen.admitted
+    way : Way (problem_without p leaves) q × (q.last.place ≡ p.places)
+    way = way_of_break_list (problem_without p leaves) (places_of (ends_of q)) q is.chosen.is_list is.chosen.admitted
 
     list : IsBreakList p (places_of (ends_of q)) × (path_of p (places_of (ends_of q)) ≡ Some q)
     list = break_list_of_way p q (way_in p leaves q way.0) way.1
@@ -161,7 +161,7 @@ answer_of_part p leaves Ahead answer order detours is =
         let other = way_of_break_list p others r is_list admitted in
         let shifted = way_shifted p leaves Ahead r order detours other.0 (omega (arith, other.1)) in
         let ends : shifted.by.last.place ≡ p.places = order.place shifted.by.last r.last shifted.ahead ∙ other.1 in
-        let list = break_list_of_way (part p leaves) shifted.by shifted.way ends in
+        let list = break_list_of_way (problem_without p leaves) shifted.by shifted.way ends in
         let first = is.chosen.least (places_of (ends_of shifted.by)) shifted.by list.0 list.1 in
         cases shifted.by first shifted.better
       where
@@ -172,10 +172,10 @@ answer_of_part p leaves Ahead answer order detours is =
 -- If the smaller problem has no list, there is none.
 pub none_of_part :
     (p : Problem) (leaves : BreakState → ℕ → Bool) (Ahead : BreakState → BreakState → Type 0)
-    → IsOrder p Ahead → HasDetours p leaves Ahead → AdmitsNone (part p leaves) → AdmitsNone p
+    → IsOrder p Ahead → HasDetours p leaves Ahead → AdmitsNone (problem_without p leaves) → AdmitsNone p
 none_of_part p leaves Ahead order detours none places r is_list admitted =
     let other = way_of_break_list p places r is_list admitted in
     let shifted = way_shifted p leaves Ahead r order detours other.0 (omega (arith, other.1)) in
     let ends : shifted.by.last.place ≡ p.places = order.place shifted.by.last r.last shifted.ahead ∙ other.1 in
-    let list = break_list_of_way (part p leaves) shifted.by shifted.way ends in
+    let list = break_list_of_way (problem_without p leaves) shifted.by shifted.way ends in
     none (places_of (ends_of shifted.by)) shifted.by list.0 list.1

@@ -12,7 +12,7 @@ use Rattle.node_core.specs.declared.tree.Node.{Node}
 use Rattle.node_core.specs.declared.tree.Node.TheVariants as nodes
 use Rattle.node_core.specs.declared.tree.Order.TheVariants.{Normal, Fil, Fill, Filll}
 use Rattle.node_core.specs.Classes.{shrinks_infinitely}
-use Rattle.pack_core.specs.Items.{across, stretch_in, shrink_in}
+use Rattle.pack_core.specs.Items.{item_width, stretch_in, shrink_in}
 use Rattle.pack_core.specs.Totals.{total}
 use Rattle.break_lines.specs.Problems.{max_places}
 use Rattle.node_core.specs.Nodes.{max_nodes}
@@ -40,7 +40,7 @@ unfolding sums_of
 sums_back list i x within is =
     let same = rest_is list i x within is in
     let of = λ (f : Node → ℤ). ap (total f) same in
-    let width : total across (drop i list) ≡ total across (drop (i + 1) list) +ℤ across x = omega (arith, ints, of across) in
+    let width : total item_width (drop i list) ≡ total item_width (drop (i + 1) list) +ℤ item_width x = omega (arith, ints, of item_width) in
     let stretch : total (stretch_in Normal) (drop i list) ≡ total (stretch_in Normal) (drop (i + 1) list) +ℤ stretch_in Normal x = omega (arith, ints, of (stretch_in Normal)) in
     let fil : total (stretch_in Fil) (drop i list) ≡ total (stretch_in Fil) (drop (i + 1) list) +ℤ stretch_in Fil x = omega (arith, ints, of (stretch_in Fil)) in
     let fill : total (stretch_in Fill) (drop i list) ≡ total (stretch_in Fill) (drop (i + 1) list) +ℤ stretch_in Fill x = omega (arith, ints, of (stretch_in Fill)) in

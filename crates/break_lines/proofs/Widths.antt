@@ -8,7 +8,7 @@ use Rattle.node_core.specs.declared.params.Params.{Params}
 use Rattle.break_lines.specs.declared.sums.Sums.{Sums}
 use Rattle.break_lines.specs.declared.cost.LineFit.{LineFit}
 use Rattle.break_lines.specs.Costs.{stretches_forever, fit_short, fit_long, line_fit}
-use Rattle.break_lines.specs.Sizes.{line_size, greatest_size, line_fits, fit_after}
+use Rattle.break_lines.specs.Sizes.{line_size, greatest_size, fits_of_sums, fit_after}
 use Rattle.break_lines.proofs.Bounds.{hangs_over, hangs_not}
 use Rattle.break_lines.proofs.Costs.{by_short, by_long}
 
@@ -149,8 +149,8 @@ overfull_each params sums lines is = overfull_narrower sums (greatest_size param
 -- One judgement holds for each number of lines.
 pub after_is :
     (params : Params) (sums : Sums) (lines : ℕ)
-    → fit_after params.first_lines lines (line_fits params sums) ≡ line_fit sums (line_size params lines)
-unfolding line_fits
+    → fit_after params.first_lines lines (fits_of_sums params sums) ≡ line_fit sums (line_size params lines)
+unfolding fits_of_sums
 after_is params sums lines = cases (cases_Bool (nat_lt lines params.first_lines))
   where
     j : LineFit
@@ -177,8 +177,8 @@ and_when false y false to from = refl
 
 pub both_overfull :
     (params : Params) (sums : Sums)
-    → ((line_fits params sums).first.overfull && (line_fits params sums).rest.overfull) ≡ (line_fit sums (greatest_size params)).overfull
-unfolding line_fits
+    → ((fits_of_sums params sums).first.overfull && (fits_of_sums params sums).rest.overfull) ≡ (line_fit sums (greatest_size params)).overfull
+unfolding fits_of_sums
 both_overfull params sums =
     and_when (line_fit sums (line_size params 0)).overfull (line_fit sums params.hsize).overfull (line_fit sums (greatest_size params)).overfull to from
   where

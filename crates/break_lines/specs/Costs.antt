@@ -7,7 +7,7 @@ use Rattle.node_core.specs.declared.params.Params.{Params}
 use Rattle.break_lines.specs.declared.state.Fitness.{Fitness}
 use Rattle.break_lines.specs.declared.state.Fitness.TheVariants.{VeryLoose, Loose, Decent, Tight}
 use Rattle.break_lines.specs.declared.state.LineCost.{LineCost}
-use Rattle.break_lines.specs.Problems.{rank}
+use Rattle.break_lines.specs.Problems.{class_index}
 use Rattle.break_lines.specs.declared.sums.Sums.{Sums}
 use Rattle.break_lines.specs.declared.cost.LineFit.{LineFit}
 use Rattle.break_lines.specs.declared.cost.Bound.{Bound}
@@ -72,7 +72,7 @@ penalty_demerits penalty =
 
 -- Two classes that are visually incompatible: they differ by more than 1.
 unfoldable pub is_apart : Fitness → Fitness → Bool
-is_apart before class = nat_lt (rank before + 1) (rank class) || nat_lt (rank class + 1) (rank before)
+is_apart before class = nat_lt (class_index before + 1) (class_index class) || nat_lt (class_index class + 1) (class_index before)
 
 -- The demerits for a line that is visually incompatible with the line before.
 unfoldable pub adjacent_demerits : Params → (before class : Fitness) → ℤ
@@ -107,8 +107,8 @@ unfoldable pub is_loosest : Bound → LineFit → Bool
 is_loosest bound line = is_loose line.class && int_lt (looseness_limit bound) (pos line.badness)
 
 -- The line, if the bound admits it.
-unfoldable pub line_of : Params → Bound → (penalty : ℤ) → (before : Fitness) → LineFit → Option LineCost
-line_of params bound penalty before line =
+unfoldable pub admitted_line : Params → Bound → (penalty : ℤ) → (before : Fitness) → LineFit → Option LineCost
+admitted_line params bound penalty before line =
     if admits bound line
     then Some (record { class = line.class; overhang = line.overhang; demerits = demerits_of params penalty before line })
     else None

@@ -9,7 +9,7 @@ use Rattle.break_lines.specs.declared.sums.Sums.{Sums}
 use Rattle.break_lines.specs.declared.fault.BreakFault.{BreakFault}
 use Rattle.break_lines.specs.declared.fault.BreakFault.TheVariants as faults
 use Rattle.break_lines.specs.Legal.{legal_places, penalty_of}
-use Rattle.break_lines.specs.LineItems.{kept, sums_of}
+use Rattle.break_lines.specs.LineItems.{kept_items, sums_of}
 
 -- The facts about a paragraph: its legal places are numbered from 1, and 0 is its start.
 pub record Facts : Type 0 where
@@ -38,7 +38,7 @@ facts_of list =
       places = length (legal_places list);
       position = position_of list;
       penalty = λ place. penalty_of (slice_get list (position_of list place));
-      sums = λ from to. sums_of (kept list (begins_at list from) (position_of list to));
+      sums = λ from to. sums_of (kept_items list (begins_at list from) (position_of list to));
     }
 
 -- Why a list is refused: it has glue that shrinks in an infinite order, or otherwise too many legal places.

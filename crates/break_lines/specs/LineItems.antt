@@ -4,7 +4,7 @@ use Rattle.node_core.specs.declared.tree.Node.{Node}
 use Rattle.node_core.specs.declared.tree.Node.TheVariants as nodes
 use Rattle.node_core.specs.declared.tree.Order.TheVariants.{Normal, Fil, Fill, Filll}
 use Rattle.scaled_core.specs.Dimensions.{Within}
-use Rattle.pack_core.specs.Items.{across, stretch_in, shrink_in}
+use Rattle.pack_core.specs.Items.{item_width, stretch_in, shrink_in}
 use Rattle.pack_core.specs.Totals.{total}
 use Rattle.break_lines.specs.declared.sums.Sums.{Sums}
 use Rattle.break_lines.specs.Legal.{is_dropped}
@@ -22,9 +22,9 @@ without_first (node ∷ rest) = if is_dropped node then without_first rest else 
 
 -- The items of the line to place b: from the start all items, and from another place the items after it, without those that are dropped at the
 -- beginning (own if b is among the dropped items: then the line is empty, or has only its last item).
-abbrev pub kept : List Node → (from : Option ℕ) → (b : ℕ) → List Node
-kept list None b = take b list ++ at_break (slice_get list b)
-kept list (Some a) b = without_first (drop (a + 1) (take b list)) ++ at_break (slice_get list b)
+abbrev pub kept_items : List Node → (from : Option ℕ) → (b : ℕ) → List Node
+kept_items list None b = take b list ++ at_break (slice_get list b)
+kept_items list (Some a) b = without_first (drop (a + 1) (take b list)) ++ at_break (slice_get list b)
 
 -- A line begins before its end.
 abbrev pub BeginsBefore : (from : Option ℕ) → (b : ℕ) → Type 0
@@ -35,7 +35,7 @@ BeginsBefore (Some a) b = a < b
 unfoldable pub sums_of : List Node → Sums
 sums_of items =
     record {
-      width = total across items;
+      width = total item_width items;
       stretch = total (stretch_in Normal) items;
       fil = total (stretch_in Fil) items;
       fill = total (stretch_in Fill) items;

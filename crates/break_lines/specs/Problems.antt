@@ -22,11 +22,11 @@ pub record Problem : Type 0 where
   pub line : BreakState → ℕ → Option LineCost
 
 -- A class as a number: very loose 0, loose 1, decent 2, tight 3 (TeX: The Program, part 38, §817).
-abbrev pub rank : Fitness → ℕ
-rank VeryLoose = 0
-rank Loose = 1
-rank Decent = 2
-rank Tight = 3
+abbrev pub class_index : Fitness → ℕ
+class_index VeryLoose = 0
+class_index Loose = 1
+class_index Decent = 2
+class_index Tight = 3
 
 -- The state at the start: there is no line yet, and the class is decent (TeX: The Program, part 39, §864).
 abbrev pub start : BreakState
@@ -63,14 +63,14 @@ with_line_if p q place None = None
 with_line_if p q place (Some line) = Some (with_line p q place line)
 
 -- A path with one more line to a place, if there is a path and its line is admitted.
-abbrev pub lengthened : Problem → Option Path → ℕ → Option Path
-lengthened p None place = None
-lengthened p (Some q) place = with_line_if p q place (p.line q.last place)
+abbrev pub lengthened_path : Problem → Option Path → ℕ → Option Path
+lengthened_path p None place = None
+lengthened_path p (Some q) place = with_line_if p q place (p.line q.last place)
 
 -- The lines that end at these places, of which the last one comes first, if each line is admitted.
 abbrev pub path_of : Problem → List ℕ → Option Path
 path_of p [] = Some first_path
-path_of p (place ∷ places) = lengthened p (path_of p places) place
+path_of p (place ∷ places) = lengthened_path p (path_of p places) place
 
 -- The ends of the lines, with the last one first; the start is not one of them.
 abbrev pub ends_from : BreakState → List BreakState → List BreakState
@@ -90,7 +90,7 @@ places_of (s ∷ states) = s.place ∷ places_of states
 -- takes the one that it found last).
 abbrev pub tie_numbers : List BreakState → List ℤ
 tie_numbers [] = []
-tie_numbers (s ∷ states) = neg_ℤ (pos s.place) ∷ pos s.lines ∷ pos (rank s.class) ∷ tie_numbers states
+tie_numbers (s ∷ states) = neg_ℤ (pos s.place) ∷ pos s.lines ∷ pos (class_index s.class) ∷ tie_numbers states
 
 -- The numbers by which lists of breaks are compared: the total overhang, the total demerits, and then the ends (TeX: The Program, part 39, §874, for
 -- the demerits; own: the overhang and the ends).

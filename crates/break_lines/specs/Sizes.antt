@@ -22,8 +22,8 @@ abbrev pub least_width : Sums → ℤ
 least_width sums = sums.width -ℤ sums.shrink
 
 -- How a line is set whose items have these sums, as the first line of a paragraph and as a line of width hsize.
-unfoldable pub line_fits : Params → Sums → LineFits
-line_fits params sums = record { first = line_fit sums (line_size params 0); rest = line_fit sums params.hsize }
+unfoldable pub fits_of_sums : Params → Sums → LineFits
+fits_of_sums params sums = record { first = line_fit sums (line_size params 0); rest = line_fit sums params.hsize }
 
 -- How it is set after this number of lines.
 abbrev pub fit_after : (first_lines lines : ℕ) → LineFits → LineFit

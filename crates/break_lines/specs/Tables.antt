@@ -5,8 +5,8 @@ use Rattle.scaled_core.specs.Dimensions.{Within}
 use Rattle.break_lines.specs.declared.state.BreakState.{BreakState}
 use Rattle.break_lines.specs.declared.state.LineCost.{LineCost}
 use Rattle.break_lines.specs.Orders.{NotAfter}
-use Rattle.break_lines.specs.Problems.{Problem, Path, rank, start, end_after, with_line, tie_numbers}
-use Rattle.break_lines.specs.Ways.{since, Way, IsLeast}
+use Rattle.break_lines.specs.Problems.{Problem, Path, class_index, start, end_after, with_line, tie_numbers}
+use Rattle.break_lines.specs.Ways.{last_forced_below, Way, IsLeast}
 
 -- An entry: a state, the costs of the best way to it, the state before it, and the number of the entry for that state.
 pub record Entry : Type 0 where
@@ -30,8 +30,8 @@ abbrev pub first_entry : Entry
 first_entry = record { end = start; overhang = pos 0; demerits = pos 0; from = start; index = 0 }
 
 -- An entry extended by a line to a place.
-abbrev pub extended : (cut : ℕ) → Entry → (index place : ℕ) → LineCost → Entry
-extended cut e index place line =
+abbrev pub extended_entry : (cut : ℕ) → Entry → (index place : ℕ) → LineCost → Entry
+extended_entry cut e index place line =
     record {
       end = end_after cut e.end place line;
       overhang = e.overhang +ℤ line.overhang;
@@ -56,7 +56,7 @@ IsFirst s t = (xs ys : List ℤ) → NotAfter (tie_numbers (s ∷ []) ++ xs) (ti
 
 -- The slot of a state in the row of its place.
 abbrev pub slot : BreakState → ℕ
-slot s = 4 * s.lines + rank s.class
+slot s = 4 * s.lines + class_index s.class
 
 -- The number of slots in a row.
 abbrev pub slots : (cut : ℕ) → ℕ
@@ -69,7 +69,7 @@ pub record ExtendsLeastWay (p : Problem) (e : Entry) : Type 0 where
   pub least : IsLeast p e.from before
   pub admitted : p.line e.from e.end.place ≡ Some line
   pub later : e.from.place < e.end.place
-  pub since : since p e.end.place ≤ e.from.place
+  pub since : last_forced_below p e.end.place ≤ e.from.place
   pub end : e.end ≡ end_after p.cut e.from e.end.place line
   pub overhang : e.overhang ≡ before.overhang +ℤ line.overhang
   pub demerits : e.demerits ≡ before.demerits +ℤ line.demerits
@@ -101,11 +101,11 @@ pub record IsTable (p : Problem) (b : ℕ) (table : List Entry) : Type 0 where
 -- Entry k extended by a line to a place, if there is a line.
 abbrev pub offer_of : (cut : ℕ) → Entry → (k b : ℕ) → Option LineCost → Option Entry
 offer_of cut e k b None = None
-offer_of cut e k b (Some line) = Some (extended cut e k b line)
+offer_of cut e k b (Some line) = Some (extended_entry cut e k b line)
 
 -- The offer of entry k for a place: the entry extended, if its line is admitted and passes over no forced place.
 abbrev pub offer : Problem → Entry → (k b : ℕ) → Option Entry
-offer p e k b = if nat_le (since p b) e.end.place then offer_of p.cut e k b (p.line e.end b) else None
+offer p e k b = if nat_le (last_forced_below p b) e.end.place then offer_of p.cut e k b (p.line e.end b) else None
 
 -- Entry k offers this entry for a place.
 pub record IsOffered (p : Problem) (table : List Entry) (b k : ℕ) (o : Entry) : Type 0 where
@@ -156,7 +156,7 @@ row_entries (Some e ∷ row) = e ∷ row_entries row
 -- The step from one row to another: entry number `index` was offered for a place, by this line of its own, for every problem and table.
 abbrev pub IsImproved : (cut : ℕ) (entry : Entry) (index place : ℕ) (line : Option LineCost) (old new : List (Option Entry)) → Type 0
 IsImproved cut entry index place line old new =
-    (p : Problem) (table : List Entry) → p.cut ≡ cut → slice_get table index ≡ Some entry → since p place ≤ entry.end.place
+    (p : Problem) (table : List Entry) → p.cut ≡ cut → slice_get table index ≡ Some entry → last_forced_below p place ≤ entry.end.place
     → p.line entry.end place ≡ line → IsRow p table place index old → IsRow p table place (index + 1) new
 
 -- The list of entries is a table of some problem.

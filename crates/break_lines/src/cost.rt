@@ -194,10 +194,10 @@ fn penalty_demerits(penalty: i32) -> i64
 fn is_apart(before: Fitness, class: Fitness) -> bool
     ensures { result ≡ is_apart before class }
 {
-    if before.rank() + 1 < class.rank() {
+    if before.class_index() + 1 < class.class_index() {
         return true;
     }
-    class.rank() + 1 < before.rank()
+    class.class_index() + 1 < before.class_index()
 }
 
 /// The demerits for a line whose class is visually incompatible with that of the line before.

@@ -2,7 +2,7 @@
 
 ghost use Rattle.std.specs.Prelude.{◌≡◌, ◌<◌, ◌≤◌, true, false, Some};
 ghost use Rattle.break_lines.specs.Orders.{NotAfter};
-ghost use Rattle.break_lines.specs.Tables.{Entry, first_entry, extended, compared_numbers, AreBelow, IsSmallLine, IsKept};
+ghost use Rattle.break_lines.specs.Tables.{Entry, first_entry, extended_entry, compared_numbers, AreBelow, IsSmallLine, IsKept};
 ghost use Rattle.break_lines.specs.Problems.{max_places};
 
 use crate::state::{BreakState, LineCost, order};
@@ -85,7 +85,7 @@ impl ActiveNode {
         requires later { self.end.place < place }
         requires places { place ≤ max_places }
         requires line_bounded { IsSmallLine line }
-        ensures { result ≡ extended cut self index place line }
+        ensures { result ≡ extended_entry cut self index place line }
     {
         ActiveNode {
             end: self.end.after(place as u32, line, cut),

@@ -8,8 +8,8 @@ ghost use Rattle.break_lines.specs.declared.sums.Sums.{Sums};
 ghost use Rattle.break_lines.specs.declared.state.Fitness.{Fitness};
 ghost use Rattle.break_lines.specs.declared.cost.LineFit.{LineFit};
 ghost use Rattle.break_lines.specs.declared.cost.Bound.{Bound};
-ghost use Rattle.break_lines.specs.Costs.{line_fit, demerits_of, line_of, line_alone, after_class};
-ghost use Rattle.break_lines.specs.Sizes.{line_size, greatest_size, line_fits, fit_after};
+ghost use Rattle.break_lines.specs.Costs.{line_fit, demerits_of, admitted_line, line_alone, after_class};
+ghost use Rattle.break_lines.specs.Sizes.{line_size, greatest_size, fits_of_sums, fit_after};
 ghost use Rattle.break_lines.specs.Examples.{line_of_points};
 
 /// The badness of a line is at most 10000, whatever its sums are.
@@ -61,9 +61,9 @@ pub fn no_first_lines()
 /// greatest width of a line, and then it is overfull after any number of lines.
 pub fn one_fit_serves_all()
     ensures after { (params : Params) → (sums : Sums) → (lines : ℕ) →
-        fit_after params.first_lines lines (line_fits params sums) ≡ line_fit sums (line_size params lines) }
+        fit_after params.first_lines lines (fits_of_sums params sums) ≡ line_fit sums (line_size params lines) }
     ensures greatest { (params : Params) → (sums : Sums) →
-        ((line_fits params sums).first.overfull && (line_fits params sums).rest.overfull) ≡ (line_fit sums (greatest_size params)).overfull }
+        ((fits_of_sums params sums).first.overfull && (fits_of_sums params sums).rest.overfull) ≡ (line_fit sums (greatest_size params)).overfull }
     ensures each { (params : Params) → (sums : Sums) → (lines : ℕ) →
         (line_fit sums (greatest_size params)).overfull ≡ true → (line_fit sums (line_size params lines)).overfull ≡ true }
     ensures most { (params : Params) → (lines : ℕ) → line_size params lines ≤ℤ greatest_size params }
@@ -72,5 +72,5 @@ pub fn one_fit_serves_all()
 /// The line after a line of some class is the line without the demerits for that class, plus these demerits.
 pub fn parts_of_a_line()
     ensures { (params : Params) → (bound : Bound) → (penalty : ℤ) → (before : Fitness) → (line : LineFit) →
-        after_class params before (line_alone params bound penalty line) ≡ line_of params bound penalty before line }
+        after_class params before (line_alone params bound penalty line) ≡ admitted_line params bound penalty before line }
 {}

@@ -4,7 +4,7 @@ ghost use Rattle.std.specs.Prelude.{◌≡◌, ◌<ℤ◌, ◌&&◌, true, pos, 
 ghost use Rattle.break_lines.specs.Tables.{IsSmallLine};
 ghost use Rattle.break_lines.specs.Costs.{line_fit, line_alone, after_class};
 ghost use Rattle.break_lines.specs.SmallCosts.{IsSmallSums, IsSmallAlone};
-ghost use Rattle.break_lines.specs.Sizes.{line_size, greatest_size, line_fits, IsSmallLineFits, IsSmallCosts};
+ghost use Rattle.break_lines.specs.Sizes.{line_size, greatest_size, fits_of_sums, IsSmallLineFits, IsSmallCosts};
 
 use crate::cost::{Bound, LineFit, after_class, fit_line, line_alone};
 use crate::sums::Sums;
@@ -31,10 +31,10 @@ pub fn line_size(params: &Params, lines: usize) -> Dimen
 }
 
 /// How a line is set whose items have these sums. If there are no first lines, it is judged only once.
-#[tactic(auto, unfolding(crate::specs::Sizes::line_fits, crate::specs::Sizes::line_size))]
+#[tactic(auto, unfolding(crate::specs::Sizes::fits_of_sums, crate::specs::Sizes::line_size))]
 pub fn fit_both(sums: &Sums, params: &Params) -> LineFits
     requires sums_bounded { IsSmallSums sums.now }
-    ensures value { result ≡ line_fits params.now sums.now }
+    ensures value { result ≡ fits_of_sums params.now sums.now }
     ensures fit_bounded { IsSmallLineFits result }
 {
     let rest = fit_line(sums, params.hsize);

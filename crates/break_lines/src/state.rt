@@ -1,7 +1,7 @@
 //! Ends of lines, and lines.
 
 ghost use Rattle.std.specs.Prelude.{◌≡◌, ◌<◌, ◌≤◌, ◌*◌, ◌+◌};
-ghost use Rattle.break_lines.specs.Problems.{rank, start, end_after};
+ghost use Rattle.break_lines.specs.Problems.{class_index, start, end_after};
 ghost use Rattle.break_lines.specs.Tables.{slot, slots, IsFirst};
 
 use std::cmp::Ordering;
@@ -18,8 +18,8 @@ pub enum Fitness {
 impl Fitness {
     /// The class as a number, from 0 for a very loose line to 3 for a tight one.
     #[inline]
-    pub fn rank(self) -> usize
-        ensures rank { result ≡ rank self }
+    pub fn class_index(self) -> usize
+        ensures rank { result ≡ class_index self }
         ensures rank_bounded { result < 4 }
     {
         match self {
@@ -87,7 +87,7 @@ impl BreakState {
         ensures slot { result ≡ slot self }
         ensures slot_bounded { result < slots cut }
     {
-        4 * usize::from(self.lines) + self.class.rank()
+        4 * usize::from(self.lines) + self.class.class_index()
     }
 }
 
@@ -110,10 +110,10 @@ pub fn order(a: BreakState, b: BreakState) -> Ordering
     if a.lines > b.lines {
         return Ordering::Greater;
     }
-    if a.class.rank() < b.class.rank() {
+    if a.class.class_index() < b.class.class_index() {
         return Ordering::Less;
     }
-    if a.class.rank() > b.class.rank() {
+    if a.class.class_index() > b.class.class_index() {
         return Ordering::Greater;
     }
     Ordering::Equal

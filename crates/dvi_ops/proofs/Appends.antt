@@ -6,20 +6,20 @@ use Rattle.std.specs.Ordering.{int_eq}
 use Rattle.std.specs.List.{flat_map}
 use Rattle.dvi_ops.specs.Instruction.{Definition, BodyLeaf, Instruction, Do, Push, Pop, Bop, Eop}
 use Rattle.dvi_ops.specs.Body.{Meaning, Acts, start}
-use Rattle.dvi_ops.specs.Tokens.{Token, says, written, bop_place, places, pointer_of, pointers}
-use Rattle.dvi_ops.specs.Fonts.{definitions_in, definitions, selection_of, selections, defined, FontsAreRight, known_after}
+use Rattle.dvi_ops.specs.Tokens.{Token, token_instructions, token_bytes, bop_place, places, pointer_of, pointers}
+use Rattle.dvi_ops.specs.Fonts.{definitions_in, definitions, selection_of, selections, first_definition_of, FontsAreRight, known_after}
 use Rattle.dvi_ops.specs.Forest.{Forest, Empty, Then, Group, flat, meaning}
 use Rattle.dvi_ops.specs.File.{FilePart, Idle, Defines, Shows, MarkedPage, page_then, pages_of, instructions}
 
 -- The instructions, the bytes and what is collected from each instruction, for two lists.
-pub says-append : (a b : List Token) → says (a ++ b) ≡ says a ++ says b
+pub says-append : (a b : List Token) → token_instructions (a ++ b) ≡ token_instructions a ++ token_instructions b
 says-append a b = map-append (λ (t : Token). t.says) a b
 
-pub written-append : (a b : List Token) → written (a ++ b) ≡ written a ++ written b
+pub written-append : (a b : List Token) → token_bytes (a ++ b) ≡ token_bytes a ++ token_bytes b
 written-append a b = flat_map-append (λ (t : Token). t.bytes) a b
 
-pub length-written-append : (a b : List Token) → length (written (a ++ b)) ≡ length (written a) + length (written b)
-length-written-append a b = ap length (written-append a b) ∙ length-append (written a) (written b)
+pub length-written-append : (a b : List Token) → length (token_bytes (a ++ b)) ≡ length (token_bytes a) + length (token_bytes b)
+length-written-append a b = ap length (written-append a b) ∙ length-append (token_bytes a) (token_bytes b)
 
 pub pointers-append : (a b : List Instruction) → pointers (a ++ b) ≡ pointers a ++ pointers b
 pointers-append a b = flat_map-append pointer_of a b
@@ -34,21 +34,21 @@ pub instructions-append : (a b : List FilePart) → flat_map instructions (a ++ 
 instructions-append a b = flat_map-append instructions a b
 
 -- The places of the bops of two lists: those of the second list count from the end of the first.
-pub places-append : (at : ℕ) (a b : List Token) → places at (a ++ b) ≡ places at a ++ places (at + length (written a)) b
+pub places-append : (at : ℕ) (a b : List Token) → places at (a ++ b) ≡ places at a ++ places (at + length (token_bytes a)) b
 places-append at [] b = ap (λ n. places n b) (omega arith)
 places-append at (t ∷ a) b =
     ap (λ ns. bop_place at t.says ++ ns) (places-append (at + length t.bytes) a b)
-    ∙ (sym (append_assoc (bop_place at t.says) (places (at + length t.bytes) a) (places ((at + length t.bytes) + length (written a)) b))
-    ∙ ap (λ n. (bop_place at t.says ++ places (at + length t.bytes) a) ++ places n b) (add_assoc at (length t.bytes) (length (written a)) ∙ ap (λ n. at + n) (sym (length-append t.bytes (written a)))))
+    ∙ (sym (append_assoc (bop_place at t.says) (places (at + length t.bytes) a) (places ((at + length t.bytes) + length (token_bytes a)) b))
+    ∙ ap (λ n. (bop_place at t.says ++ places (at + length t.bytes) a) ++ places n b) (add_assoc at (length t.bytes) (length (token_bytes a)) ∙ ap (λ n. at + n) (sym (length-append t.bytes (token_bytes a)))))
 
 -- There are as many places as pointers.
-pub length-places : (at : ℕ) (tokens : List Token) → length (places at tokens) ≡ length (pointers (says tokens))
+pub length-places : (at : ℕ) (tokens : List Token) → length (places at tokens) ≡ length (pointers (token_instructions tokens))
 length-places at [] = refl
 length-places at (t ∷ tokens) =
     length-append (bop_place at t.says) (places (at + length t.bytes) tokens)
     ∙ (ap (λ n. length (bop_place at t.says) + n) (length-places (at + length t.bytes) tokens)
-    ∙ (ap (λ n. n + length (pointers (says tokens))) (one_each at t.says)
-    ∙ sym (length-append (pointer_of t.says) (pointers (says tokens)))))
+    ∙ (ap (λ n. n + length (pointers (token_instructions tokens))) (one_each at t.says)
+    ∙ sym (length-append (pointer_of t.says) (pointers (token_instructions tokens)))))
   where
     one_each : (at : ℕ) (i : Instruction) → length (bop_place at i) ≡ length (pointer_of i)
     one_each at (Bop counts pointer) = refl
@@ -76,11 +76,11 @@ abbrev pub first_of : Option Definition → Option Definition → Option Definit
 first_of None other = other
 first_of (Some d) other = Some d
 
-pub defined-append : (f : ℤ) (a b : List Definition) → defined f (a ++ b) ≡ first_of (defined f a) (defined f b)
+pub defined-append : (f : ℤ) (a b : List Definition) → first_definition_of f (a ++ b) ≡ first_of (first_definition_of f a) (first_definition_of f b)
 defined-append f [] b = refl
 defined-append f (d ∷ a) b = by_test (int_eq f d.number) (defined-append f a b)
   where
-    by_test : (same : Bool) → defined f (a ++ b) ≡ first_of (defined f a) (defined f b) → (if same then Some d else defined f (a ++ b)) ≡ first_of (if same then Some d else defined f a) (defined f b)
+    by_test : (same : Bool) → first_definition_of f (a ++ b) ≡ first_of (first_definition_of f a) (first_definition_of f b) → (if same then Some d else first_definition_of f (a ++ b)) ≡ first_of (if same then Some d else first_definition_of f a) (first_definition_of f b)
     by_test true e = refl
     by_test false e = e
 

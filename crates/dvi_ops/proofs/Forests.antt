@@ -1,21 +1,21 @@
 -- The pass with a stack gives the meaning of the forest, and a list is the list of at most one forest.
 use Rattle.std.proofs.Common.{◌≡◌, ◌++◌, [], ◌∷◌, List, Some, None, refl, sym, ◌∙◌, ap, append_assoc, append-nil, subst, max, arith}
 use Rattle.dvi_ops.specs.Instruction.{BodyLeaf, Instruction, Do, Push, Pop, Eop}
-use Rattle.dvi_ops.specs.Body.{Position, DviState, Meaning, Acts, only}
+use Rattle.dvi_ops.specs.Body.{Position, DviState, Meaning, Acts, state_without_mark}
 use Rattle.scaled_core.specs.Mark.{Mark}
-use Rattle.dvi_ops.specs.Forest.{Forest, Empty, Then, Group, flat, ahead, and_then, restored, meaning, nests, beside}
+use Rattle.dvi_ops.specs.Forest.{Forest, Empty, Then, Group, flat, marks_ahead, and_then, restored_meaning, meaning, nests, joined_bodies}
 use Rattle.dvi_ops.specs.Walk.{walk}
 
 -- A meaning with no marks added before it is the same.
-ahead-nil : (m : Meaning) → ahead [] m ≡ m
+ahead-nil : (m : Meaning) → marks_ahead [] m ≡ m
 ahead-nil None = refl
 ahead-nil (Some (marks, s)) = refl
 
-ahead-ahead : (a b : List Mark) (m : Meaning) → ahead a (ahead b m) ≡ ahead (a ++ b) m
+ahead-ahead : (a b : List Mark) (m : Meaning) → marks_ahead a (marks_ahead b m) ≡ marks_ahead (a ++ b) m
 ahead-ahead a b None = refl
 ahead-ahead a b (Some (marks, s)) = ap (λ (marks : List Mark). Some (marks, s)) (sym (append_assoc a b marks))
 
-ahead-and_then : (a : List Mark) (m : Meaning) (k : DviState → Meaning) → and_then (ahead a m) k ≡ ahead a (and_then m k)
+ahead-and_then : (a : List Mark) (m : Meaning) (k : DviState → Meaning) → and_then (marks_ahead a m) k ≡ marks_ahead a (and_then m k)
 ahead-and_then a None k = refl
 ahead-and_then a (Some (marks, s)) k = sym (ahead-ahead a marks (k s))
 
@@ -27,14 +27,14 @@ and_then-and_then (Some (marks, s)) j k = ahead-and_then marks (j s) k
 -- The continuation may be replaced by an equal one.
 pub and_then-same : (m : Meaning) (j k : DviState → Meaning) → ((t : DviState) → j t ≡ k t) → and_then m j ≡ and_then m k
 and_then-same None j k same = refl
-and_then-same (Some (marks, s)) j k same = ap (ahead marks) (same s)
+and_then-same (Some (marks, s)) j k same = ap (marks_ahead marks) (same s)
 
-and_then-only : (m : Meaning) → and_then m only ≡ m
+and_then-only : (m : Meaning) → and_then m state_without_mark ≡ m
 and_then-only None = refl
 and_then-only (Some (marks, s)) = ap (λ (marks : List Mark). Some (marks, s)) (append-nil marks)
 
 and_then-restored : (p : Position) (m : Meaning) (k : DviState → Meaning) →
-    and_then (restored p m) k ≡ and_then m (λ t. k (record { place = p; font = t.font }))
+    and_then (restored_meaning p m) k ≡ and_then m (λ t. k (record { place = p; font = t.font }))
 and_then-restored p None k = refl
 and_then-restored p (Some (marks, s)) k = refl
 
@@ -50,7 +50,7 @@ walk-flat does (Group inner f) rest stack s =
     ∙ (walk-flat does inner (Pop ∷ (flat f ++ rest)) (s.place ∷ stack) s
     ∙ (and_then-same (meaning does inner s) (λ t. walk does (flat f ++ rest) stack (record { place = s.place; font = t.font })) (λ t. and_then (meaning does f (record { place = s.place; font = t.font })) (λ u. walk does rest stack u)) (λ t. walk-flat does f rest stack (record { place = s.place; font = t.font }))
     ∙ (sym (and_then-restored s.place (meaning does inner s) (λ t. and_then (meaning does f t) (λ u. walk does rest stack u)))
-    ∙ sym (and_then-and_then (restored s.place (meaning does inner s)) (λ t. meaning does f t) (λ u. walk does rest stack u)))))
+    ∙ sym (and_then-and_then (restored_meaning s.place (meaning does inner s)) (λ t. meaning does f t) (λ u. walk does rest stack u)))))
 
 -- The pass gives the meaning of every forest.
 pub walk-meaning : (does : Acts) (f : Forest) (s : DviState) → walk does (flat f) [] s ≡ meaning does f s
@@ -80,7 +80,7 @@ pub and_then-some : (m : Meaning) (k : DviState → Meaning) (out : List Mark ×
 and_then-some None k out e = absurd cc
 and_then-some (Some (marks, s)) k out e = (s, (ahead_some marks (k s) out e).0, (ahead_some marks (k s) out e).1)
   where
-    ahead_some : (marks : List Mark) (m : Meaning) (out : List Mark × DviState) → ahead marks m ≡ Some out → (last : List Mark × DviState) × (m ≡ Some last)
+    ahead_some : (marks : List Mark) (m : Meaning) (out : List Mark × DviState) → marks_ahead marks m ≡ Some out → (last : List Mark × DviState) × (m ≡ Some last)
     ahead_some marks None out e = cc
     ahead_some marks (Some last) out e = (last, refl)
 
@@ -141,22 +141,22 @@ unfolding Ends
 one_forest f g e = (flat_cut f g [] [] tt tt (append-nil (flat f) ∙ (e ∙ sym (append-nil (flat g))))).0
 
 -- The concatenation of two bodies: its instructions, its meaning, and its open pushes.
-pub flat-beside : (f g : Forest) → flat (beside f g) ≡ flat f ++ flat g
+pub flat-beside : (f g : Forest) → flat (joined_bodies f g) ≡ flat f ++ flat g
 flat-beside Empty g = refl
 flat-beside (Then i f) g = ap (λ (is : List Instruction). Do i ∷ is) (flat-beside f g)
 flat-beside (Group inner f) g =
     ap (λ (is : List Instruction). Push ∷ (flat inner ++ Pop ∷ is)) (flat-beside f g) ∙ ap (λ (is : List Instruction). Push ∷ is) (sym (append_assoc (flat inner) (Pop ∷ flat f) (flat g)))
 
-pub meaning-beside : (does : Acts) (f g : Forest) (s : DviState) → meaning does (beside f g) s ≡ and_then (meaning does f s) (λ t. meaning does g t)
+pub meaning-beside : (does : Acts) (f g : Forest) (s : DviState) → meaning does (joined_bodies f g) s ≡ and_then (meaning does f s) (λ t. meaning does g t)
 meaning-beside does Empty g s = sym (ahead-nil (meaning does g s))
 meaning-beside does (Then i f) g s =
-    and_then-same (does i s) (λ t. meaning does (beside f g) t) (λ t. and_then (meaning does f t) (λ u. meaning does g u)) (λ t. meaning-beside does f g t)
+    and_then-same (does i s) (λ t. meaning does (joined_bodies f g) t) (λ t. and_then (meaning does f t) (λ u. meaning does g u)) (λ t. meaning-beside does f g t)
     ∙ sym (and_then-and_then (does i s) (λ t. meaning does f t) (λ u. meaning does g u))
 meaning-beside does (Group inner f) g s =
-    and_then-same (restored s.place (meaning does inner s)) (λ t. meaning does (beside f g) t) (λ t. and_then (meaning does f t) (λ u. meaning does g u)) (λ t. meaning-beside does f g t)
-    ∙ sym (and_then-and_then (restored s.place (meaning does inner s)) (λ t. meaning does f t) (λ u. meaning does g u))
+    and_then-same (restored_meaning s.place (meaning does inner s)) (λ t. meaning does (joined_bodies f g) t) (λ t. and_then (meaning does f t) (λ u. meaning does g u)) (λ t. meaning-beside does f g t)
+    ∙ sym (and_then-and_then (restored_meaning s.place (meaning does inner s)) (λ t. meaning does f t) (λ u. meaning does g u))
 
-pub nests-beside : (f g : Forest) → nests (beside f g) ≡ max (nests f) (nests g)
+pub nests-beside : (f g : Forest) → nests (joined_bodies f g) ≡ max (nests f) (nests g)
 nests-beside Empty g = omega arith
 nests-beside (Then i f) g = nests-beside f g
 nests-beside (Group inner f) g = let later = nests-beside f g in omega arith

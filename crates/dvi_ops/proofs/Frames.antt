@@ -5,10 +5,10 @@ use Rattle.std.specs.List.{flat_map, AllByRecursion}
 use Rattle.dvi_ops.specs.Instruction.{Postamble, Instruction, Push, Eop, Pre, Post}
 use Rattle.dvi_ops.specs.Table.{Spells, signed}
 use Rattle.dvi_ops.specs.Forest.{flat}
-use Rattle.dvi_ops.specs.Tokens.{Token, IsSpelled, says, written, places, pointers}
+use Rattle.dvi_ops.specs.Tokens.{Token, IsSpelled, token_instructions, token_bytes, places, pointers}
 use Rattle.dvi_ops.specs.File.{FilePart, Idle, Defines, Shows, instructions, MarkedPage, pages_of, push_depth_of, IsIdle, AreUnits, Frame, IsFile}
 use Rattle.dvi_ops.specs.Fonts.{WidthsByName, FontsAreRight, definitions, selections, font, widths_of}
-use Rattle.dvi_ops.specs.Body.{acts, kept}
+use Rattle.dvi_ops.specs.Body.{instruction_acts, bounded_acts}
 use Rattle.dvi_ops.proofs.FrontLaws.{one_reading}
 use Rattle.dvi_ops.proofs.Forests.{flat_cut, ends_eop}
 
@@ -31,19 +31,19 @@ not_empty i s =
     let push : List ℕ = 141 ∷ [] in let same = one_reading i Push [] push push [] s refl refl in let empty : [] ≡ push = same.1 in cc
 
 -- Where instructions spell the beginning of bytes that other instructions spell in whole, the other list begins with the first one.
-pub begins : (ts us : List Token) (x : List ℕ) → AllByRecursion IsSpelled ts → AllByRecursion IsSpelled us → written ts ++ x ≡ written us →
-    (more : List Token) × (us ≡ ts ++ more) × AllByRecursion IsSpelled more × (written more ≡ x)
+pub begins : (ts us : List Token) (x : List ℕ) → AllByRecursion IsSpelled ts → AllByRecursion IsSpelled us → token_bytes ts ++ x ≡ token_bytes us →
+    (more : List Token) × (us ≡ ts ++ more) × AllByRecursion IsSpelled more × (token_bytes more ≡ x)
 begins [] us x p q e = (us, refl, q, sym e)
-begins (t ∷ ts) [] x (here, p) q e = absurd (begun t.bytes here (sym (append_assoc t.bytes (written ts) x) ∙ e))
+begins (t ∷ ts) [] x (here, p) q e = absurd (begun t.bytes here (sym (append_assoc t.bytes (token_bytes ts) x) ∙ e))
   where
-    begun : (bytes : List ℕ) → Spells t.says bytes → bytes ++ (written ts ++ x) ≡ [] → ⊥
+    begun : (bytes : List ℕ) → Spells t.says bytes → bytes ++ (token_bytes ts ++ x) ≡ [] → ⊥
     begun [] s e = not_empty t.says s
     begun (b ∷ bytes) s e = cc
 begins (t ∷ ts) (u ∷ us) x (here, p) (here', q) e =
-    let first = one_reading t.says u.says t.bytes u.bytes (written ts ++ x) (written us) here here' (sym (append_assoc t.bytes (written ts) x) ∙ e) in
+    let first = one_reading t.says u.says t.bytes u.bytes (token_bytes ts ++ x) (token_bytes us) here here' (sym (append_assoc t.bytes (token_bytes ts) x) ∙ e) in
     let same_says : t.says ≡ u.says = first.0 in
     let same_bytes : t.bytes ≡ u.bytes = first.1 in
-    let rest : written ts ++ x ≡ written us = append_cancel_left t.bytes (written ts ++ x) (written us) (sym (append_assoc t.bytes (written ts) x) ∙ (e ∙ ap (λ (b : List ℕ). b ++ written us) (sym same_bytes))) in
+    let rest : token_bytes ts ++ x ≡ token_bytes us = append_cancel_left t.bytes (token_bytes ts ++ x) (token_bytes us) (sym (append_assoc t.bytes (token_bytes ts) x) ∙ (e ∙ ap (λ (b : List ℕ). b ++ token_bytes us) (sym same_bytes))) in
     let found = begins ts us x p q rest in
     let same_token : t ≡ u = ap₂ (λ (i : Instruction) (b : List ℕ). record { says = i; bytes = b }) same_says same_bytes in
     let same_rest : us ≡ ts ++ found.0 = found.1 in
@@ -54,19 +54,19 @@ take_none zero = refl
 take_none (suc n) = refl
 
 -- Nothing remains where no beginning of the bytes spells an instruction.
-pub stuck : (ts : List Token) (x : List ℕ) → AllByRecursion IsSpelled ts → written ts ≡ x → ((i : Instruction) (size : ℕ) → Spells i (take size x) → ⊥) → ts ≡ []
+pub stuck : (ts : List Token) (x : List ℕ) → AllByRecursion IsSpelled ts → token_bytes ts ≡ x → ((i : Instruction) (size : ℕ) → Spells i (take size x) → ⊥) → ts ≡ []
 stuck [] x p e none = refl
 stuck (t ∷ ts) x (here, p) e none =
-    absurd (none t.says (length t.bytes) (subst (λ bytes. Spells t.says bytes) (sym (take_at t.bytes (written ts) (length t.bytes) refl) ∙ ap (take (length t.bytes)) e) here))
+    absurd (none t.says (length t.bytes) (subst (λ bytes. Spells t.says bytes) (sym (take_at t.bytes (token_bytes ts) (length t.bytes) refl) ∙ ap (take (length t.bytes)) e) here))
 
 -- Bytes have one list of instructions.
-pub one_list : (ts us : List Token) → AllByRecursion IsSpelled ts → AllByRecursion IsSpelled us → written ts ≡ written us → ts ≡ us
+pub one_list : (ts us : List Token) → AllByRecursion IsSpelled ts → AllByRecursion IsSpelled us → token_bytes ts ≡ token_bytes us → ts ≡ us
 one_list ts us p q e =
-    let found = begins ts us [] p q (append-nil (written ts) ∙ e) in
+    let found = begins ts us [] p q (append-nil (token_bytes ts) ∙ e) in
     let none = nothing found.0 found.2 found.3 in
     sym (found.1 ∙ (ap (λ (more : List Token). ts ++ more) none ∙ append-nil ts))
   where
-    nothing : (more : List Token) → AllByRecursion IsSpelled more → written more ≡ [] → more ≡ []
+    nothing : (more : List Token) → AllByRecursion IsSpelled more → token_bytes more ≡ [] → more ≡ []
     nothing more p e = stuck more [] p e (λ i size s. not_empty i (subst (λ bytes. Spells i bytes) (take_none size) s))
 
 -- A list that ends with 2 and then n times 223, built from its end.
@@ -98,8 +98,8 @@ one_trailer a b n m e = one_trailing a b n m (sym (trailing-is a n) ∙ (e ∙ t
 -- The bytes of a frame: those before the operand of post_post, this operand, and the end.
 pub record Cut (bytes : List ℕ) (f : Frame bytes) : Type 0 where
   pub operand : List ℕ
-  pub whole : bytes ≡ (((written f.front ++ (f.post ++ (written f.tail ++ 249 ∷ []))) ++ operand) ++ 2 ∷ replicate f.padding 223)
-  pub says_place : (length operand ≡ 4) × (signed 4 operand ≡ pos (length (written f.front)))
+  pub whole : bytes ≡ (((token_bytes f.front ++ (f.post ++ (token_bytes f.tail ++ 249 ∷ []))) ++ operand) ++ 2 ∷ replicate f.padding 223)
+  pub says_place : (length operand ≡ 4) × (signed 4 operand ≡ pos (length (token_bytes f.front)))
   pub ending : f.ending ≡ 249 ∷ (operand ++ 2 ∷ [])
 
 regroup : (a p t o bytes : List ℕ) → a ++ (p ++ (t ++ (249 ∷ (o ++ 2 ∷ []) ++ bytes))) ≡ ((a ++ (p ++ (t ++ 249 ∷ []))) ++ o) ++ 2 ∷ bytes
@@ -112,8 +112,8 @@ cut_of bytes f =
       operand = spelled.0;
       whole =
           f.whole
-          ∙ (ap (λ (ending : List ℕ). written f.front ++ (f.post ++ (written f.tail ++ (ending ++ replicate f.padding 223)))) spelled.1
-          ∙ regroup (written f.front) f.post (written f.tail) spelled.0 (replicate f.padding 223));
+          ∙ (ap (λ (ending : List ℕ). token_bytes f.front ++ (f.post ++ (token_bytes f.tail ++ (ending ++ replicate f.padding 223)))) spelled.1
+          ∙ regroup (token_bytes f.front) f.post (token_bytes f.tail) spelled.0 (replicate f.padding 223));
       says_place = spelled.2;
       ending = spelled.1;
     }
@@ -133,22 +133,22 @@ one_frame bytes f g =
     let c = cut_of bytes f in
     let d = cut_of bytes g in
     let upto : List ℕ → List ℕ → List ℕ → List ℕ = λ a p t. a ++ (p ++ (t ++ 249 ∷ [])) in
-    let af = upto (written f.front) f.post (written f.tail) in
-    let ag = upto (written g.front) g.post (written g.tail) in
+    let af = upto (token_bytes f.front) f.post (token_bytes f.tail) in
+    let ag = upto (token_bytes g.front) g.post (token_bytes g.tail) in
     let trailer = one_trailer (af ++ c.operand) (ag ++ d.operand) f.padding g.padding (sym c.whole ∙ d.whole) in
     let operands = one_cut_back af ag c.operand d.operand trailer.0 (c.says_place.0 ∙ sym d.says_place.0) in
-    let place : pos (length (written f.front)) ≡ pos (length (written g.front)) = sym c.says_place.1 ∙ (ap (signed 4) operands.1 ∙ d.says_place.1) in
-    let lengths : length (written f.front) ≡ length (written g.front) = cc in
-    let fronts = one_cut (written f.front) (written g.front) (f.post ++ (written f.tail ++ 249 ∷ [])) (g.post ++ (written g.tail ++ 249 ∷ [])) operands.0 lengths in
-    let posts = one_reading (Post f.stop) (Post g.stop) f.post g.post (written f.tail ++ 249 ∷ []) (written g.tail ++ 249 ∷ []) f.post_spelled g.post_spelled fronts.1 in
+    let place : pos (length (token_bytes f.front)) ≡ pos (length (token_bytes g.front)) = sym c.says_place.1 ∙ (ap (signed 4) operands.1 ∙ d.says_place.1) in
+    let lengths : length (token_bytes f.front) ≡ length (token_bytes g.front) = cc in
+    let fronts = one_cut (token_bytes f.front) (token_bytes g.front) (f.post ++ (token_bytes f.tail ++ 249 ∷ [])) (g.post ++ (token_bytes g.tail ++ 249 ∷ [])) operands.0 lengths in
+    let posts = one_reading (Post f.stop) (Post g.stop) f.post g.post (token_bytes f.tail ++ 249 ∷ []) (token_bytes g.tail ++ 249 ∷ []) f.post_spelled g.post_spelled fronts.1 in
     let same_post : f.post ≡ g.post = posts.1 in
     let same_stop : Post f.stop ≡ Post g.stop = posts.0 in
-    let after : written f.tail ++ 249 ∷ [] ≡ written g.tail ++ 249 ∷ [] = append_cancel_left f.post _ _ (fronts.1 ∙ ap (λ (p : List ℕ). p ++ (written g.tail ++ 249 ∷ [])) (sym same_post)) in
+    let after : token_bytes f.tail ++ 249 ∷ [] ≡ token_bytes g.tail ++ 249 ∷ [] = append_cancel_left f.post _ _ (fronts.1 ∙ ap (λ (p : List ℕ). p ++ (token_bytes g.tail ++ 249 ∷ [])) (sym same_post)) in
     record {
       front = one_list f.front g.front f.front_spelled g.front_spelled fronts.0;
       post = same_post;
       stop = cc;
-      tail = one_list f.tail g.tail f.tail_spelled g.tail_spelled (same_from_push (written f.tail) (written g.tail) 249 249 after).0;
+      tail = one_list f.tail g.tail f.tail_spelled g.tail_spelled (same_from_push (token_bytes f.tail) (token_bytes g.tail) 249 249 after).0;
       ending = c.ending ∙ (ap (λ (o : List ℕ). 249 ∷ (o ++ 2 ∷ [])) operands.1 ∙ sym d.ending);
       padding = trailer.1;
     }
@@ -187,27 +187,27 @@ pub one_list_of_pages : (metrics : WidthsByName) (bytes : List ℕ) (pages other
 one_list_of_pages metrics bytes pages others f g =
     let same = one_frame bytes f.frame g.frame in
     let fronts : Pre 2 f.frame.stop.units f.comment ∷ flat_map instructions f.parts ≡ Pre 2 g.frame.stop.units g.comment ∷ flat_map instructions g.parts =
-    sym f.front_is ∙ (ap says same.front ∙ g.front_is) in
+    sym f.front_is ∙ (ap token_instructions same.front ∙ g.front_is) in
     let bodies : flat_map instructions f.parts ≡ flat_map instructions g.parts = cc in
     let parts = one_parts f.parts g.parts bodies in
     let shows : Some pages ≡ Some others =
     sym f.shows
-    ∙ (ap₂ (λ (tail : List Token) (parts : List FilePart). pages_of (kept (acts (widths_of metrics (definitions (says tail))))) parts) same.tail parts ∙ g.shows) in
+    ∙ (ap₂ (λ (tail : List Token) (parts : List FilePart). pages_of (bounded_acts (instruction_acts (widths_of metrics (definitions (token_instructions tail))))) parts) same.tail parts ∙ g.shows) in
     cc
 
 -- The facts about the instructions of a frame that make a file of these pages.
 pub record Facts (metrics : WidthsByName) (front : List Token) (stop : Postamble) (tail : List Token) (pages : List MarkedPage) : Type 0 where
   pub comment : List ℕ
   pub parts : List FilePart
-  pub front_is : says front ≡ Pre 2 stop.units comment ∷ flat_map instructions parts
-  pub tail_is : AllByRecursion IsIdle (says tail)
+  pub front_is : token_instructions front ≡ Pre 2 stop.units comment ∷ flat_map instructions parts
+  pub tail_is : AllByRecursion IsIdle (token_instructions tail)
   pub units : AreUnits stop.units
-  pub chain : pointers (says front) ++ stop.last_bop ∷ [] ≡ negsuc 0 ∷ map pos (places 0 front)
+  pub chain : pointers (token_instructions front) ++ stop.last_bop ∷ [] ≡ negsuc 0 ∷ map pos (places 0 front)
   pub count : stop.pages ≡ length pages % 65536
-  pub fonts : FontsAreRight [] (says front ++ says tail)
-  pub closing : AllByRecursion (λ f. IsSome (font metrics (definitions (says tail)) f)) (selections (says front))
+  pub fonts : FontsAreRight [] (token_instructions front ++ token_instructions tail)
+  pub closing : AllByRecursion (λ f. IsSome (font metrics (definitions (token_instructions tail)) f)) (selections (token_instructions front))
   pub depth : AllByRecursion (λ part. push_depth_of part ≤ min 1024 stop.stack_depth) parts
-  pub shows : pages_of (kept (acts (widths_of metrics (definitions (says tail))))) parts ≡ Some pages
+  pub shows : pages_of (bounded_acts (instruction_acts (widths_of metrics (definitions (token_instructions tail))))) parts ≡ Some pages
 
 pub facts_of : (metrics : WidthsByName) (bytes : List ℕ) (pages : List MarkedPage) (f : IsFile metrics bytes pages) → Facts metrics f.frame.front f.frame.stop f.frame.tail pages
 facts_of metrics bytes pages f =

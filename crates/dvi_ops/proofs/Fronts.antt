@@ -5,7 +5,7 @@ use Rattle.std.proofs.lemmas.Bool.{cases_lt, le-leb, lt-ltb, le-ltb, leb-true}
 use Rattle.std.proofs.lemmas.List.{length-append, length-drop, length-take-le, take-append-drop}
 use Rattle.byteorder.specs.Endian.{big_number, twos_complement}
 use Rattle.byteorder.specs.Numbers.{big_from-append, big_from-take}
-use Rattle.dvi_ops.specs.Private.Reading.{Front, made, followed, cut, signed_at, half_at, byte_at, two_at, three_at, halves_at, words}
+use Rattle.dvi_ops.specs.Private.Reading.{Front, front_image, front_then, first_bytes, signed_at, half_at, byte_at, two_at, three_at, halves_at, words}
 use Rattle.dvi_ops.specs.Table.{signed, SpellsSigned, SaysEach, SaysShort}
 
 -- The two cases of a test.
@@ -26,14 +26,14 @@ pub same_rest : {A : Type 0} → (v w : A) (x y : List ℕ) → got v x ≡ got 
 same_rest {A = A} v w x y e = let pair : ◌≡◌ {A = A × List ℕ} (v, x) (w, y) = cc in ap (λ (p : A × List ℕ). p.1) pair
 
 -- The right number of bytes is cut off.
-pub cut_at : (n : ℕ) (a x : List ℕ) → length a ≡ n → cut n (a ++ x) ≡ got a x
+pub cut_at : (n : ℕ) (a x : List ℕ) → length a ≡ n → first_bytes n (a ++ x) ≡ got a x
 cut_at n a x e =
     let enough : n ≤ length (a ++ x) = omega (arith, length-append a x) in
     let test = le-leb n (length (a ++ x)) enough in
     rw (test, ← e, take-append_seam a x, drop-append_seam a x) refl
 
 -- What was cut off is the beginning of the bytes.
-pub cut_is : (n : ℕ) (bytes a x : List ℕ) → cut n bytes ≡ got a x → (bytes ≡ a ++ x) × (length a ≡ n)
+pub cut_is : (n : ℕ) (bytes a x : List ℕ) → first_bytes n bytes ≡ got a x → (bytes ≡ a ++ x) × (length a ≡ n)
 cut_is n bytes a x e = go (nat_le n (length bytes)) refl e where
   go : (b : Bool) → nat_le n (length bytes) ≡ b → cond b (got (take n bytes) (drop n bytes)) None ≡ got a x → (bytes ≡ a ++ x) × (length a ≡ n)
   go true t f =
@@ -43,25 +43,25 @@ cut_is n bytes a x e = go (nat_le n (length bytes)) refl e where
   go false t f = cc
 
 -- An image comes from a value that was read.
-pub made_is : {A B : Type 0} → (f : A → B) (o : Front A) (b : B) (x : List ℕ) → made f o ≡ got b x → (a : A) × (o ≡ got a x) × (f a ≡ b)
+pub made_is : {A B : Type 0} → (f : A → B) (o : Front A) (b : B) (x : List ℕ) → front_image f o ≡ got b x → (a : A) × (o ≡ got a x) × (f a ≡ b)
 made_is {B = B} f None b x e = absurd (let none : ◌≡◌ {A = Front B} None (got b x) = e in cc)
 made_is f (Some (v, rest)) b x e =
     (v, ap (λ (r : List ℕ). got v r) (same_rest (f v) b rest x e), same_first (f v) b rest x e)
 
 -- Where two values were read one after the other, each was read.
-pub followed_is : {A B : Type 0} → (o : Front A) (next : A → List ℕ → Front B) (b : B) (x : List ℕ) → followed o next ≡ got b x
+pub followed_is : {A B : Type 0} → (o : Front A) (next : A → List ℕ → Front B) (b : B) (x : List ℕ) → front_then o next ≡ got b x
     → (a : A) × (rest : List ℕ) × (o ≡ got a rest) × (next a rest ≡ got b x)
 followed_is {B = B} None next b x e = absurd (let none : ◌≡◌ {A = Front B} None (got b x) = e in cc)
 followed_is (Some (v, rest)) next b x e = (v, rest, refl, e)
 
 -- A number of n bytes is read.
-pub number_reads : (says : ℕ → List ℕ → ℤ) (n : ℕ) (z : ℤ) (a x : List ℕ) → length a ≡ n → says n a ≡ z → made (says n) (cut n (a ++ x)) ≡ got z x
+pub number_reads : (says : ℕ → List ℕ → ℤ) (n : ℕ) (z : ℤ) (a x : List ℕ) → length a ≡ n → says n a ≡ z → front_image (says n) (first_bytes n (a ++ x)) ≡ got z x
 number_reads says n z a x len value = rw (cut_at n a x len, value) refl
 
-pub number_is : (says : ℕ → List ℕ → ℤ) (n : ℕ) (z : ℤ) (bytes x : List ℕ) → made (says n) (cut n bytes) ≡ got z x
+pub number_is : (says : ℕ → List ℕ → ℤ) (n : ℕ) (z : ℤ) (bytes x : List ℕ) → front_image (says n) (first_bytes n bytes) ≡ got z x
     → (a : List ℕ) × (bytes ≡ a ++ x) × (length a ≡ n) × (says n a ≡ z)
 number_is says n z bytes x e =
-    let (a, f, value) = made_is (says n) (cut n bytes) z x e in
+    let (a, f, value) = made_is (says n) (first_bytes n bytes) z x e in
     let (whole, len) = cut_is n bytes a x f in
     (a, whole, len, value)
 
@@ -82,7 +82,7 @@ half_reads n a x says = rw (cut_at 2 a x says.0, says.1) refl
 pub half_is : (n : ℕ) (bytes x : List ℕ) → half_at bytes ≡ got n x → (a : List ℕ) × (bytes ≡ a ++ x) × SaysShort n a
 unfolding half_at
 half_is n bytes x e =
-    let (a, f, value) = made_is (big_number 2) (cut 2 bytes) n x e in
+    let (a, f, value) = made_is (big_number 2) (first_bytes 2 bytes) n x e in
     let (whole, len) = cut_is 2 bytes a x f in
     (a, whole, (len, value))
 
@@ -100,7 +100,7 @@ pub two_is : (p : ℤ × ℤ) (bytes x : List ℕ) → two_at bytes ≡ got p x
     → (a : List ℕ) × (b : List ℕ) × (bytes ≡ a ++ (b ++ x)) × SpellsSigned p.0 a × SpellsSigned p.1 b
 unfolding two_at
 two_is p bytes x e =
-    let (y, rest, f, g) = followed_is (signed_at 4 bytes) (λ a rest. made (λ b. (a, b)) (signed_at 4 rest)) p x e in
+    let (y, rest, f, g) = followed_is (signed_at 4 bytes) (λ a rest. front_image (λ b. (a, b)) (signed_at 4 rest)) p x e in
     let (z, h, pair) = made_is (λ b. (y, b)) (signed_at 4 rest) p x g in
     let (a, whole, first) = word_is y bytes rest f in
     let (b, more, second) = word_is z rest x h in
@@ -115,7 +115,7 @@ pub three_is : (p : ℤ × ℤ × ℤ) (bytes x : List ℕ) → three_at bytes �
     → (a : List ℕ) × (b : List ℕ) × (c : List ℕ) × (bytes ≡ a ++ (b ++ (c ++ x))) × SpellsSigned p.0 a × SpellsSigned p.1 b × SpellsSigned p.2 c
 unfolding three_at
 three_is p bytes x e =
-    let (y, rest, f, g) = followed_is (signed_at 4 bytes) (λ a rest. made (λ bc. (a, bc.0, bc.1)) (two_at rest)) p x e in
+    let (y, rest, f, g) = followed_is (signed_at 4 bytes) (λ a rest. front_image (λ bc. (a, bc.0, bc.1)) (two_at rest)) p x e in
     let (q, h, triple) = made_is (λ bc. (y, bc.0, bc.1)) (two_at rest) p x g in
     let (a, whole, first) = word_is y bytes rest f in
     let (b, c, more, second, third) = two_is q rest x h in
@@ -130,7 +130,7 @@ pub halves_is : (p : ℕ × ℕ) (bytes x : List ℕ) → halves_at bytes ≡ go
     → (a : List ℕ) × (b : List ℕ) × (bytes ≡ a ++ (b ++ x)) × SaysShort p.0 a × SaysShort p.1 b
 unfolding halves_at
 halves_is p bytes x e =
-    let (m, rest, f, g) = followed_is (half_at bytes) (λ a rest. made (λ b. (a, b)) (half_at rest)) p x e in
+    let (m, rest, f, g) = followed_is (half_at bytes) (λ a rest. front_image (λ b. (a, b)) (half_at rest)) p x e in
     let (n, h, pair) = made_is (λ b. (m, b)) (half_at rest) p x g in
     let (a, whole, first) = half_is m bytes rest f in
     let (b, more, second) = half_is n rest x h in

@@ -5,10 +5,10 @@ use Rattle.std.specs.Ordering.{int_eq}
 use Rattle.std.specs.List.{AllByRecursion}
 use Rattle.dvi_ops.specs.Instruction.{Across, Downward, By, Definition, SetChar, Move, FontNum}
 use Rattle.dvi_ops.specs.Spelling.{operand, signed_size, code_size, char_spelling, font_spelling, leaf_spelling, spelling, NumberFits}
-use Rattle.dvi_ops.specs.Body.{DviState, Widths, acts, kept, start}
+use Rattle.dvi_ops.specs.Body.{DviState, Widths, instruction_acts, bounded_acts, start}
 use Rattle.scaled_core.specs.Mark.{Mark, Glyph}
 use Rattle.dvi_ops.specs.Forest.{Forest, Empty, Then, Group, meaning}
-use Rattle.dvi_ops.specs.Fonts.{WidthsByName, defined}
+use Rattle.dvi_ops.specs.Fonts.{WidthsByName, first_definition_of}
 use Rattle.dvi_ops.specs.File.{IsFile}
 use Rattle.dvi_ops.specs.Layout.{Sheet, Table, table_widths, IsTabled, IsGood}
 use Rattle.dvi_ops.specs.Examples.{one_rule_body, one_rule_marks, one_rule_file, one_rule_pages, two_page_file, two_pages, fonts_in_nested_boxes_file, fonts_in_nested_boxes_pages, tiny_name, GivesTiny}
@@ -68,7 +68,7 @@ abbrev pub large : Definition
 large = record { number = pos 1; check_sum = pos 0; size = pos 1310720; design_size = pos 655360; area = []; name = tiny_name }
 
 abbrev fonts : Table
-fonts f = defined f (small ∷ large ∷ [])
+fonts f = first_definition_of f (small ∷ large ∷ [])
 
 pub small_tabled : IsTabled fonts small
 small_tabled = record { listed = refl; size = (omega (arith, ints), omega (arith, ints)); writable = ((lit< tt, lit< tt), (record { sfits = lit< tt }, record { sfits = lit< tt }, record { sfits = lit< tt }, record { sfits = lit< tt })) }
@@ -91,7 +91,7 @@ nested_marks = Glyph (pos 0) (pos 99) (pos 0) (pos 655360) ∷ Glyph (pos 1) (po
 
 -- The meaning of the body, from the three widths that it needs.
 nested_shows : (widths : Widths) → widths (pos 0) (pos 99) ≡ Some (pos 327680) → widths (pos 1) (pos 98) ≡ Some (pos 655360) → widths (pos 1) (pos 99) ≡ Some (pos 655360) →
-    (last : DviState) × (meaning (kept (acts widths)) nested_body start ≡ Some (nested_marks, last))
+    (last : DviState) × (meaning (bounded_acts (instruction_acts widths)) nested_body start ≡ Some (nested_marks, last))
 nested_shows widths a b c = (record { place = record { h = pos 1638400; v = pos 655360; held = start.place.held }; font = Some (pos 1) }, rw (a, b, c) refl)
 
 nested_good : (metrics : WidthsByName) → GivesTiny metrics → IsGood metrics fonts [] nested_sheet nested_marks
@@ -110,7 +110,7 @@ nested_good metrics tiny =
       shows = shows.1;
     }
 
-known_are_there : (f : ℤ) → IsSome (defined f (large ∷ small ∷ [])) → IsSome (defined f (small ∷ large ∷ []))
+known_are_there : (f : ℤ) → IsSome (first_definition_of f (large ∷ small ∷ [])) → IsSome (first_definition_of f (small ∷ large ∷ []))
 known_are_there f some = by_tests (int_eq f (pos 1)) (int_eq f (pos 0)) some
   where
     by_tests : (one zero : Bool) → IsSome (if one then Some large else if zero then Some small else None) → IsSome (if zero then Some small else if one then Some large else None)

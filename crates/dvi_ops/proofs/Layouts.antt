@@ -6,13 +6,13 @@ use Rattle.std.specs.Ordering.{int_eq}
 use Rattle.std.specs.List.{flat_map, AllByRecursion}
 use Rattle.dvi_ops.specs.Instruction.{Definition, FontNum, FontDef, Instruction, Do, Bop, Eop}
 use Rattle.dvi_ops.specs.Spelling.{operand, spelling, NumberFits}
-use Rattle.dvi_ops.specs.Body.{Meaning, Acts, acts, kept}
+use Rattle.dvi_ops.specs.Body.{Meaning, Acts, instruction_acts, bounded_acts}
 use Rattle.scaled_core.specs.Mark.{Mark}
 use Rattle.dvi_ops.specs.Forest.{flat}
-use Rattle.dvi_ops.specs.Tokens.{Token, says, written, places, pointers}
-use Rattle.dvi_ops.specs.Fonts.{WidthsByName, AgreesWith, definitions, selections, defined, FontsAreRight, known_after, widths_in}
+use Rattle.dvi_ops.specs.Tokens.{Token, token_instructions, token_bytes, places, pointers}
+use Rattle.dvi_ops.specs.Fonts.{WidthsByName, AgreesWith, definitions, selections, first_definition_of, FontsAreRight, known_after, widths_in}
 use Rattle.dvi_ops.specs.File.{FilePart, Defines, Shows, instructions, MarkedPage, page_then, pages_of, push_depth_of}
-use Rattle.dvi_ops.specs.Layout.{bytes_of, preamble, define, Sheet, WriterKnowledge, after_preamble, sheet_from, after, Table, table_widths, IsWritable, IsTabled, IsGood}
+use Rattle.dvi_ops.specs.Layout.{bytes_of, preamble, define, Sheet, WriterKnowledge, after_preamble, sheet_from, knowledge_after, Table, table_widths, IsWritable, IsTabled, IsGood}
 use Rattle.scaled_core.proofs.EachOf.{all_append, all_weaker, all_map}
 use Rattle.dvi_ops.proofs.Appends.{pointers-page, pointers-append, definitions-append, selections-append, instructions-append, places-append, length-places, known_after-append, fonts_append, pages_joined, pointers-flat}
 
@@ -20,11 +20,11 @@ use Rattle.dvi_ops.proofs.Appends.{pointers-page, pointers-append, definitions-a
 abbrev pub wrote : Instruction → Token
 wrote i = record { says = i; bytes = spelling i }
 
-pub says-wrote : (is : List Instruction) → says (map wrote is) ≡ is
+pub says-wrote : (is : List Instruction) → token_instructions (map wrote is) ≡ is
 says-wrote [] = refl
 says-wrote (i ∷ is) = ap (λ (is : List Instruction). i ∷ is) (says-wrote is)
 
-pub written-wrote : (is : List Instruction) → written (map wrote is) ≡ bytes_of is
+pub written-wrote : (is : List Instruction) → token_bytes (map wrote is) ≡ bytes_of is
 written-wrote [] = refl
 written-wrote (i ∷ is) = ap (λ (bytes : List ℕ). spelling i ++ bytes) (written-wrote is)
 
@@ -61,7 +61,7 @@ known_stays known [] none = refl
 known_stays known (Do (FontDef d) ∷ is) none = absurd cc
 known_stays known (i ∷ is) none = known_stays known is none
 
-chosen_right : (known : List Definition) (is : List Instruction) → definitions is ≡ [] → AllByRecursion (λ f. IsSome (defined f known)) (selections is) → FontsAreRight known is
+chosen_right : (known : List Definition) (is : List Instruction) → definitions is ≡ [] → AllByRecursion (λ f. IsSome (first_definition_of f known)) (selections is) → FontsAreRight known is
 chosen_right known [] none chosen = tt
 chosen_right known (Do (FontDef d) ∷ is) none chosen = absurd cc
 chosen_right known (Do (FontNum f) ∷ is) none (here, chosen) = (here, chosen_right known is none chosen)
@@ -83,11 +83,11 @@ defined_right table known [] p q = tt
 defined_right table known (d ∷ fonts) p (here, q) = ((here.size, agrees_with_all table d known here p), defined_right table (d ∷ known) fonts (here, p) q)
 
 -- A font that is known stays known.
-stays_known : (f : ℤ) (known fonts : List Definition) → IsSome (defined f known) → IsSome (defined f (known_after known (define fonts)))
+stays_known : (f : ℤ) (known fonts : List Definition) → IsSome (first_definition_of f known) → IsSome (first_definition_of f (known_after known (define fonts)))
 stays_known f known [] p = p
 stays_known f known (d ∷ fonts) p = stays_known f (d ∷ known) fonts (by_test (int_eq f d.number))
   where
-    by_test : (same : Bool) → IsSome (if same then Some d else defined f known)
+    by_test : (same : Bool) → IsSome (if same then Some d else first_definition_of f known)
     by_test true = refl
     by_test false = p
 
@@ -113,9 +113,9 @@ pub record Knows (metrics : WidthsByName) (table : Table) (s : WriterKnowledge) 
   pub fonts : FontsAreRight [] is
   pub known : known_after [] is ≡ s.known
   pub tabled : AllByRecursion (IsTabled table) s.known
-  pub chosen : AllByRecursion (λ f. IsSome (defined f s.known)) (selections is)
+  pub chosen : AllByRecursion (λ f. IsSome (first_definition_of f s.known)) (selections is)
   pub measured : AllByRecursion (λ f. IsSome (widths_in metrics (table f))) (selections is)
-  pub shows : pages_of (kept (acts (table_widths metrics table))) parts ≡ Some pages
+  pub shows : pages_of (bounded_acts (instruction_acts (table_widths metrics table))) parts ≡ Some pages
 
 -- At first only the preamble is written.
 pub knows_first : (metrics : WidthsByName) (table : Table) → Knows metrics table after_preamble (preamble ∷ []) [] []
@@ -186,16 +186,16 @@ module _ (metrics : WidthsByName) (table : Table) (s : WriterKnowledge) (is : Li
   places_next : places 0 (map wrote (is ++ sheet_from s.last p)) ≡ places 0 (map wrote is) ++ place_next ∷ []
   unfolding place_next
   places_next =
-      let upto : length (written (map wrote is)) ≡ s.size = ap length (written-wrote is) ∙ sym t.size in
-      let at : 0 + length (written (map wrote is)) ≡ s.size = omega arith in
+      let upto : length (token_bytes (map wrote is)) ≡ s.size = ap length (written-wrote is) ∙ sym t.size in
+      let at : 0 + length (token_bytes (map wrote is)) ≡ s.size = omega arith in
       ap (places 0) (map-append wrote is (sheet_from s.last p))
       ∙ (places-append 0 (map wrote is) (map wrote (sheet_from s.last p))
       ∙ ap (λ (b : List ℕ). places 0 (map wrote is) ++ b) (ap (λ n. places n (map wrote (sheet_from s.last p))) at ∙ places_sheet s.size))
 
-  chain_next : pointers (is ++ sheet_from s.last p) ++ (after s p).last ∷ [] ≡ negsuc 0 ∷ map pos (places 0 (map wrote (is ++ sheet_from s.last p)))
+  chain_next : pointers (is ++ sheet_from s.last p) ++ (knowledge_after s p).last ∷ [] ≡ negsuc 0 ∷ map pos (places 0 (map wrote (is ++ sheet_from s.last p)))
   unfolding place_next
   chain_next =
-      ap (λ (ps : List ℤ). ps ++ (after s p).last ∷ []) (pointers-append is (sheet_from s.last p) ∙ (ap (λ (ps : List ℤ). pointers is ++ ps) pointers_sheet ∙ t.chain))
+      ap (λ (ps : List ℤ). ps ++ (knowledge_after s p).last ∷ []) (pointers-append is (sheet_from s.last p) ∙ (ap (λ (ps : List ℤ). pointers is ++ ps) pointers_sheet ∙ t.chain))
       ∙ ap (λ (zs : List ℤ). negsuc 0 ∷ zs) (sym (ap (map (λ n. pos n)) places_next ∙ map-append (λ (n : ℕ). pos n) (places 0 (map wrote is)) (place_next ∷ [])))
 
   page_plain : definitions (page_from s.last p) ≡ []
@@ -207,7 +207,7 @@ module _ (metrics : WidthsByName) (table : Table) (s : WriterKnowledge) (is : Li
   selections_sheet : selections (sheet_from s.last p) ≡ selections (flat p.body)
   selections_sheet = selections-append (define p.fresh) (page_from s.last p) ∙ ap₂ (λ (a b : List ℤ). a ++ b) (selections-define p.fresh) selections_page
 
-  known_next : known_after [] (is ++ sheet_from s.last p) ≡ (after s p).known
+  known_next : known_after [] (is ++ sheet_from s.last p) ≡ (knowledge_after s p).known
   known_next =
       known_after-append [] is (sheet_from s.last p)
       ∙ (ap (λ (known : List Definition). known_after known (sheet_from s.last p)) t.known
@@ -216,7 +216,7 @@ module _ (metrics : WidthsByName) (table : Table) (s : WriterKnowledge) (is : Li
   fonts_next : FontsAreRight [] (is ++ sheet_from s.last p)
   fonts_next =
       let known : List Definition = known_after s.known (define p.fresh) in
-      let chosen = subst (AllByRecursion (λ f. IsSome (defined f known))) (sym selections_page) g.chosen in
+      let chosen = subst (AllByRecursion (λ f. IsSome (first_definition_of f known))) (sym selections_page) g.chosen in
       let page = chosen_right known (page_from s.last p) page_plain chosen in
       let sheet = fonts_append s.known (define p.fresh) (page_from s.last p) (defined_right table s.known p.fresh t.tabled g.fresh) page in
       fonts_append [] is (sheet_from s.last p) t.fonts (subst (λ (known : List Definition). FontsAreRight known (sheet_from s.last p)) (sym t.known) sheet)
@@ -227,33 +227,33 @@ module _ (metrics : WidthsByName) (table : Table) (s : WriterKnowledge) (is : Li
       subst (AllByRecursion P) (sym (selections-append is (sheet_from s.last p)))
       (all_append P (selections is) (selections (sheet_from s.last p)) before (subst (AllByRecursion P) (sym selections_sheet) here))
 
-  chosen_next : AllByRecursion (λ f. IsSome (defined f (after s p).known)) (selections (is ++ sheet_from s.last p))
+  chosen_next : AllByRecursion (λ f. IsSome (first_definition_of f (knowledge_after s p).known)) (selections (is ++ sheet_from s.last p))
   chosen_next =
-      selected_next (λ f. IsSome (defined f (after s p).known))
-      (all_weaker (λ f. IsSome (defined f s.known)) (λ f. IsSome (defined f (after s p).known)) (selections is) (λ f q. stays_known f s.known p.fresh q) t.chosen) g.chosen
+      selected_next (λ f. IsSome (first_definition_of f (knowledge_after s p).known))
+      (all_weaker (λ f. IsSome (first_definition_of f s.known)) (λ f. IsSome (first_definition_of f (knowledge_after s p).known)) (selections is) (λ f q. stays_known f s.known p.fresh q) t.chosen) g.chosen
 
-  shows_next : pages_of (kept (acts (table_widths metrics table))) (parts ++ parts_of s.last p) ≡ Some (pages ++ page_with p marks ∷ [])
+  shows_next : pages_of (bounded_acts (instruction_acts (table_widths metrics table))) (parts ++ parts_of s.last p) ≡ Some (pages ++ page_with p marks ∷ [])
   shows_next =
-      let does = kept (acts (table_widths metrics table)) in
+      let does = bounded_acts (instruction_acts (table_widths metrics table)) in
       pages_joined does parts (parts_of s.last p) pages (page_with p marks ∷ []) t.shows
       (pages-define does p.fresh (Shows p.counts s.last p.body ∷ []) ∙ ap (λ (m : Meaning). page_then p.counts m (Some [])) g.shows)
 
-  depth_next : AllByRecursion (λ part. push_depth_of part ≤ (after s p).depth) (parts ++ parts_of s.last p)
+  depth_next : AllByRecursion (λ part. push_depth_of part ≤ (knowledge_after s p).depth) (parts ++ parts_of s.last p)
   depth_next =
-      let Shallow : FilePart → Type 0 = λ part. push_depth_of part ≤ (after s p).depth in
+      let Shallow : FilePart → Type 0 = λ part. push_depth_of part ≤ (knowledge_after s p).depth in
       all_append Shallow parts (parts_of s.last p) (all_weaker (λ part. push_depth_of part ≤ s.depth) Shallow parts (λ part q. omega arith) t.depth)
       (all_append Shallow (map (λ d. Defines d) p.fresh) (Shows p.counts s.last p.body ∷ []) (no_depth p.fresh) (omega arith, tt))
     where
-      no_depth : (fonts : List Definition) → AllByRecursion (λ part. push_depth_of part ≤ (after s p).depth) (map (λ d. Defines d) fonts)
+      no_depth : (fonts : List Definition) → AllByRecursion (λ part. push_depth_of part ≤ (knowledge_after s p).depth) (map (λ d. Defines d) fonts)
       no_depth [] = tt
       no_depth (d ∷ fonts) = (omega arith, no_depth fonts)
 
-  last_next : IsPlaceUpTo (after s p).size (after s p).last
+  last_next : IsPlaceUpTo (knowledge_after s p).size (knowledge_after s p).last
   unfolding IsPlaceUpTo
   last_next = omega (arith, length-bytes_of-append (define p.fresh) (page_from s.last p))
 
   -- The relation holds after one more page.
-  pub knows_next : Knows metrics table (after s p) (is ++ sheet_from s.last p) (parts ++ parts_of s.last p) (pages ++ page_with p marks ∷ [])
+  pub knows_next : Knows metrics table (knowledge_after s p) (is ++ sheet_from s.last p) (parts ++ parts_of s.last p) (pages ++ page_with p marks ∷ [])
   knows_next =
       record {
         writable = writable_next;

@@ -5,7 +5,7 @@ use Rattle.std.specs.List.{flat_map, AllByRecursion}
 use Rattle.dvi_ops.specs.Instruction.{Across, Downward, FontNum, FontDef, SetChar, By, Postamble, SetRule, Nop, Move, Instruction, Do, Push, Pop, Bop, Eop, Post}
 use Rattle.dvi_ops.specs.Spelling.{operand, signed_size, code_size, char_spelling, font_spelling, leaf_spelling, spelling, NumbersFit}
 use Rattle.dvi_ops.specs.Forest.{Empty, Then, Group}
-use Rattle.dvi_ops.specs.Tokens.{Token, written, pointers}
+use Rattle.dvi_ops.specs.Tokens.{Token, token_bytes, pointers}
 use Rattle.dvi_ops.specs.Fonts.{WidthsByName}
 use Rattle.dvi_ops.specs.File.{FilePart, Idle, Defines, Shows, instructions, MarkedPage, push_depth_of, IsFile}
 use Rattle.dvi_ops.specs.Layout.{scaled_points, preamble, IsWritable}
@@ -37,8 +37,8 @@ padding_grows metrics bytes pages f =
     (facts_of metrics bytes pages f)
   where
     more : (front : List Token) (post : List ℕ) (tail : List Token) (ending : List ℕ) (n : ℕ) →
-        (written front ++ (post ++ (written tail ++ (ending ++ replicate n 223)))) ++ 223 ∷ [] ≡ written front ++ (post ++ (written tail ++ (ending ++ replicate (n + 1) 223)))
-    more front post tail ending n = simp append_assoc (ap (λ (bytes : List ℕ). written front ++ (post ++ (written tail ++ (ending ++ bytes)))) (replicate_more n 223))
+        (token_bytes front ++ (post ++ (token_bytes tail ++ (ending ++ replicate n 223)))) ++ 223 ∷ [] ≡ token_bytes front ++ (post ++ (token_bytes tail ++ (ending ++ replicate (n + 1) 223)))
+    more front post tail ending n = simp append_assoc (ap (λ (bytes : List ℕ). token_bytes front ++ (post ++ (token_bytes tail ++ (ending ++ bytes)))) (replicate_more n 223))
 
 -- The operands of post in a file of one rule.
 abbrev one_rule_stop : ℕ → Postamble

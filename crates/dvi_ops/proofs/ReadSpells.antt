@@ -2,7 +2,7 @@
 use Rattle.std.proofs.Common.{ℕ, ℤ, pos, ◌≡◌, ◌≤◌, ◌<◌, ◌+◌, ◌-◌, List, [], ◌∷◌, ◌++◌, length, None, arith, inl, inr, refl, sym, ap, subst, ◌∙◌, append_assoc}
 use Rattle.byteorder.specs.Endian.{big_number}
 use Rattle.dvi_ops.specs.Instruction.{Axis, Across, Downward, First, Second, By, Set, Again, Definition, Units, Postamble, SetChar, PutChar, SetRule, PutRule, Nop, Move, FontNum, FontDef, Xxx, Instruction, Do, Push, Pop, Bop, Eop, Pre, Post, PostPost}
-use Rattle.dvi_ops.specs.Private.Reading.{Front, made, followed, cut, signed_at, code_at, byte_at, two_at, three_at, halves_at, words, char_at, bop_at, plain_at, movement_at, font_at, text_at, names_at, definition_at, long_at, comment_at, pre_at, post_at, post_post_at, frame_at, read}
+use Rattle.dvi_ops.specs.Private.Reading.{Front, front_image, front_then, first_bytes, signed_at, code_at, byte_at, two_at, three_at, halves_at, words, char_at, bop_at, plain_at, movement_at, font_at, text_at, names_at, definition_at, long_at, comment_at, pre_at, post_at, post_post_at, frame_at, read}
 use Rattle.dvi_ops.specs.Table.{signed, code, IsCoded, IsRule, SaysUnits, SaysDefinition, Spells, plain_code, register_code}
 use Rattle.dvi_ops.proofs.Fronts.{got, split, same_first, same_rest, made_is, followed_is, cut_is, byte_is, number_is, word_is, two_is, three_is, halves_is, words_stand}
 
@@ -23,9 +23,9 @@ fixed_is operation j i bytes rest says e = record {
 -- An instruction with an operand of one to four bytes.
 coded_is : (says : ℕ → List ℕ → ℤ) (make : ℤ → Instruction) (base m operation : ℕ) (bytes rest : List ℕ) (i : Instruction)
     → 1 ≤ m → m ≤ 4 → operation ≡ base + m → ((z : ℤ) (a : List ℕ) → IsCoded says base z a → Spells (make z) a)
-    → made make (made (says m) (cut m bytes)) ≡ got i rest → Stands i (operation ∷ bytes) rest
+    → front_image make (front_image (says m) (first_bytes m bytes)) ≡ got i rest → Stands i (operation ∷ bytes) rest
 coded_is says make base m operation bytes rest i low high op spells e =
-    let (z, f, same) = made_is make (made (says m) (cut m bytes)) i rest e in
+    let (z, f, same) = made_is make (front_image (says m) (first_bytes m bytes)) i rest e in
     let (a, whole, len, value) = number_is says m z bytes rest f in
     record {
       front = (base + m) ∷ a;
@@ -36,14 +36,14 @@ coded_is says make base m operation bytes rest i low high op spells e =
 char_is : (operation : ℕ) (bytes rest : List ℕ) (i : Instruction) → operation < 132 → char_at operation bytes ≡ got i rest → Stands i (operation ∷ bytes) rest
 unfolding char_at code_at
 char_is operation bytes rest i bound e =
-    split operation 128 (got (Do (SetChar (pos operation))) bytes) (made (λ c. Do (SetChar c)) (code_at (operation - 127) bytes)) (got i rest) e
+    split operation 128 (got (Do (SetChar (pos operation))) bytes) (front_image (λ c. Do (SetChar c)) (code_at (operation - 127) bytes)) (got i rest) e
     (λ below f. fixed_is operation (Do (SetChar (pos operation))) i bytes rest (inl (operation, below, refl, refl)) f)
     (λ above f. coded_is code (λ c. Do (SetChar c)) 127 (operation - 127) operation bytes rest i (omega arith) (omega arith) (omega arith) (λ z a h. inr h) f)
 
 -- A rule.
 rule_is : (make : ℤ × ℤ → Instruction) (operation : ℕ) (bytes rest : List ℕ) (i : Instruction)
     → ((height width : ℤ) (a : List ℕ) → IsRule operation height width a → Spells (make (height, width)) a)
-    → made make (two_at bytes) ≡ got i rest → Stands i (operation ∷ bytes) rest
+    → front_image make (two_at bytes) ≡ got i rest → Stands i (operation ∷ bytes) rest
 rule_is make operation bytes rest i spells e =
     let (r, f, same) = made_is make (two_at bytes) i rest e in
     let (a, b, whole, tall, wide) = two_is r bytes rest f in
@@ -56,7 +56,7 @@ rule_is make operation bytes rest i spells e =
 bop_is : (bytes rest : List ℕ) (i : Instruction) → bop_at bytes ≡ got i rest → Stands i (139 ∷ bytes) rest
 unfolding bop_at
 bop_is bytes rest i e =
-    let (a, r, f, g) = followed_is (cut 40 bytes) (λ counts rest. made (λ pointer. Bop (words 10 counts) pointer) (signed_at 4 rest)) i rest e in
+    let (a, r, f, g) = followed_is (first_bytes 40 bytes) (λ counts rest. front_image (λ pointer. Bop (words 10 counts) pointer) (signed_at 4 rest)) i rest e in
     let (whole, forty) = cut_is 40 bytes a r f in
     let (pointer, h, same) = made_is (λ pointer. Bop (words 10 a) pointer) (signed_at 4 r) i rest g in
     let (b, more, says) = word_is pointer r rest h in
@@ -129,9 +129,9 @@ font_is operation bytes rest i low high e =
 text_is : (n : ℕ) (bytes rest : List ℕ) (i : Instruction) → 1 ≤ n → n ≤ 4 → text_at n bytes ≡ got i rest → Stands i ((238 + n) ∷ bytes) rest
 unfolding text_at
 text_is n bytes rest i low high e =
-    let (count, r, f, g) = followed_is (cut n bytes) (λ count rest. made (λ text. Do (Xxx text)) (cut (big_number n count) rest)) i rest e in
+    let (count, r, f, g) = followed_is (first_bytes n bytes) (λ count rest. front_image (λ text. Do (Xxx text)) (first_bytes (big_number n count) rest)) i rest e in
     let (whole, len) = cut_is n bytes count r f in
-    let (text, h, same) = made_is (λ text. Do (Xxx text)) (cut (big_number n count) r) i rest g in
+    let (text, h, same) = made_is (λ text. Do (Xxx text)) (first_bytes (big_number n count) r) i rest g in
     let (more, long) = cut_is (big_number n count) r text rest h in
     let spells : Spells (Do (Xxx text)) ((238 + n) ∷ (count ++ text)) = (n, count, low, high, refl, len, sym long) in
     record {
@@ -144,10 +144,10 @@ names_is : (names : List ℕ × List ℕ) (bytes rest : List ℕ) → names_at b
     → bytes ≡ length names.0 ∷ length names.1 ∷ (names.0 ++ (names.1 ++ rest))
 unfolding names_at
 names_is names bytes rest e =
-    let (a, r, f, g) = followed_is (byte_at bytes) (λ a rest. followed (byte_at rest) (λ l rest. followed (cut a rest) (λ area rest. made (λ name. (area, name)) (cut l rest)))) names rest e in
-    let (l, q, h, k) = followed_is (byte_at r) (λ l rest. followed (cut a rest) (λ area rest. made (λ name. (area, name)) (cut l rest))) names rest g in
-    let (area, p, m, t) = followed_is (cut a q) (λ area rest. made (λ name. (area, name)) (cut l rest)) names rest k in
-    let (name, u, pair) = made_is (λ name. (area, name)) (cut l p) names rest t in
+    let (a, r, f, g) = followed_is (byte_at bytes) (λ a rest. front_then (byte_at rest) (λ l rest. front_then (first_bytes a rest) (λ area rest. front_image (λ name. (area, name)) (first_bytes l rest)))) names rest e in
+    let (l, q, h, k) = followed_is (byte_at r) (λ l rest. front_then (first_bytes a rest) (λ area rest. front_image (λ name. (area, name)) (first_bytes l rest))) names rest g in
+    let (area, p, m, t) = followed_is (first_bytes a q) (λ area rest. front_image (λ name. (area, name)) (first_bytes l rest)) names rest k in
+    let (name, u, pair) = made_is (λ name. (area, name)) (first_bytes l p) names rest t in
     let first = byte_is a bytes r f in
     let second = byte_is l r q h in
     let (third, long_area) = cut_is a q area p m in
@@ -172,8 +172,8 @@ definition_is : (n : ℕ) (d : Definition) (bytes rest : List ℕ) → definitio
     → (number : List ℕ) × (body : List ℕ) × (bytes ≡ (number ++ body) ++ rest) × (length number ≡ n) × (code n number ≡ d.number) × SaysDefinition d body
 unfolding definition_at code_at
 definition_is n d bytes rest e =
-    let (z, r, f, g) = followed_is (made (code n) (cut n bytes)) (λ number rest. followed (three_at rest) (λ sizes rest. made (λ names. defined number sizes names) (names_at rest))) d rest e in
-    let (sizes, q, h, k) = followed_is (three_at r) (λ sizes rest. made (λ names. defined z sizes names) (names_at rest)) d rest g in
+    let (z, r, f, g) = followed_is (front_image (code n) (first_bytes n bytes)) (λ number rest. front_then (three_at rest) (λ sizes rest. front_image (λ names. defined number sizes names) (names_at rest))) d rest e in
+    let (sizes, q, h, k) = followed_is (three_at r) (λ sizes rest. front_image (λ names. defined z sizes names) (names_at rest)) d rest g in
     let (names, m, same) = made_is (λ names. defined z sizes names) (names_at q) d rest k in
     let (number, first, len, value) = number_is code n z bytes r f in
     let (a, b, c, second, one, two, three) = three_is sizes r q h in
@@ -209,15 +209,15 @@ measured u = record { num = u.0; den = u.1; mag = u.2 }
 comment_is : (comment bytes rest : List ℕ) → comment_at bytes ≡ got comment rest → bytes ≡ length comment ∷ (comment ++ rest)
 unfolding comment_at
 comment_is comment bytes rest e =
-    let (k, r, f, g) = followed_is (byte_at bytes) (λ k rest. cut k rest) comment rest e in
+    let (k, r, f, g) = followed_is (byte_at bytes) (λ k rest. first_bytes k rest) comment rest e in
     let (whole, len) = cut_is k r comment rest g in
     byte_is k bytes r f ∙ ap (λ (x : List ℕ). k ∷ x) whole ∙ ap (λ (n : ℕ). n ∷ (comment ++ rest)) (sym len)
 
 pre_is : (bytes rest : List ℕ) (i : Instruction) → pre_at bytes ≡ got i rest → Stands i (247 ∷ bytes) rest
 unfolding pre_at
 pre_is bytes rest i e =
-    let (id, r, f, g) = followed_is (byte_at bytes) (λ id rest. followed (three_at rest) (λ u rest. made (λ comment. Pre id (measured u) comment) (comment_at rest))) i rest e in
-    let (u, q, h, k) = followed_is (three_at r) (λ u rest. made (λ comment. Pre id (measured u) comment) (comment_at rest)) i rest g in
+    let (id, r, f, g) = followed_is (byte_at bytes) (λ id rest. front_then (three_at rest) (λ u rest. front_image (λ comment. Pre id (measured u) comment) (comment_at rest))) i rest e in
+    let (u, q, h, k) = followed_is (three_at r) (λ u rest. front_image (λ comment. Pre id (measured u) comment) (comment_at rest)) i rest g in
     let (comment, m, same) = made_is (λ comment. Pre id (measured u) comment) (comment_at q) i rest k in
     let (a, b, c, second, one, two, three) = three_is u r q h in
     let first = byte_is id bytes r f in
@@ -247,9 +247,9 @@ closed last u sizes counts = record {
 post_is : (bytes rest : List ℕ) (i : Instruction) → post_at bytes ≡ got i rest → Stands i (248 ∷ bytes) rest
 unfolding post_at
 post_is bytes rest i e =
-    let (last, r, f, g) = followed_is (signed_at 4 bytes) (λ last rest. followed (three_at rest) (λ u rest. followed (two_at rest) (λ sizes rest. made (λ counts. Post (closed last u sizes counts)) (halves_at rest)))) i rest e in
-    let (u, q, h, k) = followed_is (three_at r) (λ u rest. followed (two_at rest) (λ sizes rest. made (λ counts. Post (closed last u sizes counts)) (halves_at rest))) i rest g in
-    let (sizes, p, m, t) = followed_is (two_at q) (λ sizes rest. made (λ counts. Post (closed last u sizes counts)) (halves_at rest)) i rest k in
+    let (last, r, f, g) = followed_is (signed_at 4 bytes) (λ last rest. front_then (three_at rest) (λ u rest. front_then (two_at rest) (λ sizes rest. front_image (λ counts. Post (closed last u sizes counts)) (halves_at rest)))) i rest e in
+    let (u, q, h, k) = followed_is (three_at r) (λ u rest. front_then (two_at rest) (λ sizes rest. front_image (λ counts. Post (closed last u sizes counts)) (halves_at rest))) i rest g in
+    let (sizes, p, m, t) = followed_is (two_at q) (λ sizes rest. front_image (λ counts. Post (closed last u sizes counts)) (halves_at rest)) i rest k in
     let (counts, v, same) = made_is (λ counts. Post (closed last u sizes counts)) (halves_at p) i rest t in
     let (bop, first, says_bop) = word_is last bytes r f in
     let (a, b, c, second, one, two, three) = three_is u r q h in
@@ -272,7 +272,7 @@ post_is bytes rest i e =
 post_post_is : (bytes rest : List ℕ) (i : Instruction) → post_post_at bytes ≡ got i rest → Stands i (249 ∷ bytes) rest
 unfolding post_post_at
 post_post_is bytes rest i e =
-    let (place, r, f, g) = followed_is (signed_at 4 bytes) (λ place rest. made (λ id. PostPost place id) (byte_at rest)) i rest e in
+    let (place, r, f, g) = followed_is (signed_at 4 bytes) (λ place rest. front_image (λ id. PostPost place id) (byte_at rest)) i rest e in
     let (id, h, same) = made_is (λ id. PostPost place id) (byte_at r) i rest g in
     let (a, first, says) = word_is place bytes r f in
     let second = byte_is id r rest h in

@@ -8,7 +8,7 @@ use Rattle.std.proofs.lemmas.List.{map-append, take_all, drop_all, take-append-l
 use Rattle.dvi_ops.specs.Instruction.{SetChar, Instruction, Do}
 use Rattle.dvi_ops.specs.Layout.{bytes_of}
 use Rattle.dvi_ops.specs.Private.Rising.{IsRising}
-use Rattle.dvi_ops.specs.Runs.{characters, woven}
+use Rattle.dvi_ops.specs.Runs.{characters, woven_instructions}
 use Rattle.dvi_ops.specs.Spelling.{HasSpelling, spelling}
 use Rattle.dvi_ops.specs.View.{body_view}
 use Rattle.dvi_ops.specs.declared.body_op.BodyOp.{BodyOp}
@@ -30,7 +30,7 @@ rising_bound from (n ∷ ns) end (here, h) = omega (arith, here, rising_bound n 
 -- A character after a body.
 pub woven-character :
     (from : ℕ) (codes places : List ℕ) (is : List Instruction) (c end : ℕ) → from + length codes ≡ end → IsRising from places end
-    → woven from (codes ++ c ∷ []) places is ≡ woven from codes places is ++ Do (SetChar (pos c)) ∷ []
+    → woven_instructions from (codes ++ c ∷ []) places is ≡ woven_instructions from codes places is ++ Do (SetChar (pos c)) ∷ []
 woven-character from codes [] is c end whole h = map-append (λ (n : ℕ). Do (SetChar (pos n))) codes (c ∷ [])
 woven-character from codes (place ∷ places) [] c end whole h = map-append (λ (n : ℕ). Do (SetChar (pos n))) codes (c ∷ [])
 woven-character from codes (place ∷ places) (i ∷ is) c end whole (here, h) =
@@ -39,13 +39,13 @@ woven-character from codes (place ∷ places) (i ∷ is) c end whole (here, h) =
     let left : place + length (drop (place - from) codes) ≡ end = omega (arith, length-drop (place - from) codes, whole, here, bound) in
     rw (take-append-le (place - from) codes (c ∷ []) short, drop-append-le (place - from) codes (c ∷ []) short)
     (rw (woven-character place (drop (place - from) codes) places is c end left h)
-    (sym (append_assoc (characters (take (place - from) codes)) (i ∷ woven place (drop (place - from) codes) places is) (Do (SetChar (pos c)) ∷ []))))
+    (sym (append_assoc (characters (take (place - from) codes)) (i ∷ woven_instructions place (drop (place - from) codes) places is) (Do (SetChar (pos c)) ∷ []))))
 
 -- Another instruction after a body.
 pub woven-op :
     (from : ℕ) (codes places : List ℕ) (is : List Instruction) (i : Instruction) (end : ℕ) → from + length codes ≡ end → length places ≡ length is
     → IsRising from places end
-    → woven from codes (places ++ end ∷ []) (is ++ i ∷ []) ≡ woven from codes places is ++ i ∷ []
+    → woven_instructions from codes (places ++ end ∷ []) (is ++ i ∷ []) ≡ woven_instructions from codes places is ++ i ∷ []
 woven-op from codes [] [] i end whole paired h =
     let all : length codes ≤ end - from = omega (arith, whole) in
     rw (take_all (end - from) codes all, drop_all (end - from) codes all) refl
@@ -55,14 +55,14 @@ woven-op from codes (place ∷ places) (j ∷ is) i end whole paired (here, h) =
     let bound = rising_bound place places end h in
     let left : place + length (drop (place - from) codes) ≡ end = omega (arith, length-drop (place - from) codes, whole, here, bound) in
     rw (woven-op place (drop (place - from) codes) places is i end left (omega (arith, paired)) h)
-    (sym (append_assoc (characters (take (place - from) codes)) (j ∷ woven place (drop (place - from) codes) places is) (i ∷ [])))
+    (sym (append_assoc (characters (take (place - from) codes)) (j ∷ woven_instructions place (drop (place - from) codes) places is) (i ∷ [])))
 
 -- What is left of a body before an instruction of it.
 pub woven_at :
     (from : ℕ) (rest places : List ℕ) (ops : List BodyOp) (i place : ℕ) (op : BodyOp) → i < length places → i < length ops
     → place ≡ get_or places i place → op ≡ get_or ops i op
-    → woven from rest (drop i places) (map body_view (drop i ops))
-    ≡ characters (take (place - from) rest) ++ body_view op ∷ woven place (drop (place - from) rest) (drop (i + 1) places) (map body_view (drop (i + 1) ops))
+    → woven_instructions from rest (drop i places) (map body_view (drop i ops))
+    ≡ characters (take (place - from) rest) ++ body_view op ∷ woven_instructions place (drop (place - from) rest) (drop (i + 1) places) (map body_view (drop (i + 1) ops))
 woven_at from rest places ops i place op within inside at is =
     let first : drop i places ≡ place ∷ drop (i + 1) places = drop_more places i place within ∙ ap (λ (n : ℕ). n ∷ drop (i + 1) places) (sym at) in
     let second : drop i ops ≡ op ∷ drop (i + 1) ops = drop_more ops i op inside ∙ ap (λ (o : BodyOp). o ∷ drop (i + 1) ops) (sym is) in
@@ -70,10 +70,10 @@ woven_at from rest places ops i place op within inside at is =
 
 -- After the last instruction only characters are left.
 pub woven_left :
-    (from : ℕ) (rest places : List ℕ) (ops : List BodyOp) (i : ℕ) → length ops ≤ i → woven from rest (drop i places) (map body_view (drop i ops)) ≡ characters rest
-woven_left from rest places ops i over = ap (λ (os : List BodyOp). woven from rest (drop i places) (map body_view os)) (drop_all i ops over) ∙ alone (drop i places)
+    (from : ℕ) (rest places : List ℕ) (ops : List BodyOp) (i : ℕ) → length ops ≤ i → woven_instructions from rest (drop i places) (map body_view (drop i ops)) ≡ characters rest
+woven_left from rest places ops i over = ap (λ (os : List BodyOp). woven_instructions from rest (drop i places) (map body_view os)) (drop_all i ops over) ∙ alone (drop i places)
   where
-    alone : (ns : List ℕ) → woven from rest ns [] ≡ characters rest
+    alone : (ns : List ℕ) → woven_instructions from rest ns [] ≡ characters rest
     alone [] = refl
     alone (n ∷ ns) = refl
 
@@ -123,7 +123,7 @@ pub woven_split :
     (from : ℕ) (rest places : List ℕ) (ops : List BodyOp) (i place : ℕ) (op : BodyOp) (count : ℕ) (run after : List ℕ) → i < length ops
     → length places ≡ length ops → place ≡ get_or places i place → op ≡ get_or ops i op
     → count ≡ place - from → run ≡ take count rest → after ≡ drop count rest
-    → woven from rest (drop i places) (map body_view (drop i ops))
-    ≡ characters run ++ body_view op ∷ woven place after (drop (i + 1) places) (map body_view (drop (i + 1) ops))
+    → woven_instructions from rest (drop i places) (map body_view (drop i ops))
+    ≡ characters run ++ body_view op ∷ woven_instructions place after (drop (i + 1) places) (map body_view (drop (i + 1) ops))
 woven_split from rest places ops i place op count run after inside paired at is few front back =
     rw (front, back, few) (woven_at from rest places ops i place op (omega (arith, inside, paired)) inside at is)

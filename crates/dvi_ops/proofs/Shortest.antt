@@ -8,7 +8,7 @@ use Rattle.std.specs.List.{flat_map}
 use Rattle.byteorder.specs.Endian.{big_number}
 use Rattle.byteorder.specs.Numbers.{big_from-lt}
 use Rattle.dvi_ops.specs.Instruction.{Axis, Movement, By, Set, Again, Definition, Units, Postamble, BodyLeaf, SetChar, PutChar, SetRule, PutRule, Nop, Move, FontNum, FontDef, Xxx, Instruction, Do, Push, Pop, Bop, Eop, Pre, Post, PostPost}
-use Rattle.dvi_ops.specs.Spelling.{HasShortText, IsBrief, bytes_for, char_spelling, code_size, coded, coded_number, coded_signed, definition_bytes, font_spelling, leaf_spelling, operand, post_bytes, signed_size, spelling, text_spelling, units_bytes}
+use Rattle.dvi_ops.specs.Spelling.{HasShortText, IsBrief, bytes_for, char_spelling, code_size, code_and_number, coded_number, coded_signed, definition_bytes, font_spelling, leaf_spelling, operand, post_bytes, signed_size, spelling, text_spelling, units_bytes}
 use Rattle.dvi_ops.specs.Table.{signed, code, IsCoded, IsRule, SaysUnits, SaysDefinition, SpellsLeaf, Spells, plain_code, register_code}
 use Rattle.dvi_ops.proofs.Fronts.{words_read}
 use Rattle.dvi_ops.proofs.Numbers.{four}
@@ -117,7 +117,7 @@ code_least n bytes z low high small =
     (λ e. (code_range z).1)
 
 -- The lengths of the parts of a written spelling.
-pub coded_length : (base n : ℕ) (z : ℤ) → length (coded base n z) ≡ suc n
+pub coded_length : (base n : ℕ) (z : ℤ) → length (code_and_number base n z) ≡ suc n
 coded_length base n z = ap suc (operand_length n z)
 
 abbrev Longer : List ℕ → List ℕ → Type 0
@@ -127,14 +127,14 @@ longer : (a b : List ℕ) → length a ≡ length b → Longer b a
 longer a b e = omega arith
 
 signed_shortest : (base : ℕ) (z : ℤ) (bytes : List ℕ) → AreBytes bytes → IsCoded signed base z bytes → Longer bytes (coded_signed base z)
-signed_shortest base z bytes small coded =
-    let (n, operand, low, high, whole, len, value) = coded in
+signed_shortest base z bytes small code_and_number =
+    let (n, operand, low, high, whole, len, value) = code_and_number in
     let least = signed_least n operand z low high (after (base + n) bytes operand whole small) value in
     omega (arith, coded_length base (signed_size z) z, ap (λ (x : List ℕ). length x) whole)
 
 code_shortest : (base : ℕ) (z : ℤ) (bytes : List ℕ) → AreBytes bytes → IsCoded code base z bytes → Longer bytes (coded_number base z)
-code_shortest base z bytes small coded =
-    let (n, operand, low, high, whole, len, value) = coded in
+code_shortest base z bytes small code_and_number =
+    let (n, operand, low, high, whole, len, value) = code_and_number in
     let least = code_least n operand z low high (after (base + n) bytes operand whole small) value in
     omega (arith, coded_length base (code_size z) z, ap (λ (x : List ℕ). length x) whole)
 
@@ -142,21 +142,21 @@ char_shortest : (c : ℤ) (bytes : List ℕ) → AreBytes bytes → SpellsLeaf (
 unfolding char_spelling
 char_shortest (pos c) bytes small (inl (n, h, e, whole)) = let below : c < 128 = omega (arith, ints) in rw (lt-ltb c 128 below) (omega (arith, ap (λ (x : List ℕ). length x) whole))
 char_shortest (negsuc c) bytes small (inl (n, h, e, whole)) = absurd (cc)
-char_shortest (pos c) bytes small (inr coded) = elim (cases_lt c 128) [
-  | inl h ↦ rw (lt-ltb c 128 h) (omega (arith, ap (λ (x : List ℕ). length x) coded.4))
-  | inr h ↦ rw (le-ltb c 128 h) (code_shortest 127 (pos c) bytes small coded)
+char_shortest (pos c) bytes small (inr code_and_number) = elim (cases_lt c 128) [
+  | inl h ↦ rw (lt-ltb c 128 h) (omega (arith, ap (λ (x : List ℕ). length x) code_and_number.4))
+  | inr h ↦ rw (le-ltb c 128 h) (code_shortest 127 (pos c) bytes small code_and_number)
 ]
-char_shortest (negsuc c) bytes small (inr coded) = code_shortest 127 (negsuc c) bytes small coded
+char_shortest (negsuc c) bytes small (inr code_and_number) = code_shortest 127 (negsuc c) bytes small code_and_number
 
 font_shortest : (f : ℤ) (bytes : List ℕ) → AreBytes bytes → SpellsLeaf (FontNum f) bytes → Longer bytes (font_spelling f)
 unfolding font_spelling
 font_shortest (pos f) bytes small (inl (n, h, e, whole)) = let below : f < 64 = omega (arith, ints) in rw (lt-ltb f 64 below) (omega (arith, ap (λ (x : List ℕ). length x) whole))
 font_shortest (negsuc f) bytes small (inl (n, h, e, whole)) = absurd (cc)
-font_shortest (pos f) bytes small (inr coded) = elim (cases_lt f 64) [
-  | inl h ↦ rw (lt-ltb f 64 h) (omega (arith, ap (λ (x : List ℕ). length x) coded.4))
-  | inr h ↦ rw (le-ltb f 64 h) (code_shortest 234 (pos f) bytes small coded)
+font_shortest (pos f) bytes small (inr code_and_number) = elim (cases_lt f 64) [
+  | inl h ↦ rw (lt-ltb f 64 h) (omega (arith, ap (λ (x : List ℕ). length x) code_and_number.4))
+  | inr h ↦ rw (le-ltb f 64 h) (code_shortest 234 (pos f) bytes small code_and_number)
 ]
-font_shortest (negsuc f) bytes small (inr coded) = code_shortest 234 (negsuc f) bytes small coded
+font_shortest (negsuc f) bytes small (inr code_and_number) = code_shortest 234 (negsuc f) bytes small code_and_number
 
 -- The lengths of the fixed fields.
 pub units_length : (u : Units) → length (units_bytes u) ≡ 12

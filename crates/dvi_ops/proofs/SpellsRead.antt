@@ -3,55 +3,55 @@ use Rattle.std.proofs.Common.{ℕ, ℤ, pos, ◌≡◌, ◌≤◌, ◌<◌, ◌+
 use Rattle.std.proofs.lemmas.Bool.{lt-ltb, le-ltb}
 use Rattle.byteorder.specs.Endian.{big_number}
 use Rattle.dvi_ops.specs.Instruction.{Across, Downward, First, Second, By, Set, Again, Definition, Units, Postamble, BodyLeaf, SetChar, PutChar, SetRule, PutRule, Nop, Move, FontNum, FontDef, Xxx, Instruction, Do, Push, Pop, Bop, Eop, Pre, Post, PostPost}
-use Rattle.dvi_ops.specs.Private.Reading.{made, cut, signed_at, code_at, two_at, char_at, bop_at, plain_at, movement_at, font_at, text_at, names_at, definition_at, long_at, comment_at, pre_at, post_at, post_post_at, frame_at, read}
+use Rattle.dvi_ops.specs.Private.Reading.{front_image, first_bytes, signed_at, code_at, two_at, char_at, bop_at, plain_at, movement_at, font_at, text_at, names_at, definition_at, long_at, comment_at, pre_at, post_at, post_post_at, frame_at, read}
 use Rattle.dvi_ops.specs.Table.{signed, code, IsCoded, IsRule, SpellsSigned, SaysShort, SaysEach, SaysUnits, SaysDefinition, SpellsLeaf, Spells}
 use Rattle.dvi_ops.proofs.Fronts.{got, cut_at, number_reads, word_reads, two_reads, three_reads, halves_reads, words_read}
 use Rattle.dvi_ops.proofs.Numbers.{four}
 
 -- An instruction with an operand of one to four bytes.
 coded_read : (says : ℕ → List ℕ → ℤ) (make : ℤ → Instruction) (base : ℕ) (z : ℤ) (a x : List ℕ)
-    → ((m : ℕ) (rest : List ℕ) → 1 ≤ m → m ≤ 4 → read ((base + m) ∷ rest) ≡ made make (made (says m) (cut m rest)))
+    → ((m : ℕ) (rest : List ℕ) → 1 ≤ m → m ≤ 4 → read ((base + m) ∷ rest) ≡ front_image make (front_image (says m) (first_bytes m rest)))
     → IsCoded says base z a → read (a ++ x) ≡ got (make z) x
 coded_read says make base z a x step coded =
     let (n, operand, low, high, whole, len, value) = coded in
-    let here : read ((base + n) ∷ (operand ++ x)) ≡ got (make z) x = step n (operand ++ x) low high ∙ ap (made make) (number_reads says n z operand x len value) in
+    let here : read ((base + n) ∷ (operand ++ x)) ≡ got (make z) x = step n (operand ++ x) low high ∙ ap (front_image make) (number_reads says n z operand x len value) in
     ap (λ (r : List ℕ). read (r ++ x)) whole ∙ here
 
-set_read : (m : ℕ) (rest : List ℕ) → 1 ≤ m → m ≤ 4 → read ((127 + m) ∷ rest) ≡ made (λ c. Do (SetChar c)) (made (code m) (cut m rest))
+set_read : (m : ℕ) (rest : List ℕ) → 1 ≤ m → m ≤ 4 → read ((127 + m) ∷ rest) ≡ front_image (λ c. Do (SetChar c)) (front_image (code m) (first_bytes m rest))
 unfolding read char_at code_at
-set_read m rest low high = four (λ m. read ((127 + m) ∷ rest) ≡ made (λ c. Do (SetChar c)) (made (code m) (cut m rest))) m low high refl refl refl refl
+set_read m rest low high = four (λ m. read ((127 + m) ∷ rest) ≡ front_image (λ c. Do (SetChar c)) (front_image (code m) (first_bytes m rest))) m low high refl refl refl refl
 
-put_read : (m : ℕ) (rest : List ℕ) → 1 ≤ m → m ≤ 4 → read ((132 + m) ∷ rest) ≡ made (λ c. Do (PutChar c)) (made (code m) (cut m rest))
+put_read : (m : ℕ) (rest : List ℕ) → 1 ≤ m → m ≤ 4 → read ((132 + m) ∷ rest) ≡ front_image (λ c. Do (PutChar c)) (front_image (code m) (first_bytes m rest))
 unfolding read plain_at code_at
-put_read m rest low high = four (λ m. read ((132 + m) ∷ rest) ≡ made (λ c. Do (PutChar c)) (made (code m) (cut m rest))) m low high refl refl refl refl
+put_read m rest low high = four (λ m. read ((132 + m) ∷ rest) ≡ front_image (λ c. Do (PutChar c)) (front_image (code m) (first_bytes m rest))) m low high refl refl refl refl
 
-right_read : (m : ℕ) (rest : List ℕ) → 1 ≤ m → m ≤ 4 → read ((142 + m) ∷ rest) ≡ made (λ z. Do (Move Across (By z))) (made (signed m) (cut m rest))
+right_read : (m : ℕ) (rest : List ℕ) → 1 ≤ m → m ≤ 4 → read ((142 + m) ∷ rest) ≡ front_image (λ z. Do (Move Across (By z))) (front_image (signed m) (first_bytes m rest))
 unfolding read movement_at signed_at
-right_read m rest low high = four (λ m. read ((142 + m) ∷ rest) ≡ made (λ z. Do (Move Across (By z))) (made (signed m) (cut m rest))) m low high refl refl refl refl
+right_read m rest low high = four (λ m. read ((142 + m) ∷ rest) ≡ front_image (λ z. Do (Move Across (By z))) (front_image (signed m) (first_bytes m rest))) m low high refl refl refl refl
 
-w_read : (m : ℕ) (rest : List ℕ) → 1 ≤ m → m ≤ 4 → read ((147 + m) ∷ rest) ≡ made (λ z. Do (Move Across (Set First z))) (made (signed m) (cut m rest))
+w_read : (m : ℕ) (rest : List ℕ) → 1 ≤ m → m ≤ 4 → read ((147 + m) ∷ rest) ≡ front_image (λ z. Do (Move Across (Set First z))) (front_image (signed m) (first_bytes m rest))
 unfolding read movement_at signed_at
-w_read m rest low high = four (λ m. read ((147 + m) ∷ rest) ≡ made (λ z. Do (Move Across (Set First z))) (made (signed m) (cut m rest))) m low high refl refl refl refl
+w_read m rest low high = four (λ m. read ((147 + m) ∷ rest) ≡ front_image (λ z. Do (Move Across (Set First z))) (front_image (signed m) (first_bytes m rest))) m low high refl refl refl refl
 
-x_read : (m : ℕ) (rest : List ℕ) → 1 ≤ m → m ≤ 4 → read ((152 + m) ∷ rest) ≡ made (λ z. Do (Move Across (Set Second z))) (made (signed m) (cut m rest))
+x_read : (m : ℕ) (rest : List ℕ) → 1 ≤ m → m ≤ 4 → read ((152 + m) ∷ rest) ≡ front_image (λ z. Do (Move Across (Set Second z))) (front_image (signed m) (first_bytes m rest))
 unfolding read movement_at signed_at
-x_read m rest low high = four (λ m. read ((152 + m) ∷ rest) ≡ made (λ z. Do (Move Across (Set Second z))) (made (signed m) (cut m rest))) m low high refl refl refl refl
+x_read m rest low high = four (λ m. read ((152 + m) ∷ rest) ≡ front_image (λ z. Do (Move Across (Set Second z))) (front_image (signed m) (first_bytes m rest))) m low high refl refl refl refl
 
-down_read : (m : ℕ) (rest : List ℕ) → 1 ≤ m → m ≤ 4 → read ((156 + m) ∷ rest) ≡ made (λ z. Do (Move Downward (By z))) (made (signed m) (cut m rest))
+down_read : (m : ℕ) (rest : List ℕ) → 1 ≤ m → m ≤ 4 → read ((156 + m) ∷ rest) ≡ front_image (λ z. Do (Move Downward (By z))) (front_image (signed m) (first_bytes m rest))
 unfolding read movement_at signed_at
-down_read m rest low high = four (λ m. read ((156 + m) ∷ rest) ≡ made (λ z. Do (Move Downward (By z))) (made (signed m) (cut m rest))) m low high refl refl refl refl
+down_read m rest low high = four (λ m. read ((156 + m) ∷ rest) ≡ front_image (λ z. Do (Move Downward (By z))) (front_image (signed m) (first_bytes m rest))) m low high refl refl refl refl
 
-y_read : (m : ℕ) (rest : List ℕ) → 1 ≤ m → m ≤ 4 → read ((161 + m) ∷ rest) ≡ made (λ z. Do (Move Downward (Set First z))) (made (signed m) (cut m rest))
+y_read : (m : ℕ) (rest : List ℕ) → 1 ≤ m → m ≤ 4 → read ((161 + m) ∷ rest) ≡ front_image (λ z. Do (Move Downward (Set First z))) (front_image (signed m) (first_bytes m rest))
 unfolding read movement_at signed_at
-y_read m rest low high = four (λ m. read ((161 + m) ∷ rest) ≡ made (λ z. Do (Move Downward (Set First z))) (made (signed m) (cut m rest))) m low high refl refl refl refl
+y_read m rest low high = four (λ m. read ((161 + m) ∷ rest) ≡ front_image (λ z. Do (Move Downward (Set First z))) (front_image (signed m) (first_bytes m rest))) m low high refl refl refl refl
 
-z_read : (m : ℕ) (rest : List ℕ) → 1 ≤ m → m ≤ 4 → read ((166 + m) ∷ rest) ≡ made (λ z. Do (Move Downward (Set Second z))) (made (signed m) (cut m rest))
+z_read : (m : ℕ) (rest : List ℕ) → 1 ≤ m → m ≤ 4 → read ((166 + m) ∷ rest) ≡ front_image (λ z. Do (Move Downward (Set Second z))) (front_image (signed m) (first_bytes m rest))
 unfolding read movement_at signed_at
-z_read m rest low high = four (λ m. read ((166 + m) ∷ rest) ≡ made (λ z. Do (Move Downward (Set Second z))) (made (signed m) (cut m rest))) m low high refl refl refl refl
+z_read m rest low high = four (λ m. read ((166 + m) ∷ rest) ≡ front_image (λ z. Do (Move Downward (Set Second z))) (front_image (signed m) (first_bytes m rest))) m low high refl refl refl refl
 
-fnt_read : (m : ℕ) (rest : List ℕ) → 1 ≤ m → m ≤ 4 → read ((234 + m) ∷ rest) ≡ made (λ f. Do (FontNum f)) (made (code m) (cut m rest))
+fnt_read : (m : ℕ) (rest : List ℕ) → 1 ≤ m → m ≤ 4 → read ((234 + m) ∷ rest) ≡ front_image (λ f. Do (FontNum f)) (front_image (code m) (first_bytes m rest))
 unfolding read font_at code_at
-fnt_read m rest low high = four (λ m. read ((234 + m) ∷ rest) ≡ made (λ f. Do (FontNum f)) (made (code m) (cut m rest))) m low high refl refl refl refl
+fnt_read m rest low high = four (λ m. read ((234 + m) ∷ rest) ≡ front_image (λ f. Do (FontNum f)) (front_image (code m) (first_bytes m rest))) m low high refl refl refl refl
 
 -- Characters and fonts whose code includes their number.
 char_read : (n : ℕ) (x : List ℕ) → n < 128 → read (n ∷ x) ≡ got (Do (SetChar (pos n))) x
@@ -66,11 +66,11 @@ font_read n x h =
 
 -- A rule.
 rule_read : (operation : ℕ) (make : ℤ × ℤ → Instruction) (height width : ℤ) (a x : List ℕ)
-    → ((rest : List ℕ) → read (operation ∷ rest) ≡ made make (two_at rest)) → IsRule operation height width a → read (a ++ x) ≡ got (make (height, width)) x
+    → ((rest : List ℕ) → read (operation ∷ rest) ≡ front_image make (two_at rest)) → IsRule operation height width a → read (a ++ x) ≡ got (make (height, width)) x
 rule_read operation make height width a x step rule =
     let (p, q, whole, tall, wide) = rule in
     let here : read (operation ∷ ((p ++ q) ++ x)) ≡ got (make (height, width)) x =
-    step ((p ++ q) ++ x) ∙ ap (λ (r : List ℕ). made make (two_at r)) (append_assoc p q x) ∙ ap (made make) (two_reads height width p q x tall wide) in
+    step ((p ++ q) ++ x) ∙ ap (λ (r : List ℕ). front_image make (two_at r)) (append_assoc p q x) ∙ ap (front_image make) (two_reads height width p q x tall wide) in
     ap (λ (r : List ℕ). read (r ++ x)) whole ∙ here
 
 -- A special.
@@ -84,9 +84,9 @@ text_read n count text x len value =
     rw (append_assoc count text x, cut_at n count (text ++ x) len, value, cut_at (length text) text x refl) refl
 
 -- A font definition.
-definition_code : (m : ℕ) (rest : List ℕ) → 1 ≤ m → m ≤ 4 → read ((242 + m) ∷ rest) ≡ made (λ d. Do (FontDef d)) (definition_at m rest)
+definition_code : (m : ℕ) (rest : List ℕ) → 1 ≤ m → m ≤ 4 → read ((242 + m) ∷ rest) ≡ front_image (λ d. Do (FontDef d)) (definition_at m rest)
 unfolding read long_at
-definition_code m rest low high = four (λ m. read ((242 + m) ∷ rest) ≡ made (λ d. Do (FontDef d)) (definition_at m rest)) m low high refl refl refl refl
+definition_code m rest low high = four (λ m. read ((242 + m) ∷ rest) ≡ front_image (λ d. Do (FontDef d)) (definition_at m rest)) m low high refl refl refl refl
 
 names_read : (area name x : List ℕ) → names_at (length area ∷ length name ∷ (area ++ (name ++ x))) ≡ got (area, name) x
 unfolding names_at
@@ -124,7 +124,7 @@ leaf_read (FontNum f) a x (inr coded) = coded_read code (λ f. Do (FontNum f)) 2
 leaf_read (FontDef d) a x says =
     let (n, number, rest, low, high, whole, len, value, more) = says in
     let here : read ((242 + n) ∷ ((number ++ rest) ++ x)) ≡ got (Do (FontDef d)) x =
-    definition_code n ((number ++ rest) ++ x) low high ∙ ap (made (λ d. Do (FontDef d))) (definition_read d n number rest x len value more) in
+    definition_code n ((number ++ rest) ++ x) low high ∙ ap (front_image (λ d. Do (FontDef d))) (definition_read d n number rest x len value more) in
     ap (λ (r : List ℕ). read (r ++ x)) whole ∙ here
 leaf_read (Xxx text) a x says =
     let (n, count, low, high, whole, len, value) = says in

@@ -7,10 +7,10 @@ use Rattle.std.specs.List.{flat_map, AllByRecursion}
 use Rattle.dvi_ops.specs.Instruction.{Definition, Postamble, FontDef, Instruction, Do, Post, PostPost}
 use Rattle.dvi_ops.specs.Table.{Spells}
 use Rattle.dvi_ops.specs.Spelling.{operand, spelling, NumberFits, NumbersFit}
-use Rattle.dvi_ops.specs.Tokens.{IsSpelled, says, pointers}
-use Rattle.dvi_ops.specs.Fonts.{WidthsByName, definitions, selections, defined, FontsAreRight, font, widths_in, width_in, widths_of}
+use Rattle.dvi_ops.specs.Tokens.{IsSpelled, token_instructions, pointers}
+use Rattle.dvi_ops.specs.Fonts.{WidthsByName, definitions, selections, first_definition_of, FontsAreRight, font, widths_in, width_in, widths_of}
 use Rattle.dvi_ops.specs.File.{FilePart, instructions, MarkedPage, push_depth_of, IsIdle, Frame, IsFile}
-use Rattle.dvi_ops.specs.Layout.{bytes_of, preamble, define, Sheet, WriterKnowledge, after_preamble, sheet_from, after, sheets_from, after_all, front_of, whole_of, stop_of, ending_of, padding_after, Table, table_widths, IsWritable, IsTabled, IsGood, AreGood, IsClosing}
+use Rattle.dvi_ops.specs.Layout.{bytes_of, preamble, define, Sheet, WriterKnowledge, after_preamble, sheet_from, knowledge_after, sheets_from, after_all, front_of, whole_of, stop_of, ending_of, padding_after, Table, table_widths, IsWritable, IsTabled, IsGood, AreGood, IsClosing}
 use Rattle.scaled_core.proofs.EachOf.{all_weaker, all_both, all_map}
 use Rattle.dvi_ops.proofs.Appends.{fonts_append}
 use Rattle.dvi_ops.proofs.Layouts.{wrote, says-wrote, written-wrote, bytes_of-append, length-bytes_of-append, definitions-define, defined_right, place_fits, Knows, knows_first, knows_next, page_with}
@@ -25,7 +25,7 @@ all_spelled (i ∷ is) (here, w) = (written_is_spelled i here.0 here.1, all_spel
 -- A page never makes the file shorter.
 grows : (s : WriterKnowledge) (ps : List Sheet) → s.size ≤ (after_all s ps).size
 grows s [] = omega arith
-grows s (p ∷ ps) = let more = grows (after s p) ps in omega arith
+grows s (p ∷ ps) = let more = grows (knowledge_after s p) ps in omega arith
 
 -- The relation holds after all pages.
 knows_all : (metrics : WidthsByName) (table : Table) (s : WriterKnowledge) (is : List Instruction) (parts : List FilePart) (pages : List MarkedPage) (ps : List Sheet) (more : List MarkedPage) →
@@ -36,18 +36,18 @@ knows_all metrics table s is parts pages [] [] t good small =
 knows_all metrics table s is parts pages [] (page ∷ more) t good small = absurd good
 knows_all metrics table s is parts pages (p ∷ ps) [] t good small = absurd good
 knows_all metrics table s is parts pages (p ∷ ps) (page ∷ more) t (counts, good, rest) small =
-    let bound = grows (after s p) ps in
+    let bound = grows (knowledge_after s p) ps in
     let next = knows_next metrics table s is parts pages p page.marks t good (omega arith) in
-    let found = knows_all metrics table (after s p) (is ++ sheet_from s.last p) _ (pages ++ (page_with p page.marks) ∷ []) ps more next rest small in
+    let found = knows_all metrics table (knowledge_after s p) (is ++ sheet_from s.last p) _ (pages ++ (page_with p page.marks) ∷ []) ps more next rest small in
     let same : page_with p page.marks ≡ page = ap (λ (counts : List ℤ). record { counts = counts; marks = page.marks }) (sym counts) in
-    (found.0, subst₂ (λ is pages. Knows metrics table (after_all (after s p) ps) is found.0 pages) (append_assoc is (sheet_from s.last p) (sheets_from (after s p) ps)) (append_assoc pages (page_with p page.marks ∷ []) more ∙ ap (λ (page : MarkedPage). pages ++ (page ∷ more)) same) found.1)
+    (found.0, subst₂ (λ is pages. Knows metrics table (after_all (knowledge_after s p) ps) is found.0 pages) (append_assoc is (sheet_from s.last p) (sheets_from (knowledge_after s p) ps)) (append_assoc pages (page_with p page.marks ∷ []) more ∙ ap (λ (page : MarkedPage). pages ++ (page ∷ more)) same) found.1)
 
 -- A definition of the postamble is the job's.
-closing_is_table : (table : Table) (closing : List Definition) (f : ℤ) → AllByRecursion (IsTabled table) closing → IsSome (defined f closing) → defined f closing ≡ table f
+closing_is_table : (table : Table) (closing : List Definition) (f : ℤ) → AllByRecursion (IsTabled table) closing → IsSome (first_definition_of f closing) → first_definition_of f closing ≡ table f
 closing_is_table table [] f all some = absurd cc
 closing_is_table table (d ∷ closing) f (here, all) some = by_test (int_eq f d.number) refl some (closing_is_table table closing f all)
   where
-    by_test : (same : Bool) → int_eq f d.number ≡ same → IsSome (if same then Some d else defined f closing) → (IsSome (defined f closing) → defined f closing ≡ table f) → (if same then Some d else defined f closing) ≡ table f
+    by_test : (same : Bool) → int_eq f d.number ≡ same → IsSome (if same then Some d else first_definition_of f closing) → (IsSome (first_definition_of f closing) → first_definition_of f closing ≡ table f) → (if same then Some d else first_definition_of f closing) ≡ table f
     by_test true e some later = sym (ap table ((Decides-int_eq f d.number).0 e) ∙ here.listed)
     by_test false e some later = later some
 
@@ -114,20 +114,20 @@ module _ (metrics : WidthsByName) (table : Table) (s : WriterKnowledge) (is : Li
   unfolding whole_bytes
   frame = frame_of is stop (define closing) s.size padding t.writable stop_fits closing_fits t.size small padded
 
-  definitions_tail : definitions (says (map wrote (define closing))) ≡ closing
+  definitions_tail : definitions (token_instructions (map wrote (define closing))) ≡ closing
   definitions_tail = ap definitions (says-wrote (define closing)) ∙ definitions-define closing
 
   -- A selected font has a definition in the postamble, and it is the job's.
-  closes : (f : ℤ) → IsSome (defined f s.known) → defined f closing ≡ table f
+  closes : (f : ℤ) → IsSome (first_definition_of f s.known) → first_definition_of f closing ≡ table f
   closes f some = closing_is_table table closing f c.tabled (c.each f some)
 
-  same_widths : (f : ℤ) → IsSome (defined f s.known) → SameWidths (widths_of metrics (definitions (says (map wrote (define closing))))) (table_widths metrics table) f
+  same_widths : (f : ℤ) → IsSome (first_definition_of f s.known) → SameWidths (widths_of metrics (definitions (token_instructions (map wrote (define closing))))) (table_widths metrics table) f
   same_widths f some code =
-      ap (λ (fonts : List Definition). width_in (widths_in metrics (defined f fonts)) code) definitions_tail ∙ ap (λ (d : Option Definition). width_in (widths_in metrics d) code) (closes f some)
+      ap (λ (fonts : List Definition). width_in (widths_in metrics (first_definition_of f fonts)) code) definitions_tail ∙ ap (λ (d : Option Definition). width_in (widths_in metrics d) code) (closes f some)
 
-  measured : (f : ℤ) → IsSome (defined f s.known) × IsSome (widths_in metrics (table f)) → IsSome (font metrics (definitions (says (map wrote (define closing)))) f)
+  measured : (f : ℤ) → IsSome (first_definition_of f s.known) × IsSome (widths_in metrics (table f)) → IsSome (font metrics (definitions (token_instructions (map wrote (define closing)))) f)
   measured f (some, widths) =
-      subst (λ (d : Option Definition). IsSome (widths_in metrics d)) (sym (ap (defined f) definitions_tail ∙ closes f some)) widths
+      subst (λ (d : Option Definition). IsSome (widths_in metrics d)) (sym (ap (first_definition_of f) definitions_tail ∙ closes f some)) widths
 
   file : IsFile metrics whole_bytes pages
   unfolding frame stop frame_of
@@ -145,14 +145,14 @@ module _ (metrics : WidthsByName) (table : Table) (s : WriterKnowledge) (is : Li
             subst₂ (λ (a b : List Instruction). FontsAreRight [] (a ++ b)) (sym (says-wrote is)) (sym (says-wrote (define closing)))
             (fonts_append [] is (define closing) t.fonts (subst (λ (known : List Definition). FontsAreRight known (define closing)) (sym t.known) (defined_right table s.known closing t.tabled c.tabled)));
         closing =
-            subst (λ (is : List Instruction). AllByRecursion (λ f. IsSome (font metrics (definitions (says (map wrote (define closing)))) f)) (selections is)) (sym (says-wrote is))
-            (all_weaker (λ f. IsSome (defined f s.known) × IsSome (widths_in metrics (table f))) (λ f. IsSome (font metrics (definitions (says (map wrote (define closing)))) f)) (selections is) measured
-            (all_both (λ f. IsSome (defined f s.known)) (λ f. IsSome (widths_in metrics (table f))) (selections is) t.chosen t.measured));
+            subst (λ (is : List Instruction). AllByRecursion (λ f. IsSome (font metrics (definitions (token_instructions (map wrote (define closing)))) f)) (selections is)) (sym (says-wrote is))
+            (all_weaker (λ f. IsSome (first_definition_of f s.known) × IsSome (widths_in metrics (table f))) (λ f. IsSome (font metrics (definitions (token_instructions (map wrote (define closing)))) f)) (selections is) measured
+            (all_both (λ f. IsSome (first_definition_of f s.known)) (λ f. IsSome (widths_in metrics (table f))) (selections is) t.chosen t.measured));
         depth = all_weaker (λ part. push_depth_of part ≤ s.depth) (λ part. push_depth_of part ≤ min 1024 s.depth) parts (λ part shallow. (let most = t.shallow in omega arith)) t.depth;
         shows =
-            same_pages (widths_of metrics (definitions (says (map wrote (define closing))))) (table_widths metrics table) parts
-            (all_weaker (λ f. IsSome (defined f s.known)) (SameWidths (widths_of metrics (definitions (says (map wrote (define closing))))) (table_widths metrics table)) (selections (flat_map instructions parts)) same_widths
-            (subst (λ (is : List Instruction). AllByRecursion (λ f. IsSome (defined f s.known)) (selections is)) t.is_front t.chosen))
+            same_pages (widths_of metrics (definitions (token_instructions (map wrote (define closing))))) (table_widths metrics table) parts
+            (all_weaker (λ f. IsSome (first_definition_of f s.known)) (SameWidths (widths_of metrics (definitions (token_instructions (map wrote (define closing))))) (table_widths metrics table)) (selections (flat_map instructions parts)) same_widths
+            (subst (λ (is : List Instruction). AllByRecursion (λ f. IsSome (first_definition_of f s.known)) (selections is)) t.is_front t.chosen))
             ∙ t.shows;
       }
 
@@ -161,7 +161,7 @@ same_length : (metrics : WidthsByName) (table : Table) (s : WriterKnowledge) (ps
 same_length metrics table s [] [] good = refl
 same_length metrics table s [] (page ∷ pages) good = absurd good
 same_length metrics table s (p ∷ ps) [] good = absurd good
-same_length metrics table s (p ∷ ps) (page ∷ pages) (counts, here, good) = ap suc (same_length metrics table (after s p) ps pages good)
+same_length metrics table s (p ∷ ps) (page ∷ pages) (counts, here, good) = ap suc (same_length metrics table (knowledge_after s p) ps pages good)
 
 -- The bytes that are written for good pages and the postamble are a file of these pages.
 pub whole_file : (metrics : WidthsByName) (table : Table) (ps : List Sheet) (pages : List MarkedPage) (tall wide : ℤ) (closing : List Definition) (padding : ℕ) →
@@ -176,12 +176,12 @@ whole_file metrics table ps pages tall wide closing padding good closed tall_fit
 -- One more page: the writer's numbers, its bytes, and that the pages are good.
 pub after_all-append : (s : WriterKnowledge) (ps qs : List Sheet) → after_all s (ps ++ qs) ≡ after_all (after_all s ps) qs
 after_all-append s [] qs = refl
-after_all-append s (p ∷ ps) qs = after_all-append (after s p) ps qs
+after_all-append s (p ∷ ps) qs = after_all-append (knowledge_after s p) ps qs
 
 pub sheets_from-append : (s : WriterKnowledge) (ps qs : List Sheet) → sheets_from s (ps ++ qs) ≡ sheets_from s ps ++ sheets_from (after_all s ps) qs
 sheets_from-append s [] qs = refl
 sheets_from-append s (p ∷ ps) qs =
-    ap (λ (is : List Instruction). sheet_from s.last p ++ is) (sheets_from-append (after s p) ps qs) ∙ sym (append_assoc (sheet_from s.last p) (sheets_from (after s p) ps) (sheets_from (after_all (after s p) ps) qs))
+    ap (λ (is : List Instruction). sheet_from s.last p ++ is) (sheets_from-append (knowledge_after s p) ps qs) ∙ sym (append_assoc (sheet_from s.last p) (sheets_from (knowledge_after s p) ps) (sheets_from (after_all (knowledge_after s p) ps) qs))
 
 pub front_more : (ps : List Sheet) (p : Sheet) → front_of (ps ++ p ∷ []) ≡ front_of ps ++ bytes_of (sheet_from (after_all after_preamble ps).last p)
 front_more ps p =
@@ -193,7 +193,7 @@ pub good_more : (metrics : WidthsByName) (table : Table) (s : WriterKnowledge) (
 good_more metrics table s [] [] p page are counts good = (counts, good, tt)
 good_more metrics table s [] (q ∷ pages) p page are counts good = absurd are
 good_more metrics table s (q ∷ ps) [] p page are counts good = absurd are
-good_more metrics table s (q ∷ ps) (first ∷ pages) p page (same, here, are) counts good = (same, here, good_more metrics table (after s q) ps pages p page are counts good)
+good_more metrics table s (q ∷ ps) (first ∷ pages) p page (same, here, are) counts good = (same, here, good_more metrics table (knowledge_after s q) ps pages p page are counts good)
 
 -- The writer's count of bytes is the length of what it has written.
 pub size_of_front : (ps : List Sheet) → (after_all after_preamble ps).size ≡ length (front_of ps)
@@ -203,8 +203,8 @@ size_of_front ps = sized after_preamble (preamble ∷ []) ps refl
     sized : (s : WriterKnowledge) (is : List Instruction) (ps : List Sheet) → s.size ≡ length (bytes_of is) → (after_all s ps).size ≡ length (bytes_of (is ++ sheets_from s ps))
     sized s is [] e = e ∙ ap (λ (is : List Instruction). length (bytes_of is)) (sym (append-nil is))
     sized s is (p ∷ ps) e =
-        sized (after s p) (is ++ sheet_from s.last p) ps (ap (λ n. n + length (bytes_of (sheet_from s.last p))) e ∙ sym (length-bytes_of-append is (sheet_from s.last p)))
-        ∙ ap (λ (is : List Instruction). length (bytes_of is)) (append_assoc is (sheet_from s.last p) (sheets_from (after s p) ps))
+        sized (knowledge_after s p) (is ++ sheet_from s.last p) ps (ap (λ n. n + length (bytes_of (sheet_from s.last p))) e ∙ sym (length-bytes_of-append is (sheet_from s.last p)))
+        ∙ ap (λ (is : List Instruction). length (bytes_of is)) (append_assoc is (sheet_from s.last p) (sheets_from (knowledge_after s p) ps))
 
 -- There are four to seven bytes 223.
 pub padding_low : (n : ℕ) → 4 ≤ padding_after n

@@ -50,8 +50,8 @@ start =
     }
 
 -- The meaning of an instruction that makes no mark and leaves this state.
-abbrev pub only : DviState → Meaning
-only s = Some ([], s)
+abbrev pub state_without_mark : DviState → Meaning
+state_without_mark s = Some ([], s)
 
 -- A state with an amount added to h.
 abbrev pub right : DviState → ℤ → DviState
@@ -112,16 +112,16 @@ set_glyph (Some (mark, width)) s = Some (mark ∷ [], right s width)
 
 -- The effect of an instruction, with these widths (DVItype, 15). The instruction set_rule adds its width to h even where it makes no mark. A special
 -- is a mark at its place, whatever its text. A font definition changes nothing here.
-abbrev pub acts : Widths → Acts
-acts widths (SetChar c) s = set_glyph (glyph widths c s.place s.font) s
-acts widths (PutChar c) s = put_glyph (glyph widths c s.place s.font) s
-acts widths (SetRule height width) s = Some (rule_at height width s.place, right s width)
-acts widths (PutRule height width) s = Some (rule_at height width s.place, s)
-acts widths Nop s = only s
-acts widths (Move axis step) s = only (record s { place = place_after axis step s.place })
-acts widths (FontNum f) s = only (record s { font = Some f })
-acts widths (FontDef d) s = only s
-acts widths (Xxx text) s = Some (Special s.place.h s.place.v text ∷ [], s)
+abbrev pub instruction_acts : Widths → Acts
+instruction_acts widths (SetChar c) s = set_glyph (glyph widths c s.place s.font) s
+instruction_acts widths (PutChar c) s = put_glyph (glyph widths c s.place s.font) s
+instruction_acts widths (SetRule height width) s = Some (rule_at height width s.place, right s width)
+instruction_acts widths (PutRule height width) s = Some (rule_at height width s.place, s)
+instruction_acts widths Nop s = state_without_mark s
+instruction_acts widths (Move axis step) s = state_without_mark (record s { place = place_after axis step s.place })
+instruction_acts widths (FontNum f) s = state_without_mark (record s { font = Some f })
+instruction_acts widths (FontDef d) s = state_without_mark s
+instruction_acts widths (Xxx text) s = Some (Special s.place.h s.place.v text ∷ [], s)
 
 -- Whether a number fits into 32 bits with a sign (own).
 abbrev pub in_range : ℤ → Bool
@@ -134,5 +134,5 @@ kept_in None = None
 kept_in (Some (marks, s)) = if in_range s.place.h && in_range s.place.v then Some (marks, s) else None
 
 -- The effects of instructions, with h and v restricted to signed 32 bits (own: the standard leaves the range to the reader).
-abbrev pub kept : Acts → Acts
-kept does i s = kept_in (does i s)
+abbrev pub bounded_acts : Acts → Acts
+bounded_acts does i s = kept_in (does i s)

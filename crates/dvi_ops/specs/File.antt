@@ -3,10 +3,10 @@ use Rattle.std.specs.Prelude.{◌≡◌, ◌≤◌, ◌<ℤ◌, ◌%◌, ◌++�
 use Rattle.std.specs.List.{flat_map, AllByRecursion}
 use Rattle.dvi_ops.specs.Instruction.{Definition, Units, Postamble, Nop, FontDef, Instruction, Do, Bop, Eop, Pre, Post, PostPost}
 use Rattle.dvi_ops.specs.Table.{Spells}
-use Rattle.dvi_ops.specs.Body.{Meaning, Acts, acts, kept, start}
+use Rattle.dvi_ops.specs.Body.{Meaning, Acts, instruction_acts, bounded_acts, start}
 use Rattle.scaled_core.specs.Mark.{Mark}
 use Rattle.dvi_ops.specs.Forest.{Forest, flat, meaning, nests}
-use Rattle.dvi_ops.specs.Tokens.{Token, IsSpelled, says, written, places, pointers}
+use Rattle.dvi_ops.specs.Tokens.{Token, IsSpelled, token_instructions, token_bytes, places, pointers}
 use Rattle.dvi_ops.specs.Fonts.{WidthsByName, FontsAreRight, definitions, selections, font, widths_of}
 
 -- A part between the preamble and the postamble: a nop, a font definition, or a page (DVItype, 14 and 15).
@@ -64,12 +64,12 @@ pub record Frame (bytes : List ℕ) : Type 0 where
   pub tail : List Token
   pub ending : List ℕ
   pub padding : ℕ
-  pub whole : bytes ≡ written front ++ (post ++ (written tail ++ (ending ++ replicate padding 223)))
+  pub whole : bytes ≡ token_bytes front ++ (post ++ (token_bytes tail ++ (ending ++ replicate padding 223)))
   pub padded : 4 ≤ padding
   pub front_spelled : AllByRecursion IsSpelled front
   pub post_spelled : Spells (Post stop) post
   pub tail_spelled : AllByRecursion IsSpelled tail
-  pub ending_spelled : Spells (PostPost (pos (length (written front))) 2) ending
+  pub ending_spelled : Spells (PostPost (pos (length (token_bytes front))) 2) ending
 
 -- The bytes are a DVI file of these pages, with these metric files.
 pub record IsFile (metrics : WidthsByName) (bytes : List ℕ) (pages : List MarkedPage) : Type 0 where
@@ -78,19 +78,20 @@ pub record IsFile (metrics : WidthsByName) (bytes : List ℕ) (pages : List Mark
   -- 14, 17 and 19).
   pub comment : List ℕ
   pub parts : List FilePart
-  pub front_is : says frame.front ≡ Pre 2 frame.stop.units comment ∷ flat_map instructions parts
-  pub tail_is : AllByRecursion IsIdle (says frame.tail)
+  pub front_is : token_instructions frame.front ≡ Pre 2 frame.stop.units comment ∷ flat_map instructions parts
+  pub tail_is : AllByRecursion IsIdle (token_instructions frame.tail)
   -- The values num, den and mag are positive, and the same in preamble and postamble (DVItype, 17 and 19).
   pub units : AreUnits frame.stop.units
   -- The first bop names -1, each other bop the one before it, and post the last one (DVItype, 15 and 19).
-  pub chain : pointers (says frame.front) ++ frame.stop.last_bop ∷ [] ≡ negsuc 0 ∷ map pos (places 0 frame.front)
+  pub chain : pointers (token_instructions frame.front) ++ frame.stop.last_bop ∷ [] ≡ negsuc 0 ∷ map pos (places 0 frame.front)
   -- The operand of post is the number of pages modulo 65536 (DVItype, 19).
   pub count : frame.stop.pages ≡ length pages % 65536
   -- Each definition has a size and agrees with earlier ones, and each font is defined before it is selected (DVItype, 18).
-  pub fonts : FontsAreRight [] (says frame.front ++ says frame.tail)
+  pub fonts : FontsAreRight [] (token_instructions frame.front ++ token_instructions frame.tail)
   -- A selected font is defined in the postamble too (DVItype, 19), and its metric file is known.
-  pub closing : AllByRecursion (λ f. IsSome (font metrics (definitions (says frame.tail)) f)) (selections (says frame.front))
+  pub closing : AllByRecursion (λ f. IsSome (font metrics (definitions (token_instructions frame.tail)) f))
+      (selections (token_instructions frame.front))
   -- No more pushes are open than post allows (DVItype, 19), and no more than 1024 (own).
   pub depth : AllByRecursion (λ part. push_depth_of part ≤ min 1024 frame.stop.stack_depth) parts
   -- The pages, with h and v in signed 32 bits.
-  pub shows : pages_of (kept (acts (widths_of metrics (definitions (says frame.tail))))) parts ≡ Some pages
+  pub shows : pages_of (bounded_acts (instruction_acts (widths_of metrics (definitions (token_instructions frame.tail))))) parts ≡ Some pages

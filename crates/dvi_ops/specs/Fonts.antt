@@ -24,9 +24,9 @@ abbrev pub selections : List Instruction → List ℤ
 selections is = flat_map selection_of is
 
 -- The first definition of a number.
-abbrev pub defined : ℤ → List Definition → Option Definition
-defined f [] = None
-defined f (d ∷ rest) = if int_eq f d.number then Some d else defined f rest
+abbrev pub first_definition_of : ℤ → List Definition → Option Definition
+first_definition_of f [] = None
+first_definition_of f (d ∷ rest) = if int_eq f d.number then Some d else first_definition_of f rest
 
 -- A font's size is positive and below 2^27 (DVItype, 18).
 abbrev pub IsFontSize : ℤ → Type 0
@@ -41,7 +41,7 @@ AgreesWith d e = d.number ≡ e.number → d ≡ e
 -- instruction.
 abbrev pub IsRightAfter : List Definition → Instruction → Type 0
 IsRightAfter known (Do (FontDef d)) = IsFontSize d.size × AllByRecursion (AgreesWith d) known
-IsRightAfter known (Do (FontNum f)) = IsSome (defined f known)
+IsRightAfter known (Do (FontNum f)) = IsSome (first_definition_of f known)
 IsRightAfter known i = Unit {0}
 
 -- Each definition has a size and agrees with the earlier ones, and each selected font was defined before. `known` are the definitions before all
@@ -66,7 +66,7 @@ widths_in metrics (Some d) = metrics d.name d.size
 
 -- The widths of the font with this number.
 abbrev pub font : WidthsByName → List Definition → ℤ → Option (ℤ → Option ℤ)
-font metrics table f = widths_in metrics (defined f table)
+font metrics table f = widths_in metrics (first_definition_of f table)
 
 -- The width of a character, where the widths of its font are known.
 abbrev pub width_in : Option (ℤ → Option ℤ) → ℤ → Option ℤ

@@ -1,7 +1,7 @@
 -- The body of a page as a forest: instructions, and groups between push and pop (DVItype, 14 and 15).
 use Rattle.std.specs.Prelude.{◌++◌, [], ◌∷◌, ◌+◌, max, List, ℕ, ℤ, IsTrue, Option, Some, None}
 use Rattle.dvi_ops.specs.Instruction.{BodyLeaf, Instruction, Do, Push, Pop}
-use Rattle.dvi_ops.specs.Body.{Position, DviState, Meaning, Acts, only, in_range}
+use Rattle.dvi_ops.specs.Body.{Position, DviState, Meaning, Acts, state_without_mark, in_range}
 use Rattle.scaled_core.specs.Mark.{Mark}
 
 -- An empty body; an instruction and the rest; or a group and the rest.
@@ -17,25 +17,25 @@ flat (Then i rest) = Do i ∷ flat rest
 flat (Group inner rest) = Push ∷ (flat inner ++ Pop ∷ flat rest)
 
 -- A meaning with more marks before its own marks.
-abbrev pub ahead : List Mark → Meaning → Meaning
-ahead marks None = None
-ahead marks (Some (more, s)) = Some (marks ++ more, s)
+abbrev pub marks_ahead : List Mark → Meaning → Meaning
+marks_ahead marks None = None
+marks_ahead marks (Some (more, s)) = Some (marks ++ more, s)
 
 -- A meaning, and then a second one from its last state.
 abbrev pub and_then : Meaning → (DviState → Meaning) → Meaning
 and_then None next = None
-and_then (Some (marks, s)) next = ahead marks (next s)
+and_then (Some (marks, s)) next = marks_ahead marks (next s)
 
 -- The state after a group: the place from before it, and the font from its end (DVItype, 15: pop).
-abbrev pub restored : Position → Meaning → Meaning
-restored p None = None
-restored p (Some (marks, s)) = Some (marks, record { place = p; font = s.font })
+abbrev pub restored_meaning : Position → Meaning → Meaning
+restored_meaning p None = None
+restored_meaning p (Some (marks, s)) = Some (marks, record { place = p; font = s.font })
 
 -- The marks of a body, and the state after it.
 abbrev pub meaning : Acts → Forest → DviState → Meaning
-meaning does Empty s = only s
+meaning does Empty s = state_without_mark s
 meaning does (Then i rest) s = and_then (does i s) (λ t. meaning does rest t)
-meaning does (Group inner rest) s = and_then (restored s.place (meaning does inner s)) (λ t. meaning does rest t)
+meaning does (Group inner rest) s = and_then (restored_meaning s.place (meaning does inner s)) (λ t. meaning does rest t)
 
 -- The greatest number of groups that are open at once.
 abbrev pub nests : Forest → ℕ
@@ -49,10 +49,10 @@ marks_of None = None
 marks_of (Some (marks, s)) = Some marks
 
 -- The concatenation of two bodies (own).
-abbrev pub beside : Forest → Forest → Forest
-beside Empty g = g
-beside (Then i f) g = Then i (beside f g)
-beside (Group inner f) g = Group inner (beside f g)
+abbrev pub joined_bodies : Forest → Forest → Forest
+joined_bodies Empty g = g
+joined_bodies (Then i f) g = Then i (joined_bodies f g)
+joined_bodies (Group inner f) g = Group inner (joined_bodies f g)
 
 -- The place (h, v) after a meaning, and the places from there on; an empty list where there is no meaning (own).
 abbrev pub points_then : Meaning → (DviState → List (ℤ × ℤ)) → List (ℤ × ℤ)
@@ -63,7 +63,7 @@ points_then (Some (marks, s)) next = (s.place.h, s.place.v) ∷ next s
 abbrev pub points : Acts → Forest → DviState → List (ℤ × ℤ)
 points does Empty s = []
 points does (Then i rest) s = points_then (does i s) (λ t. points does rest t)
-points does (Group inner rest) s = points does inner s ++ points_then (restored s.place (meaning does inner s)) (λ t. points does rest t)
+points does (Group inner rest) s = points does inner s ++ points_then (restored_meaning s.place (meaning does inner s)) (λ t. points does rest t)
 
 -- A place in signed 32 bits (own).
 abbrev pub IsPoint : ℤ × ℤ → Type 0

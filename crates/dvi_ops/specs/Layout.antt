@@ -4,10 +4,10 @@ use Rattle.std.specs.Prelude.{◌≡◌, ◌≤◌, ◌+◌, ◌-◌, ◌%◌, �
 use Rattle.std.specs.List.{flat_map, AllByRecursion}
 use Rattle.dvi_ops.specs.Instruction.{Definition, Units, Postamble, FontDef, Instruction, Do, Bop, Eop, Pre, Post, PostPost}
 use Rattle.dvi_ops.specs.Spelling.{spelling, HasSpelling, NumberFits, NumbersFit}
-use Rattle.dvi_ops.specs.Body.{DviState, Widths, acts, kept, start}
+use Rattle.dvi_ops.specs.Body.{DviState, Widths, instruction_acts, bounded_acts, start}
 use Rattle.scaled_core.specs.Mark.{Mark}
 use Rattle.dvi_ops.specs.Forest.{Forest, flat, meaning, nests}
-use Rattle.dvi_ops.specs.Fonts.{WidthsByName, IsFontSize, definitions, selections, defined, known_after, widths_in, width_in}
+use Rattle.dvi_ops.specs.Fonts.{WidthsByName, IsFontSize, definitions, selections, first_definition_of, known_after, widths_in, width_in}
 use Rattle.dvi_ops.specs.File.{MarkedPage}
 
 -- The bytes of instructions, each by its written spelling.
@@ -49,8 +49,8 @@ abbrev pub sheet_from : ℤ → Sheet → List Instruction
 sheet_from last p = define p.fresh ++ (Bop p.counts last ∷ (flat p.body ++ Eop ∷ []))
 
 -- The writer's numbers after a page.
-abbrev pub after : WriterKnowledge → Sheet → WriterKnowledge
-after s p =
+abbrev pub knowledge_after : WriterKnowledge → Sheet → WriterKnowledge
+knowledge_after s p =
     record {
       last = pos (s.size + length (bytes_of (define p.fresh)));
       size = s.size + length (bytes_of (sheet_from s.last p));
@@ -61,12 +61,12 @@ after s p =
 -- The instructions for pages, in order.
 abbrev pub sheets_from : WriterKnowledge → List Sheet → List Instruction
 sheets_from s [] = []
-sheets_from s (p ∷ rest) = sheet_from s.last p ++ sheets_from (after s p) rest
+sheets_from s (p ∷ rest) = sheet_from s.last p ++ sheets_from (knowledge_after s p) rest
 
 -- The writer's numbers after these pages.
 abbrev pub after_all : WriterKnowledge → List Sheet → WriterKnowledge
 after_all s [] = s
-after_all s (p ∷ rest) = after_all (after s p) rest
+after_all s (p ∷ rest) = after_all (knowledge_after s p) rest
 
 -- The bytes of a file up to the last eop.
 abbrev pub front_of : List Sheet → List ℕ
@@ -117,11 +117,11 @@ pub record IsGood (metrics : WidthsByName) (table : Table) (known : List Definit
   pub writable : AllByRecursion IsWritable (flat p.body)
   -- The body defines no font, and selects only fonts that are known or fresh and have widths.
   pub plain : definitions (flat p.body) ≡ []
-  pub chosen : AllByRecursion (λ f. IsSome (defined f (known_after known (define p.fresh)))) (selections (flat p.body))
+  pub chosen : AllByRecursion (λ f. IsSome (first_definition_of f (known_after known (define p.fresh)))) (selections (flat p.body))
   pub measured : AllByRecursion (λ f. IsSome (widths_in metrics (table f))) (selections (flat p.body))
   pub shallow : nests p.body ≤ 1024
   pub last : DviState
-  pub shows : meaning (kept (acts (table_widths metrics table))) p.body start ≡ Some (marks, last)
+  pub shows : meaning (bounded_acts (instruction_acts (table_widths metrics table))) p.body start ≡ Some (marks, last)
 
 -- Each page is good after those before it, and the marked pages have their counts and marks.
 abbrev pub AreGood : WidthsByName → Table → WriterKnowledge → List Sheet → List MarkedPage → Type 0
@@ -129,9 +129,9 @@ AreGood metrics table s [] [] = Unit {0}
 AreGood metrics table s [] (page ∷ pages) = ⊥
 AreGood metrics table s (p ∷ rest) [] = ⊥
 AreGood metrics table s (p ∷ rest) (page ∷ pages) =
-    (page.counts ≡ p.counts) × IsGood metrics table s.known p page.marks × AreGood metrics table (after s p) rest pages
+    (page.counts ≡ p.counts) × IsGood metrics table s.known p page.marks × AreGood metrics table (knowledge_after s p) rest pages
 
 -- The definitions of the postamble: each is the job's, and all known fonts are among them.
 pub record IsClosing (table : Table) (known closing : List Definition) : Type 0 where
   pub tabled : AllByRecursion (IsTabled table) closing
-  pub each : (f : ℤ) → IsSome (defined f known) → IsSome (defined f closing)
+  pub each : (f : ℤ) → IsSome (first_definition_of f known) → IsSome (first_definition_of f closing)

@@ -28,16 +28,16 @@ code_size (pos m) = if nat_lt m 256 then 1 else if nat_lt m 65536 then 2 else if
 code_size (negsuc m) = 4
 
 -- The code base + n, and n bytes of z.
-abbrev pub coded : ℕ → ℕ → ℤ → List ℕ
-coded base n z = (base + n) ∷ operand n z
+abbrev pub code_and_number : ℕ → ℕ → ℤ → List ℕ
+code_and_number base n z = (base + n) ∷ operand n z
 
 -- A movement, with the fewest bytes that hold its amount.
 abbrev pub coded_signed : ℕ → ℤ → List ℕ
-coded_signed base z = coded base (signed_size z) z
+coded_signed base z = code_and_number base (signed_size z) z
 
 -- The selection of a character or a font, with the fewest bytes that hold its number.
 abbrev pub coded_number : ℕ → ℤ → List ℕ
-coded_number base z = coded base (code_size z) z
+coded_number base z = code_and_number base (code_size z) z
 
 -- A character: set_char for 0 to 127, else set1 to set4.
 unfoldable pub char_spelling : ℤ → List ℕ

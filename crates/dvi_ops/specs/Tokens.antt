@@ -14,12 +14,12 @@ abbrev pub IsSpelled : Token → Type 0
 IsSpelled t = Spells t.says t.bytes
 
 -- The instructions of tokens, in order.
-abbrev pub says : List Token → List Instruction
-says tokens = map (λ t. t.says) tokens
+abbrev pub token_instructions : List Token → List Instruction
+token_instructions tokens = map (λ t. t.says) tokens
 
 -- The bytes of tokens, in order.
-abbrev pub written : List Token → List ℕ
-written tokens = flat_map (λ t. t.bytes) tokens
+abbrev pub token_bytes : List Token → List ℕ
+token_bytes tokens = flat_map (λ t. t.bytes) tokens
 
 -- The place of an instruction, if it is a bop, as a list of one or none.
 abbrev pub bop_place : ℕ → Instruction → List ℕ

@@ -2,12 +2,12 @@
 -- `passed_is_body` connect it with `meaning`).
 use Rattle.std.specs.Prelude.{[], ◌∷◌, List, None}
 use Rattle.dvi_ops.specs.Instruction.{Instruction, Do, Push, Pop}
-use Rattle.dvi_ops.specs.Body.{Position, DviState, Meaning, Acts, only}
+use Rattle.dvi_ops.specs.Body.{Position, DviState, Meaning, Acts, state_without_mark}
 use Rattle.dvi_ops.specs.Forest.{and_then}
 
 -- Each push saves the place, and each pop restores the last saved one. The stack is empty at the end, and a pop on an empty stack has no meaning.
 abbrev pub walk : Acts → List Instruction → List Position → DviState → Meaning
-walk does [] [] s = only s
+walk does [] [] s = state_without_mark s
 walk does [] (p ∷ stack) s = None
 walk does (Push ∷ rest) stack s = walk does rest (s.place ∷ stack) s
 walk does (Pop ∷ rest) [] s = None

@@ -7,7 +7,8 @@ ghost use Rattle.dvi_ops.specs.Examples.{undefined_font_file, shallow_file, Give
 ghost use Rattle.dvi_ops.specs.File.{IsFile, MarkedPage};
 ghost use Rattle.dvi_ops.specs.Fonts.{WidthsByName};
 ghost use Rattle.dvi_ops.specs.Instruction.{Definition};
-ghost use Rattle.dvi_ops.specs.Layout.{AreGood, IsClosing, IsGood, Sheet, Table, WriterKnowledge, after, after_all, after_preamble, bytes_of};
+ghost use Rattle.dvi_ops.specs.Layout.{AreGood, IsClosing, IsGood, Sheet, Table, WriterKnowledge, knowledge_after, after_all, after_preamble};
+ghost use Rattle.dvi_ops.specs.Layout.{bytes_of};
 ghost use Rattle.dvi_ops.specs.Layout.{front_of, padding_after, sheet_from, whole_of};
 ghost use Rattle.dvi_ops.specs.Spelling.{NumberFits};
 
@@ -32,7 +33,8 @@ pub fn whole_is_file()
 pub fn pages_are_added()
     ensures bytes { (sheets : List Sheet) (p : Sheet)
         → front_of (sheets ++ p ∷ []) ≡ front_of sheets ++ bytes_of (sheet_from (after_all after_preamble sheets).last p) }
-    ensures state { (s : WriterKnowledge) (sheets : List Sheet) (p : Sheet) → after_all s (sheets ++ p ∷ []) ≡ after (after_all s sheets) p }
+    ensures state { (s : WriterKnowledge) (sheets : List Sheet) (p : Sheet)
+        → after_all s (sheets ++ p ∷ []) ≡ knowledge_after (after_all s sheets) p }
     ensures size { (sheets : List Sheet) → (after_all after_preamble sheets).size ≡ length (front_of sheets) }
     ensures good { (metrics : WidthsByName) (table : Table) (s : WriterKnowledge) (sheets : List Sheet) (pages : List MarkedPage)
         (p : Sheet) (page : MarkedPage)

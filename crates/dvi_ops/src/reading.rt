@@ -250,7 +250,7 @@ fn frame(operation: u8, rest: &[u8]) -> Option<(Op<'_>, &[u8])>
 
 /// The instruction at the start of some bytes, and the rest of the bytes.
 #[tactic(auto, unfolding(crate::specs::Private::Reading::read))]
-fn front(bytes: &[u8]) -> Option<(Op<'_>, &[u8])>
+fn first_op(bytes: &[u8]) -> Option<(Op<'_>, &[u8])>
     ensures { option_map (λ found. (view found.0, found.1.now)) result ≡ read bytes.now }
 {
     let (operation, rest) = bytes.split_first()?;
@@ -286,7 +286,7 @@ pub fn next(bytes: &[u8]) -> Result<(Op<'_>, usize), OpFault>
     // The fault is `Opcode` exactly where the first byte is 250 to 255.
     ensures opcode { (result ≡ Err OpFault.Opcode) ↔ (250 ≤ slice_index bytes.now 0) }
 {
-    match front(bytes) {
+    match first_op(bytes) {
         Some((op, rest)) => Ok((op, bytes.len() - rest.len())),
         None => Err(fault_of(bytes)),
     }

@@ -3,7 +3,8 @@
 ghost use Rattle.std.specs.Prelude.{◌≡◌, ◌≤◌, ◌<◌, ◌+◌, ◌-◌, ◌++◌, ◌^◌, [], ◌∷◌, length, pos, OnOk, OnErr};
 ghost use Rattle.std.specs.List.{AllByRecursion, flat_map};
 ghost use Rattle.dvi_ops.specs.Instruction.{FontDef, Post};
-ghost use Rattle.dvi_ops.specs.Spelling.{HasSpelling, LeafFits, NumberFits, NumbersFit, UnitsFit, char_spelling, code_size, coded, coded_signed};
+ghost use Rattle.dvi_ops.specs.Spelling.{HasSpelling, LeafFits, NumberFits, NumbersFit, UnitsFit, char_spelling, code_size, code_and_number};
+ghost use Rattle.dvi_ops.specs.Spelling.{coded_signed};
 ghost use Rattle.dvi_ops.specs.Spelling.{definition_spelling, font_spelling, leaf_spelling, operand, post_bytes, signed_size, spelling};
 ghost use Rattle.dvi_ops.specs.Spelling.{text_spelling, units_bytes};
 ghost use Rattle.dvi_ops.specs.Table.{Spells};
@@ -92,7 +93,7 @@ pub fn append_coded(out: &mut Vec<u8>, first: u8, size: usize, value: i32) -> Re
     requires high { size ≤ 4 }
     requires code { 1 ≤ first }
     requires room { first + 3 < 256 }
-    ensures ok { OnOk result (out.new.items ≡ out.old.items ++ coded (first - 1) size value) }
+    ensures ok { OnOk result (out.new.items ≡ out.old.items ++ code_and_number (first - 1) size value) }
     ensures err { OnErr result (out.new.items ≡ out.old.items) }
 {
     let word = word(value);

@@ -3,15 +3,15 @@ use Rattle.std.proofs.Common.{◌≡◌, ◌≤◌, ◌<◌, ◌+◌, ◌-◌, �
 use Rattle.std.specs.List.{AllByRecursion}
 use Rattle.std.specs.Option.{option_map}
 use Rattle.scaled_core.specs.Mark.{Mark, Glyph}
-use Rattle.dvi_ops.specs.Body.{Position, DviState, Meaning, Widths, acts, glyph, glyph_of, in_range, kept, kept_in, place_after, right, set_glyph}
+use Rattle.dvi_ops.specs.Body.{Position, DviState, Meaning, Widths, instruction_acts, glyph, glyph_of, in_range, bounded_acts, kept_in, place_after, right, set_glyph}
 use Rattle.dvi_ops.specs.File.{MarkedPage}
 use Rattle.dvi_ops.specs.Fonts.{WidthsByName, widths_of}
 use Rattle.dvi_ops.specs.Instruction.{Definition, SetChar, Instruction, Do, Across, By, Postamble}
 use Rattle.dvi_ops.specs.Table.{Spells}
-use Rattle.dvi_scan.specs.Drawing.{reached}
+use Rattle.dvi_scan.specs.Drawing.{reached_position}
 use Rattle.dvi_scan.specs.Execution.{inside_of, pass_at}
 use Rattle.dvi_scan.specs.Pass.{PassStateView, Between, Inside, execute, with_marks}
-use Rattle.dvi_scan.specs.View.{mark_of, marked_page, placed, stated}
+use Rattle.dvi_scan.specs.View.{mark_of, marked_page, spot_position, standing_state}
 use Rattle.dvi_scan.specs.declared.executing.OpenPage.{OpenPage}
 use Rattle.dvi_scan.specs.declared.executing.PassState.{PassState}
 use Rattle.dvi_scan.specs.declared.executing.PassState.TheVariants as stands
@@ -31,7 +31,7 @@ abbrev moved_by : ℤ → Position → Position
 moved_by w p = place_after Across (By w) p
 
 -- A place that was reached is the one that was meant, and it is in range.
-reached_is : (b : Bool) (to : Position) (p : Spot) (m : Meaning) → Some (placed p) ≡ (if b then Some to else None) → (placed p ≡ to) × ((if b then m else None) ≡ m)
+reached_is : (b : Bool) (to : Position) (p : Spot) (m : Meaning) → Some (spot_position p) ≡ (if b then Some to else None) → (spot_position p ≡ to) × ((if b then m else None) ≡ m)
 reached_is true to p m e = (cc, refl)
 reached_is false to p m e = absurd cc
 
@@ -42,16 +42,16 @@ unreached false to m e = refl
 module _ (widths : Widths) (most : ℕ) (c : ℤ) (pages : List MarkedPage) (counts : List ℤ) (marks : List Mark) (stack : List Position) (s : DviState) where
   -- What the character does.
   abbrev does_it : Option PassStateView
-  does_it = execute (kept (acts widths)) most (Do (SetChar c)) (Inside pages counts marks stack s)
+  does_it = execute (bounded_acts (instruction_acts widths)) most (Do (SetChar c)) (Inside pages counts marks stack s)
 
-  by_glyph : (m : Meaning) → acts widths (SetChar c) s ≡ m → does_it ≡ with_marks pages counts marks stack (kept_in m)
+  by_glyph : (m : Meaning) → instruction_acts widths (SetChar c) s ≡ m → does_it ≡ with_marks pages counts marks stack (kept_in m)
   by_glyph m is = ap (λ (m : Meaning). with_marks pages counts marks stack (kept_in m)) is
 
-  drawn_is : (f w : ℤ) → s.font ≡ Some f → widths f c ≡ Some w → acts widths (SetChar c) s ≡ Some (Glyph f c s.place.h s.place.v ∷ [], right s w)
+  drawn_is : (f w : ℤ) → s.font ≡ Some f → widths f c ≡ Some w → instruction_acts widths (SetChar c) s ≡ Some (Glyph f c s.place.h s.place.v ∷ [], right s w)
   drawn_is f w font width = ap (λ (o : Option ℤ). set_glyph (glyph widths c s.place o) s) font ∙ ap (λ (o : Option ℤ). set_glyph (glyph_of f c s.place o) s) width
 
-  pub set_turn : (f w : ℤ) (p : Spot) → s.font ≡ Some f → widths f c ≡ Some w → Some (placed p) ≡ reached (moved_by w s.place)
-      → does_it ≡ Some (Inside pages counts (marks ++ Glyph f c s.place.h s.place.v ∷ []) stack (record { place = placed p; font = s.font }))
+  pub set_turn : (f w : ℤ) (p : Spot) → s.font ≡ Some f → widths f c ≡ Some w → Some (spot_position p) ≡ reached_position (moved_by w s.place)
+      → does_it ≡ Some (Inside pages counts (marks ++ Glyph f c s.place.h s.place.v ∷ []) stack (record { place = spot_position p; font = s.font }))
   set_turn f w p font width there =
       let made : Meaning = Some (Glyph f c s.place.h s.place.v ∷ [], right s w) in
       let (place_is, kept_is) = reached_is (in_range (right s w).place.h && in_range (right s w).place.v) (moved_by w s.place) p made there in
@@ -69,7 +69,7 @@ module _ (widths : Widths) (most : ℕ) (c : ℤ) (pages : List MarkedPage) (cou
       let none : Some after ≡ None =
       sym e ∙ by_glyph None (ap (λ (o : Option ℤ). set_glyph (glyph widths c s.place o) s) font ∙ ap (λ (o : Option ℤ). set_glyph (glyph_of f c s.place o) s) width) in cc
 
-  pub some_place : (after : PassStateView) (f w : ℤ) → does_it ≡ Some after → s.font ≡ Some f → widths f c ≡ Some w → None ≡ reached (moved_by w s.place) → ⊥
+  pub some_place : (after : PassStateView) (f w : ℤ) → does_it ≡ Some after → s.font ≡ Some f → widths f c ≡ Some w → None ≡ reached_position (moved_by w s.place) → ⊥
   some_place after f w e font width nowhere =
       let made : Meaning = Some (Glyph f c s.place.h s.place.v ∷ [], right s w) in
       let none : Some after ≡ None =
@@ -88,13 +88,13 @@ placed_at s (Inside pages counts marks stack old) = Inside pages counts marks st
 -- A walk that keeps no mark passes over a character of one byte.
 module _ (metrics : WidthsByName) (ahead : List ℤ) (bytes : List ℕ) (stop : Postamble) (chain : List ℕ) (at : ℕ) (old : Walk) (page : OpenPage) (inside : old.stand ≡ stands.Inside page) where
   pub character_passed : (place : Spot) (n : ℕ) (f w : ℤ) → at < length bytes → get_or bytes at 0 ≡ n → n < 128 → page.state.font ≡ Some f → asked_width old.fonts (Some (pos n)) ≡ Some w
-      → Some (placed place) ≡ reached (moved_by w (placed page.state.place)) → IsWalkedOver false metrics ahead bytes stop chain at old
+      → Some (spot_position place) ≡ reached_position (moved_by w (spot_position page.state.place)) → IsWalkedOver false metrics ahead bytes stop chain at old
       → IsWalkedOver false metrics ahead bytes stop chain (at + 1) (record old { stand = stands.Inside (record page { state = record page.state { place = place } }) })
   character_passed place n f w within byte small font width there walked =
       let pages = map marked_page old.done.items in
       let marks = map mark_of page.marks.items in
-      let stack = reverse (map placed page.stack.items) in
-      let s : DviState = record { place = placed place; font = page.state.font } in
+      let stack = reverse (map spot_position page.stack.items) in
+      let s : DviState = record { place = spot_position place; font = page.state.font } in
       let i : Instruction = Do (SetChar (pos n)) in
       let most : ℕ = min 1024 stop.stack_depth in
       let new : Walk = record old { stand = stands.Inside (record page { state = record page.state { place = place } }) } in
@@ -102,11 +102,11 @@ module _ (metrics : WidthsByName) (ahead : List ℤ) (bytes : List ℕ) (stop : 
       let chosen : selected_in old.stand ≡ Some f = ap selected_in inside ∙ font in
       let known_width : widths_of metrics (known_of old) f (pos n) ≡ Some w = sym (width_of_read metrics (known_of old) old.fonts (pos n) f walked.sound (walked.current f chosen)) ∙ width in
       let after : PassStateView = Inside pages page.counts (marks ++ Glyph f (pos n) page.state.place.h page.state.place.v ∷ []) stack s in
-      let turns : execute (kept (acts (widths_of metrics (known_of old)))) most i (inside_of pages page) ≡ Some after =
-      set_turn (widths_of metrics (known_of old)) most (pos n) pages page.counts marks stack (stated page.state) f w place font known_width there in
-      let goes : execute (kept (acts (widths_of metrics (known_of old)))) most i (bare walked.pass) ≡ Some after =
-      subst (λ (p : PassStateView). execute (kept (acts (widths_of metrics (known_of old)))) most i p ≡ Some after) (sym open_page ∙ walked.stand) turns in
-      let alone : inside_of pages page ≡ Inside [] page.counts [] stack (stated page.state) = bare_twice (inside_of pages page) walked.pass (sym open_page ∙ walked.stand) in
+      let turns : execute (bounded_acts (instruction_acts (widths_of metrics (known_of old)))) most i (inside_of pages page) ≡ Some after =
+      set_turn (widths_of metrics (known_of old)) most (pos n) pages page.counts marks stack (standing_state page.state) f w place font known_width there in
+      let goes : execute (bounded_acts (instruction_acts (widths_of metrics (known_of old)))) most i (bare walked.pass) ≡ Some after =
+      subst (λ (p : PassStateView). execute (bounded_acts (instruction_acts (widths_of metrics (known_of old)))) most i p ≡ Some after) (sym open_page ∙ walked.stand) turns in
+      let alone : inside_of pages page ≡ Inside [] page.counts [] stack (standing_state page.state) = bare_twice (inside_of pages page) walked.pass (sym open_page ∙ walked.stand) in
       let one : at + 1 - at ≡ 1 = omega arith in
       let spelled : Spells i (take (at + 1 - at) (drop at bytes)) =
       inl (n, small, refl, one_byte bytes at within ∙ ap (λ (k : ℕ). k ∷ []) byte) in

@@ -4,18 +4,18 @@ use Rattle.std.specs.Prelude.{◌⊎◌, option_and_then}
 use Rattle.std.specs.List.{AllByRecursion}
 use Rattle.scaled_core.proofs.EachOf.{all_weaker}
 use Rattle.scaled_core.specs.Mark.{Mark}
-use Rattle.dvi_ops.specs.Body.{acts, kept}
+use Rattle.dvi_ops.specs.Body.{instruction_acts, bounded_acts}
 use Rattle.dvi_ops.specs.File.{IsFile, MarkedPage}
 use Rattle.dvi_ops.specs.Fonts.{WidthsByName, font, selections, widths_of, width_in as width_of_font}
 use Rattle.dvi_ops.specs.Instruction.{Definition, Instruction, Postamble, Pre}
-use Rattle.dvi_ops.specs.Tokens.{Token, IsSpelled, says, written}
+use Rattle.dvi_ops.specs.Tokens.{Token, IsSpelled, token_instructions, token_bytes}
 use Rattle.dvi_ops.proofs.Frames.{begins}
 use Rattle.dvi_ops.proofs.SameMeaning.{SameWidths}
 use Rattle.dvi_scan.proofs.FontLemmas.{same_passes}
 use Rattle.dvi_scan.proofs.ReachedLemmas.{take_next, token}
 use Rattle.dvi_scan.specs.Closing.{ClosesTo}
 use Rattle.dvi_scan.specs.Pass.{PassStateView, Between, Inside, passes}
-use Rattle.dvi_scan.specs.Passed.{framing}
+use Rattle.dvi_scan.specs.Passed.{file_framing}
 use Rattle.dvi_scan.specs.Preamble.{HasPreamble}
 use Rattle.dvi_scan.specs.Reached.{IsReached, Left, ReadSoFar}
 use Rattle.dvi_read.specs.Opening.{IsDviFault}
@@ -55,11 +55,11 @@ checked_rest metrics ahead bytes stop chain from post s fonts pages high preambl
     let front : List ℕ = take from bytes in
     let left : List ℕ = take (post - from) (drop from bytes) in
     let one = token (Pre 2 stop.units preamble.comment) front in
-    let whole : written (one ∷ []) ++ left ≡ written r.before =
+    let whole : token_bytes (one ∷ []) ++ left ≡ token_bytes r.before =
     ap (λ (x : List ℕ). x ++ left) (append-nil front) ∙ (sym (take_next bytes from post within high) ∙ sym r.whole) in
     let (more, same, spelled, more_whole) = begins (one ∷ []) r.before left (preamble.spelled, tt) r.spelled whole in
-    let all : Pre 2 stop.units preamble.comment ∷ says more ≡ Pre 2 stop.units r.comment ∷ r.body = sym (ap says same) ∙ r.front_is in
-    let body : r.body ≡ says more = cc in
+    let all : Pre 2 stop.units preamble.comment ∷ token_instructions more ≡ Pre 2 stop.units r.comment ∷ r.body = sym (ap token_instructions same) ∙ r.front_is in
+    let body : r.body ≡ token_instructions more = cc in
     let chosen : selections r.body ≡ s.selected = sym (ap (λ (is : List Instruction). selections is) r.front_is) ∙ r.selected_is in
     let all_read : AllByRecursion (λ f. FontIsRead f fonts) (selections r.body) = subst (λ (fs : List ℤ). AllByRecursion (λ f. FontIsRead f fonts) fs) (sym chosen) read in
     let passed =
@@ -71,7 +71,7 @@ checked_rest metrics ahead bytes stop chain from post s fonts pages high preambl
       rest = more;
       spelled = spelled;
       whole = more_whole;
-      passed = subst (λ (is : List Instruction). passes (kept (acts (read_width fonts))) most is (Between []) ≡ Some (Between pages)) body (passed ∙ ap (λ (p : PassStateView). Some p) between);
+      passed = subst (λ (is : List Instruction). passes (bounded_acts (instruction_acts (read_width fonts))) most is (Between []) ≡ Some (Between pages)) body (passed ∙ ap (λ (p : PassStateView). Some p) between);
       read = subst (λ (is : List Instruction). FontsAreRead fonts (selections is)) body all_read;
       codes = sound.codes;
     }
@@ -94,7 +94,7 @@ finish_bare bytes post after last p left known (faults.Bad bad) (inr (pages, end
 finish_bare bytes post after last p left known fault broken = absurd broken
 
 -- A walk that has passed over a file, and has ended.
-module _ (files : List NamedBytes) (bytes : List ℕ) (post after last : ℕ) (stop : Postamble) (chain : List ℕ) (from : ℕ) (walk : Walk) (passed : HasPassed files bytes (framing post after last stop chain) from walk) where
+module _ (files : List NamedBytes) (bytes : List ℕ) (post after last : ℕ) (stop : Postamble) (chain : List ℕ) (from : ℕ) (walk : Walk) (passed : HasPassed files bytes (file_framing post after last stop chain) from walk) where
   pub checked_fault : (fault : DviFault) → IsFinishFault bytes post after last (stand_of walk) (places_left walk) (known_of walk) fault → IsDviFault files bytes fault
   checked_fault fault b =
       finish_refused files bytes post after last stop chain from passed.ahead (read_in passed.pass passed.selected walk) fault passed.has

@@ -17,10 +17,10 @@ use Rattle.dvi_scan.proofs.FaultLemmas.{breaks_chain, breaks_end, chain_fault, e
 use Rattle.dvi_ops.specs.File.{AreUnits, IsFile, MarkedPage}
 use Rattle.dvi_ops.specs.Fonts.{definitions, known_after}
 use Rattle.dvi_ops.specs.Instruction.{Definition, Instruction, Postamble, Pre}
-use Rattle.dvi_ops.specs.Tokens.{Token, IsSpelled, says, written}
+use Rattle.dvi_ops.specs.Tokens.{Token, IsSpelled, token_instructions, token_bytes}
 use Rattle.dvi_ops.proofs.Appends.{fonts_back}
 use Rattle.dvi_scan.specs.Pass.{Between}
-use Rattle.dvi_scan.specs.Passed.{framing, IsFramed, IsPassed}
+use Rattle.dvi_scan.specs.Passed.{file_framing, IsFramed, IsPassed}
 use Rattle.dvi_scan.specs.Reached.{AreNumbersOf, ReadSoFar, all_left}
 use Rattle.dvi_scan.proofs.KnownLemmas.{same_self}
 use Rattle.dvi_scan.proofs.PassedLemmas.{file_passed}
@@ -45,29 +45,29 @@ module _ (files : List NamedBytes) (bytes : List ℕ) (post after last : ℕ) (s
   pub after_within : last - 5 ≤ length bytes
   after_within = let padded = framed.ends.closed.trailed.padded in omega arith
 
-  module _ (pages : List MarkedPage) (f : IsPassed (file_widths files) bytes (framing post after last stop chain) pages) where
+  module _ (pages : List MarkedPage) (f : IsPassed (file_widths files) bytes (file_framing post after last stop chain) pages) where
     -- The instructions after post in a file.
-    closes_there : Closes bytes after (last - 5) (known_after [] (says f.front)) f.tail
+    closes_there : Closes bytes after (last - 5) (known_after [] (token_instructions f.front)) f.tail
     closes_there =
-        record { spelled = f.tail_spelled; whole = f.tail_whole; idle = f.tail_is; fonts = fonts_back [] (says f.front) (says f.tail) f.fonts }
+        record { spelled = f.tail_spelled; whole = f.tail_whole; idle = f.tail_is; fonts = fonts_back [] (token_instructions f.front) (token_instructions f.tail) f.fonts }
 
     -- The numbers that were found ahead are those that are defined after post.
-    pub numbers_are : (ahead : List ℤ) → IsLookedAhead bytes after (last - 5) ahead → AreNumbersOf ahead (definitions (says f.tail))
-    numbers_are ahead look = looked bytes after (last - 5) ahead (known_after [] (says f.front)) f.tail after_within look closes_there
+    pub numbers_are : (ahead : List ℤ) → IsLookedAhead bytes after (last - 5) ahead → AreNumbersOf ahead (definitions (token_instructions f.tail))
+    numbers_are ahead look = looked bytes after (last - 5) ahead (known_after [] (token_instructions f.front)) f.tail after_within look closes_there
 
     -- The preamble of a file.
     pub preamble_there : (bad : BadDvi) → IsPreambleFault bytes post stop bad → ⊥
     preamble_there bad fault = by_front f.front f.front_spelled f.front_whole f.front_is
       where
-        by_front : (front : List Token) → AllByRecursion IsSpelled front → written front ≡ take post bytes → says front ≡ Pre 2 stop.units f.comment ∷ f.body → ⊥
+        by_front : (front : List Token) → AllByRecursion IsSpelled front → token_bytes front ≡ take post bytes → token_instructions front ≡ Pre 2 stop.units f.comment ∷ f.body → ⊥
         by_front [] spelled whole is = cc
         by_front (t ∷ more) (here, spelled) whole is =
             let first : t.says ≡ Pre 2 stop.units f.comment = cc in
             let whole_size : post ≡ post - 0 = omega arith in
-            fault.none f.comment (subst (λ (i : Instruction). StandsAt bytes 0 post i) first (first_stands bytes 0 post t more (omega arith) post_within here (subst (λ (n : ℕ). written (t ∷ more) ≡ take n bytes) whole_size whole))) f.units
+            fault.none f.comment (subst (λ (i : Instruction). StandsAt bytes 0 post i) first (first_stands bytes 0 post t more (omega arith) post_within here (subst (λ (n : ℕ). token_bytes (t ∷ more) ≡ take n bytes) whole_size whole))) f.units
 
     -- A fault at the place of post.
-    pub pages_ended : (bad : BadDvi) (from : ℕ) (ahead : List ℤ) (seen : ReadSoFar) → HasPages files bytes (framing post after last stop chain) from ahead seen → IsUnended seen.pass seen.left post bad → ⊥
+    pub pages_ended : (bad : BadDvi) (from : ℕ) (ahead : List ℤ) (seen : ReadSoFar) → HasPages files bytes (file_framing post after last stop chain) from ahead seen → IsUnended seen.pass seen.left post bad → ⊥
     pages_ended bad from ahead seen has (place, broken) =
         let (p, left) = end_right (file_widths files) bytes post after last stop chain pages f post_within ahead (numbers_are ahead has.looked) post seen (omega arith) has.reached refl in by_rule broken p left
       where
@@ -76,7 +76,7 @@ module _ (files : List NamedBytes) (bytes : List ℕ) (post after last : ℕ) (s
         by_rule (inl (cause, inside)) p left = inside pages p
         by_rule (inr (cause, closed, some)) p left = some left
 
-    pub tail_is_right : (bad : BadDvi) (from : ℕ) (ahead : List ℤ) (seen : ReadSoFar) (new : List Definition) → HasPages files bytes (framing post after last stop chain) from ahead seen
+    pub tail_is_right : (bad : BadDvi) (from : ℕ) (ahead : List ℤ) (seen : ReadSoFar) (new : List Definition) → HasPages files bytes (file_framing post after last stop chain) from ahead seen
         → IsClosingFault bytes after (last - 5) seen.known new (frames.Bad bad) → ⊥
     tail_is_right bad from ahead seen new has broken =
         let tail = tail_right (file_widths files) bytes post after last stop chain pages f post_within ahead seen has.reached in

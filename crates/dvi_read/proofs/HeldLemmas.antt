@@ -3,7 +3,7 @@ use Rattle.std.proofs.Common.{◌≡◌, ◌≤◌, ◌-◌, ◌++◌, if◌then
 use Rattle.std.specs.Prelude.{◌⊎◌, IsSome}
 use Rattle.std.specs.List.{AllByRecursion}
 use Rattle.std.specs.Option.{option_map}
-use Rattle.dvi_ops.specs.Body.{Position, DviState, Meaning, Acts, acts, kept, start}
+use Rattle.dvi_ops.specs.Body.{Position, DviState, Meaning, Acts, instruction_acts, bounded_acts, start}
 use Rattle.dvi_ops.specs.File.{MarkedPage}
 use Rattle.dvi_ops.specs.Fonts.{WidthsByName, IsRightAfter, definitions_in, selection_of, widths_of}
 use Rattle.dvi_ops.specs.Instruction.{Definition, Nop, FontNum, FontDef, Instruction, Do, Push, Pop, Bop, Eop, Postamble}
@@ -146,8 +146,8 @@ module _ (files : List NamedBytes) (part : PageBytes) (at : ℕ) (keeps : Bool) 
 
   rule_held : (i : Instruction) (cause : DviCause) → BreaksRule (file_widths files) part.ahead part.most at (read_in (held keeps pass) selected walk) i cause
       → BreaksRule (file_widths files) part.ahead part.most at (read_in pass selected walk) i cause
-  rule_held i cause (inl b) = inl (held_breaks keeps (acts (widths_of (file_widths files) (known_of walk))) part.most i pass cause b)
-  rule_held i cause (inr (on, b)) = inr (held_goes keeps (kept (acts (widths_of (file_widths files) (known_of walk)))) part.most i pass on, b)
+  rule_held i cause (inl b) = inl (held_breaks keeps (instruction_acts (widths_of (file_widths files) (known_of walk))) part.most i pass cause b)
+  rule_held i cause (inr (on, b)) = inr (held_goes keeps (bounded_acts (instruction_acts (widths_of (file_widths files) (known_of walk)))) part.most i pass on, b)
 
   at_held : (cause : DviCause) → BreaksAt (file_widths files) part at (read_in (held keeps pass) selected walk) cause → BreaksAt (file_widths files) part at (read_in pass selected walk) cause
   at_held cause (i, stands, b) = (i, stands, rule_held i cause b)
@@ -160,11 +160,11 @@ module _ (files : List NamedBytes) (part : PageBytes) (at : ℕ) (keeps : Bool) 
 
   widths_held : (refusal : FontRefusal) → LacksWidths files part at (read_in (held keeps pass) selected walk) refusal → LacksWidths files part at (read_in pass selected walk) refusal
   widths_held refusal (f, stands, selects) =
-      (f, stands, record { goes_on = held_goes keeps (kept (acts (widths_of (file_widths files) (known_of walk)))) part.most (Do (FontNum f)) pass selects.goes_on; unread = selects.unread })
+      (f, stands, record { goes_on = held_goes keeps (bounded_acts (instruction_acts (widths_of (file_widths files) (known_of walk)))) part.most (Do (FontNum f)) pass selects.goes_on; unread = selects.unread })
 
   allocates_held : (i : Instruction) → InstructionAllocates files part.ahead part.most (read_in (held keeps pass) selected walk) i → InstructionAllocates files part.ahead part.most (read_in pass selected walk) i
-  allocates_held i (inl b) = inl (held_room keeps (acts (widths_of (file_widths files) (known_of walk))) part.most i pass b)
-  allocates_held i (inr (on, b)) = inr (held_goes keeps (kept (acts (widths_of (file_widths files) (known_of walk)))) part.most i pass on, lacks_held i b)
+  allocates_held i (inl b) = inl (held_room keeps (instruction_acts (widths_of (file_widths files) (known_of walk))) part.most i pass b)
+  allocates_held i (inr (on, b)) = inr (held_goes keeps (bounded_acts (instruction_acts (widths_of (file_widths files) (known_of walk)))) part.most i pass on, lacks_held i b)
 
   by_fault : (fault : DviFault) → IsPagesFault files part at (read_in (held keeps pass) selected walk) fault → IsPagesFault files part at (read_in pass selected walk) fault
   by_fault faults.OutOfMemory (i, stands, b) = (i, stands, allocates_held i b)
@@ -179,12 +179,12 @@ module _ (files : List NamedBytes) (part : PageBytes) (at : ℕ) (keeps : Bool) 
 -- One more instruction of a walk that drops what it does not keep.
 pub walked_over_turn : (keeps : Bool) (metrics : WidthsByName) (ahead : List ℤ) (bytes : List ℕ) (stop : Postamble) (chain : List ℕ) (at next : ℕ) (old new : Walk) (i : Instruction) (q : PassStateView)
     → at ≤ next → next ≤ length bytes → (walked : IsWalkedOver keeps metrics ahead bytes stop chain at old) → Spells i (take (next - at) (drop at bytes))
-    → execute (kept (acts (widths_of metrics (known_of old)))) (min 1024 stop.stack_depth) i (held keeps walked.pass) ≡ Some q → stand_of new ≡ held keeps q
+    → execute (bounded_acts (instruction_acts (widths_of metrics (known_of old)))) (min 1024 stop.stack_depth) i (held keeps walked.pass) ≡ Some q → stand_of new ≡ held keeps q
     → after_bops (bop_place at i) (places_left old) ≡ Some (places_left new) → IsRightAfter (known_of old) i → known_of new ≡ known_of old ++ definitions_in i
     → AllByRecursion (HasWidths metrics (known_of old)) (selection_of i) → AllByRecursion (λ f. has_number ahead f ≡ true) (selection_of i) → FontsAreRead new.fonts (walked.selected ++ selection_of i)
     → AreSound metrics (known_of new) new.fonts → IsCurrent new.fonts new.stand → IsWalkedOver keeps metrics ahead bytes stop chain next new
 walked_over_turn keeps metrics ahead bytes stop chain at next old new i q forward high walked spelled goes stand bop fonts known closing named read sound current =
-    let (pass, turned, same) = held_turn keeps (kept (acts (widths_of metrics (known_of old)))) (min 1024 stop.stack_depth) i walked.pass q goes in
+    let (pass, turned, same) = held_turn keeps (bounded_acts (instruction_acts (widths_of metrics (known_of old)))) (min 1024 stop.stack_depth) i walked.pass q goes in
     let selected : List ℤ = walked.selected ++ selection_of i in
     let right : IsRightAt metrics ahead stop at (read_in walked.pass walked.selected old) i (read_in pass selected new) =
     record { goes_on = turned; bop = bop; fonts = fonts; known_is = known; selected_is = refl; closing = closing; named = named } in
@@ -206,7 +206,7 @@ walked_over_next keeps metrics ahead bytes stop chain at post next old mid new h
     let steps = reads.steps in
     let forward = reads.forward in
     let within = reads.within in
-    let does : Acts = kept (acts (widths_of metrics (known_of old))) in
+    let does : Acts = bounded_acts (instruction_acts (widths_of metrics (known_of old))) in
     let goes : execute does (min 1024 stop.stack_depth) reads.here (held keeps walked.pass) ≡ Some (stand_of mid) =
     subst (λ (p : PassStateView). execute does (min 1024 stop.stack_depth) reads.here p ≡ Some (stand_of mid)) walked.stand steps.goes_on in
     walked_over_turn keeps metrics ahead bytes stop chain at next old new reads.here (stand_of mid) (omega arith) (omega arith) walked reads.spelled goes stand

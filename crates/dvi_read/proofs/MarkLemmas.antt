@@ -7,12 +7,12 @@ use Rattle.std.proofs.lemmas.List.{drop-drop, drop-take, drop_at, get_or-drop, l
 use Rattle.byteorder.specs.Endian.{big_number}
 use Rattle.byteorder.specs.Numbers.{big_from-lt}
 use Rattle.dvi_scan.specs.Closing.{ClosesTo}
-use Rattle.dvi_ops.specs.Body.{Position, DviState, Meaning, Widths, Acts, acts, glyph, glyph_of, kept, kept_in, place_after, put_glyph, right, rule_at, set_glyph, start}
+use Rattle.dvi_ops.specs.Body.{Position, DviState, Meaning, Widths, Acts, instruction_acts, glyph, glyph_of, bounded_acts, kept_in, place_after, put_glyph, right, rule_at, set_glyph, start}
 use Rattle.dvi_ops.specs.File.{MarkedPage}
 use Rattle.dvi_ops.specs.Fonts.{WidthsByName, definitions, font, selection_of, selections, width_in as width_of_font, widths_of}
 use Rattle.dvi_ops.specs.Instruction.{Definition, BodyLeaf, SetChar, PutChar, SetRule, PutRule, Nop, Move, FontNum, FontDef, Xxx, Instruction, Do, Push, Pop, Bop, Eop, Postamble, Units}
 use Rattle.dvi_ops.specs.Table.{Spells}
-use Rattle.dvi_ops.specs.Tokens.{Token, IsSpelled, says, written}
+use Rattle.dvi_ops.specs.Tokens.{Token, IsSpelled, token_instructions, token_bytes}
 use Rattle.dvi_ops.proofs.Frames.{not_empty}
 use Rattle.dvi_ops.proofs.Fronts.{words_read}
 use Rattle.dvi_ops.proofs.Numbers.{short_below}
@@ -91,7 +91,7 @@ put_made widths c s t marks (Some f) selected e = by_width (widths f c) refl e
     by_width (Some width) has e =
         record { number = f; width = width; selected = selected; has = has; made = sym (ranged_marks _ (Glyph f c s.place.h s.place.v ∷ []) marks s t e) }
 
-leaf_made : (widths : Widths) (leaf : BodyLeaf) (s t : DviState) (marks : List Mark) → kept_in (acts widths leaf s) ≡ Some (marks, t) → AreMade widths leaf s marks
+leaf_made : (widths : Widths) (leaf : BodyLeaf) (s t : DviState) (marks : List Mark) → kept_in (instruction_acts widths leaf s) ≡ Some (marks, t) → AreMade widths leaf s marks
 leaf_made widths (SetChar c) s t marks e = set_made widths c s t marks s.font refl e
 leaf_made widths (PutChar c) s t marks e = put_made widths c s t marks s.font refl e
 leaf_made widths (SetRule height width) s t marks e = sym (ranged_marks _ (rule_at height width s.place) marks (right s width) t e)
@@ -173,7 +173,7 @@ adds_none widths i p q none same =
     record { marks = []; after = same ∙ sym (append-nil (marks_so_far p)); texts = sym none; few = omega arith; glyphs = λ P has. tt }
 
 drawn_adds : (widths : Widths) (leaf : BodyLeaf) (pages : List MarkedPage) (counts : List ℤ) (marks : List Mark) (stack : List Position) (s : DviState) (m : Meaning) (q : PassStateView)
-    → kept_in (acts widths leaf s) ≡ m → with_marks pages counts marks stack m ≡ Some q → Adds widths (Do leaf) (Inside pages counts marks stack s) q
+    → kept_in (instruction_acts widths leaf s) ≡ m → with_marks pages counts marks stack m ≡ Some q → Adds widths (Do leaf) (Inside pages counts marks stack s) q
 drawn_adds widths leaf pages counts marks stack s None q is e = absurd cc
 drawn_adds widths leaf pages counts marks stack s (Some (more, t)) q is e =
     let same : Inside pages counts (marks ++ more) stack t ≡ q = cc in
@@ -190,13 +190,13 @@ push_marks : (b : Bool) (p q : PassStateView) → (if b then Some p else None) �
 push_marks true p q e = let same : p ≡ q = cc in sym (ap marks_so_far same)
 push_marks false p q e = absurd cc
 
-pub turn_adds : (widths : Widths) (most : ℕ) (i : Instruction) (p q : PassStateView) → execute (kept (acts widths)) most i p ≡ Some q → Adds widths i p q
+pub turn_adds : (widths : Widths) (most : ℕ) (i : Instruction) (p q : PassStateView) → execute (bounded_acts (instruction_acts widths)) most i p ≡ Some q → Adds widths i p q
 turn_adds widths most (Do Nop) (Between pages) q e = let same : Between pages ≡ q = cc in adds_none widths (Do Nop) (Between pages) q refl (sym (ap marks_so_far same))
 turn_adds widths most (Do (FontDef d)) (Between pages) q e = let same : Between pages ≡ q = cc in adds_none widths (Do (FontDef d)) (Between pages) q refl (sym (ap marks_so_far same))
 turn_adds widths most (Bop counts pointer) (Between pages) q e =
     let same : Inside pages counts [] [] start ≡ q = cc in adds_none widths (Bop counts pointer) (Between pages) q refl (sym (ap marks_so_far same) ∙ append-nil (marks_of pages))
 turn_adds widths most i (Between pages) q e = absurd cc
-turn_adds widths most (Do leaf) (Inside pages counts marks stack s) q e = drawn_adds widths leaf pages counts marks stack s (kept_in (acts widths leaf s)) q refl e
+turn_adds widths most (Do leaf) (Inside pages counts marks stack s) q e = drawn_adds widths leaf pages counts marks stack s (kept_in (instruction_acts widths leaf s)) q refl e
 turn_adds widths most Push (Inside pages counts marks stack s) q e =
     adds_none widths Push (Inside pages counts marks stack s) q refl (push_marks (nat_lt (length stack) most) (Inside pages counts marks (s.place ∷ stack) s) q e)
 turn_adds widths most Pop (Inside pages counts marks [] s) q e = absurd cc
@@ -219,22 +219,22 @@ special_room : (text : List ℕ) (pages : List MarkedPage) (counts : List ℤ) (
 special_room text pages counts marks stack s true q e = refl
 special_room text pages counts marks stack s false q e = absurd cc
 
-special_takes : (widths : Widths) (most : ℕ) (text : List ℕ) (p q : PassStateView) → execute (kept (acts widths)) most (Do (Xxx text)) p ≡ Some q → TakesRoom (acts widths) most (Do (Xxx text)) p
+special_takes : (widths : Widths) (most : ℕ) (text : List ℕ) (p q : PassStateView) → execute (bounded_acts (instruction_acts widths)) most (Do (Xxx text)) p ≡ Some q → TakesRoom (instruction_acts widths) most (Do (Xxx text)) p
 special_takes widths most text (Between pages) q e = absurd cc
 special_takes widths most text (Inside pages counts marks stack s) q e = (Special s.place.h s.place.v text, s, special_room text pages counts marks stack s _ q e)
 
-pub takes_special : (widths : Widths) (most : ℕ) (i : Instruction) (p q : PassStateView) → PutsSpecial i → execute (kept (acts widths)) most i p ≡ Some q → TakesRoom (acts widths) most i p
+pub takes_special : (widths : Widths) (most : ℕ) (i : Instruction) (p q : PassStateView) → PutsSpecial i → execute (bounded_acts (instruction_acts widths)) most i p ≡ Some q → TakesRoom (instruction_acts widths) most i p
 takes_special widths most i p q (text, is) e =
-    subst (λ (i : Instruction). TakesRoom (acts widths) most i p) (sym is)
-    (special_takes widths most text p q (subst (λ (i : Instruction). execute (kept (acts widths)) most i p ≡ Some q) is e))
+    subst (λ (i : Instruction). TakesRoom (instruction_acts widths) most i p) (sym is)
+    (special_takes widths most text p q (subst (λ (i : Instruction). execute (bounded_acts (instruction_acts widths)) most i p ≡ Some q) is e))
 
 -- The glyphs of a pass have what glyphs of selected fonts with widths have.
 pub pass_glyphs : (P : ℤ → ℤ → Type 0) (Selected : ℤ → Type 0) (widths : Widths) (most : ℕ) (is : List Instruction) (p q : PassStateView)
     → ((f : ℤ) → Selected f → (c : ℤ) → IsSome (widths f c) → P f c) → ((f : ℤ) → current_of p ≡ Some f → Selected f) → AllByRecursion Selected (selections is)
-    → AllByRecursion (OfGlyph P) (marks_so_far p) → passes (kept (acts widths)) most is p ≡ Some q → AllByRecursion (OfGlyph P) (marks_so_far q)
+    → AllByRecursion (OfGlyph P) (marks_so_far p) → passes (bounded_acts (instruction_acts widths)) most is p ≡ Some q → AllByRecursion (OfGlyph P) (marks_so_far q)
 pass_glyphs P Selected widths most [] p q has current selected all e = let same : p ≡ q = cc in subst (λ (p : PassStateView). AllByRecursion (OfGlyph P) (marks_so_far p)) same all
 pass_glyphs P Selected widths most (i ∷ is) p q has current selected all e =
-    by_turn (execute (kept (acts widths)) most i p) refl
+    by_turn (execute (bounded_acts (instruction_acts widths)) most i p) refl
     (λ r turn.
     let adds = turn_adds widths most i p r turn in
     pass_glyphs P Selected widths most is r q has (λ f at. next f (turn_font widths most i p r f turn at)) (all_back Selected (selection_of i) (selections is) selected)
@@ -246,9 +246,9 @@ pass_glyphs P Selected widths most (i ∷ is) p q has current selected all e =
     next f (inr is_it) =
         let there : AllByRecursion Selected (f ∷ []) = subst (λ (i : Instruction). AllByRecursion Selected (selection_of i)) is_it (all_front Selected (selection_of i) (selections is) selected) in there.0
 
-    by_turn : (o : Option PassStateView) → execute (kept (acts widths)) most i p ≡ o
-        → ((r : PassStateView) → execute (kept (acts widths)) most i p ≡ Some r → passes (kept (acts widths)) most is r ≡ Some q → AllByRecursion (OfGlyph P) (marks_so_far q))
-        → then_pass (passes (kept (acts widths)) most is) o ≡ Some q → AllByRecursion (OfGlyph P) (marks_so_far q)
+    by_turn : (o : Option PassStateView) → execute (bounded_acts (instruction_acts widths)) most i p ≡ o
+        → ((r : PassStateView) → execute (bounded_acts (instruction_acts widths)) most i p ≡ Some r → passes (bounded_acts (instruction_acts widths)) most is r ≡ Some q → AllByRecursion (OfGlyph P) (marks_so_far q))
+        → then_pass (passes (bounded_acts (instruction_acts widths)) most is) o ≡ Some q → AllByRecursion (OfGlyph P) (marks_so_far q)
     by_turn None turn later e = absurd cc
     by_turn (Some r) turn later e = later r turn e
 
@@ -265,7 +265,7 @@ read_width_is metrics table fonts f c sound is_read some =
 
 -- The glyphs of the pages that were read have widths, where the fonts that were selected were read.
 pub walked_widths : (metrics : WidthsByName) (most : ℕ) (fonts : ReadFonts) (table : List Definition) (is : List Instruction) (q : PassStateView) → AreSound metrics table fonts
-    → AllByRecursion (λ f. FontIsRead f fonts) (selections is) → passes (kept (acts (widths_of metrics table))) most is (Between []) ≡ Some q → HasGlyphWidths metrics table fonts (marks_so_far q)
+    → AllByRecursion (λ f. FontIsRead f fonts) (selections is) → passes (bounded_acts (instruction_acts (widths_of metrics table))) most is (Between []) ≡ Some q → HasGlyphWidths metrics table fonts (marks_so_far q)
 walked_widths metrics most fonts table is q sound read e =
     record {
       codes = sound.codes;
@@ -349,7 +349,7 @@ stand_next bytes at next i places texts small forward within spelled stand =
     subst₂ (λ (ps : List ℕ) (ts : List (List ℕ)). TextsStandAt bytes ps ts) (sym (append-nil places)) (sym (append-nil texts)) stand
 
 pub places_next : (widths : Widths) (most : ℕ) (bytes : List ℕ) (at next : ℕ) (i : Instruction) (places new : List ℕ) (p q : PassStateView) → at < next → next ≤ length bytes
-    → Spells i (take (next - at) (drop at bytes)) → execute (kept (acts widths)) most i p ≡ Some q → new ≡ places ++ text_place next i → HasPlaces bytes places p → HasPlaces bytes new q
+    → Spells i (take (next - at) (drop at bytes)) → execute (bounded_acts (instruction_acts widths)) most i p ≡ Some q → new ≡ places ++ text_place next i → HasPlaces bytes places p → HasPlaces bytes new q
 places_next widths most bytes at next i places new p q forward within spelled turn new_is has small =
     let adds = turn_adds widths most i p q turn in
     let texts : texts_in (marks_so_far q) ≡ texts_in (marks_so_far p) ++ text_put i =
@@ -379,12 +379,12 @@ least_bytes : (i : Instruction) (bytes : List ℕ) → Spells i bytes → least 
 least_bytes (Bop counts pointer) bytes spelled = bop_bytes counts pointer bytes spelled
 least_bytes i bytes spelled = some_bytes i bytes spelled
 
-pub least_written : (tokens : List Token) → AllByRecursion IsSpelled tokens → least_of (says tokens) ≤ length (written tokens)
+pub least_written : (tokens : List Token) → AllByRecursion IsSpelled tokens → least_of (token_instructions tokens) ≤ length (token_bytes tokens)
 least_written [] spelled = omega arith
 least_written (t ∷ tokens) (here, spelled) =
     let first = least_bytes t.says t.bytes here in
     let rest = least_written tokens spelled in
-    let both = length-append t.bytes (written tokens) in omega arith
+    let both = length-append t.bytes (token_bytes tokens) in omega arith
 
 -- The bytes that the pages so far take at least.
 abbrev pub pages_bytes : PassStateView → ℕ
@@ -427,16 +427,16 @@ pub record TakesBytes (p : PassStateView) (bytes : ℕ) (q : PassStateView) : Ty
   pub marks : length (marks_so_far q) ≤ length (marks_so_far p) + bytes
   pub pages : pages_bytes q ≤ pages_bytes p + bytes
 
-pub pass_bytes : (widths : Widths) (most : ℕ) (is : List Instruction) (p q : PassStateView) → passes (kept (acts widths)) most is p ≡ Some q → TakesBytes p (least_of is) q
+pub pass_bytes : (widths : Widths) (most : ℕ) (is : List Instruction) (p q : PassStateView) → passes (bounded_acts (instruction_acts widths)) most is p ≡ Some q → TakesBytes p (least_of is) q
 pass_bytes widths most [] p q e =
     let same : p ≡ q = cc in
     let marks = ap (λ (p : PassStateView). length (marks_so_far p)) same in
     let pages = ap pages_bytes same in record { marks = omega arith; pages = omega arith }
 pass_bytes widths most (i ∷ is) p q e =
-    by_turn (execute (kept (acts widths)) most i p) refl (λ r later. pass_bytes widths most is r q later) e
+    by_turn (execute (bounded_acts (instruction_acts widths)) most i p) refl (λ r later. pass_bytes widths most is r q later) e
   where
-    by_turn : (o : Option PassStateView) → execute (kept (acts widths)) most i p ≡ o → ((r : PassStateView) → passes (kept (acts widths)) most is r ≡ Some q → TakesBytes r (least_of is) q)
-        → then_pass (passes (kept (acts widths)) most is) o ≡ Some q → TakesBytes p (least_of (i ∷ is)) q
+    by_turn : (o : Option PassStateView) → execute (bounded_acts (instruction_acts widths)) most i p ≡ o → ((r : PassStateView) → passes (bounded_acts (instruction_acts widths)) most is r ≡ Some q → TakesBytes r (least_of is) q)
+        → then_pass (passes (bounded_acts (instruction_acts widths)) most is) o ≡ Some q → TakesBytes p (least_of (i ∷ is)) q
     by_turn None turn later e = absurd cc
     by_turn (Some r) turn later e =
         let rest = later r e in
@@ -444,7 +444,7 @@ pass_bytes widths most (i ∷ is) p q e =
         let few = adds.few in
         let some = least_some i in
         let size = ap (λ (ms : List Mark). length ms) adds.after ∙ length-append (marks_so_far p) adds.marks in
-        let pages = turn_bytes (kept (acts widths)) most i p r turn in
+        let pages = turn_bytes (bounded_acts (instruction_acts widths)) most i p r turn in
         let marks_rest = rest.marks in
         let pages_rest = rest.pages in record { marks = omega arith; pages = omega arith }
 
@@ -456,9 +456,9 @@ module _ (metrics : WidthsByName) (ahead : List ℤ) (bytes : List ℕ) (stop : 
       let takes = pass_bytes (widths_of metrics s.known) (min 1024 stop.stack_depth) r.body (Between []) s.pass r.passed in
       let marks : length (marks_so_far s.pass) ≡ length (marks_of pages) = ap (λ (p : PassStateView). length (marks_so_far p)) between in
       let size : pages_bytes s.pass ≡ 46 * length pages = ap pages_bytes between in
-      let all : least_of (says r.before) ≡ 1 + least_of r.body = ap least_of r.front_is in
+      let all : least_of (token_instructions r.before) ≡ 1 + least_of r.body = ap least_of r.front_is in
       let spelled = least_written r.before r.spelled in
-      let whole : length (written r.before) ≡ at = ap (λ (x : List ℕ). length x) r.whole ∙ length-take-le at bytes within in
+      let whole : length (token_bytes r.before) ≡ at = ap (λ (x : List ℕ). length x) r.whole ∙ length-take-le at bytes within in
       let few = takes.marks in
       let low = takes.pages in record { marks_fit = omega arith; pages_fit = omega arith }
 
@@ -488,8 +488,8 @@ special_fault files ahead bytes stop at post i old new stands puts steps selecte
     (i, stands, inl (takes_special (widths_of (file_widths files) (known_of old)) (min 1024 stop.stack_depth) i (stand_of old) (stand_of new) puts steps.goes_on))
 
 -- The same for what is kept of a file: its pages are those of the walk, and its definitions are those before post and after it.
-module _ (p : PassStateView) (left : Left) (pages kept : List MarkedPage) (units : Units) (new : List Definition) (dvi : Opened) (ended : PagesHaveEnded p left pages) (same : kept ≡ pages)
-    (is : dvi ≡ record { units = units; pages = kept; fonts = new }) where
+module _ (p : PassStateView) (left : Left) (pages bounded_acts : List MarkedPage) (units : Units) (new : List Definition) (dvi : Opened) (ended : PagesHaveEnded p left pages) (same : bounded_acts ≡ pages)
+    (is : dvi ≡ record { units = units; pages = bounded_acts; fonts = new }) where
   pages_of_dvi : dvi.pages ≡ pages
   pages_of_dvi = ap (λ (d : Opened). d.pages) is ∙ same
 
@@ -499,9 +499,9 @@ module _ (p : PassStateView) (left : Left) (pages kept : List MarkedPage) (units
   pub kept_widths : (metrics : WidthsByName) (bytes : List ℕ) (from to : ℕ) (known : List Definition) (fonts read : ReadFonts) → HasGlyphWidths metrics known fonts (marks_so_far p)
       → ClosesTo bytes from to known new → read ≡ fonts → HasGlyphWidths metrics dvi.fonts read (marks_of dvi.pages)
   kept_widths metrics bytes from to known fonts read has (tail, closes, new_is) fonts_are =
-      let table : known ++ definitions (says tail) ≡ dvi.fonts = sym (ap (λ (d : Opened). d.fonts) is ∙ new_is) in
+      let table : known ++ definitions (token_instructions tail) ≡ dvi.fonts = sym (ap (λ (d : Opened). d.fonts) is ∙ new_is) in
       let all = subst (λ (ms : List Mark). HasGlyphWidths metrics known fonts ms) marks_of_dvi has in
-      let more = more_widths metrics known (definitions (says tail)) fonts (marks_of dvi.pages) all in
+      let more = more_widths metrics known (definitions (token_instructions tail)) fonts (marks_of dvi.pages) all in
       subst₂ (λ (ds : List Definition) (fonts : ReadFonts). HasGlyphWidths metrics ds fonts (marks_of dvi.pages)) table (sym fonts_are) more
 
   pub kept_places : (bytes places read : List ℕ) → ((k : ℕ) → slice_index bytes k < 256) → HasPlaces bytes places p → read ≡ places → TextsStandAt bytes read (texts_in (marks_of dvi.pages))

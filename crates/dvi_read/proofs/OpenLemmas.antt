@@ -12,10 +12,10 @@ use Rattle.dvi_scan.proofs.EndLemmas.{frame_ends, one_end}
 use Rattle.dvi_ops.specs.File.{Frame, IsFile, MarkedPage}
 use Rattle.dvi_ops.specs.Fonts.{WidthsByName, definitions_in, definitions}
 use Rattle.dvi_ops.specs.Instruction.{Definition, Postamble}
-use Rattle.dvi_ops.specs.Tokens.{Token, says, written}
+use Rattle.dvi_ops.specs.Tokens.{Token, token_instructions, token_bytes}
 use Rattle.dvi_ops.proofs.Frames.{one_list, one_list_of_pages}
 use Rattle.dvi_scan.specs.Pass.{PassStateView}
-use Rattle.dvi_scan.specs.Passed.{framing, IsFramed}
+use Rattle.dvi_scan.specs.Passed.{file_framing, IsFramed}
 use Rattle.dvi_scan.specs.Reached.{IsReached, IsTail, Left, ReadSoFar, before_pages}
 use Rattle.dvi_scan.proofs.PassedLemmas.{frame_parts, passed_file}
 use Rattle.dvi_scan.proofs.ReachedLemmas.{reached_end, reached_first}
@@ -55,7 +55,7 @@ strays files ahead bytes post after last stop chain fault framed broken = λ bad
 
 -- The parts make a file of the pages.
 pub opened : (files : List NamedBytes) (bytes : List ℕ) (post after last : ℕ) (stop : Postamble) (chain : List ℕ) (from : ℕ) (ahead : List ℤ) (seen : ReadSoFar) (pages : List MarkedPage) (new : List Definition)
-    → HasPages files bytes (framing post after last stop chain) from ahead seen → PagesHaveEnded seen.pass seen.left pages → ClosesTo bytes after (last - 5) seen.known new → IsFile (file_widths files) bytes pages
+    → HasPages files bytes (file_framing post after last stop chain) from ahead seen → PagesHaveEnded seen.pass seen.left pages → ClosesTo bytes after (last - 5) seen.known new → IsFile (file_widths files) bytes pages
 opened files bytes post after last stop chain from ahead seen pages new has ended (tail, closes, new_is) =
     let framed = has.starts.chained.framed in
     let numbers = looked bytes after (last - 5) ahead seen.known tail (after_within files bytes post after last stop chain framed) has.looked closes in
@@ -67,12 +67,12 @@ opened files bytes post after last stop chain from ahead seen pages new has ende
 pub units_of_post : (bytes : List ℕ) (post e : ℕ) (stop : Postamble) → HasPostamble bytes post e stop → (f : Frame bytes) → stop.units ≡ f.stop.units
 units_of_post bytes post e stop ends f =
     let found = frame_ends bytes f in
-    let (lasts, posts, stops) = one_end bytes post e (length (written f.front)) found.0 stop f.stop ends found.1 in
+    let (lasts, posts, stops) = one_end bytes post e (length (token_bytes f.front)) found.0 stop f.stop ends found.1 in
     ap (λ (s : Postamble). s.units) stops
 
 -- A refusal at the place of post or after it.
 pub finish_refused : (files : List NamedBytes) (bytes : List ℕ) (post after last : ℕ) (stop : Postamble) (chain : List ℕ) (from : ℕ) (ahead : List ℤ) (seen : ReadSoFar) (fault : DviFault)
-    → HasPages files bytes (framing post after last stop chain) from ahead seen → IsFinishFault bytes post after last seen.pass seen.left seen.known fault → IsDviFault files bytes fault
+    → HasPages files bytes (file_framing post after last stop chain) from ahead seen → IsFinishFault bytes post after last seen.pass seen.left seen.known fault → IsDviFault files bytes fault
 finish_refused files bytes post after last stop chain from ahead seen faults.OutOfMemory has (pages, ended, new, wants) =
     ForDefinitions post after last stop chain from ahead seen pages new refl has ended wants
 finish_refused files bytes post after last stop chain from ahead seen (faults.Bad bad) has (inl unended) =
@@ -84,19 +84,19 @@ finish_refused files bytes post after last stop chain from ahead seen fault has 
 -- The definitions that were read before post and after it are those of the whole file.
 pub fonts_read : (metrics : WidthsByName) (ahead : List ℤ) (bytes : List ℕ) (post after last : ℕ) (stop : Postamble) (chain : List ℕ) (seen : ReadSoFar) (new : List Definition)
     → IsFramed bytes post after last stop chain → IsReached metrics ahead bytes stop chain post seen → ClosesTo bytes after (last - 5) seen.known new
-    → (f : Frame bytes) → new ≡ definitions (says f.front ++ says f.tail)
+    → (f : Frame bytes) → new ≡ definitions (token_instructions f.front ++ token_instructions f.tail)
 fonts_read metrics ahead bytes post after last stop chain seen new framed r (tail, closes, new_is) f =
     let parts = frame_parts bytes post after last stop chain framed f in
     let front : r.before ≡ f.front = one_list r.before f.front r.spelled f.front_spelled (r.whole ∙ sym parts.0) in
     let after_it : tail ≡ f.tail = one_list tail f.tail closes.spelled f.tail_spelled (closes.whole ∙ sym parts.1) in
     new_is
-    ∙ (ap (λ (ds : List Definition). ds ++ definitions (says tail)) (sym r.known_is)
-    ∙ (sym (flat_map-append definitions_in (says r.before) (says tail))
-    ∙ ap₂ (λ (a b : List Token). definitions (says a ++ says b)) front after_it))
+    ∙ (ap (λ (ds : List Definition). ds ++ definitions (token_instructions tail)) (sym r.known_is)
+    ∙ (sym (flat_map-append definitions_in (token_instructions r.before) (token_instructions tail))
+    ∙ ap₂ (λ (a b : List Token). definitions (token_instructions a ++ token_instructions b)) front after_it))
 
 -- The result of reading a whole file.
 pub read_from : (files : List NamedBytes) (bytes : List ℕ) (post after last : ℕ) (stop : Postamble) (chain : List ℕ) (from : ℕ) (ahead : List ℤ) (seen : ReadSoFar) (pages : List MarkedPage) (new : List Definition)
-    → HasPages files bytes (framing post after last stop chain) from ahead seen → PagesHaveEnded seen.pass seen.left pages → ClosesTo bytes after (last - 5) seen.known new
+    → HasPages files bytes (file_framing post after last stop chain) from ahead seen → PagesHaveEnded seen.pass seen.left pages → ClosesTo bytes after (last - 5) seen.known new
     → IsReadFrom files bytes (record { units = stop.units; pages = pages; fonts = new })
 read_from files bytes post after last stop chain from ahead seen pages new has ended closes =
     record {
@@ -147,7 +147,7 @@ tail_refused bytes post after last p left pages known new (frames.Bad fault) end
 
 -- The same for pages that are equal to those of the walk.
 pub read_kept : (files : List NamedBytes) (bytes : List ℕ) (post after last : ℕ) (stop : Postamble) (chain : List ℕ) (from : ℕ) (ahead : List ℤ) (seen : ReadSoFar) (pages kept : List MarkedPage)
-    (new : List Definition) → HasPages files bytes (framing post after last stop chain) from ahead seen → PagesHaveEnded seen.pass seen.left pages → ClosesTo bytes after (last - 5) seen.known new → kept ≡ pages
+    (new : List Definition) → HasPages files bytes (file_framing post after last stop chain) from ahead seen → PagesHaveEnded seen.pass seen.left pages → ClosesTo bytes after (last - 5) seen.known new → kept ≡ pages
     → IsReadFrom files bytes (record { units = stop.units; pages = kept; fonts = new })
 read_kept files bytes post after last stop chain from ahead seen pages kept new has ended closes same =
     subst (λ (ps : List MarkedPage). IsReadFrom files bytes (record { units = stop.units; pages = ps; fonts = new })) (sym same)

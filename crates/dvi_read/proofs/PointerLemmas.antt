@@ -6,7 +6,7 @@ use Rattle.dvi_scan.specs.Ends.{StandsAt}
 use Rattle.dvi_scan.specs.declared.fault.BadDvi.{BadDvi}
 use Rattle.dvi_scan.specs.declared.fault.DviCause.{DviCause}
 use Rattle.dvi_scan.specs.declared.fault.DviCause.TheVariants.{Opcode, Pointer}
-use Rattle.dvi_ops.specs.Body.{Acts, acts}
+use Rattle.dvi_ops.specs.Body.{Acts, instruction_acts}
 use Rattle.dvi_ops.specs.File.{MarkedPage}
 use Rattle.dvi_ops.specs.Fonts.{WidthsByName, widths_of}
 use Rattle.dvi_ops.specs.Instruction.{Instruction, Do, Push, Pop, Bop, Eop, Postamble}
@@ -47,7 +47,7 @@ stray_bop files ahead bytes stop chain post bad cause (at, stops) =
     subst (λ (n : ℕ). IsPageAt bytes n post) (sym place) (by_rule i stands rule)
   where
     by_rule : (i : Instruction) → StandsAt bytes at post i → BreaksRule (file_widths files) ahead (min 1024 stop.stack_depth) at stops.seen i Pointer → IsPageAt bytes at post
-    by_rule i stands (inl b) = absurd (no_pointer (acts (widths_of (file_widths files) stops.seen.known)) (min 1024 stop.stack_depth) i stops.seen.pass b)
+    by_rule i stands (inl b) = absurd (no_pointer (instruction_acts (widths_of (file_widths files) stops.seen.known)) (min 1024 stop.stack_depth) i stops.seen.pass b)
     by_rule i stands (inr (on, b)) = bop_at bytes at post i stops.seen.left b stands
 
 pub stray_pointer : (files : List NamedBytes) (ahead : List ℤ) (bytes : List ℕ) (stop : Postamble) (chain : List ℕ) (post bound : ℕ) (pointer : ℤ) (bad : BadDvi)
@@ -61,7 +61,7 @@ stray_pointer files ahead bytes stop chain post bound pointer bad high links cau
     by_rule i rule (later_left metrics ahead bytes stop chain at stops.seen stops.reached bound pointer at (omega arith) links here (omega arith))
   where
     by_rule : (i : Instruction) → BreaksRule (file_widths files) ahead (min 1024 stop.stack_depth) at stops.seen i Pointer → IsIn at stops.seen.left.places → ⊥
-    by_rule i (inl b) left = no_pointer (acts (widths_of (file_widths files) stops.seen.known)) (min 1024 stop.stack_depth) i stops.seen.pass b
+    by_rule i (inl b) left = no_pointer (instruction_acts (widths_of (file_widths files) stops.seen.known)) (min 1024 stop.stack_depth) i stops.seen.pass b
     by_rule i (inr (on, b)) left = stray at stops.seen.left (not_left at i stops.seen.left b) left
 
 pub unmet_pointer : (metrics : WidthsByName) (ahead : List ℤ) (bytes : List ℕ) (stop : Postamble) (chain : List ℕ) (post : ℕ) (s : ReadSoFar) (bad : BadDvi)

@@ -5,7 +5,7 @@ use Rattle.std.specs.List.{AllByRecursion, enumerate_from, flat_map}
 use Rattle.std.proofs.lemmas.Grind.{flat_map-append}
 use Rattle.std.proofs.lemmas.List.{append_cancel_left, map-append}
 use Rattle.scaled_core.specs.Mark.{Mark}
-use Rattle.dvi_ops.specs.Body.{Position, DviState, Meaning, Acts, Widths, acts, kept, start}
+use Rattle.dvi_ops.specs.Body.{Position, DviState, Meaning, Acts, Widths, instruction_acts, bounded_acts, start}
 use Rattle.dvi_ops.specs.File.{MarkedPage}
 use Rattle.dvi_ops.specs.Instruction.{Nop, FontDef, Instruction, Do, Push, Pop, Bop, Eop}
 use Rattle.dvi_scan.specs.Pass.{PassStateView, Between, Inside, execute, passes, then_pass, with_marks}

@@ -7,7 +7,7 @@ use Rattle.std.specs.BTreeMap.{Updates}
 use Rattle.std.specs.List.{AllByRecursion}
 use Rattle.std.specs.Ordering.{int_cmp, int_eq}
 use Rattle.std.proofs.lemmas.Bool.Decides.{Decides-int_eq}
-use Rattle.dvi_ops.specs.Fonts.{WidthsByName, defined, font, widths_in}
+use Rattle.dvi_ops.specs.Fonts.{WidthsByName, first_definition_of, font, widths_in}
 use Rattle.dvi_ops.specs.Instruction.{Definition}
 use Rattle.dvi_scan.specs.Reached.{has_number}
 use Rattle.dvi_scan.proofs.FontLemmas.{defined_more, has_definition, some_definition}
@@ -82,7 +82,7 @@ module _ (files : List NamedBytes) (ahead : List ℤ) (known : List Definition) 
   by_item place other codes (inl e) = sound.codes place other e
   by_item place other codes (inr same) = subst HasBytes same codes
 
-  pub selects_new : has_number ahead f ≡ true → defined f known ≡ Some d → new.current ≡ length old.all.items → file_widths files d.name d.size ≡ Some (width_at read) → HasBytes read
+  pub selects_new : has_number ahead f ≡ true → first_definition_of f known ≡ Some d → new.current ≡ length old.all.items → file_widths files d.name d.size ≡ Some (width_at read) → HasBytes read
       → Selects (file_widths files) ahead known f old new
   selects_new named there current given codes =
       let metrics : WidthsByName = file_widths files in
@@ -108,13 +108,13 @@ sound_more metrics xs ys fonts sound =
     record {
       widths = λ f place at. (
           let (read, there, widths) = sound.widths f place at in
-          let (d, e) = some_definition (defined f xs) (has_definition metrics xs f (is_some (font metrics xs f) (width_at read) widths)) in
+          let (d, e) = some_definition (first_definition_of f xs) (has_definition metrics xs f (is_some (font metrics xs f) (width_at read) widths)) in
           (read, there, ap (widths_in metrics) (defined_more f xs ys d e ∙ sym e) ∙ widths));
       codes = sound.codes;
     }
 
 -- A font is refused, or memory is refused for it.
-pub lacks : (files : List NamedBytes) (ahead : List ℤ) (known : List Definition) (fonts : ReadFonts) (f : ℤ) (d : Definition) (refusal : FontRefusal) → has_number ahead f ≡ true → defined f known ≡ Some d
+pub lacks : (files : List NamedBytes) (ahead : List ℤ) (known : List Definition) (fonts : ReadFonts) (f : ℤ) (d : Definition) (refusal : FontRefusal) → has_number ahead f ≡ true → first_definition_of f known ≡ Some d
     → font_place f fonts ≡ None → IsFontRefusal files d refusal → IsSelectFault files ahead known fonts f (of_font refusal)
 lacks files ahead known fonts f d refusals.OutOfMemory named found new file = record { named = named; new = new; font = d; found = found; file = file }
 lacks files ahead known fonts f d refusals.NoFont named found new file = record { named = named; font = d; found = found; other = λ e. absurd cc; refused = file }

@@ -6,7 +6,7 @@ use Rattle.std.specs.Option.{option_map, option_to_list}
 use Rattle.std.proofs.lemmas.List.{append_cancel_left, drop-drop, length-drop, length-map, length-take-le, take-take, take_at}
 use Rattle.scaled_core.specs.Mark.{Mark}
 use Rattle.scaled_core.proofs.EachOf.{all_back, all_front}
-use Rattle.dvi_ops.specs.Body.{Position, DviState, Acts, Widths, acts, kept, start}
+use Rattle.dvi_ops.specs.Body.{Position, DviState, Acts, Widths, instruction_acts, bounded_acts, start}
 use Rattle.dvi_ops.specs.File.{MarkedPage}
 use Rattle.dvi_ops.specs.Fonts.{selection_of, selections}
 use Rattle.dvi_ops.specs.Instruction.{SetChar, PutChar, FontNum, Instruction, Do, Bop, Eop}
@@ -15,18 +15,18 @@ use Rattle.dvi_ops.specs.View.{view}
 use Rattle.dvi_ops.specs.declared.body_op.BodyOp.TheVariants as bodies
 use Rattle.dvi_ops.specs.declared.op.Op.{Op}
 use Rattle.dvi_ops.specs.declared.op.Op.TheVariants as ops
-use Rattle.dvi_ops.specs.Tokens.{Token, IsSpelled, says, written}
+use Rattle.dvi_ops.specs.Tokens.{Token, IsSpelled, token_instructions, token_bytes}
 use Rattle.dvi_ops.proofs.Frames.{begins, one_list}
 use Rattle.dvi_scan.proofs.FontLemmas.{current_of}
 use Rattle.dvi_scan.proofs.OpLemmas.{IsInBody, in_body}
 use Rattle.dvi_scan.proofs.ReachedLemmas.{take_next, token}
 use Rattle.dvi_scan.proofs.TurnLemmas.{broken_turn}
 use Rattle.dvi_scan.proofs.WidthLemmas.{one_width}
-use Rattle.dvi_scan.specs.Drawing.{always}
+use Rattle.dvi_scan.specs.Drawing.{constant_width}
 use Rattle.dvi_scan.specs.Ends.{StandsAt}
 use Rattle.dvi_scan.specs.Execution.{HasRoom, IsAsked, TurnsPage, inside_of}
 use Rattle.dvi_scan.specs.Pass.{PassStateView, Between, Inside, execute, passes}
-use Rattle.dvi_scan.specs.View.{mark_of, placed, stated}
+use Rattle.dvi_scan.specs.View.{mark_of, spot_position, standing_state}
 use Rattle.dvi_scan.specs.Private.View.{marks_in}
 use Rattle.dvi_scan.specs.declared.executing.OpenPage.{OpenPage}
 use Rattle.dvi_scan.specs.declared.executing.PassFault.{PassFault}
@@ -61,32 +61,32 @@ asked_now fonts i page current = tt
 module _ (most : ℕ) (fonts : ReadFonts) (i : Instruction) (page : OpenPage) (ready : IsReady most fonts page) where
   -- An open page without marks.
   page_alone : inside_of [] page ≡ standing true [] [] page
-  page_alone = ap (λ (ms : List PassMark). Inside [] page.counts (map mark_of ms) (reverse (map placed page.stack.items)) (stated page.state)) ready.none
+  page_alone = ap (λ (ms : List PassMark). Inside [] page.counts (map mark_of ms) (reverse (map spot_position page.stack.items)) (standing_state page.state)) ready.none
 
   -- The instruction does the same with the one width that was asked, and without the pages and the marks that were seen.
-  alone_turn : execute (kept (acts (always (asked_width fonts (code_in i))))) most i (inside_of [] page) ≡ execute (kept (acts (read_width fonts))) most i (standing true [] [] page)
+  alone_turn : execute (bounded_acts (instruction_acts (constant_width (asked_width fonts (code_in i))))) most i (inside_of [] page) ≡ execute (bounded_acts (instruction_acts (read_width fonts))) most i (standing true [] [] page)
   alone_turn =
       one_width (read_width fonts) (asked_width fonts (code_in i)) most i (inside_of [] page) (asked_now fonts i page ready.current)
-      ∙ ap (λ (p : PassStateView). execute (kept (acts (read_width fonts))) most i p) page_alone
+      ∙ ap (λ (p : PassStateView). execute (bounded_acts (instruction_acts (read_width fonts))) most i p) page_alone
 
-  turn_here : (pages : List MarkedPage) (marks : List Mark) → execute (kept (acts (read_width fonts))) most i (standing true pages marks page)
-      ≡ option_map (onto pages marks) (execute (kept (acts (always (asked_width fonts (code_in i))))) most i (inside_of [] page))
+  turn_here : (pages : List MarkedPage) (marks : List Mark) → execute (bounded_acts (instruction_acts (read_width fonts))) most i (standing true pages marks page)
+      ≡ option_map (onto pages marks) (execute (bounded_acts (instruction_acts (constant_width (asked_width fonts (code_in i))))) most i (inside_of [] page))
   turn_here pages marks =
-      turn_onto (kept (acts (read_width fonts))) most i pages page.counts marks (reverse (map placed page.stack.items)) (stated page.state)
+      turn_onto (bounded_acts (instruction_acts (read_width fonts))) most i pages page.counts marks (reverse (map spot_position page.stack.items)) (standing_state page.state)
       ∙ ap (λ (o : Option PassStateView). option_map (onto pages marks) o) (sym alone_turn)
 
   -- No rule is broken where the pass goes on.
   pub never_broken : (pages : List MarkedPage) (marks : List Mark) (after : PassStateView) (fault : PassFault) (new : OpenPage)
-      → execute (kept (acts (read_width fonts))) most i (standing true pages marks page) ≡ Some after → fault ≢ OutOfMemory
-      → TurnsPage {A = Unit {0}} (acts (always (asked_width fonts (code_in i)))) most i [] page new (Err fault) → ⊥
+      → execute (bounded_acts (instruction_acts (read_width fonts))) most i (standing true pages marks page) ≡ Some after → fault ≢ OutOfMemory
+      → TurnsPage {A = Unit {0}} (instruction_acts (constant_width (asked_width fonts (code_in i)))) most i [] page new (Err fault) → ⊥
   never_broken pages marks after OutOfMemory new e other turn = other refl
   never_broken pages marks after (Broken cause) new e other turn =
-      let none = broken_turn (acts (always (asked_width fonts (code_in i)))) most i (inside_of [] page) cause turn.0 in
+      let none = broken_turn (instruction_acts (constant_width (asked_width fonts (code_in i)))) most i (inside_of [] page) cause turn.0 in
       let both : Some after ≡ None = sym e ∙ (turn_here pages marks ∙ ap (λ (o : Option PassStateView). option_map (onto pages marks) o) none) in cc
 
   -- The state after the instruction, with the marks that it made.
-  module _ (mid : OpenPage) (turn : execute (kept (acts (always (asked_width fonts (code_in i))))) most i (inside_of [] page) ≡ Some (inside_of [] mid)) where
-    pub after_is : (pages : List MarkedPage) (marks : List Mark) (after : PassStateView) → execute (kept (acts (read_width fonts))) most i (standing true pages marks page) ≡ Some after
+  module _ (mid : OpenPage) (turn : execute (bounded_acts (instruction_acts (constant_width (asked_width fonts (code_in i))))) most i (inside_of [] page) ≡ Some (inside_of [] mid)) where
+    pub after_is : (pages : List MarkedPage) (marks : List Mark) (after : PassStateView) → execute (bounded_acts (instruction_acts (read_width fonts))) most i (standing true pages marks page) ≡ Some after
         → after ≡ standing true pages (marks ++ map mark_of mid.marks.items) mid
     after_is pages marks after e =
         let both : Some after ≡ Some (standing true pages (marks ++ map mark_of mid.marks.items) mid) =
@@ -95,7 +95,7 @@ module _ (most : ℕ) (fonts : ReadFonts) (i : Instruction) (page : OpenPage) (r
     -- It makes one mark at most.
     pub few_marks : length mid.marks.items ≤ 1
     few_marks =
-        let adds = turn_adds (always (asked_width fonts (code_in i))) most i (inside_of [] page) (inside_of [] mid) turn in
+        let adds = turn_adds (constant_width (asked_width fonts (code_in i))) most i (inside_of [] page) (inside_of [] mid) turn in
         let old : map mark_of page.marks.items ≡ [] = ap (λ (ms : List PassMark). map mark_of ms) ready.none in
         let new : map mark_of mid.marks.items ≡ adds.marks = adds.after ∙ ap (λ (ms : List Mark). ms ++ adds.marks) old in
         let size = ap (λ (ms : List Mark). length ms) new in
@@ -105,12 +105,12 @@ module _ (most : ℕ) (fonts : ReadFonts) (i : Instruction) (page : OpenPage) (r
     -- The font that is selected after it was selected last.
     pub current_after : (new : ReadFonts) → Chooses i fonts new → (f : ℤ) → mid.state.font ≡ Some f → HasCurrent f new
     current_after new chosen f e =
-        current_next (always (asked_width fonts (code_in i))) most i (inside_of [] page) (inside_of [] mid) f fonts new turn e ready.current chosen
+        current_next (constant_width (asked_width fonts (code_in i))) most i (inside_of [] page) (inside_of [] mid) f fonts new turn e ready.current chosen
 
     -- Its counts stay.
     pub counts_after : mid.counts ≡ page.counts
     counts_after =
-        counts_stay (kept (acts (always (asked_width fonts (code_in i))))) most i [] page.counts (map mark_of page.marks.items) (reverse (map placed page.stack.items)) (stated page.state) (inside_of [] mid) turn
+        counts_stay (bounded_acts (instruction_acts (constant_width (asked_width fonts (code_in i))))) most i [] page.counts (map mark_of page.marks.items) (reverse (map spot_position page.stack.items)) (standing_state page.state) (inside_of [] mid) turn
 
 -- The one mark that was made is handed out, and none is left.
 pub popped : (old new : List PassMark) (found : Option PassMark) → old ≡ new ++ option_to_list found → length old ≤ 1 → (found ≡ None → length old ≡ 0) → (map mark_of old ≡ marks_in found) × (new ≡ [])
@@ -169,18 +169,18 @@ module _ (bytes : List ℕ) (at post most : ℕ) (fonts : ReadFonts) (here : Pas
   pub some_there : at < post → HasRest bytes at post most fonts [] here all → ((i : Instruction) → StandsAt bytes at post i → ⊥) → ⊥
   some_there below r none = by_tokens r.rest r.spelled r.whole
     where
-      by_tokens : (ts : List Token) → AllByRecursion IsSpelled ts → written ts ≡ take (post - at) (drop at bytes) → ⊥
+      by_tokens : (ts : List Token) → AllByRecursion IsSpelled ts → token_bytes ts ≡ take (post - at) (drop at bytes) → ⊥
       by_tokens [] spelled whole =
           let high = r.high in
           let size : 0 ≡ length (take (post - at) (drop at bytes)) = ap (λ (x : List ℕ). length x) whole in
           omega (arith, length-take-le (post - at) (drop at bytes) (omega (arith, length-drop at bytes)), length-drop at bytes)
       by_tokens (t ∷ ts) spelled whole =
           let high = r.high in
-          let size : length (t.bytes ++ written ts) ≡ length (take (post - at) (drop at bytes)) = ap (λ (x : List ℕ). length x) whole in
+          let size : length (t.bytes ++ token_bytes ts) ≡ length (take (post - at) (drop at bytes)) = ap (λ (x : List ℕ). length x) whole in
           let fits : length t.bytes ≤ post - at =
-          omega (arith, length-append t.bytes (written ts), length-take-le (post - at) (drop at bytes) (omega (arith, length-drop at bytes))) in
+          omega (arith, length-append t.bytes (token_bytes ts), length-take-le (post - at) (drop at bytes) (omega (arith, length-drop at bytes))) in
           let front : take (length t.bytes) (drop at bytes) ≡ t.bytes =
-          sym (take-take (length t.bytes) (post - at) (drop at bytes) fits) ∙ (ap (λ (x : List ℕ). take (length t.bytes) x) (sym whole) ∙ take_at t.bytes (written ts) (length t.bytes) refl) in
+          sym (take-take (length t.bytes) (post - at) (drop at bytes) fits) ∙ (ap (λ (x : List ℕ). take (length t.bytes) x) (sym whole) ∙ take_at t.bytes (token_bytes ts) (length t.bytes) refl) in
           none t.says (length t.bytes, omega arith, subst (λ (x : List ℕ). Spells t.says x) (sym front) spelled.0)
 
   -- The instruction that was read is the first of them.
@@ -197,7 +197,7 @@ module _ (bytes : List ℕ) (at post most : ℕ) (fonts : ReadFonts) (here : Pas
       let place : at + (next - at) ≡ next = omega arith in
       let later : take (post - at - (next - at)) (drop (next - at) (drop at bytes)) ≡ left =
       ap (λ (x : List ℕ). take (post - at - (next - at)) x) (drop-drop (next - at) at bytes ∙ ap (λ (n : ℕ). drop n bytes) place) ∙ ap (λ (n : ℕ). take n (drop next bytes)) amount in
-      let whole : written (one ∷ []) ++ left ≡ written r.rest =
+      let whole : token_bytes (one ∷ []) ++ left ≡ token_bytes r.rest =
       ap (λ (x : List ℕ). x ++ left) (append-nil front) ∙ (ap (λ (x : List ℕ). front ++ x) (sym later) ∙ (sym parts ∙ sym r.whole)) in
       let (more, same, more_spelled, more_whole) = begins (one ∷ []) r.rest left (spelled, tt) r.spelled whole in
       record {
@@ -206,18 +206,18 @@ module _ (bytes : List ℕ) (at post most : ℕ) (fonts : ReadFonts) (here : Pas
         rest = more;
         spelled = more_spelled;
         whole = more_whole;
-        passed = subst (λ (ts : List Token). passes (kept (acts (read_width fonts))) most (says ts) here ≡ Some (Between all)) same r.passed;
-        read = subst (λ (ts : List Token). FontsAreRead fonts (selections (says ts))) same r.read;
+        passed = subst (λ (ts : List Token). passes (bounded_acts (instruction_acts (read_width fonts))) most (token_instructions ts) here ≡ Some (Between all)) same r.passed;
+        read = subst (λ (ts : List Token). FontsAreRead fonts (selections (token_instructions ts))) same r.read;
         codes = r.codes;
       }
 
   -- The pass goes on with it.
-  pub goes_on : (i : Instruction) → (r : HasRest bytes at post most fonts (i ∷ []) here all) → Continues (kept (acts (read_width fonts))) most i (says r.rest) here (Between all)
-  goes_on i r = first_turn (kept (acts (read_width fonts))) most i (says r.rest) here (Between all) r.passed
+  pub goes_on : (i : Instruction) → (r : HasRest bytes at post most fonts (i ∷ []) here all) → Continues (bounded_acts (instruction_acts (read_width fonts))) most i (token_instructions r.rest) here (Between all)
+  goes_on i r = first_turn (bounded_acts (instruction_acts (read_width fonts))) most i (token_instructions r.rest) here (Between all) r.passed
 
   -- What is known after it.
   pub rest_after : (i : Instruction) (after : PassStateView) (new : ReadFonts) (place : ℕ) → new ≡ record fonts { current = place }
-      → (r : HasRest bytes at post most fonts (i ∷ []) here all) → passes (kept (acts (read_width fonts))) most (says r.rest) after ≡ Some (Between all)
+      → (r : HasRest bytes at post most fonts (i ∷ []) here all) → passes (bounded_acts (instruction_acts (read_width fonts))) most (token_instructions r.rest) after ≡ Some (Between all)
       → HasRest bytes at post most new [] after all
   rest_after i after new place same r later =
       subst (λ (fonts : ReadFonts). HasRest bytes at post most fonts [] after all) (sym same)
@@ -228,7 +228,7 @@ module _ (bytes : List ℕ) (at post most : ℕ) (fonts : ReadFonts) (here : Pas
         spelled = r.spelled;
         whole = r.whole;
         passed = later;
-        read = all_back (λ f. FontIsRead f fonts) (selection_of i) (selections (says r.rest)) r.read;
+        read = all_back (λ f. FontIsRead f fonts) (selection_of i) (selections (token_instructions r.rest)) r.read;
         codes = r.codes;
       })
 
@@ -237,16 +237,16 @@ module _ (bytes : List ℕ) (at post most : ℕ) (fonts : ReadFonts) (here : Pas
   none_left past r =
       let low = r.low in
       let none : post - at ≡ 0 = omega arith in
-      let empty : written r.rest ≡ [] = r.whole ∙ ap (λ (n : ℕ). take n (drop at bytes)) none in
+      let empty : token_bytes r.rest ≡ [] = r.whole ∙ ap (λ (n : ℕ). take n (drop at bytes)) none in
       let no_tokens : r.rest ≡ [] = one_list r.rest [] r.spelled tt empty in
-      let passed : Some here ≡ Some (Between all) = subst (λ (ts : List Token). passes (kept (acts (read_width fonts))) most (says ts) here ≡ Some (Between all)) no_tokens r.passed in cc
+      let passed : Some here ≡ Some (Between all) = subst (λ (ts : List Token). passes (bounded_acts (instruction_acts (read_width fonts))) most (token_instructions ts) here ≡ Some (Between all)) no_tokens r.passed in cc
 
 -- One instruction of a file.
 module _ (i : Instruction) (s : Sights) (seen : List Seen) (a : IsSeenAfter (i ∷ []) s seen) where
   abbrev pub here : PassStateView
   here = standing s.inside a.pages a.marks s.page
 
-  pub turned : Continues (kept (acts (read_width s.fonts))) s.most i (says a.rest.rest) here (Between a.all)
+  pub turned : Continues (bounded_acts (instruction_acts (read_width s.fonts))) s.most i (token_instructions a.rest.rest) here (Between a.all)
   turned = goes_on s.bytes.now s.at s.post s.most s.fonts here a.all i a.rest
 
   -- What is known after it, where it shows something new.
@@ -254,8 +254,8 @@ module _ (i : Instruction) (s : Sights) (seen : List Seen) (a : IsSeenAfter (i �
       → turned.after ≡ standing inside pages marks page → IsReady s.most fonts page → seen_so_far (standing inside pages marks page) ≡ seen_so_far here ++ new
       → (rest : List Seen) × (seen ≡ new ++ rest) × IsSeenAhead (record s { inside = inside; fonts = fonts; page = page }) rest
   then_seen inside fonts page pages marks new place same after_is ready new_is =
-      let later = subst (λ (p : PassStateView). passes (kept (acts (read_width s.fonts))) s.most (says a.rest.rest) p ≡ Some (Between a.all)) after_is turned.later in
-      let (rest, seen_is, rest_is) = rest_seen (kept (acts (read_width s.fonts))) s.most (says a.rest.rest) here (standing inside pages marks page) a.all new seen later a.seen_is new_is in (
+      let later = subst (λ (p : PassStateView). passes (bounded_acts (instruction_acts (read_width s.fonts))) s.most (token_instructions a.rest.rest) p ≡ Some (Between a.all)) after_is turned.later in
+      let (rest, seen_is, rest_is) = rest_seen (bounded_acts (instruction_acts (read_width s.fonts))) s.most (token_instructions a.rest.rest) here (standing inside pages marks page) a.all new seen later a.seen_is new_is in (
         rest,
         seen_is,
         record {
@@ -279,11 +279,11 @@ module _ (i : Instruction) (s : Sights) (seen : List Seen) (a : IsSeenAfter (i �
   marks_room page same room = subst (λ v. vec_len v < vec_capacity v) (sym same) room
 
   -- A page begins.
-  pub began : (page : OpenPage) → s.inside ≡ false → execute (kept (acts (read_width s.fonts))) s.most i (Between a.pages) ≡ Some (standing true a.pages [] page) → page.marks ≡ s.page.marks
+  pub began : (page : OpenPage) → s.inside ≡ false → execute (bounded_acts (instruction_acts (read_width s.fonts))) s.most i (Between a.pages) ≡ Some (standing true a.pages [] page) → page.marks ≡ s.page.marks
       → page.stack.capacity ≡ s.page.stack.capacity → page.state.font ≡ None → ShowsFirst seen (record s { inside = true; page = page }) (Some (sights.Page page.counts))
   began page outside turns marks places font =
       let closed : here ≡ Between a.pages = ap (λ (b : Bool). standing b a.pages a.marks s.page) outside in
-      let both : Some turned.after ≡ Some (standing true a.pages [] page) = sym turned.turns ∙ (ap (λ (p : PassStateView). execute (kept (acts (read_width s.fonts))) s.most i p) closed ∙ turns) in
+      let both : Some turned.after ≡ Some (standing true a.pages [] page) = sym turned.turns ∙ (ap (λ (p : PassStateView). execute (bounded_acts (instruction_acts (read_width s.fonts))) s.most i p) closed ∙ turns) in
       let after_is : turned.after ≡ standing true a.pages [] page = cc in
       let ready = a.ready in
       let new_is : seen_so_far (Between a.pages) ++ (Counts page.counts ∷ []) ≡ seen_so_far here ++ (Counts page.counts ∷ []) = ap (λ (p : PassStateView). seen_so_far p ++ (Counts page.counts ∷ [])) (sym closed) in
@@ -301,20 +301,20 @@ module _ (i : Instruction) (s : Sights) (seen : List Seen) (a : IsSeenAfter (i �
   pub idled : (page : OpenPage) → s.inside ≡ false → page ≡ s.page → ((counts : List ℤ) (pointer : ℤ) → i ≢ Bop counts pointer) → IsSeenAhead (record s { page = page }) seen
   idled page outside same other =
       let closed : here ≡ Between a.pages = ap (λ (b : Bool). standing b a.pages a.marks s.page) outside in
-      let turns = sym (ap (λ (p : PassStateView). execute (kept (acts (read_width s.fonts))) s.most i p) closed) ∙ turned.turns in
-      let after_is : turned.after ≡ here = sym (idle_turn (kept (acts (read_width s.fonts))) s.most i a.pages turned.after other turns) ∙ sym closed in
+      let turns = sym (ap (λ (p : PassStateView). execute (bounded_acts (instruction_acts (read_width s.fonts))) s.most i p) closed) ∙ turned.turns in
+      let after_is : turned.after ≡ here = sym (idle_turn (bounded_acts (instruction_acts (read_width s.fonts))) s.most i a.pages turned.after other turns) ∙ sym closed in
       let (rest, seen_is, ahead) = then_seen s.inside s.fonts s.page a.pages a.marks [] s.fonts.current same_fonts after_is a.ready (sym (append-nil (seen_so_far here))) in
       subst (λ (page : OpenPage). IsSeenAhead (record s { page = page }) seen) (sym same) (subst (λ (ss : List Seen). IsSeenAhead s ss) (sym seen_is) ahead)
 
   -- A page ends.
   pub ended : s.inside ≡ true → i ≡ Eop → IsSeenAhead (record s { inside = false }) seen
   ended within is =
-      let stack = reverse (map placed s.page.stack.items) in
+      let stack = reverse (map spot_position s.page.stack.items) in
       let page : MarkedPage = record { counts = s.page.counts; marks = a.marks } in
-      let opened : here ≡ Inside a.pages s.page.counts a.marks stack (stated s.page.state) = ap (λ (b : Bool). standing b a.pages a.marks s.page) within in
-      let turns : execute (kept (acts (read_width s.fonts))) s.most Eop (Inside a.pages s.page.counts a.marks stack (stated s.page.state)) ≡ Some turned.after =
-      sym (ap₂ (λ (i : Instruction) (p : PassStateView). execute (kept (acts (read_width s.fonts))) s.most i p) is opened) ∙ turned.turns in
-      let after_is = end_turn (kept (acts (read_width s.fonts))) s.most a.pages s.page.counts a.marks stack (stated s.page.state) turned.after turns in
+      let opened : here ≡ Inside a.pages s.page.counts a.marks stack (standing_state s.page.state) = ap (λ (b : Bool). standing b a.pages a.marks s.page) within in
+      let turns : execute (bounded_acts (instruction_acts (read_width s.fonts))) s.most Eop (Inside a.pages s.page.counts a.marks stack (standing_state s.page.state)) ≡ Some turned.after =
+      sym (ap₂ (λ (i : Instruction) (p : PassStateView). execute (bounded_acts (instruction_acts (read_width s.fonts))) s.most i p) is opened) ∙ turned.turns in
+      let after_is = end_turn (bounded_acts (instruction_acts (read_width s.fonts))) s.most a.pages s.page.counts a.marks stack (standing_state s.page.state) turned.after turns in
       let new_is : seen_of (a.pages ++ page ∷ []) ≡ seen_so_far here ++ [] =
       page_seen a.pages page ∙ (sym (ap seen_so_far opened) ∙ sym (append-nil (seen_so_far here))) in
       let (rest, seen_is, ahead) = then_seen false s.fonts s.page (a.pages ++ page ∷ []) a.marks [] s.fonts.current same_fonts after_is a.ready new_is in
@@ -322,7 +322,7 @@ module _ (i : Instruction) (s : Sights) (seen : List Seen) (a : IsSeenAfter (i �
 
   -- The mark of an instruction comes next, if it makes one.
   pub drew : (fonts : ReadFonts) (page : OpenPage) (found shown : Option PassMark) (place : ℕ) → s.inside ≡ true → fonts ≡ record s.fonts { current = place } → page.counts ≡ s.page.counts → IsReady s.most fonts page
-      → ((pages : List MarkedPage) (marks : List Mark) (after : PassStateView) → execute (kept (acts (read_width s.fonts))) s.most i (standing true pages marks s.page) ≡ Some after
+      → ((pages : List MarkedPage) (marks : List Mark) (after : PassStateView) → execute (bounded_acts (instruction_acts (read_width s.fonts))) s.most i (standing true pages marks s.page) ≡ Some after
       → after ≡ standing true pages (marks ++ marks_in found) page) → found ≡ shown → ShowsFirst seen (record s { fonts = fonts; page = page }) (option_map (λ mark. sights.Mark mark) shown)
   drew fonts page found shown place within same counts ready draws is = by_mark shown is
     where
@@ -331,7 +331,7 @@ module _ (i : Instruction) (s : Sights) (seen : List Seen) (a : IsSeenAfter (i �
 
       after_is : turned.after ≡ standing s.inside a.pages (a.marks ++ marks_in found) page
       after_is =
-          draws a.pages a.marks turned.after (sym (ap (λ (p : PassStateView). execute (kept (acts (read_width s.fonts))) s.most i p) opened) ∙ turned.turns)
+          draws a.pages a.marks turned.after (sym (ap (λ (p : PassStateView). execute (bounded_acts (instruction_acts (read_width s.fonts))) s.most i p) opened) ∙ turned.turns)
           ∙ ap (λ (b : Bool). standing b a.pages (a.marks ++ marks_in found) page) (sym within)
 
       new_is : seen_so_far (standing s.inside a.pages (a.marks ++ marks_in found) page) ≡ seen_so_far here ++ map Marked (marks_in found)
@@ -380,13 +380,13 @@ one_there s seen below a none = some_there s.bytes.now s.at s.post s.most s.font
 
 -- In an open page the pass goes on with the instruction that was read.
 pub draws_on : (i : Instruction) (s : Sights) (seen : List Seen) → s.inside ≡ true → IsSeenAfter (i ∷ []) s seen
-    → (pages : List MarkedPage) × (marks : List Mark) × (after : PassStateView) × (execute (kept (acts (read_width s.fonts))) s.most i (standing true pages marks s.page) ≡ Some after)
+    → (pages : List MarkedPage) × (marks : List Mark) × (after : PassStateView) × (execute (bounded_acts (instruction_acts (read_width s.fonts))) s.most i (standing true pages marks s.page) ≡ Some after)
 draws_on i s seen within a =
     let here = standing s.inside a.pages a.marks s.page in
     let turned = goes_on s.bytes.now s.at s.post s.most s.fonts here a.all i a.rest in
     let opened : here ≡ standing true a.pages a.marks s.page = ap (λ (b : Bool). standing b a.pages a.marks s.page) within in
-    (a.pages, a.marks, turned.after, sym (ap (λ (p : PassStateView). execute (kept (acts (read_width s.fonts))) s.most i p) opened) ∙ turned.turns)
+    (a.pages, a.marks, turned.after, sym (ap (λ (p : PassStateView). execute (bounded_acts (instruction_acts (read_width s.fonts))) s.most i p) opened) ∙ turned.turns)
 
 -- The font that the instruction selects was read.
 pub read_first : (i : Instruction) (s : Sights) (seen : List Seen) → IsSeenAfter (i ∷ []) s seen → FontsAreRead s.fonts (selection_of i)
-read_first i s seen a = all_front (λ f. FontIsRead f s.fonts) (selection_of i) (selections (says a.rest.rest)) a.rest.read
+read_first i s seen a = all_front (λ f. FontIsRead f s.fonts) (selection_of i) (selections (token_instructions a.rest.rest)) a.rest.read

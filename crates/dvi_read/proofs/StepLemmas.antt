@@ -4,13 +4,13 @@ use Rattle.std.specs.Prelude.{◌⊎◌, IsSome}
 use Rattle.std.specs.List.{AllByRecursion}
 use Rattle.dvi_scan.specs.declared.fault.DviCause.{DviCause}
 use Rattle.dvi_scan.specs.declared.fault.DviCause.TheVariants.{Glyph, Range}
-use Rattle.dvi_ops.specs.Body.{Position, DviState, Meaning, Widths, acts, glyph, glyph_of, in_range, kept, kept_in, put_glyph, set_glyph}
+use Rattle.dvi_ops.specs.Body.{Position, DviState, Meaning, Widths, instruction_acts, glyph, glyph_of, in_range, bounded_acts, kept_in, put_glyph, set_glyph}
 use Rattle.scaled_core.specs.Mark.{Mark}
 use Rattle.dvi_ops.specs.File.{MarkedPage}
 use Rattle.dvi_ops.specs.Fonts.{WidthsByName, IsRightAfter, definitions_in, font, selection_of, widths_of, width_in as width_of_font}
 use Rattle.dvi_ops.specs.Tokens.{bop_place}
 use Rattle.dvi_ops.specs.Instruction.{Definition, BodyLeaf, SetChar, PutChar, FontNum, FontDef, Instruction, Do}
-use Rattle.dvi_scan.specs.Drawing.{always}
+use Rattle.dvi_scan.specs.Drawing.{constant_width}
 use Rattle.dvi_scan.specs.Pass.{PassStateView, Between, Inside, with_marks, execute}
 use Rattle.dvi_scan.specs.Reached.{Left, after_bops}
 use Rattle.dvi_scan.specs.Execution.{BreaksTurn, IsAsked, TakesRoom, pass_at}
@@ -46,24 +46,24 @@ asked_is metrics table fonts pages (Do (PutChar c)) (stands.Inside page) sound c
 asked_is metrics table fonts pages i stand sound current = tt
 
 -- A rule that is broken with the one width is broken with the widths of the fonts.
-same_glyph : (widths : Widths) (width : Option ℤ) (c : ℤ) (p : Position) (font : Option ℤ) → ((f : ℤ) → font ≡ Some f → width ≡ widths f c) → glyph (always width) c p font ≡ glyph widths c p font
+same_glyph : (widths : Widths) (width : Option ℤ) (c : ℤ) (p : Position) (font : Option ℤ) → ((f : ℤ) → font ≡ Some f → width ≡ widths f c) → glyph (constant_width width) c p font ≡ glyph widths c p font
 same_glyph widths width c p None asked = refl
 same_glyph widths width c p (Some f) asked = ap (λ (w : Option ℤ). glyph_of f c p w) (asked f refl)
 
 same_act : (widths : Widths) (width : Option ℤ) (leaf : BodyLeaf) (pages : List MarkedPage) (counts : List ℤ) (marks : List Mark) (stack : List Position) (s : DviState)
-    → IsAsked widths (Do leaf) (Inside pages counts marks stack s) width → acts (always width) leaf s ≡ acts widths leaf s
+    → IsAsked widths (Do leaf) (Inside pages counts marks stack s) width → instruction_acts (constant_width width) leaf s ≡ instruction_acts widths leaf s
 same_act widths width (SetChar c) pages counts marks stack s asked = ap (λ (g : Option (Mark × ℤ)). set_glyph g s) (same_glyph widths width c s.place s.font asked)
 same_act widths width (PutChar c) pages counts marks stack s asked = ap (λ (g : Option (Mark × ℤ)). put_glyph g s) (same_glyph widths width c s.place s.font asked)
 same_act widths width leaf pages counts marks stack s asked = refl
 
-breaks_same : (widths : Widths) (width : Option ℤ) (most : ℕ) (i : Instruction) (p : PassStateView) (cause : DviCause) → IsAsked widths i p width → BreaksTurn (acts (always width)) most i p cause → BreaksTurn (acts widths) most i p cause
+breaks_same : (widths : Widths) (width : Option ℤ) (most : ℕ) (i : Instruction) (p : PassStateView) (cause : DviCause) → IsAsked widths i p width → BreaksTurn (instruction_acts (constant_width width)) most i p cause → BreaksTurn (instruction_acts widths) most i p cause
 breaks_same widths width most (Do leaf) (Inside pages counts marks stack s) Glyph asked b =
     subst (λ (m : Meaning). m ≡ None) (same_act widths width leaf pages counts marks stack s asked) b
 breaks_same widths width most (Do leaf) (Inside pages counts marks stack s) Range asked b =
     subst (λ (m : Meaning). IsSome m × (kept_in m ≡ None)) (same_act widths width leaf pages counts marks stack s asked) b
 breaks_same widths width most i p cause asked b = b
 
-room_same : (widths : Widths) (width : Option ℤ) (most : ℕ) (i : Instruction) (p : PassStateView) → IsAsked widths i p width → TakesRoom (acts (always width)) most i p → TakesRoom (acts widths) most i p
+room_same : (widths : Widths) (width : Option ℤ) (most : ℕ) (i : Instruction) (p : PassStateView) → IsAsked widths i p width → TakesRoom (instruction_acts (constant_width width)) most i p → TakesRoom (instruction_acts widths) most i p
 room_same widths width most (Do leaf) (Inside pages counts marks stack s) asked (mark, t, e) =
     (mark, t, subst (λ (m : Meaning). kept_in m ≡ Some (mark ∷ [], t)) (same_act widths width leaf pages counts marks stack s asked) e)
 room_same widths width most i p asked b = b
@@ -78,7 +78,7 @@ by_choice (Do (FontNum g)) old new chosen = inl (g, refl, chosen)
 by_choice i old new chosen = inr ((λ g e. absurd cc), chosen)
 
 -- After a selection its font is the selected one.
-selected_now : (widths : Widths) (most : ℕ) (g : ℤ) (p q : PassStateView) (f : ℤ) → execute (kept (acts widths)) most (Do (FontNum g)) p ≡ Some q → current_of q ≡ Some f → g ≡ f
+selected_now : (widths : Widths) (most : ℕ) (g : ℤ) (p q : PassStateView) (f : ℤ) → execute (bounded_acts (instruction_acts widths)) most (Do (FontNum g)) p ≡ Some q → current_of q ≡ Some f → g ≡ f
 selected_now widths most g (Between pages) q f e at = absurd cc
 selected_now widths most g (Inside pages counts marks stack s) q f e at = go (in_range s.place.h && in_range s.place.v) e
   where
@@ -89,7 +89,7 @@ selected_now widths most g (Inside pages counts marks stack s) q f e at = go (in
     go false e = absurd cc
 
 -- The font that is selected after an instruction was read, and no other was selected since.
-pub current_next : (widths : Widths) (most : ℕ) (i : Instruction) (p q : PassStateView) (f : ℤ) (old new : ReadFonts) → execute (kept (acts widths)) most i p ≡ Some q → current_of q ≡ Some f
+pub current_next : (widths : Widths) (most : ℕ) (i : Instruction) (p q : PassStateView) (f : ℤ) (old new : ReadFonts) → execute (bounded_acts (instruction_acts widths)) most i p ≡ Some q → current_of q ≡ Some f
     → ((g : ℤ) → current_of p ≡ Some g → HasCurrent g old) → Chooses i old new → HasCurrent f new
 current_next widths most i p q f old new e at before chosen = by (by_choice i old new chosen)
   where
@@ -99,7 +99,7 @@ current_next widths most i p q f old new e at before chosen = by (by_choice i ol
 
     by : ((g : ℤ) × (i ≡ Do (FontNum g)) × HasCurrent g new) ⊎ (((g : ℤ) → i ≢ Do (FontNum g)) × (new ≡ old)) → HasCurrent f new
     by (inl (g, is, current)) =
-        let turned = subst (λ (i : Instruction). execute (kept (acts widths)) most i p ≡ Some q) is e in
+        let turned = subst (λ (i : Instruction). execute (bounded_acts (instruction_acts widths)) most i p ≡ Some q) is e in
         subst (λ (n : ℤ). HasCurrent n new) (selected_now widths most g p q f turned at) current
     by (inr (other, same)) = by_font other same (turn_font widths most i p q f e at)
 
@@ -111,7 +111,7 @@ stepped files ahead most at i old mid new sound current passes notes =
     let table : List Definition = known_of old in
     let asked = asked_is metrics table old.fonts (map marked_page old.done.items) i old.stand sound current in
     let same_stand : stand_of new ≡ stand_of mid = ap₂ (λ (pages : List MarkedPage) (stand : PassState). pass_at pages stand) notes.pages notes.stand in
-    let goes_on : execute (kept (acts (widths_of metrics table))) most i (stand_of old) ≡ Some (stand_of new) =
+    let goes_on : execute (bounded_acts (instruction_acts (widths_of metrics table))) most i (stand_of old) ≡ Some (stand_of new) =
     sym (one_width (widths_of metrics table) (asked_width old.fonts (code_in i)) most i (stand_of old) asked) ∙ (passes.goes_on ∙ ap (λ (p : PassStateView). Some p) (sym same_stand)) in
     record {
       goes_on = goes_on;
@@ -156,7 +156,7 @@ pub goes_on : (files : List NamedBytes) (selected : List ℤ) (most : ℕ) (i : 
 goes_on files selected most i old mid sound current passes =
     let table : List Definition = known_of old in
     let asked = asked_is (file_widths files) table old.fonts (map marked_page old.done.items) i old.stand sound current in
-    let next : execute (kept (acts (widths_of (file_widths files) table))) most i (stand_of old) ≡ Some (stand_of mid) =
+    let next : execute (bounded_acts (instruction_acts (widths_of (file_widths files) table))) most i (stand_of old) ≡ Some (stand_of mid) =
     sym (one_width (widths_of (file_widths files) table) (asked_width old.fonts (code_in i)) most i (stand_of old) asked) ∙ passes.goes_on in
     subst (λ (p : Option PassStateView). IsSome p) (sym next) refl
 

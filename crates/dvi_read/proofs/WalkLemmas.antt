@@ -14,14 +14,14 @@ use Rattle.dvi_scan.specs.Ends.{StandsAt}
 use Rattle.dvi_scan.specs.declared.fault.DviCause.{DviCause}
 use Rattle.dvi_scan.specs.declared.fault.DviCause.TheVariants.{Opcode, Truncated, Pointer, Font}
 use Rattle.dvi_scan.proofs.PlaceLemmas.{one_stands}
-use Rattle.dvi_ops.specs.Body.{Acts, acts}
+use Rattle.dvi_ops.specs.Body.{Acts, instruction_acts}
 use Rattle.dvi_ops.specs.File.{MarkedPage}
 use Rattle.dvi_ops.specs.Fonts.{WidthsByName, IsFontSize, definitions, widths_in, selection_of, widths_of}
 use Rattle.dvi_ops.specs.Instruction.{Definition, FontNum, Instruction, Do, Push, Pop, Eop, Postamble}
-use Rattle.dvi_ops.specs.Tokens.{says}
+use Rattle.dvi_ops.specs.Tokens.{token_instructions}
 use Rattle.scaled_core.proofs.EachOf.{all_append, all_weaker}
 use Rattle.dvi_scan.specs.Pass.{PassStateView, Between, Inside}
-use Rattle.dvi_scan.specs.Passed.{framing, IsPassed}
+use Rattle.dvi_scan.specs.Passed.{file_framing, IsPassed}
 use Rattle.dvi_scan.specs.Reached.{AreNumbersOf, HasWidths, IsReached, IsRightAt, Left, ReadSoFar, all_left, before_pages, has_number}
 use Rattle.dvi_scan.specs.Execution.{BreaksTurn, pass_at}
 use Rattle.dvi_scan.specs.View.{marked_page}
@@ -57,7 +57,7 @@ no_cut does most i (Between pages) b = b
 -- A rule that an instruction breaks is one of the pages.
 pages_break : (metrics : WidthsByName) (ahead : List ℤ) (bytes : List ℕ) (most at post : ℕ) (s : ReadSoFar) (cause : DviCause) (i : Instruction) → StandsAt bytes at post i
     → BreaksRule metrics ahead most at s i cause → BreaksPages metrics (page_bytes ahead bytes most post) at s cause
-pages_break metrics ahead bytes most at post s Truncated i stands (inl b) = absurd (no_cut (acts (widths_of metrics s.known)) most i s.pass b)
+pages_break metrics ahead bytes most at post s Truncated i stands (inl b) = absurd (no_cut (instruction_acts (widths_of metrics s.known)) most i s.pass b)
 pages_break metrics ahead bytes most at post s Truncated i stands (inr (on, b)) = absurd b
 pages_break metrics ahead bytes most at post s Opcode i stands b = inr (i, stands, b)
 pages_break metrics ahead bytes most at post s cause i stands b = (i, stands, b)
@@ -100,7 +100,7 @@ walked_more metrics ahead bytes stop chain at post next old new high walked read
 pub known_sizes : (metrics : WidthsByName) (ahead : List ℤ) (bytes : List ℕ) (stop : Postamble) (chain : List ℕ) (at : ℕ) (s : ReadSoFar) → IsReached metrics ahead bytes stop chain at s
     → AllByRecursion (λ d. IsFontSize d.size) s.known
 known_sizes metrics ahead bytes stop chain at s r =
-    subst (λ (ds : List Definition). AllByRecursion (λ d. IsFontSize d.size) ds) r.known_is (sized_all [] (says r.before) r.fonts)
+    subst (λ (ds : List Definition). AllByRecursion (λ d. IsFontSize d.size) ds) r.known_is (sized_all [] (token_instructions r.before) r.fonts)
 
 -- A right instruction breaks no rule.
 selected_has : (P : ℤ → Type 0) (f : ℤ) (i : Instruction) → i ≡ Do (FontNum f) → AllByRecursion P (selection_of i) → P f
@@ -115,7 +115,7 @@ module _ (metrics : WidthsByName) (ahead : List ℤ) (stop : Postamble) (at : �
 
   rule_holds : (cause : DviCause) → BreaksRule metrics ahead (min 1024 stop.stack_depth) at s i cause → ⊥
   rule_holds cause (inl b) =
-      let none = broken_turn (acts (widths_of metrics s.known)) (min 1024 stop.stack_depth) i s.pass cause b in
+      let none = broken_turn (instruction_acts (widths_of metrics s.known)) (min 1024 stop.stack_depth) i s.pass cause b in
       let both : Some t.pass ≡ None = sym right.goes_on ∙ none in cc
   rule_holds cause (inr (on, b)) = rest_holds cause b
 
@@ -155,7 +155,7 @@ nothing_right files ahead bytes stop at post s i t fault other stands right = by
 
 -- In a file no walk stops.
 pub walk_fault : (files : List NamedBytes) (ahead : List ℤ) (bytes : List ℕ) (post after last : ℕ) (stop : Postamble) (chain : List ℕ) (pages : List MarkedPage) (fault : DviFault) → post ≤ length bytes
-    → fault ≢ faults.OutOfMemory → IsWalkFault files ahead bytes stop chain post fault → (f : IsPassed (file_widths files) bytes (framing post after last stop chain) pages) → AreNumbersOf ahead (definitions (says f.tail)) → ⊥
+    → fault ≢ faults.OutOfMemory → IsWalkFault files ahead bytes stop chain post fault → (f : IsPassed (file_widths files) bytes (file_framing post after last stop chain) pages) → AreNumbersOf ahead (definitions (token_instructions f.tail)) → ⊥
 walk_fault files ahead bytes post after last stop chain pages fault high other (at, stops) f numbers =
     let below = stops.before in
     let next = next_right (file_widths files) bytes post after last stop chain pages f high ahead numbers at stops.seen (omega arith) stops.reached below in

@@ -3,7 +3,7 @@ use Rattle.std.specs.Prelude.{◌≡◌, ◌++◌, List, ℕ, Result, Ok, Err}
 use Rattle.dvi_ops.specs.File.{Frame, IsFile, MarkedPage}
 use Rattle.dvi_ops.specs.Fonts.{definitions}
 use Rattle.dvi_ops.specs.Instruction.{Definition, Units}
-use Rattle.dvi_ops.specs.Tokens.{says}
+use Rattle.dvi_ops.specs.Tokens.{token_instructions}
 use Rattle.dvi_read.specs.declared.fault.DviFault.{DviFault}
 use Rattle.dvi_read.specs.declared.fault.DviFault.TheVariants.{OutOfMemory}
 use Rattle.tfm_core.specs.FileWidths.{file_widths}
@@ -21,7 +21,7 @@ HasUnitsOf bytes dvi = (f : Frame bytes) → dvi.units ≡ f.stop.units
 
 -- The definitions are those of the whole file, in order: before post and after it.
 abbrev pub HasFontsOf : List ℕ → Opened → Type 0
-HasFontsOf bytes dvi = (f : Frame bytes) → dvi.fonts ≡ definitions (says f.front ++ says f.tail)
+HasFontsOf bytes dvi = (f : Frame bytes) → dvi.fonts ≡ definitions (token_instructions f.front ++ token_instructions f.tail)
 
 -- A call gives exactly these pages, or memory was refused.
 abbrev pub GivesPages : List MarkedPage → Result Opened DviFault → Type 0

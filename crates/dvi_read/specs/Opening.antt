@@ -11,7 +11,7 @@ use Rattle.dvi_scan.specs.declared.fault.FrameFault.TheVariants as frames
 use Rattle.dvi_ops.specs.File.{MarkedPage}
 use Rattle.dvi_ops.specs.Instruction.{Definition, Postamble}
 use Rattle.dvi_ops.specs.Tokens.{Token, places}
-use Rattle.dvi_scan.specs.Passed.{Framing, framing, IsFramed}
+use Rattle.dvi_scan.specs.Passed.{Framing, file_framing, IsFramed}
 use Rattle.dvi_scan.specs.Reached.{IsIn, IsReached, ReadSoFar}
 use Rattle.dvi_read.specs.Stops.{PagesHaveEnded, IsUnended, IsWalkFault}
 use Rattle.dvi_read.specs.declared.fault.DviFault.{DviFault}
@@ -68,13 +68,14 @@ pub data IsDviFault (files : List NamedBytes) (bytes : List ℕ) (fault : DviFau
       → IsLookedAhead bytes after (last - 5) ahead → IsWalkFault files ahead bytes stop chain post fault → IsStray bytes post chain fault
       → IsDviFault files bytes fault
   AtPost : (bad : BadDvi) (post after last : ℕ) (stop : Postamble) (chain : List ℕ) (from : ℕ) (ahead : List ℤ) (seen : ReadSoFar) → fault ≡ Bad bad
-      → (has : HasPages files bytes (framing post after last stop chain) from ahead seen) → IsUnended seen.pass seen.left post bad
+      → (has : HasPages files bytes (file_framing post after last stop chain) from ahead seen) → IsUnended seen.pass seen.left post bad
       → IsUnmet has.reached.before chain bad → IsDviFault files bytes fault
   AfterPost : (bad : BadDvi) (post after last : ℕ) (stop : Postamble) (chain : List ℕ) (from : ℕ) (ahead : List ℤ) (seen : ReadSoFar)
       (pages : List MarkedPage) (new : List Definition)
-      → fault ≡ Bad bad → HasPages files bytes (framing post after last stop chain) from ahead seen → PagesHaveEnded seen.pass seen.left pages
+      → fault ≡ Bad bad → HasPages files bytes (file_framing post after last stop chain) from ahead seen → PagesHaveEnded seen.pass seen.left pages
       → IsClosingFault bytes after (last - 5) seen.known new (frames.Bad bad) → IsDviFault files bytes fault
   ForDefinitions : (post after last : ℕ) (stop : Postamble) (chain : List ℕ) (from : ℕ) (ahead : List ℤ) (seen : ReadSoFar)
       (pages : List MarkedPage) (new : List Definition)
-      → fault ≡ OutOfMemory → HasPages files bytes (framing post after last stop chain) from ahead seen → PagesHaveEnded seen.pass seen.left pages
+      → fault ≡ OutOfMemory → HasPages files bytes (file_framing post after last stop chain) from ahead seen
+      → PagesHaveEnded seen.pass seen.left pages
       → IsClosingFault bytes after (last - 5) seen.known new frames.OutOfMemory → IsDviFault files bytes fault

@@ -4,14 +4,14 @@ use Rattle.std.specs.Prelude.{drop, length, map, reverse, take, ℕ, ℤ}
 use Rattle.std.specs.Borrow.{Bor}
 use Rattle.std.specs.List.{AllByRecursion}
 use Rattle.scaled_core.specs.Mark.{Mark}
-use Rattle.dvi_ops.specs.Body.{acts, kept}
+use Rattle.dvi_ops.specs.Body.{instruction_acts, bounded_acts}
 use Rattle.dvi_ops.specs.File.{MarkedPage}
 use Rattle.dvi_ops.specs.Fonts.{selections}
 use Rattle.dvi_ops.specs.Instruction.{Instruction}
-use Rattle.dvi_ops.specs.Tokens.{Token, IsSpelled, says, written}
+use Rattle.dvi_ops.specs.Tokens.{Token, IsSpelled, token_instructions, token_bytes}
 use Rattle.dvi_scan.specs.Execution.{HasRoom}
 use Rattle.dvi_scan.specs.Pass.{PassStateView, Between, Inside, passes}
-use Rattle.dvi_scan.specs.View.{mark_of, placed, stated}
+use Rattle.dvi_scan.specs.View.{mark_of, spot_position, standing_state}
 use Rattle.dvi_scan.specs.declared.executing.OpenPage.{OpenPage}
 use Rattle.dvi_read.specs.Listing.{text_ahead}
 use Rattle.dvi_read.specs.PageMarks.{read_width}
@@ -37,10 +37,10 @@ pub record HasRest (bytes : List ℕ) (at post most : ℕ) (fonts : ReadFonts) (
   pub high : post ≤ length bytes
   pub rest : List Token
   pub spelled : AllByRecursion IsSpelled rest
-  pub whole : written rest ≡ take (post - at) (drop at bytes)
+  pub whole : token_bytes rest ≡ take (post - at) (drop at bytes)
   -- The instructions of `first` come before them.
-  pub passed : passes (kept (acts (read_width fonts))) most (first ++ says rest) here ≡ Some (Between pages)
-  pub read : FontsAreRead fonts (selections (first ++ says rest))
+  pub passed : passes (bounded_acts (instruction_acts (read_width fonts))) most (first ++ token_instructions rest) here ≡ Some (Between pages)
+  pub read : FontsAreRead fonts (selections (first ++ token_instructions rest))
   pub codes : HaveByteCodes fonts
 
 -- A checked file has these pages.
@@ -50,7 +50,7 @@ HasCheckedPages checked pages = HasRest checked.bytes.now checked.from checked.p
 -- The state of the pass where these pages, and these marks of the open one, were seen.
 abbrev pub standing : (inside : Bool) → List MarkedPage → List Mark → OpenPage → PassStateView
 standing false pages marks page = Between pages
-standing true pages marks page = Inside pages page.counts marks (reverse (map placed page.stack.items)) (stated page.state)
+standing true pages marks page = Inside pages page.counts marks (reverse (map spot_position page.stack.items)) (standing_state page.state)
 
 -- An open page has no mark, but room for one; and its font was selected last, if one was.
 pub record IsReady (most : ℕ) (fonts : ReadFonts) (page : OpenPage) : Type 0 where

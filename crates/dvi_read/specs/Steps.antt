@@ -5,8 +5,8 @@ use Rattle.std.specs.List.{AllByRecursion}
 use Rattle.dvi_scan.specs.Widths.{IsFontRefusal}
 use Rattle.dvi_scan.specs.declared.widths.FontRefusal.TheVariants as refusals
 use Rattle.dvi_scan.specs.declared.fault.DviCause.TheVariants.{Font}
-use Rattle.dvi_ops.specs.Body.{acts, kept}
-use Rattle.dvi_ops.specs.Fonts.{WidthsByName, IsRightAfter, defined, definitions_in, selection_of, widths_of}
+use Rattle.dvi_ops.specs.Body.{instruction_acts, bounded_acts}
+use Rattle.dvi_ops.specs.Fonts.{WidthsByName, IsRightAfter, first_definition_of, definitions_in, selection_of, widths_of}
 use Rattle.dvi_ops.specs.Instruction.{Definition, FontNum, Instruction, Do}
 use Rattle.dvi_ops.specs.Tokens.{bop_place}
 use Rattle.dvi_scan.specs.Pass.{PassStateView, execute}
@@ -32,14 +32,14 @@ pub record Selects (metrics : WidthsByName) (ahead : List ℤ) (known : List Def
 
 -- The number of a selected font is not defined before the selection, or not after post.
 abbrev pub IsUndefined : (ahead : List ℤ) → (known : List Definition) → ℤ → Type 0
-IsUndefined ahead known f = (defined f known ≡ None) ⊎ (has_number ahead f ≡ false)
+IsUndefined ahead known f = (first_definition_of f known ≡ None) ⊎ (has_number ahead f ≡ false)
 
 -- Memory is refused for a font: it was not read before, and a file with its name was given that breaks no rule that needs no table.
 pub record LacksFont (files : List NamedBytes) (ahead : List ℤ) (known : List Definition) (f : ℤ) (fonts : ReadFonts) : Type 0 where
   pub named : has_number ahead f ≡ true
   pub new : font_place f fonts ≡ None
   pub font : Definition
-  pub found : defined f known ≡ Some font
+  pub found : first_definition_of f known ≡ Some font
   pub file : IsFontRefusal files font refusals.OutOfMemory
 
 -- Why a font was not selected, where these fonts were read.
@@ -70,7 +70,7 @@ FontsAreRead fonts selected = AllByRecursion (λ f. FontIsRead f fonts) selected
 
 -- One more instruction: the pass goes on, and the effect on pages and fonts is right and was recorded.
 pub record IsWalkStep (metrics : WidthsByName) (ahead : List ℤ) (most at : ℕ) (i : Instruction) (old new : Walk) : Type 0 where
-  pub goes_on : execute (kept (acts (widths_of metrics (known_of old)))) most i (stand_of old) ≡ Some (stand_of new)
+  pub goes_on : execute (bounded_acts (instruction_acts (widths_of metrics (known_of old)))) most i (stand_of old) ≡ Some (stand_of new)
   pub bop : after_bops (bop_place at i) (places_left old) ≡ Some (places_left new)
   pub right : IsRightAfter (known_of old) i
   pub known_is : known_of new ≡ known_of old ++ definitions_in i

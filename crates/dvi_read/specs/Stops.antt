@@ -8,9 +8,9 @@ use Rattle.dvi_scan.specs.Ends.{StandsAt}
 use Rattle.dvi_scan.specs.declared.fault.BadDvi.{BadDvi}
 use Rattle.dvi_scan.specs.declared.fault.DviCause.{DviCause}
 use Rattle.dvi_scan.specs.declared.fault.DviCause.TheVariants.{Opcode, Truncated, Pointer, Font}
-use Rattle.dvi_ops.specs.Body.{acts, kept}
+use Rattle.dvi_ops.specs.Body.{instruction_acts, bounded_acts}
 use Rattle.dvi_ops.specs.File.{MarkedPage}
-use Rattle.dvi_ops.specs.Fonts.{WidthsByName, IsRightAfter, defined, widths_of}
+use Rattle.dvi_ops.specs.Fonts.{WidthsByName, IsRightAfter, first_definition_of, widths_of}
 use Rattle.dvi_ops.specs.Instruction.{Definition, FontDef, FontNum, Instruction, Do, Postamble}
 use Rattle.dvi_ops.specs.Tokens.{bop_place}
 use Rattle.dvi_scan.specs.Pass.{PassStateView, Between, execute}
@@ -26,7 +26,7 @@ use Rattle.tfm_core.specs.NamedBytes.{NamedBytes}
 pub record FontIsUnread (files : List NamedBytes) (ahead : List ℤ) (known : List Definition) (f : ℤ) (refusal : FontRefusal) : Type 0 where
   pub named : has_number ahead f ≡ true
   pub font : Definition
-  pub found : defined f known ≡ Some font
+  pub found : first_definition_of f known ≡ Some font
   pub other : refusal ≢ refusals.OutOfMemory
   pub refused : IsFontRefusal files font refusal
 
@@ -36,7 +36,7 @@ pub record LacksMemoryForFont (files : List NamedBytes) (ahead : List ℤ) (s : 
   pub named : has_number ahead f ≡ true
   pub new : has_number s.selected f ≡ false
   pub font : Definition
-  pub found : defined f s.known ≡ Some font
+  pub found : first_definition_of f s.known ≡ Some font
   pub file : IsFontRefusal files font refusals.OutOfMemory
 
 -- The effect of an instruction on pages or fonts is wrong: a bop is not among the places left of the chain; a definition has no valid size or differs
@@ -54,17 +54,19 @@ LacksRoom files ahead s i = ⊥
 
 -- The pass goes on with an instruction. The effect on pages and fonts is tested only then.
 abbrev pub PassContinues : WidthsByName → (most : ℕ) → ReadSoFar → Instruction → Type 0
-PassContinues metrics most s i = IsSome (execute (kept (acts (widths_of metrics s.known))) most i s.pass)
+PassContinues metrics most s i = IsSome (execute (bounded_acts (instruction_acts (widths_of metrics s.known))) most i s.pass)
 
 -- A rule that an instruction breaks: one of the pass, or, where the pass goes on, one of the pages or of the fonts.
 abbrev pub BreaksRule : WidthsByName → (ahead : List ℤ) → (most at : ℕ) → ReadSoFar → Instruction → DviCause → Type 0
 BreaksRule metrics ahead most at s i cause =
-    BreaksTurn (acts (widths_of metrics s.known)) most i s.pass cause ⊎ PassContinues metrics most s i × BreaksRest ahead s.known at s.left i cause
+    BreaksTurn (instruction_acts (widths_of metrics s.known)) most i s.pass cause ⊎ PassContinues metrics most s i
+    × BreaksRest ahead s.known at s.left i cause
 
 -- An instruction takes memory: in the pass, or, where that goes on, for its effect on fonts.
 abbrev pub InstructionAllocates : List NamedBytes → (ahead : List ℤ) → (most : ℕ) → ReadSoFar → Instruction → Type 0
 InstructionAllocates files ahead most s i =
-    TakesRoom (acts (widths_of (file_widths files) s.known)) most i s.pass ⊎ PassContinues (file_widths files) most s i × LacksRoom files ahead s i
+    TakesRoom (instruction_acts (widths_of (file_widths files) s.known)) most i s.pass ⊎ PassContinues (file_widths files) most s i
+    × LacksRoom files ahead s i
 
 -- A font is selected where the pass goes on, and it has no widths.
 pub record SelectsUnread (files : List NamedBytes) (ahead : List ℤ) (most : ℕ) (s : ReadSoFar) (f : ℤ) (refusal : FontRefusal) : Type 0 where

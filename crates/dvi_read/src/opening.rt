@@ -57,7 +57,7 @@ pub struct ReadDvi<'a> {
 }
 
 /// The result of a walk over all pages.
-fn kept<'a>(units: Units, walk: Walk<'a>, specials: Vec<usize>) -> ReadDvi<'a>
+fn opened_file<'a>(units: Units, walk: Walk<'a>, specials: Vec<usize>) -> ReadDvi<'a>
     requires { AreUnits (view_units units) }
     ensures dvi { result.dvi ≡ record { units = view_units units; pages = map marked_page walk.entry.done.items; fonts = walk.entry.known } }
     ensures fonts { result.fonts ≡ walk.entry.fonts }
@@ -103,7 +103,7 @@ pub fn read_dvi<'a>(
     } = find_front(alloc, bytes)?;
     let (mut walk, specials) = read_pages(alloc, bytes, files, &ending, from, chain)?;
     finish(bytes, &ending, &mut walk)?;
-    Ok(kept(ending.stop.units, walk, specials))
+    Ok(opened_file(ending.stop.units, walk, specials))
 }
 
 impl<'a> Dvi<'a> {

@@ -9,7 +9,7 @@ ghost use Rattle.dvi_read.specs.Private.OpeningParts.{HasPassed, HoldsPages, IsF
 ghost use Rattle.dvi_read.specs.PageMarks.{HasGlyphWidths, HasPlaces, marks_so_far};
 ghost use Rattle.dvi_read.specs.Steps.{known_of, places_left, stand_of};
 ghost use Rattle.dvi_read.specs.Stops.{PagesHaveEnded};
-ghost use Rattle.dvi_scan.specs.Passed.{framing};
+ghost use Rattle.dvi_scan.specs.Passed.{file_framing};
 ghost use Rattle.tfm_core.specs.FileWidths.{file_widths};
 
 use crate::fault::DviFault;
@@ -32,7 +32,7 @@ pub(crate) fn read_pages<'a>(
     requires high { ending.now.last ≤ length bytes.now }
     requires starts { StartsAt bytes.now ending.now.post ending.now.after ending.now.last (postamble ending.now.stop) chain.items from }
     ensures ok { IfOk result (λ found. HoldsPages files.now bytes.now
-        (framing ending.now.post ending.now.after ending.now.last (postamble ending.now.stop) chain.items) from found.0) }
+        (file_framing ending.now.post ending.now.after ending.now.last (postamble ending.now.stop) chain.items) from found.0) }
     ensures widths { IfOk result (λ found. HasGlyphWidths (file_widths files.now) (known_of found.0) found.0.fonts
         (marks_so_far (stand_of found.0))) }
     ensures specials { IfOk result (λ found. HasPlaces bytes.now found.1.items (stand_of found.0)) }
@@ -61,7 +61,7 @@ pub(crate) fn check_pages<'a>(
     requires high { ending.now.last ≤ length bytes.now }
     requires starts { StartsAt bytes.now ending.now.post ending.now.after ending.now.last (postamble ending.now.stop) chain.items from }
     ensures ok { IfOk result (HasPassed files.now bytes.now
-        (framing ending.now.post ending.now.after ending.now.last (postamble ending.now.stop) chain.items) from) }
+        (file_framing ending.now.post ending.now.after ending.now.last (postamble ending.now.stop) chain.items) from) }
     ensures bad { IfErr result (IsDviFault files.now bytes.now) }
 {
     let numbers = prescan_definitions(alloc, bytes, ending.after, ending.last - 5)?;

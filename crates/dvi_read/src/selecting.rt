@@ -2,7 +2,7 @@
 
 ghost use Rattle.std.specs.Prelude.{◌≡◌, ◌⊎◌, false, true, IfErr, IfSome, None, OnErr, OnOk, Some};
 ghost use Rattle.std.specs.List.{AllByRecursion};
-ghost use Rattle.dvi_ops.specs.Fonts.{IsFontSize, defined};
+ghost use Rattle.dvi_ops.specs.Fonts.{IsFontSize, first_definition_of};
 ghost use Rattle.dvi_ops.specs.View.{definition};
 ghost use Rattle.dvi_scan.specs.Reached.{has_number};
 ghost use Rattle.dvi_read.specs.ReadFonts.{AreSound, AreUnchanged};
@@ -23,8 +23,8 @@ fn definition_in<'f, 'a>(
     number: FontNumber,
 ) -> Option<&'f FontDefinition<'a>>
     ensures font_defined { IfSome result (λ font. (has_number ahead.now.keys number.value ≡ true)
-        × (defined number.value known.now ≡ Some (definition font.now))) }
-    ensures none { result ≡ None → (defined number.value known.now ≡ None) ⊎ (has_number ahead.now.keys number.value ≡ false) }
+        × (first_definition_of number.value known.now ≡ Some (definition font.now))) }
+    ensures none { result ≡ None → (first_definition_of number.value known.now ≡ None) ⊎ (has_number ahead.now.keys number.value ≡ false) }
 {
     if !is_ahead(ahead, number) {
         return None;

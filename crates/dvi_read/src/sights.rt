@@ -1,7 +1,7 @@
 //! The pages of a checked file, seen one mark at a time (DVItype, 15).
 
 ghost use Rattle.std.specs.Prelude.{◌≡◌, ◌≢◌, ◌≤◌, ◌<◌, ◌^◌, ◌++◌, ◌∷◌, [], false, true, IfOk, IfSome, IsSome, List, None, Some, ℕ, ℤ};
-ghost use Rattle.dvi_ops.specs.Body.{Acts, acts, kept};
+ghost use Rattle.dvi_ops.specs.Body.{Acts, instruction_acts, bounded_acts};
 ghost use Rattle.dvi_ops.specs.File.{MarkedPage};
 ghost use Rattle.dvi_ops.specs.Fonts.{selection_of};
 ghost use Rattle.dvi_ops.specs.Instruction.{Bop, Do, Eop, SetChar};
@@ -119,9 +119,10 @@ fn set_character<'a>(code: i32, fonts: &ReadFonts, page: &mut OpenPage<'a>) -> M
     requires codes { HaveByteCodes fonts.now }
     requires current { (f : ℤ) → page.old.state.font ≡ Some f → HasCurrent f fonts.now }
     requires goes_on { (most : ℕ) × (pages : List MarkedPage) × (marks : List MarkSeen) × (after : PassStateView)
-        × (execute (kept (acts (read_width fonts.now))) most (Do (SetChar code)) (standing true pages marks page.old) ≡ Some after) }
+        × (execute (bounded_acts (instruction_acts (read_width fonts.now))) most (Do (SetChar code)) (standing true pages marks page.old)
+        ≡ Some after) }
     ensures draws { (most : ℕ) (pages : List MarkedPage) (marks : List MarkSeen) (after : PassStateView)
-        → execute (kept (acts (read_width fonts.now))) most (Do (SetChar code)) (standing true pages marks page.old) ≡ Some after
+        → execute (bounded_acts (instruction_acts (read_width fonts.now))) most (Do (SetChar code)) (standing true pages marks page.old) ≡ Some after
         → after ≡ standing true pages (marks ++ mark_of result ∷ []) page.new }
     ensures counts { page.new.counts ≡ page.old.counts }
     ensures marks { page.new.marks ≡ page.old.marks }
@@ -159,9 +160,9 @@ fn draw<'a>(
     requires read { FontsAreRead fonts.old (selection_of (view op.now)) }
     requires stays { view op.now ≢ Eop }
     requires goes_on { (pages : List MarkedPage) × (marks : List MarkSeen) × (after : PassStateView)
-        × (execute (kept (acts (read_width fonts.old))) most (view op.now) (standing true pages marks page.old) ≡ Some after) }
+        × (execute (bounded_acts (instruction_acts (read_width fonts.old))) most (view op.now) (standing true pages marks page.old) ≡ Some after) }
     ensures draws { (pages : List MarkedPage) (marks : List MarkSeen) (after : PassStateView)
-        → execute (kept (acts (read_width fonts.old))) most (view op.now) (standing true pages marks page.old) ≡ Some after
+        → execute (bounded_acts (instruction_acts (read_width fonts.old))) most (view op.now) (standing true pages marks page.old) ≡ Some after
         → after ≡ standing true pages (marks ++ marks_in result) page.new }
     ensures counts { page.new.counts ≡ page.old.counts }
     ensures ready { IsReady most fonts.new page.new }

@@ -7,8 +7,8 @@ ghost use Rattle.dvi_scan.specs.declared.fault.DviCause.TheVariants.{Pointer};
 ghost use Rattle.dvi_ops.specs.File.{MarkedPage};
 ghost use Rattle.dvi_ops.specs.Fonts.{WidthsByName, definitions};
 ghost use Rattle.dvi_ops.specs.Instruction.{Postamble};
-ghost use Rattle.dvi_ops.specs.Tokens.{places, says};
-ghost use Rattle.dvi_scan.specs.Passed.{framing, IsPassed};
+ghost use Rattle.dvi_ops.specs.Tokens.{places, token_instructions};
+ghost use Rattle.dvi_scan.specs.Passed.{file_framing, IsPassed};
 ghost use Rattle.dvi_scan.specs.Reached.{AreNumbersOf, IsIn, IsReached, ReadSoFar};
 ghost use Rattle.dvi_read.specs.Stops.{IsUnended, IsWalkFault};
 ghost use Rattle.dvi_read.specs.declared.fault.DviFault.{DviFault};
@@ -21,7 +21,8 @@ pub fn no_walk_stops_in_a_file()
     ensures { (files : List NamedBytes) (ahead : List ℤ) (bytes : List ℕ) (post after last : ℕ) (stop : Postamble) (chain : List ℕ)
         (pages : List MarkedPage) (fault : DviFault)
         → post ≤ length bytes → fault ≢ OutOfMemory → IsWalkFault files ahead bytes stop chain post fault
-        → (f : IsPassed (file_widths files) bytes (framing post after last stop chain) pages) → AreNumbersOf ahead (definitions (says f.tail)) → ⊥ }
+        → (f : IsPassed (file_widths files) bytes (file_framing post after last stop chain) pages)
+        → AreNumbersOf ahead (definitions (token_instructions f.tail)) → ⊥ }
 {}
 
 /// Where a walk stops at a pointer, a bop that is not in the chain is there. Where the fault is at the place of post, the bops are not at the places

@@ -8,8 +8,8 @@ ghost use Rattle.dvi_ops.specs.Fonts.{IsFontSize, WidthsByName};
 ghost use Rattle.dvi_ops.specs.Instruction.{Across, By, Postamble};
 ghost use Rattle.dvi_ops.specs.View.{postamble, view};
 ghost use Rattle.dvi_scan.specs.Reached.{IsReached, before_pages};
-ghost use Rattle.dvi_scan.specs.Drawing.{reached};
-ghost use Rattle.dvi_scan.specs.View.{marked_page, placed};
+ghost use Rattle.dvi_scan.specs.Drawing.{reached_position};
+ghost use Rattle.dvi_scan.specs.View.{marked_page, spot_position};
 ghost use Rattle.dvi_read.specs.PageMarks.{HasPlaces, marks_so_far};
 ghost use Rattle.dvi_read.specs.Private.PageMarks.{PutsSpecial, text_place};
 ghost use Rattle.dvi_read.specs.ReadFonts.{AreSound, HaveByteCodes, IsCurrent, asked_width, selected_in};
@@ -119,7 +119,7 @@ fn release(keeps: bool, walk: &mut Walk<'_>, specials: &mut Vec<usize>)
 fn pass_in_page(fonts: &ReadFonts, byte: u8, page: &mut OpenPage<'_>) -> bool
     requires { HaveByteCodes fonts.now }
     ensures passed { result ≡ true → (f : ℤ) × (width : ℤ) × (page.old.state.font ≡ Some f) × (asked_width fonts.now (Some (pos byte)) ≡ Some width)
-        × (Some (placed page.new.state.place) ≡ reached (place_after Across (By width) (placed page.old.state.place))) }
+        × (Some (spot_position page.new.state.place) ≡ reached_position (place_after Across (By width) (spot_position page.old.state.place))) }
     ensures rest { page.new ≡ record page.old { state = record page.old.state { place = page.new.state.place } } }
     ensures same { result ≡ false → page.new ≡ page.old }
 {

@@ -6,9 +6,9 @@ use Rattle.std.specs.Option.{is_some}
 use Rattle.std.specs.Ordering.{int_cmp, int_eq}
 use Rattle.std.proofs.lemmas.Bool.Decides.{Decides-int_eq}
 use Rattle.dvi_ops.specs.File.{IsIdle}
-use Rattle.dvi_ops.specs.Fonts.{defined, definitions_in, definitions}
+use Rattle.dvi_ops.specs.Fonts.{first_definition_of, definitions_in, definitions}
 use Rattle.dvi_ops.specs.Instruction.{Definition, FontDef, Instruction, Do}
-use Rattle.dvi_ops.specs.Tokens.{Token, IsSpelled, says, written}
+use Rattle.dvi_ops.specs.Tokens.{Token, IsSpelled, token_instructions, token_bytes}
 use Rattle.scaled_core.proofs.EachOf.{all_append, all_back}
 use Rattle.dvi_ops.proofs.Appends.{says-append, written-append, definitions-append}
 use Rattle.dvi_ops.proofs.Frames.{begins}
@@ -27,9 +27,9 @@ or_some : (b : Bool) (x : Definition) (rest more : Option Definition) (both : Op
 or_some true x rest more both e = refl
 or_some false x rest more both e = e
 
-some-append : (f : ℤ) (xs ys : List Definition) → is_some (defined f (xs ++ ys)) ≡ (is_some (defined f xs) || is_some (defined f ys))
+some-append : (f : ℤ) (xs ys : List Definition) → is_some (first_definition_of f (xs ++ ys)) ≡ (is_some (first_definition_of f xs) || is_some (first_definition_of f ys))
 some-append f [] ys = refl
-some-append f (x ∷ xs) ys = or_some (int_eq f x.number) x (defined f xs) (defined f ys) (defined f (xs ++ ys)) (some-append f xs ys)
+some-append f (x ∷ xs) ys = or_some (int_eq f x.number) x (first_definition_of f xs) (first_definition_of f ys) (first_definition_of f (xs ++ ys)) (some-append f xs ys)
 
 -- One more number.
 same_test : (f g : ℤ) (b c : Bool) → int_eq f g ≡ b → int_eq g f ≡ c → b ≡ c
@@ -44,7 +44,7 @@ put true false d = refl
 put false true d = refl
 put false false d = refl
 
-pub number_put : (d : Definition) (old new : BTreeSet ℤ) → Updates int_cmp old new d.number true → (f : ℤ) → has_number new.keys f ≡ (has_number old.keys f || is_some (defined f (definitions_in (Do (FontDef d)))))
+pub number_put : (d : Definition) (old new : BTreeSet ℤ) → Updates int_cmp old new d.number true → (f : ℤ) → has_number new.keys f ≡ (has_number old.keys f || is_some (first_definition_of f (definitions_in (Do (FontDef d)))))
 number_put d old new updates f =
     updates.0 f
     ∙ (put (int_eq d.number f) (has_number old.keys f) d
@@ -60,27 +60,27 @@ idle_none bytes from =
     let zero : from - from ≡ 0 = omega arith in record { spelled = tt; whole = sym (ap (λ (n : ℕ). take n (drop from bytes)) zero); idle = tt }
 
 -- One more instruction.
-pub idle_more : (bytes : List ℕ) (from at to next : ℕ) (tokens : List Token) (old new : List ℤ) → from ≤ at → to ≤ length bytes → AreIdle bytes from at tokens → AreNumbersOf old (definitions (says tokens))
-    → LooksOne bytes at to old new next → (more : List Token) × AreIdle bytes from next more × AreNumbersOf new (definitions (says more))
+pub idle_more : (bytes : List ℕ) (from at to next : ℕ) (tokens : List Token) (old new : List ℤ) → from ≤ at → to ≤ length bytes → AreIdle bytes from at tokens → AreNumbersOf old (definitions (token_instructions tokens))
+    → LooksOne bytes at to old new next → (more : List Token) × AreIdle bytes from next more × AreNumbersOf new (definitions (token_instructions more))
 idle_more bytes from at to next tokens old new low high idle numbers one =
     let forward = one.forward in
     let within = one.within in
     let t : Token = record { says = one.here; bytes = take (next - at) (drop at bytes) } in
-    let more : says (tokens ++ t ∷ []) ≡ says tokens ++ one.here ∷ [] = says-append tokens (t ∷ []) in
-    let all : definitions (says (tokens ++ t ∷ [])) ≡ definitions (says tokens) ++ definitions_in one.here =
-    ap (λ (is : List Instruction). definitions is) more ∙ (definitions-append (says tokens) (one.here ∷ []) ∙ ap (λ (ds : List Definition). definitions (says tokens) ++ ds) (append-nil (definitions_in one.here))) in (
+    let more : token_instructions (tokens ++ t ∷ []) ≡ token_instructions tokens ++ one.here ∷ [] = says-append tokens (t ∷ []) in
+    let all : definitions (token_instructions (tokens ++ t ∷ [])) ≡ definitions (token_instructions tokens) ++ definitions_in one.here =
+    ap (λ (is : List Instruction). definitions is) more ∙ (definitions-append (token_instructions tokens) (one.here ∷ []) ∙ ap (λ (ds : List Definition). definitions (token_instructions tokens) ++ ds) (append-nil (definitions_in one.here))) in (
       tokens ++ t ∷ [],
       record {
         spelled = all_append IsSpelled tokens (t ∷ []) idle.spelled (one.spelled, tt);
         whole =
             written-append tokens (t ∷ [])
             ∙ (ap₂ (λ (x y : List ℕ). x ++ y) idle.whole (append-nil (take (next - at) (drop at bytes))) ∙ sym (span_next bytes from at next low (omega arith) (omega arith)));
-        idle = subst (λ (is : List Instruction). AllByRecursion IsIdle is) (sym more) (all_append IsIdle (says tokens) (one.here ∷ []) idle.idle (one.idle, tt));
+        idle = subst (λ (is : List Instruction). AllByRecursion IsIdle is) (sym more) (all_append IsIdle (token_instructions tokens) (one.here ∷ []) idle.idle (one.idle, tt));
       },
       λ f.
           one.numbers f
-          ∙ (ap (λ (b : Bool). b || is_some (defined f (definitions_in one.here))) (numbers f)
-          ∙ (sym (some-append f (definitions (says tokens)) (definitions_in one.here)) ∙ ap (λ (ds : List Definition). is_some (defined f ds)) (sym all))),
+          ∙ (ap (λ (b : Bool). b || is_some (first_definition_of f (definitions_in one.here))) (numbers f)
+          ∙ (sym (some-append f (definitions (token_instructions tokens)) (definitions_in one.here)) ∙ ap (λ (ds : List Definition). is_some (first_definition_of f ds)) (sym all))),
     )
 
 -- No instruction is at the bound.
@@ -88,7 +88,7 @@ pub nothing_at_bound : (bytes : List ℕ) (to : ℕ) → NothingIdle bytes to to
 nothing_at_bound bytes to i stands idle = let below = ends_after bytes to to i stands in absurd (omega arith)
 
 -- The numbers found so far, where no such instruction follows.
-pub looked_there : (bytes : List ℕ) (from at to : ℕ) (tokens : List Token) (numbers : List ℤ) → from ≤ at → at ≤ to → AreIdle bytes from at tokens → AreNumbersOf numbers (definitions (says tokens))
+pub looked_there : (bytes : List ℕ) (from at to : ℕ) (tokens : List Token) (numbers : List ℤ) → from ≤ at → at ≤ to → AreIdle bytes from at tokens → AreNumbersOf numbers (definitions (token_instructions tokens))
     → NothingIdle bytes at to → IsLookedAhead bytes from to numbers
 looked_there bytes from at to tokens numbers low high idle has stops = record { place = at; low = low; high = high; tokens = tokens; there = idle; stops = stops; numbers = has }
 
@@ -97,7 +97,7 @@ not_some : (o : Option Definition) → false ≡ is_some o → o ≡ None
 not_some None e = refl
 not_some (Some d) e = absurd cc
 
-pub unlooked_there : (bytes : List ℕ) (from at to : ℕ) (tokens : List Token) (numbers : List ℤ) → from ≤ at → at < to → AreIdle bytes from at tokens → AreNumbersOf numbers (definitions (says tokens))
+pub unlooked_there : (bytes : List ℕ) (from at to : ℕ) (tokens : List Token) (numbers : List ℤ) → from ≤ at → at < to → AreIdle bytes from at tokens → AreNumbersOf numbers (definitions (token_instructions tokens))
     → MeetsNumber bytes at to numbers → IsUnlooked bytes from to
 unlooked_there bytes from at to tokens numbers low high idle has (d, stands, new) =
     record {
@@ -108,25 +108,25 @@ unlooked_there bytes from at to tokens numbers low high idle has (d, stands, new
       there = idle;
       here = d;
       stands = stands;
-      new = not_some (defined d.number (definitions (says tokens))) (sym new ∙ has d.number);
+      new = not_some (first_definition_of d.number (definitions (token_instructions tokens))) (sym new ∙ has d.number);
     }
 
 -- Where only nops and definitions are between two places, all definitions are found.
 pub looked : (bytes : List ℕ) (from to : ℕ) (ahead : List ℤ) (known : List Definition) (tail : List Token) → to ≤ length bytes → IsLookedAhead bytes from to ahead → Closes bytes from to known tail
-    → AreNumbersOf ahead (definitions (says tail))
+    → AreNumbersOf ahead (definitions (token_instructions tail))
 looked bytes from to ahead known tail high look all =
     let low = look.low in
     let within = look.high in
-    let cut : written look.tokens ++ take (to - look.place) (drop look.place bytes) ≡ written tail =
+    let cut : token_bytes look.tokens ++ take (to - look.place) (drop look.place bytes) ≡ token_bytes tail =
     ap (λ (x : List ℕ). x ++ take (to - look.place) (drop look.place bytes)) look.there.whole ∙ (sym (span_next bytes from look.place to low within high) ∙ sym all.whole) in
     let (more, whole, spelled, rest) = begins look.tokens tail (take (to - look.place) (drop look.place bytes)) look.there.spelled all.spelled cut in
-    let tokens : says tail ≡ says look.tokens ++ says more = ap (λ (ts : List Token). says ts) whole ∙ says-append look.tokens more in
-    let idle = all_back IsIdle (says look.tokens) (says more) (subst (λ (is : List Instruction). AllByRecursion IsIdle is) tokens all.idle) in
-    let same = by_first more whole spelled rest idle in λ f. look.numbers f ∙ ap (λ (ds : List Definition). is_some (defined f ds)) same
+    let tokens : token_instructions tail ≡ token_instructions look.tokens ++ token_instructions more = ap (λ (ts : List Token). token_instructions ts) whole ∙ says-append look.tokens more in
+    let idle = all_back IsIdle (token_instructions look.tokens) (token_instructions more) (subst (λ (is : List Instruction). AllByRecursion IsIdle is) tokens all.idle) in
+    let same = by_first more whole spelled rest idle in λ f. look.numbers f ∙ ap (λ (ds : List Definition). is_some (first_definition_of f ds)) same
   where
-    by_first : (more : List Token) → tail ≡ look.tokens ++ more → AllByRecursion IsSpelled more → written more ≡ take (to - look.place) (drop look.place bytes) → AllByRecursion IsIdle (says more)
-        → definitions (says look.tokens) ≡ definitions (says tail)
-    by_first [] whole spelled rest idle = ap (λ (ts : List Token). definitions (says ts)) (sym (whole ∙ append-nil look.tokens))
+    by_first : (more : List Token) → tail ≡ look.tokens ++ more → AllByRecursion IsSpelled more → token_bytes more ≡ take (to - look.place) (drop look.place bytes) → AllByRecursion IsIdle (token_instructions more)
+        → definitions (token_instructions look.tokens) ≡ definitions (token_instructions tail)
+    by_first [] whole spelled rest idle = ap (λ (ts : List Token). definitions (token_instructions ts)) (sym (whole ∙ append-nil look.tokens))
     by_first (t ∷ more) whole (here, spelled) rest (first, idle) = let within = look.high in absurd (look.stops t.says (first_stands bytes look.place to t more within high here rest) first)
 
 -- The instruction there is neither a nop nor a definition.

@@ -6,7 +6,7 @@ use Rattle.dvi_ops.specs.Instruction.{Definition, FontDef, Instruction, Do}
 use Rattle.dvi_ops.specs.File.{IsIdle}
 use Rattle.dvi_ops.specs.Fonts.{FontsAreRight, IsRightAfter, IsFontSize, definitions_in, definitions, known_after}
 use Rattle.dvi_ops.specs.Table.{Spells}
-use Rattle.dvi_ops.specs.Tokens.{Token, IsSpelled, says, written}
+use Rattle.dvi_ops.specs.Tokens.{Token, IsSpelled, token_instructions, token_bytes}
 use Rattle.scaled_core.proofs.EachOf.{all_append, all_back}
 use Rattle.dvi_ops.proofs.Appends.{says-append, written-append, definitions-append, fonts_append, fonts_back}
 use Rattle.dvi_ops.proofs.Frames.{begins}
@@ -55,21 +55,21 @@ closes_more bytes from at to next old mid new low high (tail, closes, mid_is) on
     let forward = one.forward in
     let within = one.within in
     let t : Token = record { says = one.here; bytes = take (next - at) (drop at bytes) } in
-    let more : says (tail ++ t ∷ []) ≡ says tail ++ one.here ∷ [] = says-append tail (t ∷ []) in
-    let here = same_right mid (known_after old (says tail)) one.here (subst (λ (ds : List Definition). HasSame ds (known_after old (says tail))) (sym mid_is) (same_after old old (says tail) (same_self old))) one.right in (
+    let more : token_instructions (tail ++ t ∷ []) ≡ token_instructions tail ++ one.here ∷ [] = says-append tail (t ∷ []) in
+    let here = same_right mid (known_after old (token_instructions tail)) one.here (subst (λ (ds : List Definition). HasSame ds (known_after old (token_instructions tail))) (sym mid_is) (same_after old old (token_instructions tail) (same_self old))) one.right in (
       tail ++ t ∷ [],
       record {
         spelled = all_append IsSpelled tail (t ∷ []) closes.spelled (one.spelled, tt);
         whole =
             written-append tail (t ∷ [])
             ∙ (ap₂ (λ (x y : List ℕ). x ++ y) closes.whole (append-nil (take (next - at) (drop at bytes))) ∙ sym (span_next bytes from at next low (omega arith) (omega arith)));
-        idle = subst (λ (is : List Instruction). AllByRecursion IsIdle is) (sym more) (all_append IsIdle (says tail) (one.here ∷ []) closes.idle (one.idle, tt));
-        fonts = subst (λ (is : List Instruction). FontsAreRight old is) (sym more) (fonts_append old (says tail) (one.here ∷ []) closes.fonts (here, tt));
+        idle = subst (λ (is : List Instruction). AllByRecursion IsIdle is) (sym more) (all_append IsIdle (token_instructions tail) (one.here ∷ []) closes.idle (one.idle, tt));
+        fonts = subst (λ (is : List Instruction). FontsAreRight old is) (sym more) (fonts_append old (token_instructions tail) (one.here ∷ []) closes.fonts (here, tt));
       },
       one.new_is
           ∙ (ap (λ (ds : List Definition). ds ++ definitions_in one.here) mid_is
-          ∙ (append_assoc old (definitions (says tail)) (definitions_in one.here)
-          ∙ ap (λ (ds : List Definition). old ++ ds) (sym (ap (λ (is : List Instruction). definitions is) more ∙ (definitions-append (says tail) (one.here ∷ []) ∙ ap (λ (ds : List Definition). definitions (says tail) ++ ds) (append-nil (definitions_in one.here))))))),
+          ∙ (append_assoc old (definitions (token_instructions tail)) (definitions_in one.here)
+          ∙ ap (λ (ds : List Definition). old ++ ds) (sym (ap (λ (is : List Instruction). definitions is) more ∙ (definitions-append (token_instructions tail) (one.here ∷ []) ∙ ap (λ (ds : List Definition). definitions (token_instructions tail) ++ ds) (append-nil (definitions_in one.here))))))),
     )
 
 -- A fault on the way.
@@ -95,30 +95,30 @@ broken_here bytes place to known Font i (d, other, wrong) stands idle right =
 broken_here bytes place to known cause i broken stands idle right = absurd broken
 
 -- The instruction that begins spelled bytes is there.
-pub first_stands : (bytes : List ℕ) (place to : ℕ) (t : Token) (more : List Token) → place ≤ to → to ≤ length bytes → IsSpelled t → t.bytes ++ written more ≡ take (to - place) (drop place bytes) → StandsAt bytes place to t.says
+pub first_stands : (bytes : List ℕ) (place to : ℕ) (t : Token) (more : List Token) → place ≤ to → to ≤ length bytes → IsSpelled t → t.bytes ++ token_bytes more ≡ take (to - place) (drop place bytes) → StandsAt bytes place to t.says
 first_stands bytes place to t more low high spelled whole =
     let room = length-drop place bytes in
-    let size : length t.bytes + length (written more) ≡ to - place =
-    sym (length-append t.bytes (written more)) ∙ (ap (λ (x : List ℕ). length x) whole ∙ length-take-le (to - place) (drop place bytes) (omega arith)) in
+    let size : length t.bytes + length (token_bytes more) ≡ to - place =
+    sym (length-append t.bytes (token_bytes more)) ∙ (ap (λ (x : List ℕ). length x) whole ∙ length-take-le (to - place) (drop place bytes) (omega arith)) in
     let cut : take (length t.bytes) (drop place bytes) ≡ t.bytes =
-    sym (take-take (length t.bytes) (to - place) (drop place bytes) (omega arith)) ∙ (ap (λ (x : List ℕ). take (length t.bytes) x) (sym whole) ∙ take_at t.bytes (written more) (length t.bytes) refl) in
+    sym (take-take (length t.bytes) (to - place) (drop place bytes) (omega arith)) ∙ (ap (λ (x : List ℕ). take (length t.bytes) x) (sym whole) ∙ take_at t.bytes (token_bytes more) (length t.bytes) refl) in
     (length t.bytes, omega arith, subst (λ (x : List ℕ). Spells t.says x) (sym cut) spelled)
 
 -- Where a rule is broken on the way, the instructions there are not all right.
 pub broken_closing : (bytes : List ℕ) (from to : ℕ) (old new known : List Definition) (fault : BadDvi) (tail : List Token) → to ≤ length bytes → HasSame old known → IsClosingFault bytes from to old new (Bad fault)
     → Closes bytes from to known tail → ⊥
 broken_closing bytes from to old new known fault tail high same (low, below, (front, closes, new_is), broken) all =
-    let cut : written front ++ take (to - fault.place) (drop fault.place bytes) ≡ written tail =
+    let cut : token_bytes front ++ take (to - fault.place) (drop fault.place bytes) ≡ token_bytes tail =
     ap (λ (x : List ℕ). x ++ take (to - fault.place) (drop fault.place bytes)) closes.whole ∙ (sym (span_next bytes from fault.place to low (omega arith) high) ∙ sym all.whole) in
     let (more, whole, spelled, rest) = begins front tail (take (to - fault.place) (drop fault.place bytes)) closes.spelled all.spelled cut in
-    let tokens : says tail ≡ says front ++ says more = ap (λ (ts : List Token). says ts) whole ∙ says-append front more in
-    let idle = all_back IsIdle (says front) (says more) (subst (λ (is : List Instruction). AllByRecursion IsIdle is) tokens all.idle) in
-    let fonts = fonts_back known (says front) (says more) (subst (λ (is : List Instruction). FontsAreRight known is) tokens all.fonts) in
-    let ones = same_sym (old ++ definitions (says front)) (known_after known (says front)) (same_after old known (says front) same) in
-    by_first more spelled rest idle (known_after known (says front)) fonts (subst (λ (ds : List Definition). HasSame (known_after known (says front)) ds) (sym new_is) ones)
+    let tokens : token_instructions tail ≡ token_instructions front ++ token_instructions more = ap (λ (ts : List Token). token_instructions ts) whole ∙ says-append front more in
+    let idle = all_back IsIdle (token_instructions front) (token_instructions more) (subst (λ (is : List Instruction). AllByRecursion IsIdle is) tokens all.idle) in
+    let fonts = fonts_back known (token_instructions front) (token_instructions more) (subst (λ (is : List Instruction). FontsAreRight known is) tokens all.fonts) in
+    let ones = same_sym (old ++ definitions (token_instructions front)) (known_after known (token_instructions front)) (same_after old known (token_instructions front) same) in
+    by_first more spelled rest idle (known_after known (token_instructions front)) fonts (subst (λ (ds : List Definition). HasSame (known_after known (token_instructions front)) ds) (sym new_is) ones)
   where
-    by_first : (more : List Token) → AllByRecursion IsSpelled more → written more ≡ take (to - fault.place) (drop fault.place bytes) → AllByRecursion IsIdle (says more) → (ds : List Definition)
-        → FontsAreRight ds (says more) → HasSame ds new → ⊥
+    by_first : (more : List Token) → AllByRecursion IsSpelled more → token_bytes more ≡ take (to - fault.place) (drop fault.place bytes) → AllByRecursion IsIdle (token_instructions more) → (ds : List Definition)
+        → FontsAreRight ds (token_instructions more) → HasSame ds new → ⊥
     by_first [] spelled rest idle ds fonts ones =
         let none : 0 ≡ length (take (to - fault.place) (drop fault.place bytes)) = ap (λ (x : List ℕ). length x) rest in
         let some = length-take-le (to - fault.place) (drop fault.place bytes) (omega (arith, length-drop fault.place bytes)) in

@@ -5,7 +5,7 @@ use Rattle.std.proofs.lemmas.Bool.{cases_lt}
 use Rattle.std.proofs.lemmas.List.{drop_at, take_at, get_or-replicate, length-replicate}
 use Rattle.dvi_ops.specs.Instruction.{Postamble, Post}
 use Rattle.dvi_ops.specs.Table.{Spells, SpellsSigned, signed}
-use Rattle.dvi_ops.specs.Tokens.{written}
+use Rattle.dvi_ops.specs.Tokens.{token_bytes}
 use Rattle.dvi_ops.specs.File.{Frame}
 use Rattle.dvi_scan.specs.Ends.{StandsAt, IsTrailed, HasPostamble}
 use Rattle.dvi_scan.proofs.ChainLemmas.{says_front}
@@ -115,19 +115,19 @@ module _ (front post tail operand : List ℕ) (padding : ℕ) (stop : Postamble)
       room = let size = size_e in omega (arith, length-append front (post ++ tail), length-append post tail)
 
 -- The end of a frame.
-pub frame_ends : (bytes : List ℕ) (f : Frame bytes) → (last : ℕ) × HasPostamble bytes (length (written f.front)) last f.stop
+pub frame_ends : (bytes : List ℕ) (f : Frame bytes) → (last : ℕ) × HasPostamble bytes (length (token_bytes f.front)) last f.stop
 unfolding bytes
 frame_ends all f =
     let (operand, spelled, says) = f.ending_spelled in
-    let same : all ≡ bytes (written f.front) f.post (written f.tail) operand f.padding f.stop f.padded f.post_spelled says =
-    f.whole ∙ ap (λ (x : List ℕ). written f.front ++ (f.post ++ (written f.tail ++ x))) (ap (λ (x : List ℕ). x ++ replicate f.padding 223) spelled ∙ ap (λ (x : List ℕ). 249 ∷ x) (append_assoc operand (2 ∷ []) (replicate f.padding 223))) in
-    let last = e (written f.front) f.post (written f.tail) operand f.padding f.stop f.padded f.post_spelled says in (
+    let same : all ≡ bytes (token_bytes f.front) f.post (token_bytes f.tail) operand f.padding f.stop f.padded f.post_spelled says =
+    f.whole ∙ ap (λ (x : List ℕ). token_bytes f.front ++ (f.post ++ (token_bytes f.tail ++ x))) (ap (λ (x : List ℕ). x ++ replicate f.padding 223) spelled ∙ ap (λ (x : List ℕ). 249 ∷ x) (append_assoc operand (2 ∷ []) (replicate f.padding 223))) in
+    let last = e (token_bytes f.front) f.post (token_bytes f.tail) operand f.padding f.stop f.padded f.post_spelled says in (
       last,
-      subst (λ (x : List ℕ). HasPostamble x (length (written f.front)) last f.stop) (sym same)
-          (ends (written f.front) f.post (written f.tail) operand f.padding f.stop f.padded f.post_spelled says),
+      subst (λ (x : List ℕ). HasPostamble x (length (token_bytes f.front)) last f.stop) (sym same)
+          (ends (token_bytes f.front) f.post (token_bytes f.tail) operand f.padding f.stop f.padded f.post_spelled says),
     )
 
 -- The place of the version of a frame.
-pub frame_last : (bytes : List ℕ) (f : Frame bytes) → (frame_ends bytes f).0 ≡ length (written f.front) + (length f.post + length (written f.tail)) + 5
+pub frame_last : (bytes : List ℕ) (f : Frame bytes) → (frame_ends bytes f).0 ≡ length (token_bytes f.front) + (length f.post + length (token_bytes f.tail)) + 5
 unfolding frame_ends e before
-frame_last bytes f = let size = length-append (written f.front) (f.post ++ written f.tail) in let rest = length-append f.post (written f.tail) in omega arith
+frame_last bytes f = let size = length-append (token_bytes f.front) (f.post ++ token_bytes f.tail) in let rest = length-append f.post (token_bytes f.tail) in omega arith

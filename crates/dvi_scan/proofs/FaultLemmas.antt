@@ -4,8 +4,8 @@ use Rattle.std.proofs.lemmas.List.{length-reverse}
 use Rattle.std.specs.List.{AllByRecursion}
 use Rattle.dvi_ops.specs.Instruction.{Postamble, Post}
 use Rattle.dvi_ops.specs.Table.{signed}
-use Rattle.dvi_ops.specs.Tokens.{Token, IsSpelled, says, written, places, pointers}
-use Rattle.dvi_ops.specs.Body.{acts, kept}
+use Rattle.dvi_ops.specs.Tokens.{Token, IsSpelled, token_instructions, token_bytes, places, pointers}
+use Rattle.dvi_ops.specs.Body.{instruction_acts, bounded_acts}
 use Rattle.dvi_ops.specs.File.{Frame, IsFile, MarkedPage}
 use Rattle.dvi_ops.specs.Fonts.{WidthsByName, definitions, widths_of}
 use Rattle.dvi_ops.proofs.Appends.{length-places, length-pages}
@@ -35,18 +35,18 @@ breaks_end bytes place cause post e stop ends broken = absurd broken
 
 pub end_fault : (bytes : List ℕ) (place : ℕ) (cause : DviCause) → BreaksEnd bytes place cause → Frame bytes → ⊥
 end_fault bytes place cause broken f =
-    let found = frame_ends bytes f in breaks_end bytes place cause (length (written f.front)) found.0 f.stop found.1 broken
+    let found = frame_ends bytes f in breaks_end bytes place cause (length (token_bytes f.front)) found.0 f.stop found.1 broken
 
 -- The chain from the first bop to the last.
-pub linked : (bytes : List ℕ) (front : List Token) (rest : List ℕ) (last : ℤ) → bytes ≡ written front ++ rest → AllByRecursion IsSpelled front
-    → pointers (says front) ++ last ∷ [] ≡ negsuc 0 ∷ map pos (places 0 front) → Links bytes (length (written front)) last (reverse (places 0 front))
+pub linked : (bytes : List ℕ) (front : List Token) (rest : List ℕ) (last : ℤ) → bytes ≡ token_bytes front ++ rest → AllByRecursion IsSpelled front
+    → pointers (token_instructions front) ++ last ∷ [] ≡ negsuc 0 ∷ map pos (places 0 front) → Links bytes (length (token_bytes front)) last (reverse (places 0 front))
 linked bytes front rest last whole spelled e =
     let all = linked_from bytes [] front rest (negsuc 0) last [] whole spelled e refl in
-    let size : 0 + length (written front) ≡ length (written front) = omega arith in
+    let size : 0 + length (token_bytes front) ≡ length (token_bytes front) = omega arith in
     subst₂ (λ (n : ℕ) (c : List ℕ). Links bytes n last c) size (append-nil (reverse (places 0 front))) all
 
-pub chained : (bytes : List ℕ) (front : List Token) (rest : List ℕ) (bound : ℕ) (last : ℤ) → bytes ≡ written front ++ rest → AllByRecursion IsSpelled front
-    → Links bytes bound last (reverse (places 0 front)) → pointers (says front) ++ last ∷ [] ≡ negsuc 0 ∷ map pos (places 0 front)
+pub chained : (bytes : List ℕ) (front : List Token) (rest : List ℕ) (bound : ℕ) (last : ℤ) → bytes ≡ token_bytes front ++ rest → AllByRecursion IsSpelled front
+    → Links bytes bound last (reverse (places 0 front)) → pointers (token_instructions front) ++ last ∷ [] ≡ negsuc 0 ∷ map pos (places 0 front)
 chained bytes front rest bound last whole spelled links =
     let found = chained_from bytes [] front rest bound last [] whole spelled (subst (λ (c : List ℕ). Links bytes bound last c) (sym (append-nil (reverse (places 0 front)))) links) in
     let start : found.pointer ≡ negsuc 0 = found.links in
@@ -54,13 +54,13 @@ chained bytes front rest bound last whole spelled links =
 
 -- The chain of a file.
 pub file_chain : (metrics : WidthsByName) (bytes : List ℕ) (pages : List MarkedPage) (f : IsFile metrics bytes pages)
-    → Links bytes (length (written f.frame.front)) f.frame.stop.last_bop (reverse (places 0 f.frame.front))
+    → Links bytes (length (token_bytes f.frame.front)) f.frame.stop.last_bop (reverse (places 0 f.frame.front))
 file_chain metrics bytes pages f = linked bytes f.frame.front _ f.frame.stop.last_bop f.frame.whole f.frame.front_spelled f.chain
 
 pub file_count : (metrics : WidthsByName) (bytes : List ℕ) (pages : List MarkedPage) (f : IsFile metrics bytes pages)
     → f.frame.stop.pages ≡ length (places 0 f.frame.front) % 65536
 file_count metrics bytes pages f =
-    let bops = length-pages (kept (acts (widths_of metrics (definitions (says f.frame.tail))))) f.parts pages f.shows in
+    let bops = length-pages (bounded_acts (instruction_acts (widths_of metrics (definitions (token_instructions f.frame.tail))))) f.parts pages f.shows in
     let same : length (places 0 f.frame.front) ≡ length pages = length-places 0 f.frame.front ∙ (ap (λ is. length (pointers is)) f.front_is ∙ bops) in
     f.count ∙ ap (λ n. n % 65536) (sym same)
 
@@ -78,7 +78,7 @@ pub chain_fault : (metrics : WidthsByName) (bytes : List ℕ) (pages : List Mark
     → HasPostamble bytes post e stop → BreaksChain bytes post stop place cause → IsFile metrics bytes pages → ⊥
 chain_fault metrics bytes pages post e place stop cause ends broken f =
     let found = frame_ends bytes f.frame in
-    let (last, posts, stops) = one_end bytes post e (length (written f.frame.front)) found.0 stop f.frame.stop ends found.1 in
+    let (last, posts, stops) = one_end bytes post e (length (token_bytes f.frame.front)) found.0 stop f.frame.stop ends found.1 in
     let links : Links bytes post stop.last_bop (reverse (places 0 f.frame.front)) =
     subst₂ (λ (n : ℕ) (s : Postamble). Links bytes n s.last_bop (reverse (places 0 f.frame.front))) (sym posts) (sym stops) (file_chain metrics bytes pages f) in
     let count : stop.pages ≡ length (reverse (places 0 f.frame.front)) % 65536 =

@@ -5,7 +5,7 @@ use Rattle.std.specs.List.{AllByRecursion}
 use Rattle.std.specs.Option.{option_map, option_or}
 use Rattle.std.specs.Ordering.{int_cmp, int_eq}
 use Rattle.std.proofs.lemmas.Bool.Decides.{Decides-int_eq}
-use Rattle.dvi_ops.specs.Fonts.{AgreesWith, defined}
+use Rattle.dvi_ops.specs.Fonts.{AgreesWith, first_definition_of}
 use Rattle.dvi_ops.specs.Instruction.{Definition}
 use Rattle.dvi_ops.specs.View.{definition}
 use Rattle.dvi_ops.specs.declared.op.FontDefinition.{FontDefinition}
@@ -17,13 +17,13 @@ by_test : (P : Definition → Type 0) (b : Bool) (x d : Definition) (rest : Opti
 by_test P true x d rest here later e = let same : x ≡ d = cc in subst P same (here refl)
 by_test P false x d rest here later e = later e
 
-pub defined_all : (P : Definition → Type 0) (f : ℤ) (ds : List Definition) (d : Definition) → AllByRecursion P ds → defined f ds ≡ Some d → P d
+pub defined_all : (P : Definition → Type 0) (f : ℤ) (ds : List Definition) (d : Definition) → AllByRecursion P ds → first_definition_of f ds ≡ Some d → P d
 defined_all P f [] d all e = absurd cc
-defined_all P f (x ∷ ds) d (here, all) e = by_test P (int_eq f x.number) x d (defined f ds) (λ yes. here) (λ later. defined_all P f ds d all later) e
+defined_all P f (x ∷ ds) d (here, all) e = by_test P (int_eq f x.number) x d (first_definition_of f ds) (λ yes. here) (λ later. defined_all P f ds d all later) e
 
-pub defined_number : (f : ℤ) (ds : List Definition) (d : Definition) → defined f ds ≡ Some d → f ≡ d.number
+pub defined_number : (f : ℤ) (ds : List Definition) (d : Definition) → first_definition_of f ds ≡ Some d → f ≡ d.number
 defined_number f [] d e = absurd cc
-defined_number f (x ∷ ds) d e = by_test (λ (d : Definition). f ≡ d.number) (int_eq f x.number) x d (defined f ds) (λ yes. (Decides-int_eq f x.number).0 yes) (λ later. defined_number f ds d later) e
+defined_number f (x ∷ ds) d e = by_test (λ (d : Definition). f ≡ d.number) (int_eq f x.number) x d (first_definition_of f ds) (λ yes. (Decides-int_eq f x.number).0 yes) (λ later. defined_number f ds d later) e
 
 -- A number without a definition agrees with all.
 not_first : (b : Bool) (x : Definition) (rest : Option Definition) → (if b then Some x else rest) ≡ None → (b ≡ false) × (rest ≡ None)
@@ -33,19 +33,19 @@ not_first false x rest e = (refl, e)
 other_number : (d x : Definition) → int_eq d.number x.number ≡ false → AgreesWith d x
 other_number d x differs same = let yes : int_eq d.number x.number ≡ true = (Decides-int_eq d.number x.number).1 same in absurd cc
 
-none_agree : (d : Definition) (ds : List Definition) → defined d.number ds ≡ None → AllByRecursion (AgreesWith d) ds
+none_agree : (d : Definition) (ds : List Definition) → first_definition_of d.number ds ≡ None → AllByRecursion (AgreesWith d) ds
 none_agree d [] e = tt
-none_agree d (x ∷ ds) e = let both = not_first (int_eq d.number x.number) x (defined d.number ds) e in (other_number d x both.0, none_agree d ds both.1)
+none_agree d (x ∷ ds) e = let both = not_first (int_eq d.number x.number) x (first_definition_of d.number ds) e in (other_number d x both.0, none_agree d ds both.1)
 
 -- Two lists, one after the other.
 or_test : (b : Bool) (x : Definition) (rest more : Option Definition) → (if b then Some x else option_or rest more) ≡ option_or (if b then Some x else rest) more
 or_test true x rest more = refl
 or_test false x rest more = refl
 
-pub defined-append : (f : ℤ) (xs ys : List Definition) → defined f (xs ++ ys) ≡ option_or (defined f xs) (defined f ys)
+pub defined-append : (f : ℤ) (xs ys : List Definition) → first_definition_of f (xs ++ ys) ≡ option_or (first_definition_of f xs) (first_definition_of f ys)
 defined-append f [] ys = refl
 defined-append f (x ∷ xs) ys =
-    ap (λ (rest : Option Definition). if int_eq f x.number then Some x else rest) (defined-append f xs ys) ∙ or_test (int_eq f x.number) x (defined f xs) (defined f ys)
+    ap (λ (rest : Option Definition). if int_eq f x.number then Some x else rest) (defined-append f xs ys) ∙ or_test (int_eq f x.number) x (first_definition_of f xs) (first_definition_of f ys)
 
 module _ (first : BTreeMap ℤ FontDefinition) (all : List Definition) (kept : HasFirstDefinitions first all) (d : Definition) where
   -- No definition of the number is known.
@@ -53,7 +53,7 @@ module _ (first : BTreeMap ℤ FontDefinition) (all : List Definition) (kept : H
   agrees_none none = none_agree d all (sym (kept.firsts d.number) ∙ ap (λ (o : Option FontDefinition). option_map definition o) none)
 
   module _ (e : FontDefinition) (is : get int_cmp first d.number ≡ Some e) where
-    there : defined d.number all ≡ Some (definition e)
+    there : first_definition_of d.number all ≡ Some (definition e)
     there = sym (kept.firsts d.number) ∙ ap (λ (o : Option FontDefinition). option_map definition o) is
 
     -- The first one is the same, and so are all; or it differs.
@@ -70,7 +70,7 @@ pub kept_more : (old new : BTreeMap ℤ FontDefinition) (all : List Definition) 
 kept_more old new all font kept agrees adds =
     let more : List Definition = definition font ∷ [] in
     record {
-      firsts = λ f. adds f ∙ (ap (λ (o : Option Definition). option_or o (defined f more)) (kept.firsts f) ∙ sym (defined-append f all more));
+      firsts = λ f. adds f ∙ (ap (λ (o : Option Definition). option_or o (first_definition_of f more)) (kept.firsts f) ∙ sym (defined-append f all more));
       agree =
           all_append (λ (d : Definition). AllByRecursion (AgreesWith d) (all ++ more)) all more
           (all_weaker (λ (d : Definition). AllByRecursion (AgreesWith d) all × AgreesWith (definition font) d) (λ (d : Definition). AllByRecursion (AgreesWith d) (all ++ more)) all

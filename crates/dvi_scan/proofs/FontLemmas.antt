@@ -4,10 +4,10 @@ use Rattle.std.specs.Prelude.{◌⊎◌, IsSome}
 use Rattle.std.specs.List.{AllByRecursion}
 use Rattle.std.specs.Ordering.{int_eq}
 use Rattle.std.proofs.lemmas.Bool.Decides.{Decides-int_eq}
-use Rattle.dvi_ops.specs.Body.{Position, DviState, Meaning, Widths, acts, glyph, glyph_of, kept, kept_in, place_after, put_glyph, right, rule_at, set_glyph, start}
+use Rattle.dvi_ops.specs.Body.{Position, DviState, Meaning, Widths, instruction_acts, glyph, glyph_of, bounded_acts, kept_in, place_after, put_glyph, right, rule_at, set_glyph, start}
 use Rattle.scaled_core.specs.Mark.{Mark, Special}
 use Rattle.dvi_ops.specs.File.{MarkedPage}
-use Rattle.dvi_ops.specs.Fonts.{WidthsByName, AgreesWith, FontsAreRight, IsRightAfter, defined, definitions_in, definitions, widths_in, known_after, selection_of, selections, width_in, widths_of}
+use Rattle.dvi_ops.specs.Fonts.{WidthsByName, AgreesWith, FontsAreRight, IsRightAfter, first_definition_of, definitions_in, definitions, widths_in, known_after, selection_of, selections, width_in, widths_of}
 use Rattle.dvi_ops.specs.Instruction.{Definition, BodyLeaf, SetChar, PutChar, SetRule, PutRule, Nop, Move, FontNum, FontDef, Xxx, Instruction, Do, Push, Pop, Bop, Eop, Pre, Post, PostPost}
 use Rattle.scaled_core.proofs.EachOf.{all_append, all_back, all_front, all_weaker}
 use Rattle.dvi_ops.proofs.Appends.{fonts_back}
@@ -42,7 +42,7 @@ put_font (Some (mark, width)) s t marks e = ap (λ (s : DviState). s.font) (by_r
 same_font : (b : Bool) (marks more : List Mark) (s u t : DviState) → s.font ≡ u.font → ranged b (Some (marks, u)) ≡ Some (more, t) → s.font ≡ t.font
 same_font b marks more s u t same e = same ∙ ap (λ (s : DviState). s.font) (by_range b marks more u t e)
 
-act_font : (widths : Widths) (leaf : BodyLeaf) (s t : DviState) (marks : List Mark) → kept_in (acts widths leaf s) ≡ Some (marks, t) → (s.font ≡ t.font) ⊎ ((f : ℤ) × (leaf ≡ FontNum f) × (t.font ≡ Some f))
+act_font : (widths : Widths) (leaf : BodyLeaf) (s t : DviState) (marks : List Mark) → kept_in (instruction_acts widths leaf s) ≡ Some (marks, t) → (s.font ≡ t.font) ⊎ ((f : ℤ) × (leaf ≡ FontNum f) × (t.font ≡ Some f))
 act_font widths (SetChar c) s t marks e = inl (set_font (glyph widths c s.place s.font) s t marks e)
 act_font widths (PutChar c) s t marks e = inl (put_font (glyph widths c s.place s.font) s t marks e)
 act_font widths (SetRule height width) s t marks e = inl (same_font _ (rule_at height width s.place) marks s (right s width) t refl e)
@@ -53,7 +53,7 @@ act_font widths (FontNum f) s t marks e = inr (f, refl, ap (λ (s : DviState). s
 act_font widths (FontDef d) s t marks e = inl (same_font _ [] marks s s t refl e)
 act_font widths (Xxx text) s t marks e = inl (same_font _ (Special s.place.h s.place.v text ∷ []) marks s s t refl e)
 
-drawn_font : (widths : Widths) (leaf : BodyLeaf) (pages : List MarkedPage) (counts : List ℤ) (marks : List Mark) (stack : List Position) (s : DviState) (m : Meaning) (q : PassStateView) (f : ℤ) → kept_in (acts widths leaf s) ≡ m
+drawn_font : (widths : Widths) (leaf : BodyLeaf) (pages : List MarkedPage) (counts : List ℤ) (marks : List Mark) (stack : List Position) (s : DviState) (m : Meaning) (q : PassStateView) (f : ℤ) → kept_in (instruction_acts widths leaf s) ≡ m
     → with_marks pages counts marks stack m ≡ Some q → current_of q ≡ Some f → (s.font ≡ Some f) ⊎ (Do leaf ≡ Do (FontNum f))
 drawn_font widths leaf pages counts marks stack s None q f is e at = absurd cc
 drawn_font widths leaf pages counts marks stack s (Some (more, t)) q f is e at =
@@ -61,7 +61,7 @@ drawn_font widths leaf pages counts marks stack s (Some (more, t)) q f is e at =
     by_font (act_font widths leaf s t more is) (ap current_of same ∙ at)
   where
     by_font : (s.font ≡ t.font) ⊎ ((g : ℤ) × (leaf ≡ FontNum g) × (t.font ≡ Some g)) → t.font ≡ Some f → (s.font ≡ Some f) ⊎ (Do leaf ≡ Do (FontNum f))
-    by_font (inl kept) font = inl (kept ∙ font)
+    by_font (inl bounded_acts) font = inl (bounded_acts ∙ font)
     by_font (inr (g, leaf_is, font_is)) font =
         let same : Some g ≡ Some f = sym font_is ∙ font in let equal : g ≡ f = cc in inr (ap (λ (l : BodyLeaf). Do l) leaf_is ∙ ap (λ (n : ℤ). Do (FontNum n)) equal)
 
@@ -69,12 +69,12 @@ push_font : (b : Bool) (p q : PassStateView) (f : ℤ) → (if b then Some p els
 push_font true p q f e at = let same : p ≡ q = cc in ap current_of same ∙ at
 push_font false p q f e at = absurd cc
 
-pub turn_font : (widths : Widths) (most : ℕ) (i : Instruction) (p q : PassStateView) (f : ℤ) → execute (kept (acts widths)) most i p ≡ Some q → current_of q ≡ Some f → (current_of p ≡ Some f) ⊎ (i ≡ Do (FontNum f))
+pub turn_font : (widths : Widths) (most : ℕ) (i : Instruction) (p q : PassStateView) (f : ℤ) → execute (bounded_acts (instruction_acts widths)) most i p ≡ Some q → current_of q ≡ Some f → (current_of p ≡ Some f) ⊎ (i ≡ Do (FontNum f))
 turn_font widths most (Do Nop) (Between pages) q f e at = let same : Between pages ≡ q = cc in let none : None ≡ Some f = ap current_of same ∙ at in absurd cc
 turn_font widths most (Do (FontDef d)) (Between pages) q f e at = let same : Between pages ≡ q = cc in let none : None ≡ Some f = ap current_of same ∙ at in absurd cc
 turn_font widths most (Bop counts pointer) (Between pages) q f e at = let same : Inside pages counts [] [] start ≡ q = cc in let none : None ≡ Some f = ap current_of same ∙ at in absurd cc
 turn_font widths most i (Between pages) q f e at = absurd cc
-turn_font widths most (Do leaf) (Inside pages counts marks stack s) q f e at = drawn_font widths leaf pages counts marks stack s (kept_in (acts widths leaf s)) q f refl e at
+turn_font widths most (Do leaf) (Inside pages counts marks stack s) q f e at = drawn_font widths leaf pages counts marks stack s (kept_in (instruction_acts widths leaf s)) q f refl e at
 turn_font widths most Push (Inside pages counts marks stack s) q f e at = inl (push_font (nat_lt (length stack) most) (Inside pages counts marks (s.place ∷ stack) s) q f e at)
 turn_font widths most Pop (Inside pages counts marks [] s) q f e at = absurd cc
 turn_font widths most Pop (Inside pages counts marks (p ∷ stack) s) q f e at =
@@ -92,13 +92,13 @@ same_glyph : (v w : Widths) (c : ℤ) (p : Position) (font : Option ℤ) → ((f
 same_glyph v w c p None same = refl
 same_glyph v w c p (Some f) same = ap (λ (o : Option ℤ). glyph_of f c p o) (same f refl c)
 
-pub same_act : (v w : Widths) (leaf : BodyLeaf) (s : DviState) → ((f : ℤ) → s.font ≡ Some f → SameWidths v w f) → acts v leaf s ≡ acts w leaf s
+pub same_act : (v w : Widths) (leaf : BodyLeaf) (s : DviState) → ((f : ℤ) → s.font ≡ Some f → SameWidths v w f) → instruction_acts v leaf s ≡ instruction_acts w leaf s
 same_act v w (SetChar c) s same = ap (λ (g : Option (Mark × ℤ)). set_glyph g s) (same_glyph v w c s.place s.font same)
 same_act v w (PutChar c) s same = ap (λ (g : Option (Mark × ℤ)). put_glyph g s) (same_glyph v w c s.place s.font same)
 same_act v w leaf s same = refl
 
 -- The pass goes on in the same way with both.
-pub same_turn : (v w : Widths) (most : ℕ) (i : Instruction) (p : PassStateView) → SameNow v w p → execute (kept (acts v)) most i p ≡ execute (kept (acts w)) most i p
+pub same_turn : (v w : Widths) (most : ℕ) (i : Instruction) (p : PassStateView) → SameNow v w p → execute (bounded_acts (instruction_acts v)) most i p ≡ execute (bounded_acts (instruction_acts w)) most i p
 same_turn v w most (Do leaf) (Inside pages counts marks stack s) same = ap (λ (m : Meaning). with_marks pages counts marks stack (kept_in m)) (same_act v w leaf s same)
 same_turn v w most Push (Inside pages counts marks stack s) same = refl
 same_turn v w most Pop (Inside pages counts marks stack s) same = refl
@@ -112,7 +112,7 @@ same_turn v w most (Do (FontDef d)) (Between pages) same = refl
 same_turn v w most (Bop a b) (Between pages) same = refl
 same_turn v w most i (Between pages) same = refl
 
-next_same : (v w : Widths) (most : ℕ) (i : Instruction) (p q : PassStateView) → SameNow v w p → AllByRecursion (SameWidths v w) (selection_of i) → execute (kept (acts v)) most i p ≡ Some q → SameNow v w q
+next_same : (v w : Widths) (most : ℕ) (i : Instruction) (p q : PassStateView) → SameNow v w p → AllByRecursion (SameWidths v w) (selection_of i) → execute (bounded_acts (instruction_acts v)) most i p ≡ Some q → SameNow v w q
 next_same v w most i p q same all e = λ f at. by_font f (turn_font v most i p q f e at)
   where
     by_font : (f : ℤ) → (current_of p ≡ Some f) ⊎ (i ≡ Do (FontNum f)) → SameWidths v w f
@@ -120,28 +120,28 @@ next_same v w most i p q same all e = λ f at. by_font f (turn_font v most i p q
     by_font f (inr is) = let there : AllByRecursion (SameWidths v w) (f ∷ []) = subst (λ (i : Instruction). AllByRecursion (SameWidths v w) (selection_of i)) is all in there.0
 
 -- The pass over instructions is the same with two tables that have the same widths of all fonts that these select.
-pub same_passes : (v w : Widths) (most : ℕ) (is : List Instruction) (p q : PassStateView) → SameNow v w p → AllByRecursion (SameWidths v w) (selections is) → passes (kept (acts v)) most is p ≡ Some q
-    → (passes (kept (acts w)) most is p ≡ Some q) × SameNow v w q
+pub same_passes : (v w : Widths) (most : ℕ) (is : List Instruction) (p q : PassStateView) → SameNow v w p → AllByRecursion (SameWidths v w) (selections is) → passes (bounded_acts (instruction_acts v)) most is p ≡ Some q
+    → (passes (bounded_acts (instruction_acts w)) most is p ≡ Some q) × SameNow v w q
 same_passes v w most [] p q same all e = let is : p ≡ q = cc in (e, subst (SameNow v w) is same)
 same_passes v w most (i ∷ is) p q same all e =
-    go (execute (kept (acts v)) most i p) refl
+    go (execute (bounded_acts (instruction_acts v)) most i p) refl
     (λ r first. same_passes v w most is r q (next_same v w most i p r same (all_front (SameWidths v w) (selection_of i) (selections is) all) first) (all_back (SameWidths v w) (selection_of i) (selections is) all)) e
   where
-    go : (o : Option PassStateView) → execute (kept (acts v)) most i p ≡ o
-        → ((r : PassStateView) → execute (kept (acts v)) most i p ≡ Some r → passes (kept (acts v)) most is r ≡ Some q → (passes (kept (acts w)) most is r ≡ Some q) × SameNow v w q)
-        → then_pass (passes (kept (acts v)) most is) o ≡ Some q → (passes (kept (acts w)) most (i ∷ is) p ≡ Some q) × SameNow v w q
+    go : (o : Option PassStateView) → execute (bounded_acts (instruction_acts v)) most i p ≡ o
+        → ((r : PassStateView) → execute (bounded_acts (instruction_acts v)) most i p ≡ Some r → passes (bounded_acts (instruction_acts v)) most is r ≡ Some q → (passes (bounded_acts (instruction_acts w)) most is r ≡ Some q) × SameNow v w q)
+        → then_pass (passes (bounded_acts (instruction_acts v)) most is) o ≡ Some q → (passes (bounded_acts (instruction_acts w)) most (i ∷ is) p ≡ Some q) × SameNow v w q
     go None first later e = absurd cc
     go (Some r) first later e =
-        let rest = later r first e in (ap (then_pass (passes (kept (acts w)) most is)) (sym (same_turn v w most i p same) ∙ first) ∙ rest.0, rest.1)
+        let rest = later r first e in (ap (then_pass (passes (bounded_acts (instruction_acts w)) most is)) (sym (same_turn v w most i p same) ∙ first) ∙ rest.0, rest.1)
 
 -- A number that is defined has the same definition among more of them.
 more_test : (b : Bool) (x d : Definition) (rest more : Option Definition) → (rest ≡ Some d → more ≡ Some d) → (if b then Some x else rest) ≡ Some d → (if b then Some x else more) ≡ Some d
 more_test true x d rest more later e = e
 more_test false x d rest more later e = later e
 
-pub defined_more : (f : ℤ) (xs ys : List Definition) (d : Definition) → defined f xs ≡ Some d → defined f (xs ++ ys) ≡ Some d
+pub defined_more : (f : ℤ) (xs ys : List Definition) (d : Definition) → first_definition_of f xs ≡ Some d → first_definition_of f (xs ++ ys) ≡ Some d
 defined_more f [] ys d e = absurd cc
-defined_more f (x ∷ xs) ys d e = more_test (int_eq f x.number) x d (defined f xs) (defined f (xs ++ ys)) (defined_more f xs ys d) e
+defined_more f (x ∷ xs) ys d e = more_test (int_eq f x.number) x d (first_definition_of f xs) (first_definition_of f (xs ++ ys)) (defined_more f xs ys d) e
 
 pub some_definition : (o : Option Definition) → IsSome o → (d : Definition) × (o ≡ Some d)
 some_definition None some = absurd cc
@@ -149,7 +149,7 @@ some_definition (Some d) some = (d, refl)
 
 -- A font that has widths is defined.
 pub has_definition : (metrics : WidthsByName) (table : List Definition) (f : ℤ) → HasWidths metrics table f → IsDefined table f
-has_definition metrics table f = go (defined f table)
+has_definition metrics table f = go (first_definition_of f table)
   where
     go : (o : Option Definition) → IsSome (widths_in metrics o) → IsSome o
     go None some = absurd cc
@@ -158,12 +158,12 @@ has_definition metrics table f = go (defined f table)
 -- A defined font has the same widths among more definitions.
 pub same_more_widths : (metrics : WidthsByName) (xs ys : List Definition) (f : ℤ) → IsDefined xs f → SameWidths (widths_of metrics xs) (widths_of metrics (xs ++ ys)) f
 same_more_widths metrics xs ys f some c =
-    let (d, e) = some_definition (defined f xs) some in
+    let (d, e) = some_definition (first_definition_of f xs) some in
     ap (λ (o : Option Definition). width_in (widths_in metrics o) c) (e ∙ sym (defined_more f xs ys d e))
 
 pub has_more_widths : (metrics : WidthsByName) (xs ys : List Definition) (f : ℤ) → HasWidths metrics xs f → HasWidths metrics (xs ++ ys) f
 has_more_widths metrics xs ys f some =
-    let (d, e) = some_definition (defined f xs) (has_definition metrics xs f some) in
+    let (d, e) = some_definition (first_definition_of f xs) (has_definition metrics xs f some) in
     subst (λ (o : Option Definition). IsSome (widths_in metrics o)) (e ∙ sym (defined_more f xs ys d e)) some
 
 pub all_more_widths : (metrics : WidthsByName) (xs ys : List Definition) (fs : List ℤ) → AllByRecursion (HasWidths metrics xs) fs → AllByRecursion (HasWidths metrics (xs ++ ys)) fs
@@ -175,13 +175,13 @@ all_same_widths metrics xs ys fs all =
     (λ f some. same_more_widths metrics xs ys f (has_definition metrics xs f some)) all
 
 -- The first definition of a number has that number.
-first_test : (f : ℤ) (b : Bool) (x d : Definition) (xs : List Definition) → int_eq f x.number ≡ b → (defined f xs ≡ Some d → (f ≡ d.number) × IsAmong d xs) → (if b then Some x else defined f xs) ≡ Some d
+first_test : (f : ℤ) (b : Bool) (x d : Definition) (xs : List Definition) → int_eq f x.number ≡ b → (first_definition_of f xs ≡ Some d → (f ≡ d.number) × IsAmong d xs) → (if b then Some x else first_definition_of f xs) ≡ Some d
     → (f ≡ d.number) × IsAmong d (x ∷ xs)
 first_test f true x d xs is later e =
     let same : x ≡ d = cc in ((Decides-int_eq f x.number).0 is ∙ ap (λ (d : Definition). d.number) same, inl (sym same))
 first_test f false x d xs is later e = let rest = later e in (rest.0, inr rest.1)
 
-pub defined_first : (f : ℤ) (xs : List Definition) (d : Definition) → defined f xs ≡ Some d → (f ≡ d.number) × IsAmong d xs
+pub defined_first : (f : ℤ) (xs : List Definition) (d : Definition) → first_definition_of f xs ≡ Some d → (f ≡ d.number) × IsAmong d xs
 defined_first f [] d e = absurd cc
 defined_first f (x ∷ xs) d e = first_test f (int_eq f x.number) x d xs refl (defined_first f xs d) e
 
@@ -201,10 +201,10 @@ later_agrees known (i ∷ is) d e (here, right) there later =
 
 -- Where a number is defined among right instructions and among right ones after them, both first definitions are the same.
 pub same_definition : (front tail : List Instruction) (f : ℤ) → FontsAreRight [] (front ++ tail) → IsDefined (definitions front) f → IsDefined (definitions tail) f
-    → defined f (definitions front) ≡ defined f (definitions tail)
+    → first_definition_of f (definitions front) ≡ first_definition_of f (definitions tail)
 same_definition front tail f right before after =
-    let (d, d_is) = some_definition (defined f (definitions front)) before in
-    let (e, e_is) = some_definition (defined f (definitions tail)) after in
+    let (d, d_is) = some_definition (first_definition_of f (definitions front)) before in
+    let (e, e_is) = some_definition (first_definition_of f (definitions tail)) after in
     let (d_number, d_there) = defined_first f (definitions front) d d_is in
     let (e_number, e_there) = defined_first f (definitions tail) e e_is in
     let known = (same_after [] [] front (same_self [])).there d d_there in

@@ -6,7 +6,7 @@ use Rattle.std.specs.List.{AllByRecursion}
 use Rattle.std.proofs.lemmas.Bool.Decides.{Decides-int_eq}
 use Rattle.dvi_ops.specs.Instruction.{Definition, Nop, FontDef, FontNum, Instruction, Do}
 use Rattle.dvi_ops.specs.File.{IsIdle}
-use Rattle.dvi_ops.specs.Fonts.{AgreesWith, FontsAreRight, IsRightAfter, definitions_in, definitions, defined, known_after}
+use Rattle.dvi_ops.specs.Fonts.{AgreesWith, FontsAreRight, IsRightAfter, definitions_in, definitions, first_definition_of, known_after}
 use Rattle.dvi_scan.specs.Known.{IsAmong, HasSame}
 
 -- A property of all items of a list is one of each item.
@@ -23,12 +23,12 @@ pub all_fewer : (P : Definition → Type 0) (xs ys : List Definition) → ((d : 
 all_fewer P xs ys fewer all = each_all P ys (λ d there. all_each P xs all d (fewer d there))
 
 -- A number is defined exactly where one of its definitions is there.
-by_number : (f : ℤ) (x : Definition) (xs : List Definition) (b : Bool) → int_eq f x.number ≡ b → (IsSome (defined f xs) → (d : Definition) × (f ≡ d.number) × IsAmong d xs)
-    → IsSome (if b then Some x else defined f xs) → (d : Definition) × (f ≡ d.number) × IsAmong d (x ∷ xs)
+by_number : (f : ℤ) (x : Definition) (xs : List Definition) (b : Bool) → int_eq f x.number ≡ b → (IsSome (first_definition_of f xs) → (d : Definition) × (f ≡ d.number) × IsAmong d xs)
+    → IsSome (if b then Some x else first_definition_of f xs) → (d : Definition) × (f ≡ d.number) × IsAmong d (x ∷ xs)
 by_number f x xs true e later some = (x, (Decides-int_eq f x.number).0 e, inl refl)
 by_number f x xs false e later some = let rest = later some in (rest.0, rest.1, inr rest.2)
 
-pub defined_among : (f : ℤ) (xs : List Definition) → IsSome (defined f xs) → (d : Definition) × (f ≡ d.number) × IsAmong d xs
+pub defined_among : (f : ℤ) (xs : List Definition) → IsSome (first_definition_of f xs) → (d : Definition) × (f ≡ d.number) × IsAmong d xs
 defined_among f [] some = absurd cc
 defined_among f (x ∷ xs) some = by_number f x xs (int_eq f x.number) refl (defined_among f xs) some
 
@@ -36,11 +36,11 @@ first_or_later : (x : Definition) (b : Bool) (rest : Option Definition) → IsSo
 first_or_later x true rest some = refl
 first_or_later x false rest some = some
 
-pub among_defined : (f : ℤ) (xs : List Definition) (d : Definition) → f ≡ d.number → IsAmong d xs → IsSome (defined f xs)
+pub among_defined : (f : ℤ) (xs : List Definition) (d : Definition) → f ≡ d.number → IsAmong d xs → IsSome (first_definition_of f xs)
 among_defined f [] d e there = absurd there
 among_defined f (x ∷ xs) d e (inl same) =
     let yes : int_eq f x.number ≡ true = (Decides-int_eq f x.number).1 (e ∙ ap (λ (d : Definition). d.number) same) in rw yes refl
-among_defined f (x ∷ xs) d e (inr there) = first_or_later x (int_eq f x.number) (defined f xs) (among_defined f xs d e there)
+among_defined f (x ∷ xs) d e (inr there) = first_or_later x (int_eq f x.number) (first_definition_of f xs) (among_defined f xs d e there)
 
 -- Two lists, one after the other.
 pub among_cut : (d : Definition) (xs ys : List Definition) → IsAmong d (xs ++ ys) → IsAmong d xs ⊎ IsAmong d ys

@@ -4,7 +4,7 @@ use Rattle.std.proofs.lemmas.List.{drop_at, take_at, reverse-append}
 use Rattle.std.specs.List.{AllByRecursion}
 use Rattle.dvi_ops.specs.Instruction.{Instruction, Bop}
 use Rattle.dvi_ops.specs.Table.{Spells}
-use Rattle.dvi_ops.specs.Tokens.{Token, IsSpelled, says, written, bop_place, places, pointer_of, pointers}
+use Rattle.dvi_ops.specs.Tokens.{Token, IsSpelled, token_instructions, token_bytes, bop_place, places, pointer_of, pointers}
 use Rattle.dvi_scan.specs.Ends.{StandsAt}
 use Rattle.dvi_scan.specs.Chain.{Links, IsBrokenAt}
 use Rattle.dvi_scan.proofs.PlaceLemmas.{one_stands, stands_wider}
@@ -37,39 +37,39 @@ onto : (x : ℕ) (xs ys : List ℕ) → reverse (x ∷ xs) ++ ys ≡ reverse xs 
 onto x xs ys = ap (λ (zs : List ℕ). zs ++ ys) (reverse-append (x ∷ []) xs) ∙ append_assoc (reverse xs) (x ∷ []) ys
 
 -- Where each bop names the one before it, the pointer after them leads to all of them.
-pub linked_from : (bytes a : List ℕ) (more : List Token) (rest : List ℕ) (z last : ℤ) (earlier : List ℕ) → bytes ≡ a ++ (written more ++ rest) → AllByRecursion IsSpelled more
-    → pointers (says more) ++ last ∷ [] ≡ z ∷ map (λ (n : ℕ). pos n) (places (length a) more) → Links bytes (length a) z earlier
-    → Links bytes (length a + length (written more)) last (reverse (places (length a) more) ++ earlier)
+pub linked_from : (bytes a : List ℕ) (more : List Token) (rest : List ℕ) (z last : ℤ) (earlier : List ℕ) → bytes ≡ a ++ (token_bytes more ++ rest) → AllByRecursion IsSpelled more
+    → pointers (token_instructions more) ++ last ∷ [] ≡ z ∷ map (λ (n : ℕ). pos n) (places (length a) more) → Links bytes (length a) z earlier
+    → Links bytes (length a + length (token_bytes more)) last (reverse (places (length a) more) ++ earlier)
 linked_from bytes a [] rest z last earlier whole spelled e links =
     let same : last ≡ z = cc in
     links_wider bytes (length a) (length a + 0) last earlier (omega arith) (subst (λ (y : ℤ). Links bytes (length a) y earlier) (sym same) links)
 linked_from bytes a (t ∷ more) rest z last earlier whole (here, spelled) e links =
-    let regroup : a ++ (written (t ∷ more) ++ rest) ≡ (a ++ t.bytes) ++ (written more ++ rest) = simp append_assoc in
+    let regroup : a ++ (token_bytes (t ∷ more) ++ rest) ≡ (a ++ t.bytes) ++ (token_bytes more ++ rest) = simp append_assoc in
     let size : length (a ++ t.bytes) ≡ length a + length t.bytes = length-append a t.bytes in
     let stands : StandsAt bytes (length a) (length a + length t.bytes) t.says =
-    subst (λ (x : List ℕ). StandsAt x (length a) (length a + length t.bytes) t.says) (sym (whole ∙ ap (λ (x : List ℕ). a ++ x) (append_assoc t.bytes (written more) rest))) (stands_after a t (written more ++ rest) here) in
-    let ends : (length a + length t.bytes) + length (written more) ≡ length a + length (written (t ∷ more)) = omega (arith, length-append t.bytes (written more)) in
+    subst (λ (x : List ℕ). StandsAt x (length a) (length a + length t.bytes) t.says) (sym (whole ∙ ap (λ (x : List ℕ). a ++ x) (append_assoc t.bytes (token_bytes more) rest))) (stands_after a t (token_bytes more ++ rest) here) in
+    let ends : (length a + length t.bytes) + length (token_bytes more) ≡ length a + length (token_bytes (t ∷ more)) = omega (arith, length-append t.bytes (token_bytes more)) in
     elim (bop_or_not t.says) [
       | is_bop counts pointer is ↦
-          (let there : pointer ∷ (pointers (says more) ++ last ∷ []) ≡ z ∷ (pos (length a) ∷ map (λ (n : ℕ). pos n) (places (length a + length t.bytes) more)) = rw is at e in
+          (let there : pointer ∷ (pointers (token_instructions more) ++ last ∷ []) ≡ z ∷ (pos (length a) ∷ map (λ (n : ℕ). pos n) (places (length a + length t.bytes) more)) = rw is at e in
           let same : pointer ≡ z = cc in
-          let later : pointers (says more) ++ last ∷ [] ≡ pos (length a) ∷ map (λ (n : ℕ). pos n) (places (length a + length t.bytes) more) = cc in
+          let later : pointers (token_instructions more) ++ last ∷ [] ≡ pos (length a) ∷ map (λ (n : ℕ). pos n) (places (length a + length t.bytes) more) = cc in
           let bop : StandsAt bytes (length a) (length a + length t.bytes) (Bop counts pointer) = subst (λ (i : Instruction). StandsAt bytes (length a) (length a + length t.bytes) i) is stands in
           let now : Links bytes (length a + length t.bytes) (pos (length a)) (length a ∷ earlier) = (refl, counts, pointer, bop, subst (λ (y : ℤ). Links bytes (length a) y earlier) (sym same) links) in
           let all = linked_from bytes (a ++ t.bytes) more rest (pos (length a)) last (length a ∷ earlier) (whole ∙ regroup) spelled (rw size later) (rw size now) in
-          let next : Links bytes ((length a + length t.bytes) + length (written more)) last (reverse (places (length a + length t.bytes) more) ++ (length a ∷ earlier)) =
-          subst (λ (n : ℕ). Links bytes (n + length (written more)) last (reverse (places n more) ++ (length a ∷ earlier))) size all in
+          let next : Links bytes ((length a + length t.bytes) + length (token_bytes more)) last (reverse (places (length a + length t.bytes) more) ++ (length a ∷ earlier)) =
+          subst (λ (n : ℕ). Links bytes (n + length (token_bytes more)) last (reverse (places n more) ++ (length a ∷ earlier))) size all in
           let list : reverse (places (length a) (t ∷ more)) ++ earlier ≡ reverse (places (length a + length t.bytes) more) ++ (length a ∷ earlier) = rw is (onto (length a) (places (length a + length t.bytes) more) earlier) in
           subst₂ (λ (n : ℕ) (c : List ℕ). Links bytes n last c) ends (sym list) next)
       | no_bop no_place no_pointer ↦
           (let same : places (length a) (t ∷ more) ≡ places (length a + length t.bytes) more = rw (no_place (length a)) refl in
-          let none : pointers (says (t ∷ more)) ≡ pointers (says more) = rw no_pointer refl in
-          let later : pointers (says more) ++ last ∷ [] ≡ z ∷ map (λ (n : ℕ). pos n) (places (length a + length t.bytes) more) =
+          let none : pointers (token_instructions (t ∷ more)) ≡ pointers (token_instructions more) = rw no_pointer refl in
+          let later : pointers (token_instructions more) ++ last ∷ [] ≡ z ∷ map (λ (n : ℕ). pos n) (places (length a + length t.bytes) more) =
           ap (λ (ps : List ℤ). ps ++ last ∷ []) (sym none) ∙ (e ∙ ap (λ (ns : List ℕ). z ∷ map (λ (n : ℕ). pos n) ns) same) in
           let now = links_wider bytes (length a) (length a + length t.bytes) z earlier (omega arith) links in
           let all = linked_from bytes (a ++ t.bytes) more rest z last earlier (whole ∙ regroup) spelled (rw size later) (rw size now) in
-          let next : Links bytes ((length a + length t.bytes) + length (written more)) last (reverse (places (length a + length t.bytes) more) ++ earlier) =
-          subst (λ (n : ℕ). Links bytes (n + length (written more)) last (reverse (places n more) ++ earlier)) size all in
+          let next : Links bytes ((length a + length t.bytes) + length (token_bytes more)) last (reverse (places (length a + length t.bytes) more) ++ earlier) =
+          subst (λ (n : ℕ). Links bytes (n + length (token_bytes more)) last (reverse (places n more) ++ earlier)) size all in
           subst₂ (λ (n : ℕ) (c : List ℕ). Links bytes n last c) ends (ap (λ (ns : List ℕ). reverse ns ++ earlier) (sym same)) next)
     ]
 
@@ -77,18 +77,18 @@ linked_from bytes a (t ∷ more) rest z last earlier whole (here, spelled) e lin
 pub record Before (bytes : List ℕ) (more : List Token) (at : ℕ) (last : ℤ) (earlier : List ℕ) : Type 0 where
   pub pointer : ℤ
   pub bound : ℕ
-  pub equation : pointers (says more) ++ last ∷ [] ≡ pointer ∷ map (λ (n : ℕ). pos n) (places at more)
+  pub equation : pointers (token_instructions more) ++ last ∷ [] ≡ pointer ∷ map (λ (n : ℕ). pos n) (places at more)
   pub links : Links bytes bound pointer earlier
 
 -- Where a pointer leads to all bops, each names the one before it.
-pub chained_from : (bytes a : List ℕ) (more : List Token) (rest : List ℕ) (bound : ℕ) (last : ℤ) (earlier : List ℕ) → bytes ≡ a ++ (written more ++ rest) → AllByRecursion IsSpelled more
+pub chained_from : (bytes a : List ℕ) (more : List Token) (rest : List ℕ) (bound : ℕ) (last : ℤ) (earlier : List ℕ) → bytes ≡ a ++ (token_bytes more ++ rest) → AllByRecursion IsSpelled more
     → Links bytes bound last (reverse (places (length a) more) ++ earlier) → Before bytes more (length a) last earlier
 chained_from bytes a [] rest bound last earlier whole spelled links = record { pointer = last; bound = bound; equation = refl; links = links }
 chained_from bytes a (t ∷ more) rest bound last earlier whole (here, spelled) links =
-    let regroup : a ++ (written (t ∷ more) ++ rest) ≡ (a ++ t.bytes) ++ (written more ++ rest) = simp append_assoc in
+    let regroup : a ++ (token_bytes (t ∷ more) ++ rest) ≡ (a ++ t.bytes) ++ (token_bytes more ++ rest) = simp append_assoc in
     let size : length (a ++ t.bytes) ≡ length a + length t.bytes = length-append a t.bytes in
     let stands : StandsAt bytes (length a) (length a + length t.bytes) t.says =
-    subst (λ (x : List ℕ). StandsAt x (length a) (length a + length t.bytes) t.says) (sym (whole ∙ ap (λ (x : List ℕ). a ++ x) (append_assoc t.bytes (written more) rest))) (stands_after a t (written more ++ rest) here) in
+    subst (λ (x : List ℕ). StandsAt x (length a) (length a + length t.bytes) t.says) (sym (whole ∙ ap (λ (x : List ℕ). a ++ x) (append_assoc t.bytes (token_bytes more) rest))) (stands_after a t (token_bytes more ++ rest) here) in
     elim (bop_or_not t.says) [
       | is_bop counts pointer is ↦
           (let bop : StandsAt bytes (length a) (length a + length t.bytes) (Bop counts pointer) = subst (λ (i : Instruction). StandsAt bytes (length a) (length a + length t.bytes) i) is stands in
@@ -98,16 +98,16 @@ chained_from bytes a (t ∷ more) rest bound last earlier whole (here, spelled) 
           let (named, others, other, there, further) = found.links in
           let same : Bop others other ≡ Bop counts pointer = one_stands bytes (length a) found.bound (length a + length t.bytes) (Bop others other) (Bop counts pointer) there bop in
           let pointers_same : other ≡ pointer = cc in
-          let later : pointers (says more) ++ last ∷ [] ≡ found.pointer ∷ map (λ (n : ℕ). pos n) (places (length a + length t.bytes) more) = subst (λ (n : ℕ). pointers (says more) ++ last ∷ [] ≡ found.pointer ∷ map (λ (n : ℕ). pos n) (places n more)) size found.equation in
-          let whole_equation : pointers (says (t ∷ more)) ++ last ∷ [] ≡ pointer ∷ map (λ (n : ℕ). pos n) (places (length a) (t ∷ more)) =
+          let later : pointers (token_instructions more) ++ last ∷ [] ≡ found.pointer ∷ map (λ (n : ℕ). pos n) (places (length a + length t.bytes) more) = subst (λ (n : ℕ). pointers (token_instructions more) ++ last ∷ [] ≡ found.pointer ∷ map (λ (n : ℕ). pos n) (places n more)) size found.equation in
+          let whole_equation : pointers (token_instructions (t ∷ more)) ++ last ∷ [] ≡ pointer ∷ map (λ (n : ℕ). pos n) (places (length a) (t ∷ more)) =
           rw is (ap (λ (zs : List ℤ). pointer ∷ zs) (later ∙ ap (λ (y : ℤ). y ∷ map (λ (n : ℕ). pos n) (places (length a + length t.bytes) more)) named)) in
           record { pointer = pointer; bound = length a; equation = whole_equation; links = subst (λ (y : ℤ). Links bytes (length a) y earlier) pointers_same further })
       | no_bop no_place no_pointer ↦
           (let same : places (length a) (t ∷ more) ≡ places (length a + length t.bytes) more = rw (no_place (length a)) refl in
-          let none : pointers (says (t ∷ more)) ≡ pointers (says more) = rw no_pointer refl in
+          let none : pointers (token_instructions (t ∷ more)) ≡ pointers (token_instructions more) = rw no_pointer refl in
           let now : Links bytes bound last (reverse (places (length a + length t.bytes) more) ++ earlier) = subst (λ (ns : List ℕ). Links bytes bound last (reverse ns ++ earlier)) same links in
           let found = chained_from bytes (a ++ t.bytes) more rest bound last earlier (whole ∙ regroup) spelled (rw size now) in
-          let later : pointers (says more) ++ last ∷ [] ≡ found.pointer ∷ map (λ (n : ℕ). pos n) (places (length a + length t.bytes) more) = subst (λ (n : ℕ). pointers (says more) ++ last ∷ [] ≡ found.pointer ∷ map (λ (n : ℕ). pos n) (places n more)) size found.equation in
+          let later : pointers (token_instructions more) ++ last ∷ [] ≡ found.pointer ∷ map (λ (n : ℕ). pos n) (places (length a + length t.bytes) more) = subst (λ (n : ℕ). pointers (token_instructions more) ++ last ∷ [] ≡ found.pointer ∷ map (λ (n : ℕ). pos n) (places n more)) size found.equation in
           record {
             pointer = found.pointer;
             bound = found.bound;

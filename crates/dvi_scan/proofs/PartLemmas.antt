@@ -5,7 +5,7 @@ use Rattle.std.specs.List.{AllByRecursion, flat_map}
 use Rattle.dvi_ops.specs.Instruction.{BodyLeaf, Nop, FontDef, Instruction, Do, Push, Pop, Bop, Eop}
 use Rattle.dvi_ops.specs.Body.{Position, DviState, Meaning, Acts, start}
 use Rattle.scaled_core.specs.Mark.{Mark}
-use Rattle.dvi_ops.specs.Forest.{Forest, Empty, Then, Group, flat, meaning, nests, and_then, ahead, restored}
+use Rattle.dvi_ops.specs.Forest.{Forest, Empty, Then, Group, flat, meaning, nests, and_then, marks_ahead, restored_meaning}
 use Rattle.dvi_ops.specs.File.{FilePart, Idle, Defines, Shows, instructions, MarkedPage, page_then, pages_of, push_depth_of}
 use Rattle.dvi_scan.specs.Pass.{PassStateView, Between, Inside, with_marks, execute, then_pass, passes}
 
@@ -47,7 +47,7 @@ passes-flat does most (Then i f) rest pages counts marks more stack s t e deep =
     step next None e = absurd cc
     step next (Some (here, u)) e = after (meaning does f u) refl e
       where
-        after : (m : Meaning) → meaning does f u ≡ m → ahead here m ≡ Some (more, t)
+        after : (m : Meaning) → meaning does f u ≡ m → marks_ahead here m ≡ Some (more, t)
             → passes does most (flat f ++ rest) (Inside pages counts (marks ++ here) stack u) ≡ passes does most rest (Inside pages counts (marks ++ more) stack t)
         after None is e = absurd cc
         after (Some (later, w)) is e =
@@ -65,14 +65,14 @@ passes-flat does most (Group inner f) rest pages counts marks more stack s t e d
     within : ((here : List Mark) (u : DviState) → meaning does inner s ≡ Some (here, u)
         → passes does most (flat inner ++ (Pop ∷ (flat f ++ rest))) (Inside pages counts marks (s.place ∷ stack) s) ≡ passes does most (Pop ∷ (flat f ++ rest)) (Inside pages counts (marks ++ here) (s.place ∷ stack) u))
         → ((front later : List Mark) (u w : DviState) → meaning does f u ≡ Some (later, w)
-        → passes does most (flat f ++ rest) (Inside pages counts front stack u) ≡ passes does most rest (Inside pages counts (front ++ later) stack w)) → (m : Meaning) → meaning does inner s ≡ m → and_then (restored s.place m) (λ u. meaning does f u) ≡ Some (more, t)
+        → passes does most (flat f ++ rest) (Inside pages counts front stack u) ≡ passes does most rest (Inside pages counts (front ++ later) stack w)) → (m : Meaning) → meaning does inner s ≡ m → and_then (restored_meaning s.place m) (λ u. meaning does f u) ≡ Some (more, t)
         → passes does most (flat inner ++ (Pop ∷ (flat f ++ rest))) (Inside pages counts marks (s.place ∷ stack) s) ≡ passes does most rest (Inside pages counts (marks ++ more) stack t)
     within first next None is e = absurd cc
     within first next (Some (here, u)) is e =
         first here u is
         ∙ after (meaning does f (record { place = s.place; font = u.font })) refl e
       where
-        after : (m : Meaning) → meaning does f (record { place = s.place; font = u.font }) ≡ m → ahead here m ≡ Some (more, t)
+        after : (m : Meaning) → meaning does f (record { place = s.place; font = u.font }) ≡ m → marks_ahead here m ≡ Some (more, t)
             → passes does most (flat f ++ rest) (Inside pages counts (marks ++ here) stack (record { place = s.place; font = u.font })) ≡ passes does most rest (Inside pages counts (marks ++ more) stack t)
         after None is e = absurd cc
         after (Some (later, w)) is e =

@@ -9,7 +9,7 @@ use Rattle.dvi_scan.specs.Ends.{StandsAt}
 use Rattle.dvi_ops.specs.Fonts.{WidthsByName}
 use Rattle.dvi_ops.specs.Instruction.{Instruction, Bop, Postamble}
 use Rattle.dvi_ops.specs.Table.{Spells}
-use Rattle.dvi_ops.specs.Tokens.{Token, IsSpelled, bop_place, places, written}
+use Rattle.dvi_ops.specs.Tokens.{Token, IsSpelled, bop_place, places, token_bytes}
 use Rattle.scaled_core.proofs.EachOf.{all_append}
 use Rattle.dvi_ops.proofs.Frames.{not_empty}
 use Rattle.dvi_scan.specs.Reached.{IsIn, IsReached, Left, ReadSoFar, all_left, after_bop, after_bops}
@@ -103,10 +103,10 @@ place_below : (n most : ℕ) (i : Instruction) → n < most → AllByRecursion (
 place_below n most (Bop counts pointer) low = (low, tt)
 place_below n most i low = tt
 
-bops_below : (n most : ℕ) (ts : List Token) → AllByRecursion IsSpelled ts → n + length (written ts) ≤ most → AllByRecursion (λ (p : ℕ). p < most) (places n ts)
+bops_below : (n most : ℕ) (ts : List Token) → AllByRecursion IsSpelled ts → n + length (token_bytes ts) ≤ most → AllByRecursion (λ (p : ℕ). p < most) (places n ts)
 bops_below n most [] spelled high = tt
 bops_below n most (t ∷ ts) (here, spelled) high =
-    let size : length (written (t ∷ ts)) ≡ length t.bytes + length (written ts) = length-append t.bytes (written ts) in
+    let size : length (token_bytes (t ∷ ts)) ≡ length t.bytes + length (token_bytes ts) = length-append t.bytes (token_bytes ts) in
     let some : 0 < length t.bytes = some_bytes t.bytes here in
     all_append (λ (p : ℕ). p < most) (bop_place n t.says) (places (n + length t.bytes) ts) (place_below n most t.says (omega arith)) (bops_below (n + length t.bytes) most ts spelled (omega arith))
   where
@@ -119,7 +119,7 @@ module _ (metrics : WidthsByName) (ahead : List ℤ) (bytes : List ℕ) (stop : 
   pub later_left : (bound : ℕ) (pointer : ℤ) (c : ℕ) → at ≤ length bytes → Links bytes bound pointer chain → IsIn c (reverse chain) → at ≤ c → IsIn c s.left.places
   later_left bound pointer c high links there low =
       let rises : Rises (reverse chain) = subst Rises (append-nil (reverse chain)) (links_rise bytes bound pointer chain [] links tt tt) in
-      let size : length (written r.before) ≡ at = ap (λ (x : List ℕ). length x) r.whole ∙ length-take-le at bytes (omega arith) in
+      let size : length (token_bytes r.before) ≡ at = ap (λ (x : List ℕ). length x) r.whole ∙ length-take-le at bytes (omega arith) in
       left_all c at (places 0 r.before) (all_left chain) s.left rises low (bops_below 0 at r.before r.spelled (omega arith)) r.bops there
 
   -- Where the bops are the places of the chain, none was missed and none is left.

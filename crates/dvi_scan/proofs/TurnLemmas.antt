@@ -4,7 +4,7 @@ use Rattle.std.specs.Option.{option_map}
 use Rattle.std.proofs.lemmas.Bool.{lt-ltb, le-ltb}
 use Rattle.std.proofs.lemmas.List.{map-append, reverse-append, length-reverse, length-map}
 use Rattle.dvi_ops.specs.Instruction.{BodyLeaf, Nop, FontDef, Instruction, Do, Push, Pop, Bop, Eop}
-use Rattle.dvi_ops.specs.Body.{Position, DviState, Meaning, Acts, acts, in_range, kept, kept_in, only}
+use Rattle.dvi_ops.specs.Body.{Position, DviState, Meaning, Acts, instruction_acts, in_range, bounded_acts, kept_in, state_without_mark}
 use Rattle.scaled_core.specs.Mark.{Mark}
 use Rattle.dvi_ops.specs.File.{MarkedPage}
 use Rattle.dvi_ops.specs.View.{definition, view}
@@ -13,11 +13,11 @@ use Rattle.dvi_ops.specs.declared.op.Op.{Op}
 use Rattle.dvi_ops.specs.declared.op.Op.TheVariants as ops
 use Rattle.dvi_scan.specs.declared.fault.DviCause.{DviCause}
 use Rattle.dvi_scan.specs.declared.fault.DviCause.TheVariants.{Opcode, Stack, Glyph, Range}
-use Rattle.dvi_scan.specs.Drawing.{always, reached}
-use Rattle.dvi_scan.specs.Private.Drawing.{Draws, leads}
-use Rattle.dvi_scan.specs.Pass.{PassStateView, Between, Inside, execute, popped, with_page_ended}
+use Rattle.dvi_scan.specs.Drawing.{constant_width, reached_position}
+use Rattle.dvi_scan.specs.Private.Drawing.{Draws, meaning_towards}
+use Rattle.dvi_scan.specs.Pass.{PassStateView, Between, Inside, execute, popped_state, with_page_ended}
 use Rattle.dvi_scan.specs.Execution.{BreaksTurn, Executes, TurnsPage, inside_of, pass_at}
-use Rattle.dvi_scan.specs.View.{mark_of, placed, stated}
+use Rattle.dvi_scan.specs.View.{mark_of, spot_position, standing_state}
 use Rattle.dvi_scan.specs.Private.View.{marks_in}
 use Rattle.dvi_scan.specs.declared.executing.OpenPage.{OpenPage}
 use Rattle.dvi_scan.specs.declared.executing.PassFault.{PassFault}
@@ -28,38 +28,38 @@ use Rattle.dvi_scan.specs.declared.executing.PassState.{PassState}
 use Rattle.dvi_scan.specs.declared.executing.PassState.TheVariants as stands
 
 -- The place that was saved last comes first.
-pub reverse_more : (xs : List Spot) (x : Spot) → reverse (map placed (xs ++ x ∷ [])) ≡ placed x ∷ reverse (map placed xs)
-reverse_more xs x = ap (λ (ps : List Position). reverse ps) (map-append placed xs (x ∷ [])) ∙ reverse-append (map placed xs) (placed x ∷ [])
+pub reverse_more : (xs : List Spot) (x : Spot) → reverse (map spot_position (xs ++ x ∷ [])) ≡ spot_position x ∷ reverse (map spot_position xs)
+reverse_more xs x = ap (λ (ps : List Position). reverse ps) (map-append spot_position xs (x ∷ [])) ∙ reverse-append (map spot_position xs) (spot_position x ∷ [])
 
-saved_size : (xs : List Spot) → length (reverse (map placed xs)) ≡ length xs
-saved_size xs = length-reverse (map placed xs) ∙ length-map xs placed
+saved_size : (xs : List Spot) → length (reverse (map spot_position xs)) ≡ length xs
+saved_size xs = length-reverse (map spot_position xs) ∙ length-map xs spot_position
 
-pub push_turn : (does : Acts) (most : ℕ) (pages : List MarkedPage) (counts : List ℤ) (marks : List Mark) (s : DviState) (old new : List Spot) (place : Spot) → new ≡ old ++ place ∷ [] → placed place ≡ s.place
-    → length old < most → execute does most Push (Inside pages counts marks (reverse (map placed old)) s) ≡ Some (Inside pages counts marks (reverse (map placed new)) s)
+pub push_turn : (does : Acts) (most : ℕ) (pages : List MarkedPage) (counts : List ℤ) (marks : List Mark) (s : DviState) (old new : List Spot) (place : Spot) → new ≡ old ++ place ∷ [] → spot_position place ≡ s.place
+    → length old < most → execute does most Push (Inside pages counts marks (reverse (map spot_position old)) s) ≡ Some (Inside pages counts marks (reverse (map spot_position new)) s)
 push_turn does most pages counts marks s old new place more same room =
     let size = saved_size old in
-    let test : nat_lt (length (reverse (map placed old))) most ≡ true = lt-ltb (length (reverse (map placed old))) most (omega arith) in
-    rw test (ap (λ (stack : List Position). Some (Inside pages counts marks stack s)) (sym (ap (λ (ps : List Spot). reverse (map placed ps)) more ∙ (reverse_more old place ∙ ap (λ (p : Position). p ∷ reverse (map placed old)) same))))
+    let test : nat_lt (length (reverse (map spot_position old))) most ≡ true = lt-ltb (length (reverse (map spot_position old))) most (omega arith) in
+    rw test (ap (λ (stack : List Position). Some (Inside pages counts marks stack s)) (sym (ap (λ (ps : List Spot). reverse (map spot_position ps)) more ∙ (reverse_more old place ∙ ap (λ (p : Position). p ∷ reverse (map spot_position old)) same))))
 
-pub push_fault : (does : Acts) (most : ℕ) (pages : List MarkedPage) (counts : List ℤ) (marks : List Mark) (s : DviState) (old : List Spot) → most ≤ length old → most ≤ length (reverse (map placed old))
+pub push_fault : (does : Acts) (most : ℕ) (pages : List MarkedPage) (counts : List ℤ) (marks : List Mark) (s : DviState) (old : List Spot) → most ≤ length old → most ≤ length (reverse (map spot_position old))
 push_fault does most pages counts marks s old many = let size = saved_size old in omega arith
 
 -- A push is allowed.
-pub push_room : (most : ℕ) (old : List Spot) → length old < most → length (reverse (map placed old)) < most
+pub push_room : (most : ℕ) (old : List Spot) → length old < most → length (reverse (map spot_position old)) < most
 push_room most old room = let size = saved_size old in omega arith
 
 pub pop_turn : (does : Acts) (most : ℕ) (pages : List MarkedPage) (counts : List ℤ) (marks : List Mark) (s : DviState) (old new : List Spot) (place : Spot) → old ≡ new ++ place ∷ []
-    → execute does most Pop (Inside pages counts marks (reverse (map placed old)) s) ≡ Some (Inside pages counts marks (reverse (map placed new)) (record { place = placed place; font = s.font }))
+    → execute does most Pop (Inside pages counts marks (reverse (map spot_position old)) s) ≡ Some (Inside pages counts marks (reverse (map spot_position new)) (record { place = spot_position place; font = s.font }))
 pop_turn does most pages counts marks s old new place more =
-    ap (λ (stack : List Position). popped pages counts marks stack s) (ap (λ (ps : List Spot). reverse (map placed ps)) more ∙ reverse_more new place)
+    ap (λ (stack : List Position). popped_state pages counts marks stack s) (ap (λ (ps : List Spot). reverse (map spot_position ps)) more ∙ reverse_more new place)
 
 -- No place is saved.
-pub none_saved : (old : List Spot) → length old ≡ 0 → reverse (map placed old) ≡ []
+pub none_saved : (old : List Spot) → length old ≡ 0 → reverse (map spot_position old) ≡ []
 none_saved [] e = refl
 none_saved (p ∷ old) e = absurd (omega arith)
 
-pub some_saved : (old : List Spot) → 0 < length old → reverse (map placed old) ≢ []
-some_saved old some e = let size = saved_size old in let none : length (reverse (map placed old)) ≡ 0 = ap (λ (ps : List Position). length ps) e in absurd (omega arith)
+pub some_saved : (old : List Spot) → 0 < length old → reverse (map spot_position old) ≢ []
+some_saved old some e = let size = saved_size old in let none : length (reverse (map spot_position old)) ≡ 0 = ap (λ (ps : List Position). length ps) e in absurd (omega arith)
 
 pub end_turn : (does : Acts) (most : ℕ) (pages : List MarkedPage) (counts : List ℤ) (marks : List Mark) (s : DviState) (stack : List Position) → stack ≡ []
     → execute does most Eop (Inside pages counts marks stack s) ≡ Some (Between (pages ++ record { counts = counts; marks = marks } ∷ []))
@@ -67,10 +67,10 @@ end_turn does most pages counts marks s stack e = ap (λ (stack : List Position)
 
 -- A result for the meaning of a leaf is one for the leaf.
 pub leaf_turns : (width : Option ℤ) (most : ℕ) (op known : Op) (leaf : BodyLeaf) (pages : List MarkedPage) (old new : OpenPage) (r : Result Unit PassFault) → op ≡ known → view known ≡ Do leaf
-    → Draws (acts (always width) leaf (stated old.state)) pages old new r → TurnsPage (acts (always width)) most (view op) pages old new r
-leaf_turns width most op known leaf pages old new r is does d = subst (λ (i : Instruction). TurnsPage (acts (always width)) most i pages old new r) (sym (ap view is ∙ does)) (turns r d)
+    → Draws (instruction_acts (constant_width width) leaf (standing_state old.state)) pages old new r → TurnsPage (instruction_acts (constant_width width)) most (view op) pages old new r
+leaf_turns width most op known leaf pages old new r is does d = subst (λ (i : Instruction). TurnsPage (instruction_acts (constant_width width)) most i pages old new r) (sym (ap view is ∙ does)) (turns r d)
   where
-    turns : (r : Result Unit PassFault) → Draws (acts (always width) leaf (stated old.state)) pages old new r → TurnsPage (acts (always width)) most (Do leaf) pages old new r
+    turns : (r : Result Unit PassFault) → Draws (instruction_acts (constant_width width) leaf (standing_state old.state)) pages old new r → TurnsPage (instruction_acts (constant_width width)) most (Do leaf) pages old new r
     turns (Ok done) d = d
     turns (Err OutOfMemory) d = d
     turns (Err (Broken Glyph)) d = d
@@ -80,7 +80,7 @@ leaf_turns width most op known leaf pages old new r is does d = subst (λ (i : I
 -- A nop and a font definition change nothing.
 pub idle_turns : (width : Option ℤ) (most : ℕ) (op : Op) (pages : List MarkedPage) (old new : OpenPage) (r : Result Unit PassFault)
     → (op ≡ ops.Body bodies.Nop) ⊎ ((d : _) × (op ≡ ops.FontDef d))
-    → Draws (only (stated old.state)) pages old new r → TurnsPage (acts (always width)) most (view op) pages old new r
+    → Draws (state_without_mark (standing_state old.state)) pages old new r → TurnsPage (instruction_acts (constant_width width)) most (view op) pages old new r
 idle_turns width most op pages old new r (inl is) d = leaf_turns width most op (ops.Body bodies.Nop) Nop pages old new r is refl d
 idle_turns width most op pages old new r (inr (font, is)) d = leaf_turns width most op (ops.FontDef font) (FontDef (definition font)) pages old new r is refl d
 
@@ -109,24 +109,24 @@ at_turn does most op known stand here pages new r is at t =
     subst (λ (s : PassState). Executes does most (view op) (pass_at pages s) new r) (sym at) (subst (λ (o : Op). Executes does most (view o) (pass_at pages here) new r) (sym is) t)
 
 -- A place that was reached is in range, so a meaning that ends there is kept.
-pub reached_kept : (place : Option Spot) (p : Spot) (marks : List Mark) (s : DviState) → place ≡ Some p → option_map placed place ≡ reached s.place
+pub reached_kept : (place : Option Spot) (p : Spot) (marks : List Mark) (s : DviState) → place ≡ Some p → option_map spot_position place ≡ reached_position s.place
     → kept_in (Some (marks, s)) ≡ Some (marks, s)
-reached_kept place p marks s is e = go (in_range s.place.h && in_range s.place.v) (sym (ap (λ (o : Option Spot). option_map placed o) is) ∙ e) (Some (marks, s))
+reached_kept place p marks s is e = go (in_range s.place.h && in_range s.place.v) (sym (ap (λ (o : Option Spot). option_map spot_position o) is) ∙ e) (Some (marks, s))
   where
-    go : (b : Bool) → Some (placed p) ≡ (if b then Some s.place else None) → (m : Meaning) → (if b then m else None) ≡ m
+    go : (b : Bool) → Some (spot_position p) ≡ (if b then Some s.place else None) → (m : Meaning) → (if b then m else None) ≡ m
     go true e m = refl
     go false e m = absurd cc
 
 -- Memory is refused for a mark at a place that was reached.
 pub no_room : (place : Option Spot) (p : Spot) (mark : Option PassMark) (one : PassMark) (to : Position) (pages : List MarkedPage) (old new : OpenPage) → place ≡ Some p → mark ≡ Some one
-    → option_map placed place ≡ reached to → inside_of pages new ≡ inside_of pages old → Draws {A = Unit {0}} (leads (marks_in mark) to old) pages old new (Err OutOfMemory)
+    → option_map spot_position place ≡ reached_position to → inside_of pages new ≡ inside_of pages old → Draws {A = Unit {0}} (meaning_towards (marks_in mark) to old) pages old new (Err OutOfMemory)
 no_room place p mark one to pages old new at is e same =
     let t : DviState = record { place = to; font = old.state.font } in
-    subst (λ (m : Option PassMark). Draws {A = Unit {0}} (leads (marks_in m) to old) pages old new (Err OutOfMemory)) (sym is)
+    subst (λ (m : Option PassMark). Draws {A = Unit {0}} (meaning_towards (marks_in m) to old) pages old new (Err OutOfMemory)) (sym is)
     ((mark_of one, t, reached_kept place p (mark_of one ∷ []) t at e), same)
 
 -- Where a rule is broken, the pass stops.
-pub broken_turn : (does : Acts) (most : ℕ) (i : Instruction) (p : PassStateView) (cause : DviCause) → BreaksTurn does most i p cause → execute (kept does) most i p ≡ None
+pub broken_turn : (does : Acts) (most : ℕ) (i : Instruction) (p : PassStateView) (cause : DviCause) → BreaksTurn does most i p cause → execute (bounded_acts does) most i p ≡ None
 broken_turn does most (Do Nop) (Between pages) Opcode b = absurd (b tt)
 broken_turn does most (Do (FontDef d)) (Between pages) Opcode b = absurd (b tt)
 broken_turn does most (Bop counts pointer) (Between pages) Opcode b = absurd (b tt)
@@ -137,7 +137,7 @@ broken_turn does most Pop (Inside pages counts marks stack s) Opcode b = absurd 
 broken_turn does most Eop (Inside pages counts marks stack s) Opcode b = absurd (b tt)
 broken_turn does most i (Inside pages counts marks stack s) Opcode b = refl
 broken_turn does most Push (Inside pages counts marks stack s) Stack b = rw (le-ltb (length stack) most b) refl
-broken_turn does most Pop (Inside pages counts marks stack s) Stack b = ap (λ (stack : List Position). popped pages counts marks stack s) b
+broken_turn does most Pop (Inside pages counts marks stack s) Stack b = ap (λ (stack : List Position). popped_state pages counts marks stack s) b
 broken_turn does most Eop (Inside pages counts marks [] s) Stack b = absurd (b refl)
 broken_turn does most Eop (Inside pages counts marks (p ∷ stack) s) Stack b = refl
 broken_turn does most (Do leaf) (Inside pages counts marks stack s) Glyph b = rw b refl

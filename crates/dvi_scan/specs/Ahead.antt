@@ -3,17 +3,17 @@
 use Rattle.std.specs.Prelude.{◌≡◌, ◌≤◌, ◌<◌, ◌-◌, List, drop, take, None, ℕ, ℤ}
 use Rattle.std.specs.List.{AllByRecursion}
 use Rattle.dvi_ops.specs.File.{IsIdle}
-use Rattle.dvi_ops.specs.Fonts.{defined, definitions}
+use Rattle.dvi_ops.specs.Fonts.{first_definition_of, definitions}
 use Rattle.dvi_ops.specs.Instruction.{Definition, FontDef, Instruction, Do}
-use Rattle.dvi_ops.specs.Tokens.{Token, IsSpelled, says, written}
+use Rattle.dvi_ops.specs.Tokens.{Token, IsSpelled, token_instructions, token_bytes}
 use Rattle.dvi_scan.specs.Ends.{StandsAt}
 use Rattle.dvi_scan.specs.Reached.{AreNumbersOf}
 
 -- Only nops and definitions of fonts are between two places.
 pub record AreIdle (bytes : List ℕ) (from to : ℕ) (tokens : List Token) : Type 0 where
   pub spelled : AllByRecursion IsSpelled tokens
-  pub whole : written tokens ≡ take (to - from) (drop from bytes)
-  pub idle : AllByRecursion IsIdle (says tokens)
+  pub whole : token_bytes tokens ≡ take (to - from) (drop from bytes)
+  pub idle : AllByRecursion IsIdle (token_instructions tokens)
 
 -- No nop and no definition is at a place and ends at or before `to`.
 abbrev pub NothingIdle : List ℕ → (place to : ℕ) → Type 0
@@ -28,7 +28,7 @@ pub record IsLookedAhead (bytes : List ℕ) (from to : ℕ) (ahead : List ℤ) :
   pub tokens : List Token
   pub there : AreIdle bytes from place tokens
   pub stops : NothingIdle bytes place to
-  pub numbers : AreNumbersOf ahead (definitions (says tokens))
+  pub numbers : AreNumbersOf ahead (definitions (token_instructions tokens))
 
 -- Memory is refused at some place for a definition of a new number, where only nops and definitions are before it.
 pub record IsUnlooked (bytes : List ℕ) (from to : ℕ) : Type 0 where
@@ -39,4 +39,4 @@ pub record IsUnlooked (bytes : List ℕ) (from to : ℕ) : Type 0 where
   pub there : AreIdle bytes from place tokens
   pub here : Definition
   pub stands : StandsAt bytes place to (Do (FontDef here))
-  pub new : defined here.number (definitions (says tokens)) ≡ None
+  pub new : first_definition_of here.number (definitions (token_instructions tokens)) ≡ None

@@ -4,7 +4,7 @@ use Rattle.std.specs.List.{AllByRecursion}
 use Rattle.dvi_ops.specs.File.{IsIdle}
 use Rattle.dvi_ops.specs.Fonts.{FontsAreRight, IsRightAfter, definitions}
 use Rattle.dvi_ops.specs.Instruction.{Definition, FontDef, Instruction, Do}
-use Rattle.dvi_ops.specs.Tokens.{Token, IsSpelled, says, written}
+use Rattle.dvi_ops.specs.Tokens.{Token, IsSpelled, token_instructions, token_bytes}
 use Rattle.dvi_scan.specs.Ends.{StandsAt}
 use Rattle.dvi_scan.specs.declared.fault.DviCause.{DviCause}
 use Rattle.dvi_scan.specs.declared.fault.DviCause.TheVariants.{Opcode, Truncated, Font}
@@ -21,13 +21,13 @@ IsDefinitionFault known d (faults.Broken cause) = (cause ≡ Font) × (IsRightAf
 -- Between two places there are only nops and definitions, which are right after the known ones.
 pub record Closes (bytes : List ℕ) (from to : ℕ) (known : List Definition) (tail : List Token) : Type 0 where
   pub spelled : AllByRecursion IsSpelled tail
-  pub whole : written tail ≡ take (to - from) (drop from bytes)
-  pub idle : AllByRecursion IsIdle (says tail)
-  pub fonts : FontsAreRight known (says tail)
+  pub whole : token_bytes tail ≡ take (to - from) (drop from bytes)
+  pub idle : AllByRecursion IsIdle (token_instructions tail)
+  pub fonts : FontsAreRight known (token_instructions tail)
 
 -- Such instructions are there, and their definitions come after the others.
 abbrev pub ClosesTo : List ℕ → (from to : ℕ) → (old new : List Definition) → Type 0
-ClosesTo bytes from to old new = (tail : List Token) × Closes bytes from to old tail × (new ≡ old ++ definitions (says tail))
+ClosesTo bytes from to old new = (tail : List Token) × Closes bytes from to old tail × (new ≡ old ++ definitions (token_instructions tail))
 
 -- A rule is broken at a place, after these definitions: a byte begins an instruction that is cut off; or it begins none, or one that is neither a nop
 -- nor a definition; or a definition has no valid size, or differs from another one of its number.

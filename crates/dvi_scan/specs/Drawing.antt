@@ -3,9 +3,9 @@ use Rattle.std.specs.Prelude.{◌&&◌, if◌then◌else◌, ℤ, Option, Some, 
 use Rattle.dvi_ops.specs.Body.{Position, Widths, in_range}
 
 -- A place, where h and v are in signed 32 bits.
-abbrev pub reached : Position → Option Position
-reached p = if in_range p.h && in_range p.v then Some p else None
+abbrev pub reached_position : Position → Option Position
+reached_position p = if in_range p.h && in_range p.v then Some p else None
 
 -- The same width for every character.
-abbrev pub always : Option ℤ → Widths
-always width font code = width
+abbrev pub constant_width : Option ℤ → Widths
+constant_width width font code = width

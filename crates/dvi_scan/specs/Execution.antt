@@ -2,7 +2,7 @@
 use Rattle.std.specs.Prelude.{◌≡◌, ◌≢◌, ◌<◌, ◌≤◌, [], ◌∷◌, List, length, map, reverse, vec_capacity, vec_len, ℕ, ℤ, Option, Some, None, Result, Ok}
 use Rattle.std.specs.Prelude.{Err, IsSome}
 use Rattle.dvi_ops.specs.Instruction.{SetChar, PutChar, Nop, FontDef, Instruction, Do, Push, Pop, Bop, Eop}
-use Rattle.dvi_ops.specs.Body.{Acts, DviState, Widths, kept, kept_in}
+use Rattle.dvi_ops.specs.Body.{Acts, DviState, Widths, bounded_acts, kept_in}
 use Rattle.scaled_core.specs.Mark.{Mark}
 use Rattle.dvi_ops.specs.File.{MarkedPage}
 use Rattle.dvi_scan.specs.declared.fault.DviCause.{DviCause}
@@ -10,7 +10,7 @@ use Rattle.dvi_scan.specs.declared.fault.DviCause.TheVariants.{Opcode, Stack, Gl
 use Rattle.dvi_scan.specs.declared.fault.FrameFault.{FrameFault}
 use Rattle.dvi_scan.specs.declared.fault.FrameFault.TheVariants as frames
 use Rattle.dvi_scan.specs.Pass.{PassStateView, Between, Inside, execute}
-use Rattle.dvi_scan.specs.View.{mark_of, placed, stated}
+use Rattle.dvi_scan.specs.View.{mark_of, spot_position, standing_state}
 use Rattle.dvi_scan.specs.declared.executing.OpenPage.{OpenPage}
 use Rattle.dvi_scan.specs.declared.executing.PassState.{PassState}
 use Rattle.dvi_scan.specs.declared.executing.PassState.TheVariants as stands
@@ -43,7 +43,7 @@ BreaksTurn does most i p cause = ⊥
 
 -- The state of the pass in an open page, after these pages.
 abbrev pub inside_of : List MarkedPage → OpenPage → PassStateView
-inside_of pages p = Inside pages p.counts (map mark_of p.marks.items) (reverse (map placed p.stack.items)) (stated p.state)
+inside_of pages p = Inside pages p.counts (map mark_of p.marks.items) (reverse (map spot_position p.stack.items)) (standing_state p.state)
 
 -- The state of the pass, after these pages.
 abbrev pub pass_at : List MarkedPage → PassState → PassStateView
@@ -69,12 +69,12 @@ fault_at place (Broken cause) = frames.Bad (record { place = place; cause = caus
 
 -- The result for an instruction that takes the pass from one state to another.
 abbrev pub Executes : {A : Type 0} → Acts → (most : ℕ) → Instruction → (old new : PassStateView) → Result A PassFault → Type 0
-Executes does most i old new (Ok done) = execute (kept does) most i old ≡ Some new
+Executes does most i old new (Ok done) = execute (bounded_acts does) most i old ≡ Some new
 Executes does most i old new (Err fault) = IsTurnFault does most i old fault
 
 -- The result for an instruction in an open page that stays open. A refusal leaves the page as it was (own).
 abbrev pub TurnsPage : {A : Type 0} → Acts → (most : ℕ) → Instruction → List MarkedPage → (old new : OpenPage) → Result A PassFault → Type 0
-TurnsPage does most i pages old new (Ok done) = execute (kept does) most i (inside_of pages old) ≡ Some (inside_of pages new)
+TurnsPage does most i pages old new (Ok done) = execute (bounded_acts does) most i (inside_of pages old) ≡ Some (inside_of pages new)
 TurnsPage does most i pages old new (Err fault) = IsTurnFault does most i (inside_of pages old) fault × (inside_of pages new ≡ inside_of pages old)
 
 -- An open page has room for one more mark, and for as many saved places as pushes may be open.

@@ -17,9 +17,9 @@ with_marks pages counts marks stack None = None
 with_marks pages counts marks stack (Some (more, s)) = Some (Inside pages counts (marks ++ more) stack s)
 
 -- A pop restores the place that was saved last, but not the font.
-abbrev pub popped : List MarkedPage → (counts : List ℤ) (marks : List Mark) (stack : List Position) → DviState → Option PassStateView
-popped pages counts marks [] s = None
-popped pages counts marks (p ∷ stack) s = Some (Inside pages counts marks stack (record { place = p; font = s.font }))
+abbrev pub popped_state : List MarkedPage → (counts : List ℤ) (marks : List Mark) (stack : List Position) → DviState → Option PassStateView
+popped_state pages counts marks [] s = None
+popped_state pages counts marks (p ∷ stack) s = Some (Inside pages counts marks stack (record { place = p; font = s.font }))
 
 -- An eop ends a page whose pushes are all popped.
 abbrev pub with_page_ended : List MarkedPage → (counts : List ℤ) (marks : List Mark) (stack : List Position) → Option PassStateView
@@ -36,7 +36,7 @@ execute does most i (Between pages) = None
 execute does most (Do leaf) (Inside pages counts marks stack s) = with_marks pages counts marks stack (does leaf s)
 execute does most Push (Inside pages counts marks stack s) =
     if nat_lt (length stack) most then Some (Inside pages counts marks (s.place ∷ stack) s) else None
-execute does most Pop (Inside pages counts marks stack s) = popped pages counts marks stack s
+execute does most Pop (Inside pages counts marks stack s) = popped_state pages counts marks stack s
 execute does most Eop (Inside pages counts marks stack s) = with_page_ended pages counts marks stack
 execute does most i (Inside pages counts marks stack s) = None
 

@@ -3,8 +3,8 @@ use Rattle.std.specs.Prelude.{◌≡◌, ◌≤◌, ◌+◌, ◌-◌, ◌++◌, 
 use Rattle.std.specs.List.{AllByRecursion}
 use Rattle.dvi_ops.specs.Instruction.{Postamble, Instruction, Pre, Post}
 use Rattle.dvi_ops.specs.Table.{Spells}
-use Rattle.dvi_ops.specs.Body.{Acts, acts, kept}
-use Rattle.dvi_ops.specs.Tokens.{Token, IsSpelled, says, written, places}
+use Rattle.dvi_ops.specs.Body.{Acts, instruction_acts, bounded_acts}
+use Rattle.dvi_ops.specs.Tokens.{Token, IsSpelled, token_instructions, token_bytes, places}
 use Rattle.dvi_ops.specs.Fonts.{WidthsByName, FontsAreRight, definitions, selections, widths_of}
 use Rattle.dvi_ops.specs.File.{MarkedPage, IsIdle, AreUnits}
 use Rattle.dvi_scan.specs.Ends.{HasPostamble}
@@ -21,8 +21,8 @@ pub record Framing : Type 0 where
   pub stop : Postamble
   pub chain : List ℕ
 
-abbrev pub framing : (post after last : ℕ) → Postamble → (chain : List ℕ) → Framing
-framing post after last stop chain = record { post = post; after = after; last = last; stop = stop; chain = chain }
+abbrev pub file_framing : (post after last : ℕ) → Postamble → (chain : List ℕ) → Framing
+file_framing post after last stop chain = record { post = post; after = after; last = last; stop = stop; chain = chain }
 
 -- The places of the parts that a file names at its end, and its pages from the last one back, as found before the pass.
 pub record IsFramed (bytes : List ℕ) (post after last : ℕ) (stop : Postamble) (chain : List ℕ) : Type 0 where
@@ -34,7 +34,7 @@ pub record IsFramed (bytes : List ℕ) (post after last : ℕ) (stop : Postamble
 
 -- The effects of the instructions of a body, with these metric files and the fonts that these instructions define, each by its first definition.
 abbrev pub drawing_by : WidthsByName → List Token → Acts
-drawing_by metrics tokens = kept (acts (widths_of metrics (definitions (says tokens))))
+drawing_by metrics tokens = bounded_acts (instruction_acts (widths_of metrics (definitions (token_instructions tokens))))
 
 -- The pass over a file: its preamble, the instructions before post, and those between post and post_post.
 pub record IsPassed (metrics : WidthsByName) (bytes : List ℕ) (parts : Framing) (pages : List MarkedPage) : Type 0 where
@@ -42,19 +42,19 @@ pub record IsPassed (metrics : WidthsByName) (bytes : List ℕ) (parts : Framing
   pub tail : List Token
   pub front_spelled : AllByRecursion IsSpelled front
   pub tail_spelled : AllByRecursion IsSpelled tail
-  pub front_whole : written front ≡ take parts.post bytes
-  pub tail_whole : written tail ≡ take (parts.last - 5 - parts.after) (drop parts.after bytes)
+  pub front_whole : token_bytes front ≡ take parts.post bytes
+  pub tail_whole : token_bytes tail ≡ take (parts.last - 5 - parts.after) (drop parts.after bytes)
   -- A preamble of version 2 with the units of the postamble, which are positive; then the instructions of the pass.
   pub comment : List ℕ
   pub body : List Instruction
-  pub front_is : says front ≡ Pre 2 parts.stop.units comment ∷ body
+  pub front_is : token_instructions front ≡ Pre 2 parts.stop.units comment ∷ body
   pub units : AreUnits parts.stop.units
   pub passed : passes (drawing_by metrics front) (min 1024 parts.stop.stack_depth) body (Between []) ≡ Some (Between pages)
   -- The places of the bops are those of the chain.
   pub bops : places 0 front ≡ reverse parts.chain
   -- After post there are only nops and font definitions, and all definitions are right. Each selected font has widths, and its number is defined
   -- after post too.
-  pub tail_is : AllByRecursion IsIdle (says tail)
-  pub fonts : FontsAreRight [] (says front ++ says tail)
-  pub closing : AllByRecursion (HasWidths metrics (definitions (says front))) (selections (says front))
-  pub named : AllByRecursion (IsDefined (definitions (says tail))) (selections (says front))
+  pub tail_is : AllByRecursion IsIdle (token_instructions tail)
+  pub fonts : FontsAreRight [] (token_instructions front ++ token_instructions tail)
+  pub closing : AllByRecursion (HasWidths metrics (definitions (token_instructions front))) (selections (token_instructions front))
+  pub named : AllByRecursion (IsDefined (definitions (token_instructions tail))) (selections (token_instructions front))

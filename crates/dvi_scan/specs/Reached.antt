@@ -7,9 +7,10 @@ use Rattle.std.specs.Ordering.{int_eq}
 use Rattle.dvi_ops.specs.Instruction.{Definition, Postamble, Instruction, Pre}
 use Rattle.dvi_ops.specs.File.{IsIdle}
 use Rattle.dvi_ops.specs.Table.{Spells}
-use Rattle.dvi_ops.specs.Body.{acts, kept}
-use Rattle.dvi_ops.specs.Tokens.{Token, IsSpelled, says, written, bop_place, places}
-use Rattle.dvi_ops.specs.Fonts.{WidthsByName, FontsAreRight, IsRightAfter, defined, definitions_in, definitions, selection_of, selections, font}
+use Rattle.dvi_ops.specs.Body.{instruction_acts, bounded_acts}
+use Rattle.dvi_ops.specs.Tokens.{Token, IsSpelled, token_instructions, token_bytes, bop_place, places}
+use Rattle.dvi_ops.specs.Fonts.{WidthsByName, FontsAreRight, IsRightAfter, first_definition_of, definitions_in, definitions, selection_of, selections}
+use Rattle.dvi_ops.specs.Fonts.{font}
 use Rattle.dvi_ops.specs.Fonts.{widths_of}
 use Rattle.dvi_scan.specs.Pass.{PassStateView, Between, passes, execute}
 
@@ -19,7 +20,7 @@ HasWidths metrics table f = IsSome (font metrics table f)
 
 -- A number is among these definitions.
 abbrev pub IsDefined : List Definition → ℤ → Type 0
-IsDefined table f = IsSome (defined f table)
+IsDefined table f = IsSome (first_definition_of f table)
 
 -- Whether a number is among these.
 abbrev pub has_number : List ℤ → ℤ → Bool
@@ -27,7 +28,7 @@ has_number numbers f = list_any (int_eq f) numbers
 
 -- These are the numbers of these definitions, in any order.
 abbrev pub AreNumbersOf : List ℤ → List Definition → Type 0
-AreNumbersOf numbers table = (f : ℤ) → has_number numbers f ≡ is_some (defined f table)
+AreNumbersOf numbers table = (f : ℤ) → has_number numbers f ≡ is_some (first_definition_of f table)
 
 -- The places of a chain that are still to come, in rising order, and whether one before them was missed, because no bop was there.
 pub record Left : Type 0 where
@@ -72,15 +73,15 @@ pub record IsReached (metrics : WidthsByName) (ahead : List ℤ) (bytes : List �
     (s : ReadSoFar) : Type 0 where
   pub before : List Token
   pub spelled : AllByRecursion IsSpelled before
-  pub whole : written before ≡ take at bytes
+  pub whole : token_bytes before ≡ take at bytes
   pub comment : List ℕ
   pub body : List Instruction
-  pub front_is : says before ≡ Pre 2 stop.units comment ∷ body
-  pub known_is : definitions (says before) ≡ s.known
-  pub selected_is : selections (says before) ≡ s.selected
-  pub passed : passes (kept (acts (widths_of metrics s.known))) (min 1024 stop.stack_depth) body (Between []) ≡ Some s.pass
+  pub front_is : token_instructions before ≡ Pre 2 stop.units comment ∷ body
+  pub known_is : definitions (token_instructions before) ≡ s.known
+  pub selected_is : selections (token_instructions before) ≡ s.selected
+  pub passed : passes (bounded_acts (instruction_acts (widths_of metrics s.known))) (min 1024 stop.stack_depth) body (Between []) ≡ Some s.pass
   pub bops : after_bops (places 0 before) (all_left chain) ≡ Some s.left
-  pub fonts : FontsAreRight [] (says before)
+  pub fonts : FontsAreRight [] (token_instructions before)
   pub closing : AllByRecursion (HasWidths metrics s.known) s.selected
   pub named : AllByRecursion (λ f. has_number ahead f ≡ true) s.selected
 
@@ -88,7 +89,7 @@ pub record IsReached (metrics : WidthsByName) (ahead : List ℤ) (bytes : List �
 -- right; a selected font has widths, and its number is defined after post.
 pub record IsRightAt (metrics : WidthsByName) (ahead : List ℤ) (stop : Postamble) (at : ℕ) (old : ReadSoFar) (i : Instruction)
     (new : ReadSoFar) : Type 0 where
-  pub goes_on : execute (kept (acts (widths_of metrics old.known))) (min 1024 stop.stack_depth) i old.pass ≡ Some new.pass
+  pub goes_on : execute (bounded_acts (instruction_acts (widths_of metrics old.known))) (min 1024 stop.stack_depth) i old.pass ≡ Some new.pass
   pub bop : after_bops (bop_place at i) old.left ≡ Some new.left
   pub fonts : IsRightAfter old.known i
   pub known_is : new.known ≡ old.known ++ definitions_in i
@@ -109,6 +110,6 @@ pub record HasRight (metrics : WidthsByName) (ahead : List ℤ) (bytes : List �
 -- The instructions between post and post_post: nops and font definitions that are right after the known definitions.
 pub record IsTail (bytes : List ℕ) (after last : ℕ) (known : List Definition) (tail : List Token) : Type 0 where
   pub spelled : AllByRecursion IsSpelled tail
-  pub whole : written tail ≡ take (last - 5 - after) (drop after bytes)
-  pub idle : AllByRecursion IsIdle (says tail)
-  pub fonts : FontsAreRight known (says tail)
+  pub whole : token_bytes tail ≡ take (last - 5 - after) (drop after bytes)
+  pub idle : AllByRecursion IsIdle (token_instructions tail)
+  pub fonts : FontsAreRight known (token_instructions tail)

@@ -20,10 +20,10 @@ abbrev pub marked_page : Page → MarkedPage
 marked_page p = record { counts = p.counts; marks = map mark_of p.marks.items }
 
 -- The place that a value of the code represents: w and x across, y and z downward.
-abbrev pub placed : Spot → Position
-placed p =
+abbrev pub spot_position : Spot → Position
+spot_position p =
     record { h = p.h; v = p.v; held = record { across = record { first = p.w; second = p.x }; down = record { first = p.y; second = p.z } } }
 
 -- The state that a value of the code represents.
-abbrev pub stated : Standing → DviState
-stated s = record { place = placed s.place; font = s.font }
+abbrev pub standing_state : Standing → DviState
+standing_state s = record { place = spot_position s.place; font = s.font }

@@ -5,7 +5,7 @@ ghost use Rattle.std.specs.List.{AllByRecursion};
 ghost use Rattle.dvi_ops.specs.File.{Frame, IsFile, MarkedPage};
 ghost use Rattle.dvi_ops.specs.Fonts.{WidthsByName};
 ghost use Rattle.dvi_ops.specs.Instruction.{Postamble};
-ghost use Rattle.dvi_ops.specs.Tokens.{IsSpelled, Token, places, pointers, says, written};
+ghost use Rattle.dvi_ops.specs.Tokens.{IsSpelled, Token, places, pointers, token_instructions, token_bytes};
 ghost use Rattle.dvi_scan.specs.Chain.{BreaksChain, Links};
 ghost use Rattle.dvi_scan.specs.Ends.{BreaksEnd, HasPostamble};
 ghost use Rattle.dvi_scan.specs.declared.fault.DviCause.{DviCause};
@@ -18,7 +18,7 @@ pub fn one_end()
 
 /// Each file has an end, which names its post. So bytes that break a rule of the end are no file.
 pub fn files_have_ends()
-    ensures end { (bytes : List ℕ) (f : Frame bytes) → (e : ℕ) × HasPostamble bytes (length (written f.front)) e f.stop }
+    ensures end { (bytes : List ℕ) (f : Frame bytes) → (e : ℕ) × HasPostamble bytes (length (token_bytes f.front)) e f.stop }
     ensures none { (bytes : List ℕ) (place : ℕ) (cause : DviCause) → BreaksEnd bytes place cause → Frame bytes → ⊥ }
 {}
 
@@ -27,19 +27,20 @@ pub fn files_have_ends()
 pub fn chain_is_linked()
     ensures one { (bytes : List ℕ) (bound other : ℕ) (pointer : ℤ) (c d : List ℕ) → Links bytes bound pointer c → Links bytes other pointer d
         → c ≡ d }
-    ensures linked { (bytes : List ℕ) (front : List Token) (rest : List ℕ) (last : ℤ) → bytes ≡ written front ++ rest → AllByRecursion IsSpelled front
-        → pointers (says front) ++ last ∷ [] ≡ negsuc 0 ∷ map pos (places 0 front)
-        → Links bytes (length (written front)) last (reverse (places 0 front)) }
-    ensures chained { (bytes : List ℕ) (front : List Token) (rest : List ℕ) (bound : ℕ) (last : ℤ) → bytes ≡ written front ++ rest
+    ensures linked { (bytes : List ℕ) (front : List Token) (rest : List ℕ) (last : ℤ) → bytes ≡ token_bytes front ++ rest
+        → AllByRecursion IsSpelled front
+        → pointers (token_instructions front) ++ last ∷ [] ≡ negsuc 0 ∷ map pos (places 0 front)
+        → Links bytes (length (token_bytes front)) last (reverse (places 0 front)) }
+    ensures chained { (bytes : List ℕ) (front : List Token) (rest : List ℕ) (bound : ℕ) (last : ℤ) → bytes ≡ token_bytes front ++ rest
         → AllByRecursion IsSpelled front
         → Links bytes bound last (reverse (places 0 front))
-        → pointers (says front) ++ last ∷ [] ≡ negsuc 0 ∷ map pos (places 0 front) }
+        → pointers (token_instructions front) ++ last ∷ [] ≡ negsuc 0 ∷ map pos (places 0 front) }
 {}
 
 /// In each file, post leads to all pages, and their number is the one in post. So bytes that break a rule of the chain are no file.
 pub fn files_have_chains()
     ensures chain { (metrics : WidthsByName) (bytes : List ℕ) (pages : List MarkedPage) (f : IsFile metrics bytes pages)
-        → Links bytes (length (written f.frame.front)) f.frame.stop.last_bop (reverse (places 0 f.frame.front)) }
+        → Links bytes (length (token_bytes f.frame.front)) f.frame.stop.last_bop (reverse (places 0 f.frame.front)) }
     ensures count { (metrics : WidthsByName) (bytes : List ℕ) (pages : List MarkedPage) (f : IsFile metrics bytes pages)
         → f.frame.stop.pages ≡ length (places 0 f.frame.front) % 65536 }
     ensures none { (metrics : WidthsByName) (bytes : List ℕ) (pages : List MarkedPage) (post e place : ℕ) (stop : Postamble) (cause : DviCause)

@@ -3,7 +3,7 @@
 ghost use Rattle.std.specs.Prelude.{◌≤◌, List, length, ℕ, ℤ};
 ghost use Rattle.dvi_ops.specs.Fonts.{definitions};
 ghost use Rattle.dvi_ops.specs.Instruction.{Definition};
-ghost use Rattle.dvi_ops.specs.Tokens.{Token, says};
+ghost use Rattle.dvi_ops.specs.Tokens.{Token, token_instructions};
 ghost use Rattle.dvi_scan.specs.declared.fault.BadDvi.{BadDvi};
 ghost use Rattle.dvi_scan.specs.declared.fault.FrameFault.TheVariants.{Bad};
 ghost use Rattle.dvi_scan.specs.Reached.{AreNumbersOf};
@@ -15,7 +15,7 @@ ghost use Rattle.dvi_scan.specs.Known.{HasSame};
 pub fn all_is_looked_ahead()
     ensures { (bytes : List ℕ) (from to : ℕ) (ahead : List ℤ) (known : List Definition) (tail : List Token) → to ≤ length bytes
         → IsLookedAhead bytes from to ahead
-        → Closes bytes from to known tail → AreNumbersOf ahead (definitions (says tail)) }
+        → Closes bytes from to known tail → AreNumbersOf ahead (definitions (token_instructions tail)) }
 {}
 
 /// Where a fault is found, the instructions between the two places are not all right.

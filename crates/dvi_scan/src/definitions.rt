@@ -4,7 +4,7 @@ ghost use Rattle.std.specs.Prelude.{◌≡◌, ◌≢◌, ◌++◌, ◌∷◌, [
 ghost use Rattle.std.specs.BTreeMap.{IsUnchanged, get as value_at};
 ghost use Rattle.std.specs.List.{AllByRecursion};
 ghost use Rattle.std.specs.Ordering.{int_cmp};
-ghost use Rattle.dvi_ops.specs.Fonts.{AgreesWith, defined};
+ghost use Rattle.dvi_ops.specs.Fonts.{AgreesWith, first_definition_of};
 ghost use Rattle.dvi_ops.specs.View.{definition};
 ghost use Rattle.dvi_scan.specs.Private.FirstDefinitions.{AddsFirst};
 
@@ -93,7 +93,7 @@ impl<'a> KnownFonts<'a> {
 
     /// The first definition of a number (DVItype, 18). It takes no memory, and time logarithmic in the number of definitions.
     pub fn get(&self, number: FontNumber) -> Option<&FontDefinition<'a>>
-        ensures { option_map definition (option_copied result) ≡ defined number.value self.now }
+        ensures { option_map definition (option_copied result) ≡ first_definition_of number.value self.now }
     {
         self.first.get(&number.value)
     }

@@ -1,14 +1,15 @@
 //! The effect of an instruction of a body in an open page: the place and the font after it, and the mark that it makes (DVItype, 14 and 15).
 
 ghost use Rattle.std.specs.Prelude.{◌≡◌, [], List, Some, option_map, ℕ};
-ghost use Rattle.dvi_ops.specs.Body.{Position as Spot, Widths, acts, glyph as seen_glyph, kept_in, only, place_after, rule_at};
+ghost use Rattle.dvi_ops.specs.Body.{Position as Spot, Widths, instruction_acts, glyph as seen_glyph, kept_in, state_without_mark, place_after};
+ghost use Rattle.dvi_ops.specs.Body.{rule_at};
 ghost use Rattle.scaled_core.specs.Mark.{Special};
 ghost use Rattle.dvi_ops.specs.File.{MarkedPage};
 ghost use Rattle.dvi_ops.specs.Instruction.{Across, Downward, By, PutChar, PutRule, SetChar, SetRule, Xxx};
 ghost use Rattle.dvi_scan.specs.Execution.{KeepsRoom};
-ghost use Rattle.dvi_scan.specs.Drawing.{always, reached};
-ghost use Rattle.dvi_scan.specs.Private.Drawing.{Draws, leads};
-ghost use Rattle.dvi_scan.specs.View.{mark_of, placed, stated};
+ghost use Rattle.dvi_scan.specs.Drawing.{constant_width, reached_position};
+ghost use Rattle.dvi_scan.specs.Private.Drawing.{Draws, meaning_towards};
+ghost use Rattle.dvi_scan.specs.View.{mark_of, spot_position, standing_state};
 ghost use Rattle.dvi_scan.specs.Private.View.{marks_in};
 
 use crate::executing::{OpenPage, PassFault};
@@ -25,7 +26,7 @@ pub(crate) struct Size {
 impl Position {
     /// The place moved to the right by an amount; None where h leaves signed 32 bits.
     pub fn right(self, by: i32) -> Option<Position>
-        ensures { option_map placed result ≡ reached (place_after Across (By by) (placed self)) }
+        ensures { option_map spot_position result ≡ reached_position (place_after Across (By by) (spot_position self)) }
     {
         let h = self.h.checked_add(by)?;
         Some(Position { h, ..self })
@@ -33,7 +34,7 @@ impl Position {
 
     /// The place moved down by an amount; None where v leaves signed 32 bits.
     pub(crate) fn down(self, by: i32) -> Option<Position>
-        ensures { option_map placed result ≡ reached (place_after Downward (By by) (placed self)) }
+        ensures { option_map spot_position result ≡ reached_position (place_after Downward (By by) (spot_position self)) }
     {
         let v = self.v.checked_add(by)?;
         Some(Position { v, ..self })
@@ -41,14 +42,14 @@ impl Position {
 
     /// The place itself, which is always in range.
     pub(crate) fn here(self) -> Option<Position>
-        ensures { option_map placed result ≡ reached (placed self) }
+        ensures { option_map spot_position result ≡ reached_position (spot_position self) }
     {
         Some(self)
     }
 
     /// The mark of a rule at the place; None where it shows nothing.
     fn rule<'a>(self, size: Size) -> Option<Mark<'a>>
-        ensures { marks_in result ≡ rule_at size.height size.width (placed self) }
+        ensures { marks_in result ≡ rule_at size.height size.width (spot_position self) }
     {
         if size.height <= 0 || size.width <= 0 {
             return None;
@@ -76,7 +77,8 @@ impl Position {
 impl DviState {
     /// The state with this font selected.
     pub(crate) fn with_font(self, font: i32) -> DviState
-        ensures { kept_in (only (record { place = placed self.place; font = Some font })) ≡ only (stated result) }
+        ensures { kept_in (state_without_mark (record { place = spot_position self.place; font = Some font }))
+            ≡ state_without_mark (standing_state result) }
     {
         DviState {
             font: Some(font),
@@ -93,8 +95,8 @@ impl<'a> OpenPage<'a> {
         mark: Option<Mark<'a>>,
         place: Option<Position>,
     ) -> Result<(), PassFault>
-        ensures turns { (pages : List MarkedPage) (to : Spot) → option_map placed place ≡ reached to
-            → Draws (leads (marks_in mark.entry) to self.old) pages self.old self.new result }
+        ensures turns { (pages : List MarkedPage) (to : Spot) → option_map spot_position place ≡ reached_position to
+            → Draws (meaning_towards (marks_in mark.entry) to self.old) pages self.old self.new result }
         ensures room { (most : ℕ) → KeepsRoom most self.old self.new result }
     {
         let place = place.ok_or(DviCause::Range)?;
@@ -111,8 +113,8 @@ impl<'a> OpenPage<'a> {
     /// Moves to a place; the fault is Range where there is none.
     #[inline(always)]
     pub(crate) fn go(&mut self, place: Option<Position>) -> Result<(), PassFault>
-        ensures turns { (pages : List MarkedPage) (to : Spot) → option_map placed place ≡ reached to
-            → Draws (leads [] to self.old) pages self.old self.new result }
+        ensures turns { (pages : List MarkedPage) (to : Spot) → option_map spot_position place ≡ reached_position to
+            → Draws (meaning_towards [] to self.old) pages self.old self.new result }
         ensures room { (most : ℕ) → KeepsRoom most self.old self.new result }
     {
         self.mark_and_go(None, place)
@@ -121,7 +123,7 @@ impl<'a> OpenPage<'a> {
     /// A glyph of the current font at the place, and its width; None without a font or a width.
     fn glyph(&self, code: i32, width: Option<i32>) -> Option<(Mark<'a>, i32)>
         ensures { option_map (λ found. (mark_of found.0, found.1)) result
-            ≡ seen_glyph (always width) code (placed self.now.state.place) self.now.state.font }
+            ≡ seen_glyph (constant_width width) code (spot_position self.now.state.place) self.now.state.font }
     {
         let mark = Mark::Glyph {
             font: self.state.font?,
@@ -136,7 +138,7 @@ impl<'a> OpenPage<'a> {
     #[inline(always)]
     pub(crate) fn set_char(&mut self, code: i32, width: Option<i32>) -> Result<(), PassFault>
         ensures turns { (pages : List MarkedPage)
-            → Draws (acts (always width) (SetChar code) (stated self.old.state)) pages self.old self.new result }
+            → Draws (instruction_acts (constant_width width) (SetChar code) (standing_state self.old.state)) pages self.old self.new result }
         ensures room { (most : ℕ) → KeepsRoom most self.old self.new result }
     {
         let (mark, width) = self.glyph(code, width).ok_or(DviCause::Glyph)?;
@@ -147,7 +149,7 @@ impl<'a> OpenPage<'a> {
     /// Puts a character: makes a mark, without moving.
     pub(crate) fn put_char(&mut self, code: i32, width: Option<i32>) -> Result<(), PassFault>
         ensures turns { (pages : List MarkedPage)
-            → Draws (acts (always width) (PutChar code) (stated self.old.state)) pages self.old self.new result }
+            → Draws (instruction_acts (constant_width width) (PutChar code) (standing_state self.old.state)) pages self.old self.new result }
         ensures room { (most : ℕ) → KeepsRoom most self.old self.new result }
     {
         let (mark, _) = self.glyph(code, width).ok_or(DviCause::Glyph)?;
@@ -158,7 +160,7 @@ impl<'a> OpenPage<'a> {
     /// Sets a rule: makes a mark, if it shows something, and moves right by its width in any case.
     pub(crate) fn set_rule(&mut self, size: Size) -> Result<(), PassFault>
         ensures turns { (widths : Widths) (pages : List MarkedPage)
-            → Draws (acts widths (SetRule size.height size.width) (stated self.old.state)) pages self.old self.new result }
+            → Draws (instruction_acts widths (SetRule size.height size.width) (standing_state self.old.state)) pages self.old self.new result }
         ensures room { (most : ℕ) → KeepsRoom most self.old self.new result }
     {
         let place = self.state.place;
@@ -168,7 +170,7 @@ impl<'a> OpenPage<'a> {
     /// Puts a rule, without moving.
     pub(crate) fn put_rule(&mut self, size: Size) -> Result<(), PassFault>
         ensures turns { (widths : Widths) (pages : List MarkedPage)
-            → Draws (acts widths (PutRule size.height size.width) (stated self.old.state)) pages self.old self.new result }
+            → Draws (instruction_acts widths (PutRule size.height size.width) (standing_state self.old.state)) pages self.old self.new result }
         ensures room { (most : ℕ) → KeepsRoom most self.old self.new result }
     {
         let place = self.state.place;
@@ -178,7 +180,7 @@ impl<'a> OpenPage<'a> {
     /// Puts a special, which is a text at the place, without moving.
     pub(crate) fn put_special(&mut self, text: &'a [u8]) -> Result<(), PassFault>
         ensures turns { (widths : Widths) (pages : List MarkedPage)
-            → Draws (acts widths (Xxx text.now) (stated self.old.state)) pages self.old self.new result }
+            → Draws (instruction_acts widths (Xxx text.now) (standing_state self.old.state)) pages self.old self.new result }
         ensures room { (most : ℕ) → KeepsRoom most self.old self.new result }
     {
         let place = self.state.place;

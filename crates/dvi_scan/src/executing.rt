@@ -1,11 +1,11 @@
 //! One instruction, in the state of the pass (DVItype, 15).
 
 ghost use Rattle.std.specs.Prelude.{◌≡◌, ◌≢◌, List, OnErr, map, ℕ};
-ghost use Rattle.dvi_ops.specs.Body.{Acts, acts};
+ghost use Rattle.dvi_ops.specs.Body.{Acts, instruction_acts};
 ghost use Rattle.dvi_ops.specs.File.{MarkedPage};
 ghost use Rattle.dvi_ops.specs.Instruction.{Eop, Pop, Push};
 ghost use Rattle.dvi_ops.specs.View.{view};
-ghost use Rattle.dvi_scan.specs.Drawing.{always};
+ghost use Rattle.dvi_scan.specs.Drawing.{constant_width};
 ghost use Rattle.dvi_scan.specs.Pass.{Between};
 ghost use Rattle.dvi_scan.specs.Execution.{Executes, KeepsRoom, TurnsPage, fault_at, inside_of, pass_at};
 ghost use Rattle.dvi_scan.specs.View.{marked_page};
@@ -115,7 +115,8 @@ impl<'a> OpenPage<'a> {
     #[inline(always)]
     pub fn take(&mut self, most: usize, op: &Op<'a>, width: Option<i32>) -> Result<(), PassFault>
         requires { view op.now ≢ Eop }
-        ensures turns { (pages : List MarkedPage) → TurnsPage (acts (always width)) most (view op.now) pages self.old self.new result }
+        ensures turns { (pages : List MarkedPage)
+            → TurnsPage (instruction_acts (constant_width width)) most (view op.now) pages self.old self.new result }
         // Memory is not refused where the page has room, and the room does not shrink.
         ensures room { KeepsRoom most self.old self.new result }
     {
@@ -211,7 +212,7 @@ pub fn execute<'a>(
     width: Option<i32>,
 ) -> Result<(), PassFault>
     // The pass goes on as it is defined, or the rule that a fault names is broken.
-    ensures turns { Executes (acts (always width)) most (view op.now) (pass_at (map marked_page done.old.items) stand.old)
+    ensures turns { Executes (instruction_acts (constant_width width)) most (view op.now) (pass_at (map marked_page done.old.items) stand.old)
         (pass_at (map marked_page done.new.items) stand.new) result }
     // A fault changes nothing: the state of the pass and the pages are as before.
     ensures err { OnErr result ((done.new.items ≡ done.old.items) × ((pages : List MarkedPage) → pass_at pages stand.new ≡ pass_at pages stand.old)) }

@@ -2,12 +2,12 @@
 
 ghost use Rattle.std.specs.Prelude.{◌≡◌, ◌≤◌, ◌++◌, [], List, Option, Some, None, ℕ, ℤ};
 ghost use Rattle.std.specs.List.{AllByRecursion, flat_map};
-ghost use Rattle.dvi_ops.specs.Body.{Acts, Widths, acts, kept};
+ghost use Rattle.dvi_ops.specs.Body.{Acts, Widths, instruction_acts, bounded_acts};
 ghost use Rattle.dvi_ops.specs.File.{MarkedPage, FilePart, push_depth_of, instructions, pages_of};
 ghost use Rattle.dvi_ops.specs.Instruction.{Instruction};
 ghost use Rattle.dvi_scan.specs.Pass.{Between, PassStateView, passes, execute};
 ghost use Rattle.dvi_scan.specs.Execution.{BreaksTurn, IsAsked};
-ghost use Rattle.dvi_scan.specs.Drawing.{always};
+ghost use Rattle.dvi_scan.specs.Drawing.{constant_width};
 ghost use Rattle.dvi_scan.specs.declared.fault.DviCause.{DviCause};
 
 /// The pass accepts all parts of a file whose pages have a meaning and are not too deep, and gives their pages.
@@ -36,11 +36,11 @@ pub fn one_after_the_other()
 /// Where an instruction breaks a rule, the pass stops.
 pub fn broken_rules_stop_the_pass()
     ensures { (does : Acts) (most : ℕ) (i : Instruction) (p : PassStateView) (cause : DviCause) → BreaksTurn does most i p cause
-        → execute (kept does) most i p ≡ None }
+        → execute (bounded_acts does) most i p ≡ None }
 {}
 
 /// The pass needs at most one width at each instruction: that of the character in the current font.
 pub fn one_width_is_asked()
     ensures { (widths : Widths) (width : Option ℤ) (most : ℕ) (i : Instruction) (p : PassStateView) → IsAsked widths i p width
-        → execute (kept (acts (always width))) most i p ≡ execute (kept (acts widths)) most i p }
+        → execute (bounded_acts (instruction_acts (constant_width width))) most i p ≡ execute (bounded_acts (instruction_acts widths)) most i p }
 {}

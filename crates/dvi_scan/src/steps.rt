@@ -5,9 +5,9 @@ ghost use Rattle.dvi_ops.specs.Fonts.{WidthsByName, definitions};
 ghost use Rattle.dvi_ops.specs.Instruction.{Instruction, Postamble, Pre};
 ghost use Rattle.dvi_ops.specs.Table.{Spells};
 ghost use Rattle.dvi_ops.specs.File.{AreUnits, MarkedPage};
-ghost use Rattle.dvi_ops.specs.Tokens.{Token, places, says};
+ghost use Rattle.dvi_ops.specs.Tokens.{Token, places, token_instructions};
 ghost use Rattle.dvi_scan.specs.Chain.{Links};
-ghost use Rattle.dvi_scan.specs.Passed.{framing, IsPassed};
+ghost use Rattle.dvi_scan.specs.Passed.{file_framing, IsPassed};
 ghost use Rattle.dvi_scan.specs.Pass.{Between};
 ghost use Rattle.dvi_scan.specs.Reached.{AreNumbersOf, HasRight, IsIn, IsReached, IsRightAt, IsTail, Left, ReadSoFar, all_left, before_pages};
 ghost use Rattle.dvi_scan.specs.Reached.{after_bops};
@@ -43,25 +43,25 @@ pub fn later_places_are_left()
 pub fn pass_ends()
     ensures { (metrics : WidthsByName) (bytes : List ℕ) (post after last : ℕ) (stop : Postamble) (chain : List ℕ) (pages : List MarkedPage)
         (ahead : List ℤ) (s : ReadSoFar) (tail : List Token)
-        → AreUnits stop.units → AreNumbersOf ahead (definitions (says tail)) → IsReached metrics ahead bytes stop chain post s
+        → AreUnits stop.units → AreNumbersOf ahead (definitions (token_instructions tail)) → IsReached metrics ahead bytes stop chain post s
         → s.pass ≡ Between pages → s.left ≡ all_left []
-        → IsTail bytes after last s.known tail → IsPassed metrics bytes (framing post after last stop chain) pages }
+        → IsTail bytes after last s.known tail → IsPassed metrics bytes (file_framing post after last stop chain) pages }
 {}
 
 /// In a file the pass goes on: a right instruction is at each place before post; at the place of post the pass is between pages, and no page is still
 /// to come; and the tail is right.
 pub fn files_are_right()
     ensures next { (metrics : WidthsByName) (bytes : List ℕ) (post after last : ℕ) (stop : Postamble) (chain : List ℕ) (pages : List MarkedPage)
-        (f : IsPassed metrics bytes (framing post after last stop chain) pages) (small : post ≤ length bytes)
-        (ahead : List ℤ) (numbers : AreNumbersOf ahead (definitions (says f.tail))) (at : ℕ) (s : ReadSoFar) (low : at ≤ post)
+        (f : IsPassed metrics bytes (file_framing post after last stop chain) pages) (small : post ≤ length bytes)
+        (ahead : List ℤ) (numbers : AreNumbersOf ahead (definitions (token_instructions f.tail))) (at : ℕ) (s : ReadSoFar) (low : at ≤ post)
         (r : IsReached metrics ahead bytes stop chain at s)
         → at < post → HasRight metrics ahead bytes stop at post s }
     ensures end { (metrics : WidthsByName) (bytes : List ℕ) (post after last : ℕ) (stop : Postamble) (chain : List ℕ) (pages : List MarkedPage)
-        (f : IsPassed metrics bytes (framing post after last stop chain) pages) (small : post ≤ length bytes)
-        (ahead : List ℤ) (numbers : AreNumbersOf ahead (definitions (says f.tail))) (at : ℕ) (s : ReadSoFar) (low : at ≤ post)
+        (f : IsPassed metrics bytes (file_framing post after last stop chain) pages) (small : post ≤ length bytes)
+        (ahead : List ℤ) (numbers : AreNumbersOf ahead (definitions (token_instructions f.tail))) (at : ℕ) (s : ReadSoFar) (low : at ≤ post)
         (r : IsReached metrics ahead bytes stop chain at s)
         → at ≡ post → (s.pass ≡ Between pages) × (s.left ≡ all_left []) }
     ensures tail { (metrics : WidthsByName) (bytes : List ℕ) (post after last : ℕ) (stop : Postamble) (chain : List ℕ) (pages : List MarkedPage)
-        (f : IsPassed metrics bytes (framing post after last stop chain) pages) → post ≤ length bytes → (ahead : List ℤ) (s : ReadSoFar)
+        (f : IsPassed metrics bytes (file_framing post after last stop chain) pages) → post ≤ length bytes → (ahead : List ℤ) (s : ReadSoFar)
         → IsReached metrics ahead bytes stop chain post s → IsTail bytes after last s.known f.tail }
 {}

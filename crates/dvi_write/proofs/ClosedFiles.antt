@@ -10,7 +10,7 @@ use Rattle.dvi_ops.specs.Forest.{flat, nests}
 use Rattle.dvi_ops.specs.Fonts.{definitions}
 use Rattle.dvi_ops.specs.File.{FilePart, Defines, Shows, instructions, push_depth_of}
 use Rattle.dvi_ops.specs.Spelling.{NumberFits, NumbersFit, UnitsFit}
-use Rattle.dvi_ops.specs.Layout.{bytes_of, define, preamble, scaled_points, Sheet, WriterKnowledge, after_preamble, sheet_from, after, sheets_from, after_all, front_of, stop_of, padding_after, IsTabled, IsWritable, Table}
+use Rattle.dvi_ops.specs.Layout.{bytes_of, define, preamble, scaled_points, Sheet, WriterKnowledge, after_preamble, sheet_from, knowledge_after, sheets_from, after_all, front_of, stop_of, padding_after, IsTabled, IsWritable, Table}
 use Rattle.scaled_core.proofs.EachOf.{all_append}
 use Rattle.dvi_ops.proofs.Appends.{definitions-append, instructions-append}
 use Rattle.dvi_ops.proofs.Layouts.{says-wrote, definitions-define, instructions-define, length-bytes_of-append, parts_of}
@@ -20,7 +20,7 @@ use Rattle.page_core.specs.Pages.{reach_down, reach_right}
 use Rattle.node_core.specs.declared.limits.TheConstants.{MAX_DEPTH}
 use Rattle.tfm_core.specs.Slots.{Slots, AreDefinable}
 use Rattle.dvi_write.specs.Sheets.{written_body, definitions_of, fresh_slots, in_rising_order, sheet_of}
-use Rattle.dvi_write.specs.Layout.{slots_after, slots_after_all, sheets_of, greatest, closing_of, ended, front, whole}
+use Rattle.dvi_write.specs.Layout.{slots_after, slots_after_all, sheets_of, greatest_size, closing_of, padded_file, unfinished_file, whole}
 use Rattle.dvi_write.specs.Shippable.{slot_widths, IsRightPage}
 use Rattle.dvi_write.specs.Closing.{IsGreatestOf, IsOfJob, IsClosedFor}
 use Rattle.dvi_write.proofs.DefinedFonts.{each_of}
@@ -64,16 +64,16 @@ farthest-greatest : {X : Type 0} (size : X → ℤ) (xs : List X) → IsGreatest
 farthest-greatest size xs = record { bounds = farthest_bounds size (pos 0) xs; reached = farthest_reached size (pos 0) xs }
 
 -- The greatest value of a size over pages, which is at least 0.
-farthest-is : (size : ShippedPage → ℤ) (z : ℤ) (pages : List ShippedPage) → pos 0 ≤ℤ z → farthest size z pages ≡ int_max z (greatest size pages)
+farthest-is : (size : ShippedPage → ℤ) (z : ℤ) (pages : List ShippedPage) → pos 0 ≤ℤ z → farthest size z pages ≡ int_max z (greatest_size size pages)
 farthest-is size z [] least = omega (arith, ints, clamps, least)
 farthest-is size z (page ∷ pages) least =
     omega (arith, ints, clamps, least, farthest-is size (int_max z (size page)) pages (omega (arith, ints, clamps, least)))
 
-never_less : (size : ShippedPage → ℤ) (pages : List ShippedPage) → pos 0 ≤ℤ greatest size pages
+never_less : (size : ShippedPage → ℤ) (pages : List ShippedPage) → pos 0 ≤ℤ greatest_size size pages
 never_less size [] = omega (arith, ints)
 never_less size (page ∷ pages) = omega (arith, ints, clamps, never_less size pages)
 
-greatest-is : (size : ShippedPage → ℤ) (pages : List ShippedPage) → farthest size (pos 0) pages ≡ greatest size pages
+greatest-is : (size : ShippedPage → ℤ) (pages : List ShippedPage) → farthest size (pos 0) pages ≡ greatest_size size pages
 greatest-is size pages = omega (arith, ints, clamps, never_less size pages, farthest-is size (pos 0) pages (omega (arith, ints)))
 
 farthest-append : {X : Type 0} (size : X → ℤ) (z : ℤ) (xs ys : List X) → farthest size z (xs ++ ys) ≡ farthest size (farthest size z xs) ys
@@ -83,7 +83,7 @@ farthest-append size z (x ∷ xs) ys = farthest-append size (int_max z (size x))
 -- The layout of the pages can be spelled, and the last place fits.
 grows : (fonts : Slots) (slots : List ℕ) (s : WriterKnowledge) (pages : List ShippedPage) → s.size ≤ (after_all s (sheets_of fonts slots pages)).size
 grows fonts slots s [] = omega arith
-grows fonts slots s (page ∷ pages) = omega (arith, grows fonts (slots_after fonts slots page) (after s (sheet_of fonts slots page)) pages)
+grows fonts slots s (page ∷ pages) = omega (arith, grows fonts (slots_after fonts slots page) (knowledge_after s (sheet_of fonts slots page)) pages)
 
 -- The place of a bop is before the end of its page.
 place_fits : (fonts : Slots) (slots : List ℕ) (s : WriterKnowledge) (page : ShippedPage) (pages : List ShippedPage) → (after_all s (sheets_of fonts slots (page ∷ pages))).size < 2 ^ 31
@@ -94,7 +94,7 @@ place_fits fonts slots s page pages small =
       sfits =
           omega (
             arith,
-            grows fonts (slots_after fonts slots page) (after s sheet) pages,
+            grows fonts (slots_after fonts slots page) (knowledge_after s sheet) pages,
             length-bytes_of-append (define sheet.fresh) (Bop sheet.counts s.last ∷ (flat sheet.body ++ Eop ∷ [])),
             small,
           );
@@ -104,7 +104,7 @@ last_fits : (fonts : Slots) (slots : List ℕ) (s : WriterKnowledge) (pages : Li
     → NumberFits (after_all s (sheets_of fonts slots pages)).last
 last_fits fonts slots s [] fit small = fit
 last_fits fonts slots s (page ∷ pages) fit small =
-    last_fits fonts (slots_after fonts slots page) (after s (sheet_of fonts slots page)) pages (place_fits fonts slots s page pages small) small
+    last_fits fonts (slots_after fonts slots page) (knowledge_after s (sheet_of fonts slots page)) pages (place_fits fonts slots s page pages small) small
 
 all_defined : (table : Table) (ds : List Definition) → AllByRecursion (IsTabled table) ds → AllByRecursion IsWritable (define ds)
 all_defined table [] all = tt
@@ -116,7 +116,7 @@ pages_writable : (fonts : Slots) → AreDefinable fonts → (slots : List ℕ) (
 pages_writable fonts definable slots s [] all fit small = tt
 pages_writable fonts definable slots s (page ∷ pages) (here, all) fit small =
     let sheet = sheet_of fonts slots page in
-    let next = after s sheet in
+    let next = knowledge_after s sheet in
     let later = slots_after fonts slots page in
     all_append IsWritable (sheet_from s.last sheet) (sheets_from next (sheets_of fonts later pages))
     (all_append IsWritable (define sheet.fresh) (Bop page.counts s.last ∷ (flat sheet.body ++ Eop ∷ [])) (all_defined (table_of fonts) sheet.fresh
@@ -129,13 +129,13 @@ few_pushes : (fonts : Slots) (slots : List ℕ) (s : WriterKnowledge) (pages : L
     → (after_all s (sheets_of fonts slots pages)).depth ≤ MAX_DEPTH
 few_pushes fonts slots s [] all few = few
 few_pushes fonts slots s (page ∷ pages) (here, all) few =
-    few_pushes fonts (slots_after fonts slots page) (after s (sheet_of fonts slots page)) pages all (omega (arith, few, nests_written page, here.sound.depth))
+    few_pushes fonts (slots_after fonts slots page) (knowledge_after s (sheet_of fonts slots page)) pages all (omega (arith, few, nests_written page, here.sound.depth))
 
 -- The parts of the layout of pages: the definitions of their fresh fonts, and the pages.
 parts_from : Slots → List ℕ → WriterKnowledge → List ShippedPage → List FilePart
 parts_from fonts slots s [] = []
 parts_from fonts slots s (page ∷ pages) =
-    parts_of s.last (sheet_of fonts slots page) ++ parts_from fonts (slots_after fonts slots page) (after s (sheet_of fonts slots page)) pages
+    parts_of s.last (sheet_of fonts slots page) ++ parts_from fonts (slots_after fonts slots page) (knowledge_after s (sheet_of fonts slots page)) pages
 
 one_page : (last : ℤ) (p : Sheet) → sheet_from last p ≡ flat_map instructions (parts_of last p)
 one_page last p =
@@ -149,8 +149,8 @@ instructions_from fonts slots s [] = refl
 instructions_from fonts slots s (page ∷ pages) =
     let sheet = sheet_of fonts slots page in
     let later = slots_after fonts slots page in
-    ap₂ (λ (a b : List Instruction). a ++ b) (one_page s.last sheet) (instructions_from fonts later (after s sheet) pages)
-    ∙ sym (instructions-append (parts_of s.last sheet) (parts_from fonts later (after s sheet) pages))
+    ap₂ (λ (a b : List Instruction). a ++ b) (one_page s.last sheet) (instructions_from fonts later (knowledge_after s sheet) pages)
+    ∙ sym (instructions-append (parts_of s.last sheet) (parts_from fonts later (knowledge_after s sheet) pages))
 
 -- The greatest number of pushes that are open at once in a part.
 abbrev part_depth : FilePart → ℤ
@@ -180,9 +180,9 @@ depth-is fonts slots s [] = refl
 depth-is fonts slots s (page ∷ pages) =
     let sheet = sheet_of fonts slots page in
     let later = slots_after fonts slots page in
-    let parts = parts_from fonts later (after s sheet) pages in
+    let parts = parts_from fonts later (knowledge_after s sheet) pages in
     farthest-append part_depth (pos s.depth) (parts_of s.last sheet) parts
-    ∙ (ap (λ z. farthest part_depth z parts) (page-deeper s.depth s.last sheet) ∙ depth-is fonts later (after s sheet) pages)
+    ∙ (ap (λ z. farthest part_depth z parts) (page-deeper s.depth s.last sheet) ∙ depth-is fonts later (knowledge_after s sheet) pages)
 
 -- The definitions in the layout are those of the job's fonts.
 job_definitions : (fonts : Slots) (slots : List ℕ) → AllByRecursion (IsOfJob fonts) (definitions_of fonts slots)
@@ -201,10 +201,10 @@ front_definitions fonts slots s [] = tt
 front_definitions fonts slots s (page ∷ pages) =
     let sheet = sheet_of fonts slots page in
     let later = slots_after fonts slots page in
-    subst (AllByRecursion (IsOfJob fonts)) (sym (definitions-append (sheet_from s.last sheet) (sheets_from (after s sheet) (sheets_of fonts later pages))))
-    (all_append (IsOfJob fonts) (definitions (sheet_from s.last sheet)) (definitions (sheets_from (after s sheet) (sheets_of fonts later pages)))
+    subst (AllByRecursion (IsOfJob fonts)) (sym (definitions-append (sheet_from s.last sheet) (sheets_from (knowledge_after s sheet) (sheets_of fonts later pages))))
+    (all_append (IsOfJob fonts) (definitions (sheet_from s.last sheet)) (definitions (sheets_from (knowledge_after s sheet) (sheets_of fonts later pages)))
     (subst (AllByRecursion (IsOfJob fonts)) (sym (page_definitions fonts slots s.last page)) (job_definitions fonts (fresh_slots fonts slots (flat (written_body page)))))
-    (front_definitions fonts later (after s sheet) pages))
+    (front_definitions fonts later (knowledge_after s sheet) pages))
 
 all_definitions : (fonts : Slots) (slots : List ℕ) (pages : List ShippedPage)
     → AllByRecursion (IsOfJob fonts) (definitions ((preamble ∷ sheets_from after_preamble (sheets_of fonts [] pages)) ++ define (definitions_of fonts (in_rising_order slots))))
@@ -241,11 +241,11 @@ framed fonts is stop tail place padding pages parts defined front_is units fits 
     }
 
 -- Padding adds its number of bytes to the length of a file.
-padded : (fonts : Slots) (pages : List ShippedPage) (n : ℕ) → length (ended fonts pages n) ≡ length (ended fonts pages 0) + n
+padded : (fonts : Slots) (pages : List ShippedPage) (n : ℕ) → length (padded_file fonts pages n) ≡ length (padded_file fonts pages 0) + n
 padded fonts pages n =
     let sheets = sheets_of fonts [] pages in
     let s = after_all after_preamble sheets in
-    let end = bytes_of (Post (stop_of s (greatest reach_down pages) (greatest reach_right pages) (length sheets)) ∷ (define (closing_of fonts pages) ++ PostPost (pos s.size) 2 ∷ [])) in
+    let end = bytes_of (Post (stop_of s (greatest_size reach_down pages) (greatest_size reach_right pages) (length sheets)) ∷ (define (closing_of fonts pages) ++ PostPost (pos s.size) 2 ∷ [])) in
     omega (
       arith,
       length-append (front_of sheets) (end ++ replicate n 223),
@@ -257,15 +257,15 @@ padded fonts pages n =
 
 -- The file of some pages has the right end.
 ended_closes : (fonts : Slots) (pages : List ShippedPage) → AreDefinable fonts → AllByRecursion (IsRightPage fonts) pages → (after_all after_preamble (sheets_of fonts [] pages)).size < 2 ^ 31
-    → IsClosedFor fonts (ended fonts pages (padding_after (length (ended fonts pages 0)))) pages
+    → IsClosedFor fonts (padded_file fonts pages (padding_after (length (padded_file fonts pages 0)))) pages
 ended_closes fonts pages definable all below =
     let sheets = sheets_of fonts [] pages in
     let s = after_all after_preamble sheets in
     let is = preamble ∷ sheets_from after_preamble sheets in
     let parts = parts_from fonts [] after_preamble pages in
-    let stop = stop_of s (greatest reach_down pages) (greatest reach_right pages) (length sheets) in
+    let stop = stop_of s (greatest_size reach_down pages) (greatest_size reach_right pages) (length sheets) in
     let tail = define (closing_of fonts pages) in
-    let size = length (ended fonts pages 0) in
+    let size = length (padded_file fonts pages 0) in
     let padding = padding_after size in
     let first : NumberFits (negsuc 0) = record { sfits = omega arith } in
     let units : UnitsFit scaled_points = (record { sfits = lit< tt }, record { sfits = lit< tt }, record { sfits = lit< tt }) in
@@ -280,7 +280,7 @@ ended_closes fonts pages definable all below =
     (subst (IsGreatestOf (pos 0 ∷ map part_depth parts)) (depth-is fonts [] after_preamble pages) (farthest-greatest part_depth parts))
     (ap (λ n. n % 4) (padded fonts pages padding) ∙ padding_fills size)
 
-pub file_closes : (fonts : Slots) (pages : List ShippedPage) → AreDefinable fonts → pages ≢ [] → AllByRecursion (IsRightPage fonts) pages → length (front fonts pages) < 2 ^ 31
+pub file_closes : (fonts : Slots) (pages : List ShippedPage) → AreDefinable fonts → pages ≢ [] → AllByRecursion (IsRightPage fonts) pages → length (unfinished_file fonts pages) < 2 ^ 31
     → IsClosedFor fonts (whole fonts pages) pages
 unfolding whole
 file_closes fonts [] definable some all small = absurd (some refl)

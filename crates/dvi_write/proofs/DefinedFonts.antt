@@ -8,7 +8,7 @@ use Rattle.std.proofs.lemmas.Bool.Decides.{Decides-int_eq}
 use Rattle.std.proofs.lemmas.List.Folds.{list_any-append}
 use Rattle.std.proofs.lemmas.List.Elements.{filter-append}
 use Rattle.dvi_ops.specs.Instruction.{Definition, FontNum, Instruction, Do}
-use Rattle.dvi_ops.specs.Fonts.{selections, defined, known_after}
+use Rattle.dvi_ops.specs.Fonts.{selections, first_definition_of, known_after}
 use Rattle.dvi_ops.specs.Layout.{define}
 use Rattle.scaled_core.proofs.EachOf.{all_append, all_weaker}
 use Rattle.tfm_core.specs.declared.slots.LoadedFont.{LoadedFont}
@@ -184,25 +184,25 @@ none_rising = none_pass 256
 same_is_true : (z : ℤ) → int_eq z z ≡ true
 same_is_true z = (Decides-int_eq z z).1 refl
 
-defined_after : (f : ℤ) (ds es : List Definition) → IsSome (defined f es) → IsSome (defined f (ds ++ es))
+defined_after : (f : ℤ) (ds es : List Definition) → IsSome (first_definition_of f es) → IsSome (first_definition_of f (ds ++ es))
 defined_after f [] es some = some
 defined_after f (d ∷ ds) es some = by_test (int_eq f d.number) (defined_after f ds es some)
   where
-    by_test : (same : Bool) → IsSome (defined f (ds ++ es)) → IsSome (if same then Some d else defined f (ds ++ es))
+    by_test : (same : Bool) → IsSome (first_definition_of f (ds ++ es)) → IsSome (if same then Some d else first_definition_of f (ds ++ es))
     by_test true later = refl
     by_test false later = later
 
-pub defined_among : (fonts : Slots) (s : ℕ) (l : LoadedFont) (slots : List ℕ) → font_in fonts s ≡ Some l → is_among s slots ≡ true → IsSome (defined (pos s) (definitions_of fonts slots))
+pub defined_among : (fonts : Slots) (s : ℕ) (l : LoadedFont) (slots : List ℕ) → font_in fonts s ≡ Some l → is_among s slots ≡ true → IsSome (first_definition_of (pos s) (definitions_of fonts slots))
 defined_among fonts s l [] is among = cc
 defined_among fonts s l (t ∷ slots) is among =
     or_cases (t == s) (is_among s slots) among
     (λ e. let same : t ≡ s = eqb-true t s e in here t same (font_in fonts t) (ap (font_in fonts) same ∙ is))
     (λ e. defined_after (pos s) (definition_by t (font_in fonts t)) (definitions_of fonts slots) (defined_among fonts s l slots is e))
   where
-    here : (t : ℕ) → t ≡ s → (x : Option LoadedFont) → x ≡ Some l → IsSome (defined (pos s) (definition_by t x ++ definitions_of fonts slots))
+    here : (t : ℕ) → t ≡ s → (x : Option LoadedFont) → x ≡ Some l → IsSome (first_definition_of (pos s) (definition_by t x ++ definitions_of fonts slots))
     here t same None is = cc
     here t same (Some m) is =
-        ap (λ b. is_some (if b then Some (definition_of t m) else defined (pos s) (definitions_of fonts slots))) (ap (λ n. int_eq (pos s) (pos n)) same ∙ same_is_true (pos s))
+        ap (λ b. is_some (if b then Some (definition_of t m) else first_definition_of (pos s) (definitions_of fonts slots))) (ap (λ n. int_eq (pos s) (pos n)) same ∙ same_is_true (pos s))
 
 pub each_of : (P : Definition → Type 0) (fonts : Slots) (slots : List ℕ) → ((s : ℕ) (l : LoadedFont) → is_among s slots ≡ true → font_in fonts s ≡ Some l → P (definition_of s l))
     → AllByRecursion P (definitions_of fonts slots)
@@ -216,21 +216,21 @@ each_of P fonts (t ∷ slots) each =
     here (Some l) is = (each t l (or_left (t == t) (is_among t slots) (eq-eqb t t refl)) is, tt)
 
 -- The known definitions after more definitions.
-kept_known : (f : ℤ) (known ds : List Definition) → IsSome (defined f known) → IsSome (defined f (known_after known (define ds)))
+kept_known : (f : ℤ) (known ds : List Definition) → IsSome (first_definition_of f known) → IsSome (first_definition_of f (known_after known (define ds)))
 kept_known f known [] some = some
 kept_known f known (d ∷ ds) some = kept_known f (d ∷ known) ds (by_test (int_eq f d.number))
   where
-    by_test : (same : Bool) → IsSome (if same then Some d else defined f known)
+    by_test : (same : Bool) → IsSome (if same then Some d else first_definition_of f known)
     by_test true = refl
     by_test false = some
 
-known_new : (f : ℤ) (known ds : List Definition) → IsSome (defined f ds) → IsSome (defined f (known_after known (define ds)))
+known_new : (f : ℤ) (known ds : List Definition) → IsSome (first_definition_of f ds) → IsSome (first_definition_of f (known_after known (define ds)))
 known_new f known [] some = cc
 known_new f known (d ∷ ds) some = by_test (int_eq f d.number) refl some (λ later. known_new f (d ∷ known) ds later)
   where
-    by_test : (same : Bool) → int_eq f d.number ≡ same → IsSome (if same then Some d else defined f ds)
-        → (IsSome (defined f ds) → IsSome (defined f (known_after (d ∷ known) (define ds)))) → IsSome (defined f (known_after (d ∷ known) (define ds)))
-    by_test true is some later = kept_known f (d ∷ known) ds (ap (λ b. is_some (if b then Some d else defined f known)) is)
+    by_test : (same : Bool) → int_eq f d.number ≡ same → IsSome (if same then Some d else first_definition_of f ds)
+        → (IsSome (first_definition_of f ds) → IsSome (first_definition_of f (known_after (d ∷ known) (define ds)))) → IsSome (first_definition_of f (known_after (d ∷ known) (define ds)))
+    by_test true is some later = kept_known f (d ∷ known) ds (ap (λ b. is_some (if b then Some d else first_definition_of f known)) is)
     by_test false is some later = later some
 
 all_known : (P : Definition → Type 0) (known ds : List Definition) → AllByRecursion P known → AllByRecursion P ds → AllByRecursion P (known_after known (define ds))
@@ -248,7 +248,7 @@ pub record IsListed (fonts : Slots) (slots : List ℕ) (d : Definition) : Type 0
 
 -- The known definitions are those of the fonts in these slots.
 pub record AreKnown (fonts : Slots) (slots : List ℕ) (known : List Definition) : Type 0 where
-  pub forth : (s : ℕ) → is_among s slots ≡ true → IsSome (defined (pos s) known)
+  pub forth : (s : ℕ) → is_among s slots ≡ true → IsSome (first_definition_of (pos s) known)
   pub back : AllByRecursion (IsListed fonts slots) known
 
 pub none_known : (fonts : Slots) → AreKnown fonts [] []
@@ -262,7 +262,7 @@ module _ (fonts : Slots) (slots : List ℕ) (is : List Instruction) where
   fresh : List ℕ
   fresh = fresh_slots fonts slots is
 
-  fresh_defined : (s : ℕ) → is_among s fresh ≡ true → IsSome (defined (pos s) (definitions_of fonts fresh))
+  fresh_defined : (s : ℕ) → is_among s fresh ≡ true → IsSome (first_definition_of (pos s) (definitions_of fonts fresh))
   unfolding fresh
   fresh_defined s among =
       let parts = fresh_parts fonts slots is s (among_fresh fonts slots is s among).0 in
@@ -301,11 +301,11 @@ module _ (fonts : Slots) (slots : List ℕ) (is : List Instruction) where
 
   -- A selected font is known afterwards.
   pub selected_known : (known : List Definition) → AreKnown fonts slots known → (s : ℕ) (l : LoadedFont) → list_any (selects s) is ≡ true → s < 256 → font_in fonts s ≡ Some l
-      → IsSome (defined (pos s) (known_after known (define (definitions_of fonts (fresh_slots fonts slots is)))))
+      → IsSome (first_definition_of (pos s) (known_after known (define (definitions_of fonts (fresh_slots fonts slots is)))))
   unfolding fresh is_fresh
   selected_known known knows s l selected small has = by_test (is_among s slots) refl
     where
-      by_test : (b : Bool) → is_among s slots ≡ b → IsSome (defined (pos s) (known_after known (define (definitions_of fonts (fresh_slots fonts slots is)))))
+      by_test : (b : Bool) → is_among s slots ≡ b → IsSome (first_definition_of (pos s) (known_after known (define (definitions_of fonts (fresh_slots fonts slots is)))))
       by_test true old = kept_known (pos s) known (definitions_of fonts (fresh_slots fonts slots is)) (knows.forth s old)
       by_test false old =
           known_new (pos s) known (definitions_of fonts (fresh_slots fonts slots is))
@@ -317,13 +317,13 @@ unfolding in_rising_order
 rising_among slots s among small = filter_among (λ t. is_among t slots) s 256 among small
 
 -- A definition that is known by its number.
-pub listed_at : (fonts : Slots) (slots : List ℕ) (known : List Definition) (f : ℤ) → AllByRecursion (IsListed fonts slots) known → IsSome (defined f known)
+pub listed_at : (fonts : Slots) (slots : List ℕ) (known : List Definition) (f : ℤ) → AllByRecursion (IsListed fonts slots) known → IsSome (first_definition_of f known)
     → (d : Definition) × (f ≡ d.number) × IsListed fonts slots d
 listed_at fonts slots [] f all some = cc
 listed_at fonts slots (d ∷ known) f (here, all) some = by_test (int_eq f d.number) refl some (λ later. listed_at fonts slots known f all later)
   where
-    by_test : (same : Bool) → int_eq f d.number ≡ same → IsSome (if same then Some d else defined f known)
-        → (IsSome (defined f known) → (e : Definition) × (f ≡ e.number) × IsListed fonts slots e) → (e : Definition) × (f ≡ e.number) × IsListed fonts slots e
+    by_test : (same : Bool) → int_eq f d.number ≡ same → IsSome (if same then Some d else first_definition_of f known)
+        → (IsSome (first_definition_of f known) → (e : Definition) × (f ≡ e.number) × IsListed fonts slots e) → (e : Definition) × (f ≡ e.number) × IsListed fonts slots e
     by_test true is some later = (d, (Decides-int_eq f d.number).0 is, here)
     by_test false is some later = later some
 

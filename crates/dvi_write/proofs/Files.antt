@@ -10,10 +10,10 @@ use Rattle.tfm_core.specs.FileWidths.{width_at}
 use Rattle.node_core.specs.Items.{Leaf, Items, glyph, font_kern, kern, glue, penalty, rule, special, EachLeaf}
 use Rattle.dvi_ops.specs.Forest.{flat}
 use Rattle.dvi_ops.specs.Instruction.{Definition}
-use Rattle.dvi_ops.specs.Fonts.{WidthsByName, selections, defined, known_after, widths_in as font_by, width_in}
+use Rattle.dvi_ops.specs.Fonts.{WidthsByName, selections, first_definition_of, known_after, widths_in as font_by, width_in}
 use Rattle.dvi_ops.specs.File.{IsFile}
 use Rattle.dvi_ops.specs.Spelling.{NumberFits}
-use Rattle.dvi_ops.specs.Layout.{Table, WriterKnowledge, after_preamble, after, after_all, define, padding_after, table_widths, IsTabled, IsGood, AreGood, IsClosing}
+use Rattle.dvi_ops.specs.Layout.{Table, WriterKnowledge, after_preamble, knowledge_after, after_all, define, padding_after, table_widths, IsTabled, IsGood, AreGood, IsClosing}
 use Rattle.dvi_ops.proofs.WholeFile.{whole_file, padding_low}
 use Rattle.page_core.specs.Marks.{ShippedPage, marks_of_page}
 use Rattle.page_core.specs.Pages.{reach_down, reach_right}
@@ -23,7 +23,7 @@ use Rattle.ship_core.proofs.DrawnPages.{HasFont, fits_down, fits_right}
 use Rattle.tfm_core.specs.declared.slots.LoadedFont.{LoadedFont}
 use Rattle.tfm_core.specs.Slots.{Slots, font_in, AreDefinable}
 use Rattle.dvi_write.specs.Sheets.{written_body, definition_of, definitions_of, fresh_slots, in_rising_order, selects, sheet_of}
-use Rattle.dvi_write.specs.Layout.{slots_after, slots_after_all, sheets_of, greatest, closing_of, ended, front, whole}
+use Rattle.dvi_write.specs.Layout.{slots_after, slots_after_all, sheets_of, greatest_size, closing_of, padded_file, unfinished_file, whole}
 use Rattle.dvi_write.specs.Shippable.{slot_font_widths, slot_widths, IsRightPage, GivesFonts, read_page, IsFileOfPages}
 use Rattle.dvi_write.proofs.DefinedFonts.{AreKnown, HasSelected, none_known, known_next, selected_known, each_selected, each_of, rising_among, listed_at, defined_among, holds_selected}
 use Rattle.node_core.proofs.Leaves.{each_leaf}
@@ -122,12 +122,12 @@ module _ (metrics : WidthsByName) (fonts : Slots) (gives : GivesFonts metrics fo
           writable = writable_written (table_widths metrics (table_of fonts)) page right.small widths (omega (arith, right.text));
           plain = definitions-written page;
           chosen =
-              each_selected (IsSlot fonts) (λ f. IsSome (defined f (known_after known (define (definitions_of fonts (fresh_slots fonts slots is)))))) is
+              each_selected (IsSlot fonts) (λ f. IsSome (first_definition_of f (known_after known (define (definitions_of fonts (fresh_slots fonts slots is)))))) is
               (λ s. list_any (selects s) is) (λ s e. e)
               (λ f of. (
                 of.slot,
                 of.is,
-                λ e. subst (λ z. IsSome (defined z (known_after known (define (definitions_of fonts (fresh_slots fonts slots is)))))) (sym of.is)
+                λ e. subst (λ z. IsSome (first_definition_of z (known_after known (define (definitions_of fonts (fresh_slots fonts slots is)))))) (sym of.is)
                     (selected_known fonts slots is known knows of.slot of.loaded e of.small of.has),
               ))
               (selected_slots fonts page right.sound.glyphs);
@@ -146,7 +146,7 @@ module _ (metrics : WidthsByName) (fonts : Slots) (gives : GivesFonts metrics fo
     pages_good slots s (page ∷ pages) knows (here, all) = (
       refl,
       page_good slots s.known page knows here,
-      pages_good (slots_after fonts slots page) (after s (sheet_of fonts slots page)) pages (known_next fonts slots (flat (written_body page)) s.known knows) all,
+      pages_good (slots_after fonts slots page) (knowledge_after s (sheet_of fonts slots page)) pages (known_next fonts slots (flat (written_body page)) s.known knows) all,
     )
 
 -- The known definitions after pages.
@@ -154,7 +154,7 @@ known_after_pages : (fonts : Slots) (slots : List ℕ) (s : WriterKnowledge) (pa
     → AreKnown fonts (slots_after_all fonts slots pages) (after_all s (sheets_of fonts slots pages)).known
 known_after_pages fonts slots s [] knows = knows
 known_after_pages fonts slots s (page ∷ pages) knows =
-    known_after_pages fonts (slots_after fonts slots page) (after s (sheet_of fonts slots page)) pages (known_next fonts slots (flat (written_body page)) s.known knows)
+    known_after_pages fonts (slots_after fonts slots page) (knowledge_after s (sheet_of fonts slots page)) pages (known_next fonts slots (flat (written_body page)) s.known knows)
 
 -- The definitions of the postamble are right, and include all known ones.
 all_closing : (fonts : Slots) (slots : List ℕ) (known : List Definition) → AreDefinable fonts → AreKnown fonts slots known
@@ -164,39 +164,39 @@ all_closing fonts slots known definable knows = record {
   each = λ f some.
       let at = listed_at fonts slots known f knows.back some in
       let listed = at.2 in
-      subst (λ z. IsSome (defined z (definitions_of fonts (in_rising_order slots)))) (sym (at.1 ∙ ap (λ (d : Definition). d.number) listed.is))
+      subst (λ z. IsSome (first_definition_of z (definitions_of fonts (in_rising_order slots)))) (sym (at.1 ∙ ap (λ (d : Definition). d.number) listed.is))
       (defined_among fonts listed.slot listed.loaded (in_rising_order slots) listed.has (rising_among slots listed.slot listed.among listed.small));
 }
 
 greatest_within : (fonts : Slots) (size : ShippedPage → ℤ) (pages : List ShippedPage) → ((page : ShippedPage) → IsRightPage fonts page → Within 1073741823 (size page))
-    → AllByRecursion (IsRightPage fonts) pages → Within 1073741823 (greatest size pages)
+    → AllByRecursion (IsRightPage fonts) pages → Within 1073741823 (greatest_size size pages)
 greatest_within fonts size [] fits all = record { low = omega (arith, ints); high = omega (arith, ints) }
 greatest_within fonts size (page ∷ pages) fits (here, all) =
     let one = fits page here in
     let others = greatest_within fonts size pages fits all in
     record { low = omega (arith, ints, clamps, one.low, others.low); high = omega (arith, ints, clamps, one.high, others.high) }
 
-pub tall_fits : (fonts : Slots) (pages : List ShippedPage) → AllByRecursion (IsRightPage fonts) pages → NumberFits (greatest reach_down pages)
+pub tall_fits : (fonts : Slots) (pages : List ShippedPage) → AllByRecursion (IsRightPage fonts) pages → NumberFits (greatest_size reach_down pages)
 tall_fits fonts pages all =
     number_within _ (greatest_within fonts reach_down pages (λ page right. fits_within (page.v +ℤ page.box_node.depth) (fits_down page right.small)) all)
 
-pub wide_fits : (fonts : Slots) (pages : List ShippedPage) → AllByRecursion (IsRightPage fonts) pages → NumberFits (greatest reach_right pages)
+pub wide_fits : (fonts : Slots) (pages : List ShippedPage) → AllByRecursion (IsRightPage fonts) pages → NumberFits (greatest_size reach_right pages)
 wide_fits fonts pages all =
     number_within _ (greatest_within fonts reach_right pages (λ page right. fits_within (page.h +ℤ page.box_node.width) (fits_right page right.small)) all)
 
 -- The file of some pages is a DVI file of them.
 ended_shows : (metrics : WidthsByName) (fonts : Slots) (pages : List ShippedPage) (padding : ℕ) → GivesFonts metrics fonts → AreDefinable fonts → AllByRecursion (IsRightPage fonts) pages
-    → (after_all after_preamble (sheets_of fonts [] pages)).size < 2 ^ 31 → 4 ≤ padding → IsFile metrics (ended fonts pages padding) (map read_page pages)
+    → (after_all after_preamble (sheets_of fonts [] pages)).size < 2 ^ 31 → 4 ≤ padding → IsFile metrics (padded_file fonts pages padding) (map read_page pages)
 ended_shows metrics fonts pages padding gives definable all small low =
-    whole_file metrics (table_of fonts) (sheets_of fonts [] pages) (map read_page pages) (greatest reach_down pages) (greatest reach_right pages) (closing_of fonts pages) padding
+    whole_file metrics (table_of fonts) (sheets_of fonts [] pages) (map read_page pages) (greatest_size reach_down pages) (greatest_size reach_right pages) (closing_of fonts pages) padding
     (pages_good metrics fonts gives definable [] after_preamble pages (none_known fonts) all)
     (all_closing fonts (slots_after_all fonts [] pages) (after_all after_preamble (sheets_of fonts [] pages)).known definable (known_after_pages fonts [] after_preamble pages (none_known fonts)))
     (tall_fits fonts pages all) (wide_fits fonts pages all) small low
 
 pub file_shows : (metrics : WidthsByName) (fonts : Slots) (pages : List ShippedPage) → GivesFonts metrics fonts → AreDefinable fonts → AllByRecursion (IsRightPage fonts) pages
-    → length (front fonts pages) < 2 ^ 31 → IsFileOfPages metrics (whole fonts pages) pages
+    → length (unfinished_file fonts pages) < 2 ^ 31 → IsFileOfPages metrics (whole fonts pages) pages
 unfolding whole
 file_shows metrics fonts [] gives definable all small = refl
 file_shows metrics fonts (page ∷ pages) gives definable all small =
-    ended_shows metrics fonts (page ∷ pages) (padding_after (length (ended fonts (page ∷ pages) 0))) gives definable all
-    (omega (arith, size-some fonts (page ∷ pages) (λ is. cc), small)) (padding_low (length (ended fonts (page ∷ pages) 0)))
+    ended_shows metrics fonts (page ∷ pages) (padding_after (length (padded_file fonts (page ∷ pages) 0))) gives definable all
+    (omega (arith, size-some fonts (page ∷ pages) (λ is. cc), small)) (padding_low (length (padded_file fonts (page ∷ pages) 0)))

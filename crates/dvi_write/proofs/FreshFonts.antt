@@ -13,7 +13,7 @@ use Rattle.std.proofs.lemmas.List.Elements.{filter-append}
 use Rattle.std.proofs.lemmas.List.Folds.{list_any-append}
 use Rattle.tfm_core.specs.Slots.{Slots, font_in}
 use Rattle.dvi_ops.specs.Instruction.{FontNum, Instruction, Do}
-use Rattle.dvi_ops.specs.Runs.{characters, woven}
+use Rattle.dvi_ops.specs.Runs.{characters, woven_instructions}
 use Rattle.dvi_write.specs.Sheets.{numbers_below, selects, is_among, is_fresh, fresh_slots, in_rising_order}
 use Rattle.dvi_write.specs.Private.Sheets.{slot_of, is_marked_fresh}
 
@@ -173,11 +173,11 @@ selects-characters slot (c ∷ codes) rest = selects-characters slot codes rest
 -- So the fonts of a body are those that its other instructions select.
 pub selects-woven :
     (slot from : ℕ) (codes places : List ℕ) (is : List Instruction) → length places ≡ length is
-    → list_any (selects slot) (woven from codes places is) ≡ list_any (selects slot) is
+    → list_any (selects slot) (woven_instructions from codes places is) ≡ list_any (selects slot) is
 selects-woven slot from codes [] [] paired =
     ap (list_any (selects slot)) (sym (append-nil (characters codes))) ∙ selects-characters slot codes []
 selects-woven slot from codes [] (i ∷ is) paired = absurd (omega (arith, paired))
 selects-woven slot from codes (place ∷ places) [] paired = absurd (omega (arith, paired))
 selects-woven slot from codes (place ∷ places) (i ∷ is) paired =
-    selects-characters slot (take (place - from) codes) (i ∷ woven place (drop (place - from) codes) places is)
+    selects-characters slot (take (place - from) codes) (i ∷ woven_instructions place (drop (place - from) codes) places is)
     ∙ ap (λ (b : Bool). selects slot i || b) (selects-woven slot place (drop (place - from) codes) places is (omega (arith, paired)))

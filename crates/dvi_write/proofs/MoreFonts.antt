@@ -16,7 +16,7 @@ use Rattle.tfm_core.specs.declared.slots.LoadedFont.{LoadedFont}
 use Rattle.tfm_core.specs.Slots.{Slots, font_in}
 use Rattle.dvi_write.specs.MoreFonts.{Extends}
 use Rattle.dvi_write.specs.Sheets.{written_body, definitions_of, fresh_slots, sheet_of}
-use Rattle.dvi_write.specs.Layout.{slots_after, slots_after_all, sheets_of, greatest, load_on, front}
+use Rattle.dvi_write.specs.Layout.{slots_after, slots_after_all, sheets_of, greatest_size, load_on, unfinished_file}
 use Rattle.dvi_write.specs.Shippable.{slot_font_widths, slot_widths, IsShippable, IsRightPage}
 use Rattle.dvi_write.specs.SoFar.{ProgressView, so_far_of}
 use Rattle.dvi_write.proofs.DefinedFonts.{fresh_parts, among_fresh, fresh_same, definitions_same}
@@ -74,8 +74,8 @@ module _ (fonts more : Slots) (extends : Extends fonts more) where
       slots_more (slots_after fonts slots page) pages all ∙ ap (λ slots. slots_after_all more slots pages) (after_more slots page here)
 
   -- The bytes up to the last eop are the same, and so are the kept numbers.
-  pub front_more : (pages : List ShippedPage) → AllByRecursion (IsRightPage fonts) pages → front fonts pages ≡ front more pages
-  unfolding front
+  pub front_more : (pages : List ShippedPage) → AllByRecursion (IsRightPage fonts) pages → unfinished_file fonts pages ≡ unfinished_file more pages
+  unfolding unfinished_file
   front_more [] all = refl
   front_more (page ∷ pages) all = ap front_of (sheets_more [] (page ∷ pages) all)
 
@@ -86,11 +86,11 @@ module _ (fonts more : Slots) (extends : Extends fonts more) where
         last = (after_all after_preamble sheets).last;
         size = length bytes;
         defined = slots;
-        tall = greatest reach_down pages;
-        wide = greatest reach_right pages;
+        tall = greatest_size reach_down pages;
+        wide = greatest_size reach_right pages;
         deep = (after_all after_preamble sheets).depth;
         pages = length pages;
         load = load_on pages;
       } in
-      ap (λ sheets. made sheets (front fonts pages) (slots_after_all fonts [] pages)) (sheets_more [] pages all)
+      ap (λ sheets. made sheets (unfinished_file fonts pages) (slots_after_all fonts [] pages)) (sheets_more [] pages all)
       ∙ ap₂ (λ bytes slots. made (sheets_of more [] pages) bytes slots) (front_more pages all) (slots_more [] pages all)

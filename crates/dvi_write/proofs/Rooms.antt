@@ -16,7 +16,7 @@ use Rattle.tfm_core.specs.declared.slots.LoadedFont.{LoadedFont}
 use Rattle.tfm_core.specs.Slots.{Slots, font_in, IsDefinable, AreDefinable}
 use Rattle.dvi_write.specs.Shippable.{IsShippable, slot_widths}
 use Rattle.dvi_write.specs.Sheets.{written_body, definitions_of, fresh_slots, sheet_of}
-use Rattle.dvi_write.specs.SoFar.{ProgressView, nothing_so_far, opening, next_bytes, with_next}
+use Rattle.dvi_write.specs.SoFar.{ProgressView, nothing_so_far, opening_instructions, next_bytes, with_next}
 use Rattle.dvi_write.specs.Limits.{HasRoom, limit_of}
 use Rattle.dvi_write.proofs.DefinedFonts.{few_defined, none_rising, defined_once}
 use Rattle.scaled_core.proofs.EachOf.{each_held, held_within}
@@ -32,16 +32,16 @@ first_room = record { nodes = omega arith; text = omega arith; pages = omega ari
 -- The bytes of the next page, with its definitions among those before its bop.
 pub next-is : (fonts : Slots) (s : ProgressView) (page : ShippedPage) (bytes slots : List ℕ) (is : List Instruction)
     → slots ≡ fresh_slots fonts s.defined (flat (written_body page)) → is ≡ flat (written_body page)
-    → bytes ≡ bytes_of ((opening s.pages ++ define (definitions_of fonts slots)) ++ (Bop page.counts s.last ∷ (is ++ Eop ∷ []))) → bytes ≡ next_bytes fonts s page
+    → bytes ≡ bytes_of ((opening_instructions s.pages ++ define (definitions_of fonts slots)) ++ (Bop page.counts s.last ∷ (is ++ Eop ∷ []))) → bytes ≡ next_bytes fonts s page
 unfolding next_bytes
 next-is fonts s page bytes slots is fresh body same =
     same
-    ∙ (ap bytes_of (append_assoc (opening s.pages) (define (definitions_of fonts slots)) (Bop page.counts s.last ∷ (is ++ Eop ∷ [])))
-    ∙ ap₂ (λ (slots : List ℕ) (is : List Instruction). bytes_of (opening s.pages ++ (define (definitions_of fonts slots) ++ (Bop page.counts s.last ∷ (is ++ Eop ∷ []))))) fresh body)
+    ∙ (ap bytes_of (append_assoc (opening_instructions s.pages) (define (definitions_of fonts slots)) (Bop page.counts s.last ∷ (is ++ Eop ∷ [])))
+    ∙ ap₂ (λ (slots : List ℕ) (is : List Instruction). bytes_of (opening_instructions s.pages ++ (define (definitions_of fonts slots) ++ (Bop page.counts s.last ∷ (is ++ Eop ∷ []))))) fresh body)
 
 pub next_small : (fonts : Slots) (s : ProgressView) (page : ShippedPage) (bytes slots : List ℕ) (is : List Instruction)
     → HasRoom (with_next fonts s page) → slots ≡ fresh_slots fonts s.defined (flat (written_body page)) → is ≡ flat (written_body page)
-    → bytes ≡ bytes_of ((opening s.pages ++ define (definitions_of fonts slots)) ++ (Bop page.counts s.last ∷ (is ++ Eop ∷ []))) → s.size + length bytes < 2 ^ 31
+    → bytes ≡ bytes_of ((opening_instructions s.pages ++ define (definitions_of fonts slots)) ++ (Bop page.counts s.last ∷ (is ++ Eop ∷ []))) → s.size + length bytes < 2 ^ 31
 unfolding with_next
 next_small fonts s page bytes slots is room fresh body same =
     omega (arith, small (with_next fonts s page) room, ap length (next-is fonts s page bytes slots is fresh body same))
@@ -93,7 +93,7 @@ few_text s page none = omega (arith, ltb-false MAX_SHIPPED_TEXT (s.load.text + b
 
 -- Nothing was sent before the preamble.
 opening_fills : (n size nodes text fonts : ℕ) → size ≤ 15 + 46 * n + 19 * nodes + text + 271 * fonts → (n ≡ 0 → size ≡ 0)
-    → size + length (bytes_of (opening n)) ≤ 15 + 46 * n + 19 * nodes + text + 271 * fonts
+    → size + length (bytes_of (opening_instructions n)) ≤ 15 + 46 * n + 19 * nodes + text + 271 * fonts
 unfolding spelling operand
 opening_fills zero size nodes text fonts fits none = omega (arith, none refl)
 opening_fills (suc n) size nodes text fonts fits none = omega (arith, fits)
@@ -120,7 +120,7 @@ room_next fonts s page definable sound ten none room =
           omega (
             arith,
             opening_fills s.pages s.size s.load.nodes s.load.text (length s.defined) room.size room.empty,
-            length-bytes_of-append (opening s.pages) sheet,
+            length-bytes_of-append (opening_instructions s.pages) sheet,
             length-append s.defined fresh,
             sheet_bytes (slot_widths fonts) fonts s.defined page s.last (short_names fonts definable) ten sound.glyphs,
           );

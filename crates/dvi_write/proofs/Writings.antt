@@ -13,7 +13,7 @@ use Rattle.dvi_write.specs.declared.fault.WriteFault.{WriteFault}
 use Rattle.dvi_write.specs.declared.fault.WriteFault.TheVariants.{Device, HugePage, JobOver, OutOfMemory}
 use Rattle.tfm_core.specs.Slots.{Slots}
 use Rattle.dvi_write.specs.MoreFonts.{Extends}
-use Rattle.dvi_write.specs.Layout.{front, whole}
+use Rattle.dvi_write.specs.Layout.{unfinished_file, whole}
 use Rattle.dvi_write.specs.Shippable.{IsRightPage}
 use Rattle.dvi_write.specs.SoFar.{ProgressView, nothing_so_far, next_bytes, with_next, last_bytes}
 use Rattle.dvi_write.specs.Limits.{HasRoom, limit_of}
@@ -52,24 +52,24 @@ goes_further old now new first second = record {
 
 -- A new writer has written no page.
 pub written_none : (fonts : Slots) (w : Writing) → w.so_far ≡ nothing_so_far → w.over ≡ false → w.past ≡ w.began → HasWritten fonts w.bytes_written w []
-unfolding front
+unfolding unfinished_file
 written_none fonts w nothing running new = record { bytes_written = grown-none w.bytes_written; past = new; so_far = nothing; right = tt; running = running }
 
 -- The bytes sent for a page after others are the end of the front of all of them.
 sent_front : (fonts : Slots) (before : Option (List ℕ)) (w : Writing) (pages : List ShippedPage) (page : ShippedPage) (more : List ℕ) → HasWritten fonts before w pages
-    → written_then w.bytes_written more ≡ written_then before (front fonts pages ++ more)
-sent_front fonts before w pages page more written = ap (λ bytes_written. written_then bytes_written more) written.bytes_written ∙ grown-grown before (front fonts pages) more
+    → written_then w.bytes_written more ≡ written_then before (unfinished_file fonts pages ++ more)
+sent_front fonts before w pages page more written = ap (λ bytes_written. written_then bytes_written more) written.bytes_written ∙ grown-grown before (unfinished_file fonts pages) more
 
 next-same : (fonts : Slots) (before : Option (List ℕ)) (w : Writing) (pages : List ShippedPage) (page : ShippedPage) → HasWritten fonts before w pages
-    → front fonts pages ++ next_bytes fonts w.so_far page ≡ front fonts (pages ++ page ∷ [])
+    → unfinished_file fonts pages ++ next_bytes fonts w.so_far page ≡ unfinished_file fonts (pages ++ page ∷ [])
 next-same fonts before w pages page written =
-    ap (λ s. front fonts pages ++ next_bytes fonts s page) written.so_far ∙ sym (front-append fonts pages page)
+    ap (λ s. unfinished_file fonts pages ++ next_bytes fonts s page) written.so_far ∙ sym (front-append fonts pages page)
 
 -- The past of a device after one more page.
 past_after_front : (fonts : Slots) (before : Option (List ℕ)) (old : Writing) (new : Past) (pages : List ShippedPage) (page : ShippedPage) → HasWritten fonts before old pages
-    → new ≡ past_after old.past (next_bytes fonts old.so_far page) → new ≡ past_after old.began (front fonts (pages ++ page ∷ []))
+    → new ≡ past_after old.past (next_bytes fonts old.so_far page) → new ≡ past_after old.began (unfinished_file fonts (pages ++ page ∷ []))
 past_after_front fonts before old new pages page written past =
-    past_after_both old.began old.past new (front fonts pages) (next_bytes fonts old.so_far page) written.past past
+    past_after_both old.began old.past new (unfinished_file fonts pages) (next_bytes fonts old.so_far page) written.past past
     ∙ ap (past_after old.began) (next-same fonts before old pages page written)
 
 -- Why a page is refused while the file is not over.
@@ -94,7 +94,7 @@ pub written_more : (fonts : Slots) (before : Option (List ℕ)) (old new : Writi
     → new.past ≡ past_after old.past (next_bytes fonts old.so_far page) → new.began ≡ old.began → new.over ≡ false → HasWritten fonts before new (pages ++ page ∷ [])
 written_more fonts before old new pages page written right kept bytes_written past began running =
     record {
-      past = past_after_front fonts before old new.past pages page written past ∙ ap (λ (p : Past). past_after p (front fonts (pages ++ page ∷ []))) (sym began);
+      past = past_after_front fonts before old new.past pages page written past ∙ ap (λ (p : Past). past_after p (unfinished_file fonts (pages ++ page ∷ []))) (sym began);
       bytes_written =
           bytes_written ∙ (sent_front fonts before old pages page (next_bytes fonts old.so_far page) written ∙ ap (written_then before) (next-same fonts before old pages page written));
       so_far = kept ∙ (ap (λ s. with_next fonts s page) written.so_far ∙ sym (so_far-append fonts pages page));
@@ -116,17 +116,17 @@ front_after before old new front more whole bytes_written same grows =
 
 -- A device that failed during a page has taken a beginning of the front with this page.
 pub part_more : (fonts : Slots) (before new : Option (List ℕ)) (old : Writing) (pages : List ShippedPage) (page : ShippedPage) → HasWritten fonts before old pages
-    → GrowsByFront old.bytes_written new (next_bytes fonts old.so_far page) → GrowsByFront before new (front fonts (pages ++ page ∷ []))
+    → GrowsByFront old.bytes_written new (next_bytes fonts old.so_far page) → GrowsByFront before new (unfinished_file fonts (pages ++ page ∷ []))
 part_more fonts before new old pages page written grows =
-    front_after before old.bytes_written new (front fonts pages) (next_bytes fonts old.so_far page) (front fonts (pages ++ page ∷ [])) written.bytes_written
+    front_after before old.bytes_written new (unfinished_file fonts pages) (next_bytes fonts old.so_far page) (unfinished_file fonts (pages ++ page ∷ [])) written.bytes_written
     (next-same fonts before old pages page written) grows
 
 -- What the device makes of a page in which it failed.
 pub past_part : (fonts : Slots) (before : Option (List ℕ)) (old : Writing) (new : Past) (pages : List ShippedPage) (page : ShippedPage) → HasWritten fonts before old pages
-    → KeepsPast old.past (next_bytes fonts old.so_far page) new → KeepsPast old.began (front fonts (pages ++ page ∷ [])) new
+    → KeepsPast old.past (next_bytes fonts old.so_far page) new → KeepsPast old.began (unfinished_file fonts (pages ++ page ∷ [])) new
 past_part fonts before old new pages page written keeps =
     subst (λ (bytes : List ℕ). KeepsPast old.began bytes new) (next-same fonts before old pages page written)
-    (keeps_both old.began old.past new (front fonts pages) (next_bytes fonts old.so_far page) written.past keeps)
+    (keeps_both old.began old.past new (unfinished_file fonts pages) (next_bytes fonts old.so_far page) written.past keeps)
 
 -- The pages are not empty where their number is not 0.
 pub some_pages : (fonts : Slots) (before : Option (List ℕ)) (w : Writing) (pages : List ShippedPage) → HasWritten fonts before w pages → w.so_far.pages ≢ 0 → pages ≢ []
@@ -136,9 +136,9 @@ pub no_pages : (fonts : Slots) (before : Option (List ℕ)) (w : Writing) (pages
 no_pages fonts before w pages written none = nil_from_length pages (sym (ap (λ (s : ProgressView). s.pages) written.so_far) ∙ none)
 
 whole-same : (fonts : Slots) (before : Option (List ℕ)) (w : Writing) (pages : List ShippedPage) → HasWritten fonts before w pages → w.so_far.pages ≢ 0
-    → front fonts pages ++ last_bytes fonts w.so_far ≡ whole fonts pages
+    → unfinished_file fonts pages ++ last_bytes fonts w.so_far ≡ whole fonts pages
 whole-same fonts before w pages written some =
-    ap (λ s. front fonts pages ++ last_bytes fonts s) written.so_far ∙ sym (whole-is fonts pages (some_pages fonts before w pages written some))
+    ap (λ s. unfinished_file fonts pages ++ last_bytes fonts s) written.so_far ∙ sym (whole-is fonts pages (some_pages fonts before w pages written some))
 
 -- After the end, the device has taken the whole file.
 pub ended_all : (fonts : Slots) (before new : Option (List ℕ)) (old : Writing) (pages : List ShippedPage) → HasWritten fonts before old pages → old.so_far.pages ≢ 0
@@ -146,41 +146,41 @@ pub ended_all : (fonts : Slots) (before new : Option (List ℕ)) (old : Writing)
 ended_all fonts before new old pages written some bytes_written =
     bytes_written
     ∙ (ap (λ bytes_written. written_then bytes_written (last_bytes fonts old.so_far)) written.bytes_written
-    ∙ (grown-grown before (front fonts pages) (last_bytes fonts old.so_far) ∙ ap (written_then before) (whole-same fonts before old pages written some)))
+    ∙ (grown-grown before (unfinished_file fonts pages) (last_bytes fonts old.so_far) ∙ ap (written_then before) (whole-same fonts before old pages written some)))
 
 pub past_all : (fonts : Slots) (before : Option (List ℕ)) (old : Writing) (new : Past) (pages : List ShippedPage) → HasWritten fonts before old pages → old.so_far.pages ≢ 0
     → new ≡ past_after old.past (last_bytes fonts old.so_far) → new ≡ past_after old.began (whole fonts pages)
 past_all fonts before old new pages written some past =
-    past_after_both old.began old.past new (front fonts pages) (last_bytes fonts old.so_far) written.past past ∙ ap (past_after old.began) (whole-same fonts before old pages written some)
+    past_after_both old.began old.past new (unfinished_file fonts pages) (last_bytes fonts old.so_far) written.past past ∙ ap (past_after old.began) (whole-same fonts before old pages written some)
 
 -- What the device makes of the end of a file in which it failed.
 pub past_lost : (fonts : Slots) (before : Option (List ℕ)) (old : Writing) (new : Past) (pages : List ShippedPage) → HasWritten fonts before old pages → old.so_far.pages ≢ 0
     → KeepsPast old.past (last_bytes fonts old.so_far) new → KeepsPast old.began (whole fonts pages) new
 past_lost fonts before old new pages written some keeps =
     subst (λ (bytes : List ℕ). KeepsPast old.began bytes new) (whole-same fonts before old pages written some)
-    (keeps_both old.began old.past new (front fonts pages) (last_bytes fonts old.so_far) written.past keeps)
+    (keeps_both old.began old.past new (unfinished_file fonts pages) (last_bytes fonts old.so_far) written.past keeps)
 
 -- Without pages, it has met nothing.
 pub past_none : (fonts : Slots) (before : Option (List ℕ)) (old : Writing) (pages : List ShippedPage) → HasWritten fonts before old pages → old.so_far.pages ≡ 0
     → old.past ≡ past_after old.began (whole fonts pages)
-unfolding front whole
+unfolding unfinished_file whole
 past_none fonts before old pages written none =
     let empty = no_pages fonts before old pages written none in
-    written.past ∙ (ap (λ pages. past_after old.began (front fonts pages)) empty ∙ sym (ap (λ pages. past_after old.began (whole fonts pages)) empty))
+    written.past ∙ (ap (λ pages. past_after old.began (unfinished_file fonts pages)) empty ∙ sym (ap (λ pages. past_after old.began (whole fonts pages)) empty))
 
 -- Without pages, it has taken nothing.
 pub ended_none : (fonts : Slots) (before : Option (List ℕ)) (old : Writing) (pages : List ShippedPage) → HasWritten fonts before old pages → old.so_far.pages ≡ 0
     → old.bytes_written ≡ written_then before (whole fonts pages)
-unfolding front whole
+unfolding unfinished_file whole
 ended_none fonts before old pages written none =
     let empty = no_pages fonts before old pages written none in
-    written.bytes_written ∙ (ap (λ pages. written_then before (front fonts pages)) empty ∙ sym (ap (λ pages. written_then before (whole fonts pages)) empty))
+    written.bytes_written ∙ (ap (λ pages. written_then before (unfinished_file fonts pages)) empty ∙ sym (ap (λ pages. written_then before (whole fonts pages)) empty))
 
 -- Where the device failed, it has taken a beginning of the file.
 pub ended_part : (fonts : Slots) (before new : Option (List ℕ)) (old : Writing) (pages : List ShippedPage) → HasWritten fonts before old pages → old.so_far.pages ≢ 0
     → GrowsByFront old.bytes_written new (last_bytes fonts old.so_far) → GrowsByFront before new (whole fonts pages)
 ended_part fonts before new old pages written some grows =
-    front_after before old.bytes_written new (front fonts pages) (last_bytes fonts old.so_far) (whole fonts pages) written.bytes_written (whole-same fonts before old pages written some) grows
+    front_after before old.bytes_written new (unfinished_file fonts pages) (last_bytes fonts old.so_far) (whole fonts pages) written.bytes_written (whole-same fonts before old pages written some) grows
 
 -- The length of the file, and the number of its pages.
 pub ended_size : (fonts : Slots) (before : Option (List ℕ)) (w : Writing) (pages : List ShippedPage) → HasWritten fonts before w pages → w.so_far.pages ≢ 0
@@ -189,7 +189,7 @@ ended_size fonts before w pages written some =
     omega (
       arith,
       ap length (whole-same fonts before w pages written some),
-      length-append (front fonts pages) (last_bytes fonts w.so_far),
+      length-append (unfinished_file fonts pages) (last_bytes fonts w.so_far),
       ap (λ (s : ProgressView). s.size) written.so_far,
     )
 
@@ -199,7 +199,7 @@ ended_count fonts before w pages written = ap (λ (s : ProgressView). s.pages) w
 -- The facts about a page after the device was called.
 pub lost_page : {A : Type 0} (result : Result A WriteFault) (fonts : Slots) (old : Writing) (new : Option (List ℕ)) (page : ShippedPage)
     → OnErr result (GrowsByFront old.bytes_written new (next_bytes fonts old.so_far page)) → result ≡ Err Device
-    → (before : Option (List ℕ)) (pages : List ShippedPage) → HasWritten fonts before old pages → GrowsByFront before new (front fonts (pages ++ page ∷ []))
+    → (before : Option (List ℕ)) (pages : List ShippedPage) → HasWritten fonts before old pages → GrowsByFront before new (unfinished_file fonts (pages ++ page ∷ []))
 lost_page (Ok x) fonts old new page grows is = cc
 lost_page (Err e) fonts old new page grows is = λ before pages written. part_more fonts before new old pages page written grows
 
@@ -207,7 +207,7 @@ pub none_ended : (fonts : Slots) (before : Option (List ℕ)) (w : Writing) (pag
 unfolding whole
 none_ended fonts before w pages written none = sym (ap (λ pages. length (whole fonts pages)) (no_pages fonts before w pages written none))
 
-pub written_small : (fonts : Slots) (before : Option (List ℕ)) (w : Writing) (pages : List ShippedPage) → HasWritten fonts before w pages → HasRoom w.so_far → length (front fonts pages) < 2 ^ 31
+pub written_small : (fonts : Slots) (before : Option (List ℕ)) (w : Writing) (pages : List ShippedPage) → HasWritten fonts before w pages → HasRoom w.so_far → length (unfinished_file fonts pages) < 2 ^ 31
 written_small fonts before w pages written room = omega (arith, small w.so_far room, ap (λ (s : ProgressView). s.size) written.so_far)
 
 -- What was written is the same with more fonts.

@@ -5,7 +5,7 @@ use Rattle.std.specs.List.{AllByRecursion}
 use Rattle.std.proofs.lemmas.Grind.{flat_map-append}
 use Rattle.node_core.specs.Items.{EachLeaf, items_count, items_depth, items_text}
 use Rattle.dvi_ops.specs.Instruction.{BodyLeaf, Move, Instruction, Do, Pop}
-use Rattle.dvi_ops.specs.Body.{DviState, Widths, acts, kept, start}
+use Rattle.dvi_ops.specs.Body.{DviState, Widths, instruction_acts, bounded_acts, start}
 use Rattle.dvi_ops.specs.Forest.{Forest, Empty, Then, Group, flat, meaning, nests}
 use Rattle.dvi_ops.specs.Fonts.{definitions, selections}
 use Rattle.dvi_ops.specs.Spelling.{HasSpelling}
@@ -13,7 +13,7 @@ use Rattle.dvi_ops.specs.Layout.{IsWritable, bytes_of}
 use Rattle.dvi_ops.specs.Plain.{NamesNoRegister}
 use Rattle.scaled_core.proofs.EachOf.{all_append, all_front, all_back}
 use Rattle.move_core.specs.Reused.{reused}
-use Rattle.move_core.specs.SamePage.{IsPlainBody, still_of, still}
+use Rattle.move_core.specs.SamePage.{IsPlainBody, still_of, leaves_in_order}
 use Rattle.move_core.proofs.SameBody.{reused_length, reused_nests, reused_order, reused_fits}
 use Rattle.move_core.proofs.Sheets.{reused_selections, reused_definitions, reused_kept}
 use Rattle.page_core.specs.Marks.{ShippedPage, marks_of_page, is_huge}
@@ -50,7 +50,7 @@ selections_written P page all = subst (AllByRecursion P) (sym (reused_selections
 
 -- The body shows the marks of the page.
 pub shown_written : (widths : Widths) (page : ShippedPage) → is_huge page ≡ false → EachLeaf (HasWidth widths) page.box_node.list
-    → (last : DviState) × (meaning (kept (acts widths)) (written_body page) start ≡ Some (marks_of_page page, last))
+    → (last : DviState) × (meaning (bounded_acts (instruction_acts widths)) (written_body page) start ≡ Some (marks_of_page page, last))
 shown_written widths page small sized =
     let drawn = drawn_page widths start.place.held page small sized in
     reused_kept widths (body_of page) start (marks_of_page page) drawn.0 (no_register_page page) (refl, refl) drawn.1
@@ -59,13 +59,13 @@ shown_written widths page small sized =
 abbrev IsSpelled : BodyLeaf → Type 0
 IsSpelled leaf = HasSpelling (Do leaf)
 
-still_spelled : (is : List Instruction) → AllByRecursion HasSpelling is → AllByRecursion IsSpelled (still is)
+still_spelled : (is : List Instruction) → AllByRecursion HasSpelling is → AllByRecursion IsSpelled (leaves_in_order is)
 still_spelled [] all = tt
 still_spelled (Do (Move axis step) ∷ is) (here, all) = still_spelled is all
 still_spelled (Do leaf ∷ is) (here, all) = (here, still_spelled is all)
 still_spelled (i ∷ is) (here, all) = still_spelled is all
 
-spelled_still : (f : Forest) → AllByRecursion IsSpelled (still (flat f)) → AllByRecursion HasSpelling (flat f)
+spelled_still : (f : Forest) → AllByRecursion IsSpelled (leaves_in_order (flat f)) → AllByRecursion HasSpelling (flat f)
 spelled_still Empty all = tt
 spelled_still (Then (Move axis step) rest) all = (tt, spelled_still rest all)
 spelled_still (Then leaf rest) (here, all) = (here, spelled_still rest all)
@@ -73,8 +73,8 @@ spelled_still (Group inner rest) all =
     let both = subst (AllByRecursion IsSpelled) (flat_map-append still_of (flat inner) (Pop ∷ flat rest)) all in (
       tt,
       all_append HasSpelling (flat inner) (Pop ∷ flat rest)
-          (spelled_still inner (all_front IsSpelled (still (flat inner)) (still (flat rest)) both))
-          (tt, spelled_still rest (all_back IsSpelled (still (flat inner)) (still (flat rest)) both)),
+          (spelled_still inner (all_front IsSpelled (leaves_in_order (flat inner)) (leaves_in_order (flat rest)) both))
+          (tt, spelled_still rest (all_back IsSpelled (leaves_in_order (flat inner)) (leaves_in_order (flat rest)) both)),
     )
 
 -- Each instruction can be spelled, whether the page is huge or not.

@@ -4,7 +4,7 @@ use Rattle.std.specs.List.{AllByRecursion, Contains, flat_map}
 use Rattle.dvi_ops.specs.Instruction.{Definition, Pre}
 use Rattle.dvi_ops.specs.Fonts.{definitions}
 use Rattle.dvi_ops.specs.Layout.{scaled_points}
-use Rattle.dvi_ops.specs.Tokens.{says}
+use Rattle.dvi_ops.specs.Tokens.{token_instructions}
 use Rattle.dvi_ops.specs.File.{FilePart, instructions, push_depth_of, Frame}
 use Rattle.tfm_core.specs.declared.slots.LoadedFont.{LoadedFont}
 use Rattle.tfm_core.specs.Slots.{Slots, font_in}
@@ -29,11 +29,11 @@ pub record IsOfJob (fonts : Slots) (d : Definition) : Type 0 where
 pub record IsClosedFor (fonts : Slots) (bytes : List ℕ) (pages : List ShippedPage) : Type 0 where
   pub frame : Frame bytes
   pub parts : List FilePart
-  pub front_is : says frame.front ≡ Pre 2 frame.stop.units [] ∷ flat_map instructions parts
+  pub front_is : token_instructions frame.front ≡ Pre 2 frame.stop.units [] ∷ flat_map instructions parts
   -- The DVI unit is a scaled point (TeX: The Program, part 32, §617).
   pub units : frame.stop.units ≡ scaled_points
   -- Each definition, before post and after it, is that of one of these fonts.
-  pub defined : AllByRecursion (IsOfJob fonts) (definitions (says frame.front ++ says frame.tail))
+  pub defined : AllByRecursion (IsOfJob fonts) (definitions (token_instructions frame.front ++ token_instructions frame.tail))
   -- The sizes in post are the greatest bottom and right edge of the pages, at least 0.
   pub tall : IsGreatestOf (pos 0 ∷ map reach_down pages) frame.stop.height_plus_depth
   pub wide : IsGreatestOf (pos 0 ∷ map reach_right pages) frame.stop.width

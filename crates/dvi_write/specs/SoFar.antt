@@ -5,12 +5,12 @@ use Rattle.dvi_ops.specs.declared.opcodes.TheConstants.{FORMAT, PADDING}
 use Rattle.dvi_ops.specs.Forest.{nests}
 use Rattle.dvi_ops.specs.Instruction.{Instruction, Post, PostPost, Postamble}
 use Rattle.dvi_ops.specs.Layout.{after_preamble, after_all, bytes_of, define, preamble, scaled_points, sheet_from, padding_after}
-use Rattle.node_core.specs.Loads.{Load, heavier}
+use Rattle.node_core.specs.Loads.{Load, load_with_box}
 use Rattle.page_core.specs.Marks.{ShippedPage}
 use Rattle.page_core.specs.Pages.{reach_down, reach_right}
 use Rattle.tfm_core.specs.Slots.{Slots}
 use Rattle.dvi_write.specs.Sheets.{written_body, definitions_of, in_rising_order, sheet_of}
-use Rattle.dvi_write.specs.Layout.{slots_after, slots_after_all, sheets_of, greatest, load_on, front}
+use Rattle.dvi_write.specs.Layout.{slots_after, slots_after_all, sheets_of, greatest_size, load_on, unfinished_file}
 
 -- The place of the last bop, or -1; the number of bytes up to the last eop; the slots of the defined fonts, in order; the greatest bottom and right
 -- edge of the pages, at least 0; the greatest number of pushes that are open at once in a page; the number of pages; and their load.
@@ -42,27 +42,27 @@ abbrev pub so_far_of : Slots → List ShippedPage → ProgressView
 so_far_of fonts pages =
     record {
       last = (after_all after_preamble (sheets_of fonts [] pages)).last;
-      size = length (front fonts pages);
+      size = length (unfinished_file fonts pages);
       defined = slots_after_all fonts [] pages;
-      tall = greatest reach_down pages;
-      wide = greatest reach_right pages;
+      tall = greatest_size reach_down pages;
+      wide = greatest_size reach_right pages;
       deep = (after_all after_preamble (sheets_of fonts [] pages)).depth;
       pages = length pages;
       load = load_on pages;
     }
 
 -- The instructions before the definitions of a page that follows that many others: the preamble before the first page.
-abbrev pub opening : ℕ → List Instruction
-opening zero = preamble ∷ []
-opening (suc n) = []
+abbrev pub opening_instructions : ℕ → List Instruction
+opening_instructions zero = preamble ∷ []
+opening_instructions (suc n) = []
 
 -- The bytes before the bop of the next page.
 abbrev pub bytes_before : Slots → ProgressView → ShippedPage → List ℕ
-bytes_before fonts s page = bytes_of (opening s.pages ++ define (sheet_of fonts s.defined page).fresh)
+bytes_before fonts s page = bytes_of (opening_instructions s.pages ++ define (sheet_of fonts s.defined page).fresh)
 
 -- The bytes of the next page, with what comes before it.
 unfoldable pub next_bytes : Slots → ProgressView → ShippedPage → List ℕ
-next_bytes fonts s page = bytes_of (opening s.pages ++ sheet_from s.last (sheet_of fonts s.defined page))
+next_bytes fonts s page = bytes_of (opening_instructions s.pages ++ sheet_from s.last (sheet_of fonts s.defined page))
 
 -- The numbers after one more page.
 unfoldable pub with_next : Slots → ProgressView → ShippedPage → ProgressView
@@ -75,7 +75,7 @@ with_next fonts s page =
       wide = int_max s.wide (reach_right page);
       deep = max s.deep (nests (written_body page));
       pages = s.pages + 1;
-      load = heavier s.load page.box_node;
+      load = load_with_box s.load page.box_node;
     }
 
 -- The operands of post (TeX: The Program, part 32, §642).

@@ -9,7 +9,7 @@ use Rattle.dvi_write.specs.declared.fault.WriteFault.{WriteFault}
 use Rattle.dvi_write.specs.declared.fault.WriteFault.TheVariants.{JobOver, OutOfMemory, Device}
 use Rattle.tfm_core.specs.Slots.{Slots}
 use Rattle.dvi_write.specs.Limits.{limit_of}
-use Rattle.dvi_write.specs.Layout.{front}
+use Rattle.dvi_write.specs.Layout.{unfinished_file}
 use Rattle.dvi_write.specs.SoFar.{ProgressView, so_far_of}
 use Rattle.dvi_write.specs.Shippable.{IsRightPage}
 
@@ -45,8 +45,8 @@ pub record GoesOn (old new : Writing) : Type 0 where
 -- The writer has written these pages with these fonts to a device that reported `before` at the start: all their bytes up to the last eop were sent,
 -- once and in order, and no others. The device has met as many of the bytes that it was to meet.
 pub record HasWritten (fonts : Slots) (before : Option (List ℕ)) (w : Writing) (pages : List ShippedPage) : Type 0 where
-  pub bytes_written : w.bytes_written ≡ written_then before (front fonts pages)
-  pub past : w.past ≡ past_after w.began (front fonts pages)
+  pub bytes_written : w.bytes_written ≡ written_then before (unfinished_file fonts pages)
+  pub past : w.past ≡ past_after w.began (unfinished_file fonts pages)
   pub so_far : w.so_far ≡ so_far_of fonts pages
   pub right : AllByRecursion (IsRightPage fonts) pages
   pub running : w.over ≡ false

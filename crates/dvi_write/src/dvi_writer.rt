@@ -57,7 +57,7 @@ impl<D: Device> DviWriter<D> {
     ghost use Rattle.dvi_write.specs.declared.fault.WriteFault.{WriteFault};
     ghost use Rattle.tfm_core.specs.Slots.{Slots};
     ghost use Rattle.dvi_write.specs.SoFar.{next_bytes, last_bytes, with_next};
-    ghost use Rattle.dvi_write.specs.Layout.{front, whole};
+    ghost use Rattle.dvi_write.specs.Layout.{unfinished_file, whole};
     ghost use Rattle.dvi_write.specs.Limits.{HasRoom};
     ghost use Rattle.dvi_write.specs.Closing.{IsClosedFor};
     ghost use Rattle.dvi_write.specs.Shippable.{GivesFonts, IsFileOfPages, IsRightPage, IsShippable};
@@ -187,10 +187,10 @@ impl<D: Device> DviWriter<D> {
             → HasWritten fonts.now before self.new (pages ++ page_with counts.now offsets box_node.now ∷ [])) }
         ensures part { result ≡ Err WriteFault.Device → (before : Option (List ℕ)) (pages : List ShippedPage)
             → HasWritten fonts.now before self.old pages
-            → GrowsByFront before self.new.bytes_written (front fonts.now (pages ++ page_with counts.now offsets box_node.now ∷ [])) }
+            → GrowsByFront before self.new.bytes_written (unfinished_file fonts.now (pages ++ page_with counts.now offsets box_node.now ∷ [])) }
         ensures past { result ≡ Err WriteFault.Device → (before : Option (List ℕ)) (pages : List ShippedPage)
             → HasWritten fonts.now before self.old pages
-            → KeepsPast self.old.began (front fonts.now (pages ++ page_with counts.now offsets box_node.now ∷ [])) self.new.past }
+            → KeepsPast self.old.began (unfinished_file fonts.now (pages ++ page_with counts.now offsets box_node.now ∷ [])) self.new.past }
         ensures sent { OnOk result (self.new.bytes_written
             ≡ written_then self.old.bytes_written (next_bytes fonts.now self.old.so_far (page_with counts.now offsets box_node.now))) }
         ensures since { result ≡ Err WriteFault.Device → GrowsByFront self.old.bytes_written self.new.bytes_written

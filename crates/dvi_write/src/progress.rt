@@ -15,7 +15,7 @@ ghost use Rattle.page_core.specs.Marks.{is_huge};
 ghost use Rattle.page_core.specs.Pages.{page_at, reach_down, reach_right};
 ghost use Rattle.dvi_write.specs.Admitted.{shipped_page};
 ghost use Rattle.dvi_write.specs.Sheets.{definitions_of};
-ghost use Rattle.dvi_write.specs.SoFar.{closing_so_far, last_bytes, next_bytes, nothing_so_far, opening, stop_so_far, with_next};
+ghost use Rattle.dvi_write.specs.SoFar.{closing_so_far, last_bytes, next_bytes, nothing_so_far, opening_instructions, stop_so_far, with_next};
 ghost use Rattle.dvi_write.specs.Limits.{HasRoom, limit_of};
 
 use crate::defined::DefinedSlots;
@@ -76,7 +76,7 @@ pub struct NextPage {
 
 /// The instructions before the definitions of a page that follows `pages` others: the preamble before the first page.
 fn opening(alloc: Global, pages: u32) -> Result<Vec<Op<'static>>, AllocError>
-    ensures ok { IfOk result (λ ops. map view ops.items ≡ opening pages) }
+    ensures ok { IfOk result (λ ops. map view ops.items ≡ opening_instructions pages) }
     ensures operands_fit { IfOk result (λ ops. AllByRecursion HasSpelling (map view ops.items)) }
 {
     let mut ops = Vec::new(alloc);
@@ -165,9 +165,11 @@ impl Progress {
         body: &PageRuns<'_>,
     ) -> Result<(Vec<u8>, usize), AllocError>
         requires { AllByRecursion HasSpelling (instructions_of body.now) }
-        ensures bytes { IfOk result (λ page. page.0.items ≡ bytes_of ((opening self.now.pages ++ define (definitions_of fonts.now slots.now))
+        ensures bytes { IfOk result (λ page. page.0.items
+            ≡ bytes_of ((opening_instructions self.now.pages ++ define (definitions_of fonts.now slots.now))
             ++ (Bop counts.now self.now.last ∷ (instructions_of body.now ++ Eop ∷ [])))) }
-        ensures bop { IfOk result (λ page. page.1 ≡ length (bytes_of (opening self.now.pages ++ define (definitions_of fonts.now slots.now)))) }
+        ensures bop { IfOk result (λ page. page.1
+            ≡ length (bytes_of (opening_instructions self.now.pages ++ define (definitions_of fonts.now slots.now)))) }
     {
         let mut before = opening(alloc, self.pages)?;
         append_definitions(fonts, slots, &mut before)?;

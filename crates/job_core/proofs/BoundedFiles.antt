@@ -18,7 +18,7 @@ use Rattle.dvi_write.specs.declared.fault.WriteFault.TheVariants.{JobOver, TooMa
 use Rattle.tfm_core.specs.declared.slots.LoadedFont.{LoadedFont}
 use Rattle.tfm_core.specs.Slots.{Slots, IsDefinable, AreDefinable}
 use Rattle.dvi_write.specs.Sheets.{definitions_of, in_rising_order}
-use Rattle.dvi_write.specs.Layout.{front, whole}
+use Rattle.dvi_write.specs.Layout.{unfinished_file, whole}
 use Rattle.dvi_write.specs.Shippable.{IsRightPage}
 use Rattle.dvi_write.specs.SoFar.{ProgressView, nothing_so_far, so_far_of, with_next, stop_so_far, closing_so_far, last_bytes}
 use Rattle.dvi_write.specs.Limits.{HasRoom, limit_of}
@@ -41,7 +41,7 @@ definable files fonts loaded = record { slots = loaded.slots; each = definable_e
 
 -- The file of a new writer has no page.
 pub bounded_first : (fonts : Slots) (before : Option (List ℕ)) (w : Writing) → HasWritten fonts before w [] → IsBoundedFile fonts w
-unfolding front
+unfolding unfinished_file
 bounded_first fonts before w written = record { room = subst HasRoom (sym written.so_far) first_room; before = before; pages = []; written = written }
 
 last_of : {A : Type 0} (P : A → Type 0) (xs : List A) (x : A) → AllByRecursion P (xs ++ x ∷ []) → P x

@@ -20,7 +20,7 @@ use Rattle.job_state.specs.JobStateView.{JobStateView, state_of}
 use Rattle.job_state.specs.Private.Loaded.{AreLoaded}
 use Rattle.job_state.proofs.LoadedFonts.{loaded_in, widths-loaded}
 use Rattle.tfm_core.specs.NamedBytes.{NamedBytes}
-use Rattle.job_core.specs.Jobs.{JobView, writing_of, before_writing, due, Represents, FinishesTo}
+use Rattle.job_core.specs.Jobs.{JobView, writing_of, before_writing, due_bytes, Represents, FinishesTo}
 use Rattle.job_core.specs.Private.Sound.{view_of}
 use Rattle.job_core.specs.Shown.{GivesFiles}
 use Rattle.job_core.proofs.Moves.{stops, due_landed, written_on, grows_on}
@@ -95,7 +95,7 @@ none_flies old m holds may = holds.none (runs_by m.state m.state.over refl (acce
 
 -- What the device made of the end, by all bytes of the machine.
 ended_past : (old new : JobView) (m : Machine) → Represents old m → first_refusal (finish_checks old.state) ≡ None → KeepsPast new.began (whole m.state.fonts m.pages) new.past
-    → KeepsPast new.began (due (record (stopped_machine m) { flight = m.flight })) new.past
+    → KeepsPast new.began (due_bytes (record (stopped_machine m) { flight = m.flight })) new.past
 ended_past old new m holds may keeps = subst (λ (bytes : List ℕ). KeepsPast new.began bytes new.past) (due_landed m m.flight (none_flies old m holds may)) keeps
 
 pub finished :

@@ -26,7 +26,7 @@ use Rattle.page_core.specs.Marks.{ShippedPage}
 use Rattle.job_machine.specs.State.{State, font_for, held_in}
 use Rattle.job_machine.specs.Checks.{checks, first_refusal}
 use Rattle.job_machine.specs.NextPages.{shipped_pages}
-use Rattle.job_machine.specs.Effects.{after, new_pages}
+use Rattle.job_machine.specs.Effects.{state_after_command, new_pages}
 use Rattle.job_machine.specs.Machine.{Machine, first_machine, state_by}
 use Rattle.job_machine.specs.Runs.{StepsTo, Replies, LacksMemory, LosesDevice, Run}
 use Rattle.job_core.specs.GlyphWidths.{HasFileWidth, IsMeasured, IsMeasuredPage}
@@ -57,20 +57,20 @@ still_read s t keeps all =
     subst (λ (files : List NamedBytes). AllByRecursion (λ slot. IfSome slot (IsRead files)) t.fonts) (sym keeps.files)
     (subst (λ (fonts : Slots). AllByRecursion (λ slot. IfSome slot (IsRead s.files)) fonts) (sym keeps.fonts) all)
 
-read_after : (s : State) (command : Command) → AreRead s → AreRead (after s command)
+read_after : (s : State) (command : Command) → AreRead s → AreRead (state_after_command s command)
 read_after s (LoadFont load) all = read_with s.files s.fonts load.slot load.name load.size (font_for s load) refl all
 read_after s (UseFont slot) all = all
 read_after s (Open opening) all = all
 read_after s Paragraph all = all
-read_after s End all = still_read s (after s End) (end_keeps s) all
+read_after s End all = still_read s (state_after_command s End) (end_keeps s) all
 read_after s (Text text) all = all
 read_after s (Character code) all = all
 read_after s (Rule sizes) all = all
 read_after s (Kern width) all = all
 read_after s (Glue g) all = all
 read_after s (Penalty n) all = all
-read_after s (Append taken) all = still_read s (after s (Append taken)) (append_keeps s taken) all
-read_after s (Unbox taken) all = still_read s (after s (Unbox taken)) (unbox_keeps s taken) all
+read_after s (Append taken) all = still_read s (state_after_command s (Append taken)) (append_keeps s taken) all
+read_after s (Unbox taken) all = still_read s (state_after_command s (Unbox taken)) (unbox_keeps s taken) all
 read_after s (LastBox r) all = all
 read_after s (Split splitting) all = all
 read_after s (Measure r) all = all
@@ -111,14 +111,14 @@ new_sized s (Special text) sized = tt
 new_sized s (Ship r) sized = sized_page s r (held_in s.registers r) refl sized
 
 known_step : (m : Machine) (command : Command) (refused : Option Refusal) → first_refusal (checks m.state command) ≡ refused → IsKnown m
-    → IsKnown (record { state = state_by refused m.state (after m.state command); pages = state_by refused m.pages (m.pages ++ new_pages m.state command); flight = m.flight })
+    → IsKnown (record { state = state_by refused m.state (state_after_command m.state command); pages = state_by refused m.pages (m.pages ++ new_pages m.state command); flight = m.flight })
 known_step m command (Some refusal) is known = record { read = known.read; sized = known.sized; pages = known.pages }
 known_step m command None is known =
     record {
       read = read_after m.state command known.read;
       sized = sized_after m.state command is known.sized;
       pages =
-          all_weaker (IsSizedPage m.state.fonts) (IsSizedPage (after m.state command).fonts) (m.pages ++ new_pages m.state command)
+          all_weaker (IsSizedPage m.state.fonts) (IsSizedPage (state_after_command m.state command).fonts) (m.pages ++ new_pages m.state command)
           (λ page sized. stays_sized m.state command is page.box_node sized)
           (all_append (IsSizedPage m.state.fonts) m.pages (new_pages m.state command) known.pages (new_sized m.state command known.sized));
     }

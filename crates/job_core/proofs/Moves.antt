@@ -14,17 +14,17 @@ use Rattle.dvi_device.specs.Written.{written_then, GrowsByFront}
 use Rattle.dvi_device.specs.Pasts.{Past, past_after, KeepsPast}
 use Rattle.dvi_device.proofs.Tellings.{grown-grown}
 use Rattle.dvi_device.proofs.PastLaws.{keeps_taken}
-use Rattle.dvi_write.specs.Layout.{front, whole}
+use Rattle.dvi_write.specs.Layout.{unfinished_file, whole}
 use Rattle.dvi_write.specs.Writing.{Writing, HasWritten}
 use Rattle.dvi_write.proofs.Writings.{written_with_more}
 use Rattle.job_machine.specs.State.{State, held_in}
 use Rattle.job_machine.specs.Checks.{checks, own_checks, first_refusal}
 use Rattle.job_machine.specs.NextPages.{shipped_pages}
 use Rattle.job_machine.specs.Answers.{answer_of}
-use Rattle.job_machine.specs.Effects.{after, new_pages}
+use Rattle.job_machine.specs.Effects.{state_after_command, new_pages}
 use Rattle.job_machine.specs.Machine.{Machine, reply_by, reply_to, state_by, state_after, step, stopped_machine, lost_machine}
 use Rattle.job_machine.specs.Runs.{IsShip, MayRunOutOfMemory, early_checks, StepsTo, Replies, LacksMemory, LosesDevice, Run}
-use Rattle.job_core.specs.Jobs.{JobView, writing_of, before_writing, HasPages, HasSent, due, Represents, KeepsTo, RunsTo}
+use Rattle.job_core.specs.Jobs.{JobView, writing_of, before_writing, HasPages, HasSent, due_bytes, Represents, KeepsTo, RunsTo}
 use Rattle.job_core.specs.Private.Jobs.{AppendsPagesOf, pages_after}
 use Rattle.job_core.specs.Private.Sound.{IsSound, IsBoundedFile, view_of}
 use Rattle.job_state.specs.Loaded.{GivesNumbersFor}
@@ -38,9 +38,9 @@ use Rattle.job_state.proofs.LoadedFonts.{loaded_after}
 
 -- What was written stays written with the fonts after a command.
 with_fonts : (s : State) (command : Command) (refused : Option Refusal) → first_refusal (checks s command) ≡ refused → (before : Option (List ℕ)) (w : Writing) (pages : List ShippedPage)
-    → HasWritten s.fonts before w pages → HasWritten (state_by refused s (after s command)).fonts before w pages
+    → HasWritten s.fonts before w pages → HasWritten (state_by refused s (state_after_command s command)).fonts before w pages
 with_fonts s command (Some refusal) is before w pages written = written
-with_fonts s command None is before w pages written = written_with_more s.fonts (after s command).fonts before w pages (stays_loaded s command is) written
+with_fonts s command None is before w pages written = written_with_more s.fonts (state_after_command s command).fonts before w pages (stays_loaded s command is) written
 
 -- What a device had reported before it took bytes.
 before_writing-written_then : (bytes_written : Option (List ℕ)) (bytes : List ℕ) → before_writing (written_then (before_writing bytes_written) bytes) ≡ before_writing bytes_written
@@ -50,7 +50,7 @@ before_writing-written_then (Some bytes_written) bytes = refl
 -- What a device had reported before its bytes is the same by what it reports now.
 written_before : (fonts : Slots) (bytes_written : Option (List ℕ)) (w : Writing) (pages : List ShippedPage) → HasWritten fonts (before_writing bytes_written) w pages → HasWritten fonts (before_writing w.bytes_written) w pages
 written_before fonts bytes_written w pages written =
-    subst (λ before. HasWritten fonts before w pages) (sym (ap before_writing written.bytes_written ∙ before_writing-written_then bytes_written (front fonts pages))) written
+    subst (λ before. HasWritten fonts before w pages) (sym (ap before_writing written.bytes_written ∙ before_writing-written_then bytes_written (unfinished_file fonts pages))) written
 
 pub true_or_false : {b : Bool} → b ≡ true → b ≡ false → ⊥
 true_or_false t f = cc
@@ -66,18 +66,18 @@ grows_on bytes_written new bytes (n, less, is) = (n, less, written_on bytes_writ
 -- A device that takes more bytes keeps the pages that it has.
 has_pages_on : (m : Machine) (old new : Option (List ℕ)) → HasPages m old → ((more : List ℕ) × (new ≡ written_then old more)) → HasPages m new
 has_pages_on m old new (first, is) (last, goes) =
-    let pages = front m.state.fonts m.pages in
+    let pages = unfinished_file m.state.fonts m.pages in
     let taken : new ≡ written_then (before_writing old) ((pages ++ first) ++ last) =
     goes ∙ (ap (λ (bytes_written : Option (List ℕ)). written_then bytes_written last) is ∙ grown-grown (before_writing old) (pages ++ first) last) in
     (first ++ last, written_on old new (pages ++ (first ++ last)) (taken ∙ ap (written_then (before_writing old)) (append_assoc pages first last)))
 
 -- A device that has reported exactly the pages has the pages.
-pub has_pages : (m : Machine) (bytes_written : Option (List ℕ)) → bytes_written ≡ written_then (before_writing bytes_written) (front m.state.fonts m.pages) → HasPages m bytes_written
-has_pages m bytes_written is = ([], is ∙ ap (written_then (before_writing bytes_written)) (sym (append-nil (front m.state.fonts m.pages))))
+pub has_pages : (m : Machine) (bytes_written : Option (List ℕ)) → bytes_written ≡ written_then (before_writing bytes_written) (unfinished_file m.state.fonts m.pages) → HasPages m bytes_written
+has_pages m bytes_written is = ([], is ∙ ap (written_then (before_writing bytes_written)) (sym (append-nil (unfinished_file m.state.fonts m.pages))))
 
 -- The machine after a command, by its refusal.
 abbrev step_by : Machine → Command → Option Refusal → Machine
-step_by m command r = record { state = state_by r m.state (after m.state command); pages = state_by r m.pages (m.pages ++ new_pages m.state command); flight = m.flight }
+step_by m command r = record { state = state_by r m.state (state_after_command m.state command); pages = state_by r m.pages (m.pages ++ new_pages m.state command); flight = m.flight }
 
 -- A machine that is over refuses each command.
 over_refuses : (s : State) (command : Command) → s.over ≡ true → first_refusal (checks s command) ≡ Some JobOver
@@ -90,7 +90,7 @@ sent_stays m command old new over same sent =
 
 -- The device has the pages of the next machine: until the job is over it has reported exactly them, and then nothing changes.
 next_has_pages : (m : Machine) (command : Command) (old new : Option (List ℕ)) (over : Bool) → m.state.over ≡ over
-    → (m.state.over ≡ false → new ≡ written_then (before_writing new) (front (step m command).state.fonts (step m command).pages))
+    → (m.state.over ≡ false → new ≡ written_then (before_writing new) (unfinished_file (step m command).state.fonts (step m command).pages))
     → (m.state.over ≡ true → new ≡ old) → HasPages m old → HasPages (step m command) new
 next_has_pages m command old new false runs exact stays held = has_pages (step m command) new (exact runs)
 next_has_pages m command old new true over exact stays held =
@@ -98,11 +98,11 @@ next_has_pages m command old new true over exact stays held =
 
 -- A device has met the bytes of the next machine, until the job is over; and then nothing changes.
 next_past : (m : Machine) (command : Command) (old new began : Past) (over : Bool) → m.state.over ≡ over
-    → (m.state.over ≡ false → new ≡ past_after began (front (step m command).state.fonts (step m command).pages))
-    → (m.state.over ≡ true → new ≡ old) → KeepsPast began (due m) old → KeepsPast began (due (step m command)) new
-next_past m command old new began false runs exact stays holds = keeps_taken began new (front (step m command).state.fonts (step m command).pages) (due (step m command)) (exact runs)
+    → (m.state.over ≡ false → new ≡ past_after began (unfinished_file (step m command).state.fonts (step m command).pages))
+    → (m.state.over ≡ true → new ≡ old) → KeepsPast began (due_bytes m) old → KeepsPast began (due_bytes (step m command)) new
+next_past m command old new began false runs exact stays holds = keeps_taken began new (unfinished_file (step m command).state.fonts (step m command).pages) (due_bytes (step m command)) (exact runs)
 next_past m command old new began true over exact stays holds =
-    subst (λ (r : Option Refusal). KeepsPast began (due (step_by m command r)) new) (sym (over_refuses m.state command over)) (subst (KeepsPast began (due m)) (sym (stays over)) holds)
+    subst (λ (r : Option Refusal). KeepsPast began (due_bytes (step_by m command r)) new) (sym (over_refuses m.state command over)) (subst (KeepsPast began (due_bytes m)) (sym (stays over)) holds)
 
 -- A job that replies as the machine's table follows the machine.
 pub replied :
@@ -134,7 +134,7 @@ replied old new command reply says goes writes stays fails began m holds =
             sent_stays m command old.bytes_written new.bytes_written over (same over).0 (holds.sent over);
         past =
             next_past m command old.past new.past new.began m.state.over refl (λ ran. (written ran).past) (λ over. (same over).1)
-            (subst (λ (p : Past). KeepsPast p (due m) old.past) (sym began) holds.past);
+            (subst (λ (p : Past). KeepsPast p (due_bytes m) old.past) (sym began) holds.past);
       },
     )
 
@@ -160,7 +160,7 @@ pub refuses : (old : JobView) (command : Command) (refusal : Refusal) → first_
 refuses old command refusal is =
     let s = old.state in
     replied old old command (Err refusal) (sym (ap (λ refused. reply_by refused (answer_of s command)) is))
-    (sym (ap (λ refused. state_by refused s (after s command)) is))
+    (sym (ap (λ refused. state_by refused s (state_after_command s command)) is))
     (λ running before pages written. subst (HasWritten s.fonts before (writing_of old)) (sym (ap (λ refused. state_by refused pages (pages ++ new_pages s command)) is)) written)
     (λ over. (refl, refl)) refl refl
 
@@ -171,7 +171,7 @@ over_replies old command over = refuses old command JobOver (ap (λ over. if ove
 -- A job that is stopped represents the stopped machine.
 pub stops : (old new : JobView) (m : Machine) (flight : List ShippedPage) → Represents old m → new.state ≡ record (old.state) { over = true }
     → ((more : List ℕ) × (new.bytes_written ≡ written_then old.bytes_written more))
-    → HasSent (record (stopped_machine m) { flight = flight }) new.bytes_written → KeepsPast new.began (due (record (stopped_machine m) { flight = flight })) new.past
+    → HasSent (record (stopped_machine m) { flight = flight }) new.bytes_written → KeepsPast new.began (due_bytes (record (stopped_machine m) { flight = flight })) new.past
     → Represents new (record (stopped_machine m) { flight = flight })
 stops old new m flight holds goes grows sent past =
     record {
@@ -185,12 +185,12 @@ stops old new m flight holds goes grows sent past =
     }
 
 -- The bytes of a machine whose page is being sent.
-due_flying : (m : Machine) (flight : List ShippedPage) → flight ≢ [] → front m.state.fonts (m.pages ++ flight) ≡ due (record (stopped_machine m) { flight = flight })
+due_flying : (m : Machine) (flight : List ShippedPage) → flight ≢ [] → unfinished_file m.state.fonts (m.pages ++ flight) ≡ due_bytes (record (stopped_machine m) { flight = flight })
 due_flying m [] some = absurd (some refl)
 due_flying m (page ∷ more) some = refl
 
 -- The bytes of a machine without such a page.
-pub due_landed : (m : Machine) (flight : List ShippedPage) → flight ≡ [] → whole m.state.fonts m.pages ≡ due (record (stopped_machine m) { flight = flight })
+pub due_landed : (m : Machine) (flight : List ShippedPage) → flight ≡ [] → whole m.state.fonts m.pages ≡ due_bytes (record (stopped_machine m) { flight = flight })
 due_landed m [] none = refl
 due_landed m (page ∷ more) none = cc
 
@@ -209,13 +209,13 @@ pub losing_page :
     → new.state ≡ record (old.state) { over = true }
     → new.failed ≡ old.failed + 1
     → ((more : List ℕ) × (new.bytes_written ≡ written_then old.bytes_written more))
-    → ((m : Machine) → Represents old m → GrowsByFront (before_writing old.bytes_written) new.bytes_written (front m.state.fonts (m.pages ++ new_pages m.state (Ship r))))
-    → ((m : Machine) → Represents old m → KeepsPast new.began (front m.state.fonts (m.pages ++ new_pages m.state (Ship r))) new.past)
+    → ((m : Machine) → Represents old m → GrowsByFront (before_writing old.bytes_written) new.bytes_written (unfinished_file m.state.fonts (m.pages ++ new_pages m.state (Ship r))))
+    → ((m : Machine) → Represents old m → KeepsPast new.began (unfinished_file m.state.fonts (m.pages ++ new_pages m.state (Ship r))) new.past)
     → KeepsTo old (Ship r) (Err Device) new
 losing_page old new r accepted goes fails grows part keeps m holds =
     let s = m.state in
     let taken : first_refusal (checks s (Ship r)) ≡ None = sym (ap (λ s. first_refusal (checks s (Ship r))) holds.state) ∙ accepted in
-    let sent = grows_on old.bytes_written new.bytes_written (front s.fonts (m.pages ++ new_pages s (Ship r))) (part m holds) in
+    let sent = grows_on old.bytes_written new.bytes_written (unfinished_file s.fonts (m.pages ++ new_pages s (Ship r))) (part m holds) in
     let past = subst (λ (bytes : List ℕ). KeepsPast new.began bytes new.past) (due_flying m (new_pages s (Ship r)) (some_page s r taken)) (keeps m holds) in
     (lost_machine m (Ship r), LosesDevice refl tt taken refl fails, stops old new m (new_pages s (Ship r)) holds goes grows (inr (some_page s r taken, sent)) past)
 
@@ -228,7 +228,7 @@ goes_on_without old new command other goes keeps tells past began before pages w
     subst (HasWritten old.state.fonts before (writing_of new)) same
     (record {
       bytes_written = tells ∙ written.bytes_written;
-      past = past ∙ (written.past ∙ ap (λ (p : Past). past_after p (front old.state.fonts pages)) (sym began));
+      past = past ∙ (written.past ∙ ap (λ (p : Past). past_after p (unfinished_file old.state.fonts pages)) (sym began));
       so_far = keeps ∙ written.so_far;
       right = written.right;
       running = sym over ∙ written.running;
@@ -246,7 +246,7 @@ with_numbers s command reply says numbers none =
 
 -- Fonts and glyphs stay those of the font files.
 sound_by : (s : State) (command : Command) (refused : Option Refusal) → first_refusal (checks s command) ≡ refused → (refused ≡ None → GivesNumbersFor s command) → IsSound s
-    → IsSound (state_by refused s (after s command))
+    → IsSound (state_by refused s (state_after_command s command))
 sound_by s command (Some refusal) is numbers sound = sound
 sound_by s command None is numbers sound = record { fonts = loaded_after s command is (numbers refl) sound.fonts; glyphs = sized_after s command is sound.glyphs }
 
@@ -276,7 +276,7 @@ pub stays_refused : (kept now : JobStateView) (w : Writing) (command : Command) 
 stays_refused kept now w command (Ok answer) says goes = tt
 stays_refused kept now w command (Err refusal) says goes =
     let s = before_shipping kept in
-    λ other. ap (view_at w) (goes ∙ unmoved refusal (answer_of s command) s (after s command) (first_refusal (checks s command)) (sym says))
+    λ other. ap (view_at w) (goes ∙ unmoved refusal (answer_of s command) s (state_after_command s command) (first_refusal (checks s command)) (sym says))
 
 -- A command that ships nothing leaves the file within the limits.
 pub bounded_after : (s : State) (w : Writing) (command : Command) → IsBoundedFile s.fonts w → IsBoundedFile (state_after s command).fonts w

@@ -5,7 +5,7 @@ use Rattle.tfm_core.specs.NamedBytes.{NamedBytes}
 use Rattle.dvi_device.specs.Written.{written_then}
 use Rattle.dvi_device.proofs.PastLaws.{keeps_taken}
 use Rattle.tfm_core.specs.Slots.{Slots}
-use Rattle.dvi_write.specs.Layout.{front}
+use Rattle.dvi_write.specs.Layout.{unfinished_file}
 use Rattle.dvi_write.specs.SoFar.{ProgressView}
 use Rattle.dvi_write.specs.Writing.{Writing, HasWritten}
 use Rattle.job_machine.specs.State.{first_state}
@@ -13,7 +13,7 @@ use Rattle.job_machine.specs.Machine.{first_machine}
 use Rattle.job_state.specs.JobStateView.{JobStateView, state_of, before_shipping}
 use Rattle.job_state.proofs.SizedGlyphs.{sized_first}
 use Rattle.job_state.proofs.LoadedFonts.{loaded_first}
-use Rattle.job_core.specs.Jobs.{before_writing, due, Represents}
+use Rattle.job_core.specs.Jobs.{before_writing, due_bytes, Represents}
 use Rattle.job_core.specs.Private.Sound.{IsSound, view_of}
 use Rattle.job_core.proofs.Moves.{true_or_false, has_pages}
 
@@ -21,8 +21,8 @@ grown_by_none : (bytes_written : Option (List ℕ)) → written_then bytes_writt
 grown_by_none None = refl
 grown_by_none (Some bytes) = ap Some (append-nil bytes)
 
-pub front_none : (fonts : Slots) → front fonts [] ≡ []
-unfolding front
+pub front_none : (fonts : Slots) → unfinished_file fonts [] ≡ []
+unfolding unfinished_file
 front_none fonts = refl
 
 -- A new writer reports what its device reported.
@@ -47,7 +47,7 @@ new_holds files device kept w fresh is written =
       none = λ running. refl;
       held = has_pages (first_machine files) w.bytes_written all.bytes_written;
       sent = λ over. absurd (true_or_false over refl);
-      past = keeps_taken w.began w.past (front fonts []) (due (first_machine files)) all.past;
+      past = keeps_taken w.began w.past (unfinished_file fonts []) (due_bytes (first_machine files)) all.past;
     }
 
 -- The state of a new job is sound.

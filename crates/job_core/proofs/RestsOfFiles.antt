@@ -14,7 +14,7 @@ use Rattle.dvi_write.specs.Layout.{whole}
 use Rattle.job_machine.specs.Machine.{Machine, stopped_machine}
 use Rattle.job_machine.specs.Runs.{Finishes, Finished, Refuses, WantsMemory, LostDevice}
 use Rattle.job_machine.proofs.Refusals.{device_counted}
-use Rattle.job_core.specs.Jobs.{JobView, due, Represents, FinishesTo}
+use Rattle.job_core.specs.Jobs.{JobView, due_bytes, Represents, FinishesTo}
 use Rattle.job_core.proofs.Moves.{due_landed}
 use Rattle.job_core.proofs.Endings.{runs_by}
 
@@ -79,7 +79,7 @@ no_device job ended end inner m finishes began counts holds front before is =
     by_end next over (WantsMemory says may pages goes fails) = cc
     by_end next over (LostDevice says may pages goes fails) =
         let all = whole m.state.fonts m.pages in
-        let all_due : all ≡ due next = due_landed m m.flight (holds.none (runs_by m.state m.state.over refl may)) ∙ ap due (sym goes) in
-        let same = none_differ ended.began ended.past (due next) all over.past (subst (λ (p : Past). IsFrontOf p.left all) (sym began) front) (length all, sym all_due ∙ sym (take-length all)) in
+        let all_due : all ≡ due_bytes next = due_landed m m.flight (holds.none (runs_by m.state m.state.over refl may)) ∙ ap due_bytes (sym goes) in
+        let same = none_differ ended.began ended.past (due_bytes next) all over.past (subst (λ (p : Past). IsFrontOf p.left all) (sym began) front) (length all, sym all_due ∙ sym (take-length all)) in
         let first : ended.began.differing ≡ job.began.differing = ap (λ (p : Past). p.differing) began in
-        omega (arith, fails, counts, before, same, first, at_least job.began job.past (due m) holds.past)
+        omega (arith, fails, counts, before, same, first, at_least job.began job.past (due_bytes m) holds.past)

@@ -3,7 +3,7 @@ use Rattle.std.proofs.Common.{◌≡◌, ℕ, ◌+◌, Bool, true, false, inl, i
 use Rattle.std.specs.Prelude.{◌≢◌, ◌⊎◌, ℤ, if◌then◌else◌, is_none, nat_le, nat_lt, slice_set}
 use Rattle.std.specs.Option.{option_map}
 use Rattle.node_core.specs.declared.tree.BoxNode.{BoxNode}
-use Rattle.node_core.specs.Loads.{Load, heavier}
+use Rattle.node_core.specs.Loads.{Load, load_with_box}
 use Rattle.node_core.specs.Nodes.{box_count, box_text}
 use Rattle.job_machine.specs.declared.replies.Answer.TheVariants.{Shipped}
 use Rattle.job_machine.specs.declared.command.Command.TheVariants.{Ship}
@@ -18,7 +18,7 @@ use Rattle.page_core.specs.declared.offsets.Offsets.{Offsets}
 use Rattle.dvi_write.specs.declared.fault.WriteFault.{WriteFault}
 use Rattle.dvi_write.specs.declared.fault.WriteFault.TheVariants as faults
 use Rattle.tfm_core.specs.Slots.{Slots}
-use Rattle.dvi_write.specs.Layout.{front}
+use Rattle.dvi_write.specs.Layout.{unfinished_file}
 use Rattle.dvi_write.specs.SoFar.{ProgressView, with_next}
 use Rattle.dvi_write.specs.Shippable.{IsShippable}
 use Rattle.page_core.specs.Pages.{page_with}
@@ -26,13 +26,13 @@ use Rattle.dvi_write.specs.Writing.{Writing, HasWritten, EndsWith, GoesOn, refus
 use Rattle.job_machine.specs.State.{State, held_in, shipped_with}
 use Rattle.job_machine.specs.Checks.{checks, first_refusal}
 use Rattle.job_machine.specs.NextPages.{offsets_of, page_in, shipped_pages, is_huge_in}
-use Rattle.job_machine.specs.Effects.{after, new_pages}
+use Rattle.job_machine.specs.Effects.{state_after_command, new_pages}
 use Rattle.job_machine.specs.Machine.{Machine, reply_by, state_by}
 use Rattle.job_state.specs.JobStateView.{JobStateView, state_of, before_shipping}
 use Rattle.job_state.proofs.SizedGlyphs.{sized_held}
 use Rattle.job_core.specs.Jobs.{Represents, KeepsTo, before_writing}
 use Rattle.job_core.specs.Private.Jobs.{AppendsPagesOf}
-use Rattle.job_core.specs.Private.Sound.{IsSound, IsBoundedFile, refusal_for, view_of}
+use Rattle.job_core.specs.Private.Sound.{IsSound, IsBoundedFile, write_refusal, view_of}
 use Rattle.job_core.proofs.Moves.{replied, refuses, lacking, losing_page, true_or_false}
 use Rattle.job_core.proofs.Endings.{has_written, stopped}
 use Rattle.job_core.proofs.PageFonts.{shippable}
@@ -50,14 +50,14 @@ next_pages : (fonts : Slots) (s : ProgressView) (page : ShippedPage) → (with_n
 unfolding with_next
 next_pages fonts s page = refl
 
-next_load : (fonts : Slots) (s : ProgressView) (page : ShippedPage) → (with_next fonts s page).load ≡ heavier s.load page.box_node
+next_load : (fonts : Slots) (s : ProgressView) (page : ShippedPage) → (with_next fonts s page).load ≡ load_with_box s.load page.box_node
 unfolding with_next
 next_load fonts s page = refl
 
 -- The refusals of the writer are those of the machine, in the same order.
 by_tests : (over pages nodes text huge : Bool)
     → first_refusal ((over, JobOver) ∷ (false, VoidBox) ∷ (pages, TooManyPages) ∷ (nodes, TooMuchShipped) ∷ (text, TooMuchSpecial) ∷ (huge, HugePage) ∷ [])
-    ≡ option_map refusal_for
+    ≡ option_map write_refusal
     (if over then Some faults.JobOver else if pages then Some faults.TooManyPages else if nodes then Some faults.TooMuchShipped else if text then Some faults.TooMuchSpecial
     else if huge then Some faults.HugePage else None)
 by_tests true pages nodes text huge = refl
@@ -108,17 +108,17 @@ module _ (kept : JobStateView) (w : Writing) (r : ℕ) (b : BoxNode) (page : Shi
   abbrev s : State
   s = (view_of kept w).state
 
-  checked : first_refusal (checks s (Ship r)) ≡ option_map refusal_for (refusal_of w page)
+  checked : first_refusal (checks s (Ship r)) ≡ option_map write_refusal (refusal_of w page)
   checked =
       ap (λ held. first_refusal ((w.over, JobOver) ∷ (is_none held, VoidBox) ∷ (nat_le MAX_PAGES w.so_far.pages, TooManyPages)
       ∷ (nat_lt MAX_SHIPPED_NODES (shipped_with w.so_far.load held).nodes, TooMuchShipped) ∷ (nat_lt MAX_SHIPPED_TEXT (shipped_with w.so_far.load held).text, TooMuchSpecial)
       ∷ (is_huge_in s held, HugePage) ∷ [])) is
       ∙ (by_tests w.over (nat_le MAX_PAGES w.so_far.pages) (nat_lt MAX_SHIPPED_NODES (w.so_far.load.nodes + box_count b)) (nat_lt MAX_SHIPPED_TEXT (w.so_far.load.text + box_text b))
       (is_huge (page_in (before_shipping kept) b))
-      ∙ ap (λ (p : ShippedPage). option_map refusal_for (refusal_of w p)) (sym same))
+      ∙ ap (λ (p : ShippedPage). option_map write_refusal (refusal_of w p)) (sym same))
 
   accepted : refusal_of w page ≡ None → first_refusal (checks s (Ship r)) ≡ None
-  accepted none = checked ∙ ap (option_map refusal_for) none
+  accepted none = checked ∙ ap (option_map write_refusal) none
 
   adds : new_pages s (Ship r) ≡ page ∷ []
   adds = ap (shipped_pages s) is ∙ ap (λ page. page ∷ []) (sym same)
@@ -129,12 +129,12 @@ module _ (kept : JobStateView) (w : Writing) (r : ℕ) (b : BoxNode) (page : Shi
     load : new.so_far.load ≡ shipped_with w.so_far.load (held_in kept.registers r)
     load =
         ap (λ (x : ProgressView). x.load) next
-        ∙ (next_load fonts w.so_far page ∙ (ap (λ (p : ShippedPage). heavier w.so_far.load p.box_node) same ∙ ap (shipped_with w.so_far.load) (sym is)))
+        ∙ (next_load fonts w.so_far page ∙ (ap (λ (p : ShippedPage). load_with_box w.so_far.load p.box_node) same ∙ ap (shipped_with w.so_far.load) (sym is)))
 
     pages : new.so_far.pages ≡ w.so_far.pages + 1
     pages = ap (λ (x : ProgressView). x.pages) next ∙ next_pages fonts w.so_far page
 
-    following : (view_of now new).state ≡ after s (Ship r)
+    following : (view_of now new).state ≡ state_after_command s (Ship r)
     following =
         ap (λ kept. state_of kept new.so_far.load new.so_far.pages new.over) emptied
         ∙ (ap (λ (n : Load). state_of (record kept { registers = slice_set kept.registers r None }) n new.so_far.pages new.over) load
@@ -154,53 +154,53 @@ module _ (kept : JobStateView) (w : Writing) (r : ℕ) (b : BoxNode) (page : Shi
     shipped count counts stands goes on =
         replied (view_of kept w) (view_of now new) (Ship r) (Ok (Shipped count))
         (ap (λ n. reply_by None (Shipped n)) (counts ∙ pages) ∙ ap (λ refused. reply_by refused (Shipped (w.so_far.pages + 1))) (sym (accepted none)))
-        (following ∙ ap (λ refused. state_by refused s (after s (Ship r))) (sym (accepted none)))
+        (following ∙ ap (λ refused. state_by refused s (state_after_command s (Ship r))) (sym (accepted none)))
         (λ running. goes_on on) (λ over. absurd (true_or_false over old_runs)) stands goes.began
 
   -- What holds of the bytes up to this page, by the fonts and pages of the machine.
   by_machine : (P : List ℕ → Type 0) → w.over ≡ false
-      → ((pages : List ShippedPage) → HasWritten kept.fonts (before_writing w.bytes_written) w pages → P (front kept.fonts (pages ++ page ∷ [])))
-      → (m : Machine) → Represents (view_of kept w) m → P (front m.state.fonts (m.pages ++ new_pages m.state (Ship r)))
+      → ((pages : List ShippedPage) → HasWritten kept.fonts (before_writing w.bytes_written) w pages → P (unfinished_file kept.fonts (pages ++ page ∷ [])))
+      → (m : Machine) → Represents (view_of kept w) m → P (unfinished_file m.state.fonts (m.pages ++ new_pages m.state (Ship r)))
   by_machine P running given m holds =
-      subst (λ (t : State). HasWritten t.fonts (before_writing w.bytes_written) w m.pages → P (front t.fonts (m.pages ++ new_pages t (Ship r)))) holds.state
-      (λ written. subst (λ added. P (front kept.fonts (m.pages ++ added))) (sym adds) (given m.pages written))
+      subst (λ (t : State). HasWritten t.fonts (before_writing w.bytes_written) w m.pages → P (unfinished_file t.fonts (m.pages ++ new_pages t (Ship r)))) holds.state
+      (λ written. subst (λ added. P (unfinished_file kept.fonts (m.pages ++ added))) (sym adds) (given m.pages written))
       (has_written (view_of kept w) m holds running)
 
   -- What the device reports if it failed.
   pub part_of : (new : Writing) → w.over ≡ false
-      → ((before : Option (List ℕ)) (pages : List ShippedPage) → HasWritten kept.fonts before w pages → GrowsByFront before new.bytes_written (front kept.fonts (pages ++ page ∷ [])))
-      → (m : Machine) → Represents (view_of kept w) m → GrowsByFront (before_writing w.bytes_written) new.bytes_written (front m.state.fonts (m.pages ++ new_pages m.state (Ship r)))
+      → ((before : Option (List ℕ)) (pages : List ShippedPage) → HasWritten kept.fonts before w pages → GrowsByFront before new.bytes_written (unfinished_file kept.fonts (pages ++ page ∷ [])))
+      → (m : Machine) → Represents (view_of kept w) m → GrowsByFront (before_writing w.bytes_written) new.bytes_written (unfinished_file m.state.fonts (m.pages ++ new_pages m.state (Ship r)))
   part_of new running part = by_machine (GrowsByFront (before_writing w.bytes_written) new.bytes_written) running (part (before_writing w.bytes_written))
 
   -- What it then makes of the bytes that it was to meet.
   past_of : (new : Writing) → w.over ≡ false → new.began ≡ w.began
-      → ((before : Option (List ℕ)) (pages : List ShippedPage) → HasWritten kept.fonts before w pages → KeepsPast w.began (front kept.fonts (pages ++ page ∷ [])) new.past)
-      → (m : Machine) → Represents (view_of kept w) m → KeepsPast new.began (front m.state.fonts (m.pages ++ new_pages m.state (Ship r))) new.past
+      → ((before : Option (List ℕ)) (pages : List ShippedPage) → HasWritten kept.fonts before w pages → KeepsPast w.began (unfinished_file kept.fonts (pages ++ page ∷ [])) new.past)
+      → (m : Machine) → Represents (view_of kept w) m → KeepsPast new.began (unfinished_file m.state.fonts (m.pages ++ new_pages m.state (Ship r))) new.past
   past_of new running began keeps = by_machine (λ (bytes : List ℕ). KeepsPast new.began bytes new.past) running
-      (λ pages written. subst (λ (p : Past). KeepsPast p (front kept.fonts (pages ++ page ∷ [])) new.past) (sym began) (keeps (before_writing w.bytes_written) pages written))
+      (λ pages written. subst (λ (p : Past). KeepsPast p (unfinished_file kept.fonts (pages ++ page ∷ [])) new.past) (sym began) (keeps (before_writing w.bytes_written) pages written))
 
   -- The reply if the page was not sent.
   pub unshipped_for : (new : Writing) (fault : WriteFault) → EndsWith w page fault → (fault ≢ faults.Device → new ≡ w) → (fault ≡ faults.Device → new.failed ≡ w.failed + 1)
       → (fault ≡ faults.Device → new.over ≡ true) → (fault ≡ faults.Device → new.so_far ≡ w.so_far) → w.over ≡ false
       → GoesOn w new
-      → (fault ≡ faults.Device → (before : Option (List ℕ)) (pages : List ShippedPage) → HasWritten kept.fonts before w pages → GrowsByFront before new.bytes_written (front kept.fonts (pages ++ page ∷ [])))
-      → (fault ≡ faults.Device → (before : Option (List ℕ)) (pages : List ShippedPage) → HasWritten kept.fonts before w pages → KeepsPast w.began (front kept.fonts (pages ++ page ∷ [])) new.past)
-      → KeepsTo (view_of kept w) (Ship r) (Err (refusal_for fault)) (view_of kept new)
+      → (fault ≡ faults.Device → (before : Option (List ℕ)) (pages : List ShippedPage) → HasWritten kept.fonts before w pages → GrowsByFront before new.bytes_written (unfinished_file kept.fonts (pages ++ page ∷ [])))
+      → (fault ≡ faults.Device → (before : Option (List ℕ)) (pages : List ShippedPage) → HasWritten kept.fonts before w pages → KeepsPast w.began (unfinished_file kept.fonts (pages ++ page ∷ [])) new.past)
+      → KeepsTo (view_of kept w) (Ship r) (Err (write_refusal fault)) (view_of kept new)
   unshipped_for new fault (inl (inl some)) stays fails over keeps running goes part past =
       let other : fault ≢ faults.Device = λ lost. never_lost w page (some ∙ ap Some lost) in
-      subst (λ (x : Writing). KeepsTo (view_of kept w) (Ship r) (Err (refusal_for fault)) (view_of kept x)) (sym (stays other))
-      (refuses (view_of kept w) (Ship r) (refusal_for fault) (checked ∙ ap (option_map refusal_for) some))
+      subst (λ (x : Writing). KeepsTo (view_of kept w) (Ship r) (Err (write_refusal fault)) (view_of kept x)) (sym (stays other))
+      (refuses (view_of kept w) (Ship r) (write_refusal fault) (checked ∙ ap (option_map write_refusal) some))
   unshipped_for new fault (inl (inr (none, wants))) stays fails over keeps running goes part past =
       let other : fault ≢ faults.Device = λ lost. cc in
-      subst (λ (x : Writing). KeepsTo (view_of kept w) (Ship r) (Err (refusal_for fault)) (view_of kept x)) (sym (stays other))
-      (lacking (view_of kept w) (Ship r) (Err (refusal_for fault)) (ap (λ fault. Err (refusal_for fault)) wants) tt (accepted none))
+      subst (λ (x : Writing). KeepsTo (view_of kept w) (Ship r) (Err (write_refusal fault)) (view_of kept x)) (sym (stays other))
+      (lacking (view_of kept w) (Ship r) (Err (write_refusal fault)) (ap (λ fault. Err (write_refusal fault)) wants) tt (accepted none))
   unshipped_for new fault (inr (none, lost)) stays fails over keeps running goes part past =
-      subst (λ (x : Refusal). KeepsTo (view_of kept w) (Ship r) (Err x) (view_of kept new)) (ap refusal_for (sym lost))
+      subst (λ (x : Refusal). KeepsTo (view_of kept w) (Ship r) (Err x) (view_of kept new)) (ap write_refusal (sym lost))
       (losing_page (view_of kept w) (view_of kept new) r (accepted none) (stopped kept w new (keeps lost) (over lost)) (fails lost) (goes.more, goes.grows) (part_of new running (part lost))
       (past_of new running goes.began (past lost)))
 
 -- Device is the reply only if the device failed.
-pub is_lost : (fault : WriteFault) (reply : Reply) → reply ≡ Err (refusal_for fault) → reply ≡ Err Device → fault ≡ faults.Device
+pub is_lost : (fault : WriteFault) (reply : Reply) → reply ≡ Err (write_refusal fault) → reply ≡ Err Device → fault ≡ faults.Device
 is_lost faults.JobOver reply is bytes_written = cc
 is_lost faults.TooManyPages reply is bytes_written = cc
 is_lost faults.TooMuchShipped reply is bytes_written = cc
@@ -209,5 +209,5 @@ is_lost faults.HugePage reply is bytes_written = cc
 is_lost faults.OutOfMemory reply is bytes_written = cc
 is_lost faults.Device reply is bytes_written = refl
 
-pub is_other : (fault : WriteFault) → refusal_for fault ≢ Device → fault ≢ faults.Device
-is_other fault other lost = other (ap refusal_for lost)
+pub is_other : (fault : WriteFault) → write_refusal fault ≢ Device → fault ≢ faults.Device
+is_other fault other lost = other (ap write_refusal lost)

@@ -7,7 +7,7 @@ use Rattle.job_machine.specs.Reply.{Reply}
 use Rattle.page_core.specs.Marks.{ShippedPage}
 use Rattle.dvi_device.specs.Written.{written_then, GrowsByFront}
 use Rattle.dvi_device.specs.Pasts.{Past, KeepsPast}
-use Rattle.dvi_write.specs.Layout.{front, whole}
+use Rattle.dvi_write.specs.Layout.{unfinished_file, whole}
 use Rattle.dvi_write.specs.SoFar.{ProgressView}
 use Rattle.dvi_write.specs.Writing.{Writing, HasWritten}
 use Rattle.job_machine.specs.State.{State}
@@ -46,20 +46,21 @@ abbrev pub HasSent : Machine → Option (List ℕ) → Type 0
 HasSent m bytes_written =
     ((m.flight ≡ []) × ((bytes_written ≡ written_then (before_writing bytes_written) (whole m.state.fonts m.pages))
     ⊎ GrowsByFront (before_writing bytes_written) bytes_written (whole m.state.fonts m.pages)))
-    ⊎ ((m.flight ≢ []) × GrowsByFront (before_writing bytes_written) bytes_written (front m.state.fonts (m.pages ++ m.flight)))
+    ⊎ ((m.flight ≢ []) × GrowsByFront (before_writing bytes_written) bytes_written (unfinished_file m.state.fonts (m.pages ++ m.flight)))
 
 -- After what it had reported before, the device has reported all bytes of the machine's pages up to the last eop, and then perhaps more.
 abbrev pub HasPages : Machine → Option (List ℕ) → Type 0
-HasPages m bytes_written = (more : List ℕ) × (bytes_written ≡ written_then (before_writing bytes_written) (front m.state.fonts m.pages ++ more))
+HasPages m bytes_written = (more : List ℕ)
+    × (bytes_written ≡ written_then (before_writing bytes_written) (unfinished_file m.state.fonts m.pages ++ more))
 
 -- The bytes that a machine with this page being sent gives to its device: the file of its pages; or, up to its eop, the file with that page.
 abbrev pub due_with : Machine → (flight : List ShippedPage) → List ℕ
 due_with m [] = whole m.state.fonts m.pages
-due_with m (page ∷ more) = front m.state.fonts (m.pages ++ page ∷ more)
+due_with m (page ∷ more) = unfinished_file m.state.fonts (m.pages ++ page ∷ more)
 
 -- All bytes that a machine gives to its device.
-abbrev pub due : Machine → List ℕ
-due m = due_with m m.flight
+abbrev pub due_bytes : Machine → List ℕ
+due_bytes m = due_with m m.flight
 
 -- A job represents a machine: it has the machine's state, and until it is over it has written the machine's pages: its device reports all bytes of
 -- them up to the last eop, and no others. Once the job is over, it reports the file of the pages or a beginning of it, or a beginning of the file
@@ -72,7 +73,7 @@ pub record Represents (job : JobView) (m : Machine) : Type 0 where
   pub none : m.state.over ≡ false → m.flight ≡ []
   pub held : HasPages m job.bytes_written
   pub sent : m.state.over ≡ true → HasSent m job.bytes_written
-  pub past : KeepsPast job.began (due m) job.past
+  pub past : KeepsPast job.began (due_bytes m) job.past
 
 -- Each machine that the job represented has stepped to one that it represents.
 abbrev pub KeepsTo : JobView → Command → Reply → JobView → Type 0

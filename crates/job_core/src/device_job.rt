@@ -5,13 +5,13 @@ ghost use Rattle.job_machine.specs.declared.command.Command.TheVariants as comma
 ghost use Rattle.job_machine.specs.declared.replies.Refusal.{Refusal};
 ghost use Rattle.job_machine.specs.Reply.{Reply as AReply};
 ghost use Rattle.dvi_device.specs.Written.{GrowsByFront};
-ghost use Rattle.dvi_write.specs.Layout.{front, whole};
+ghost use Rattle.dvi_write.specs.Layout.{unfinished_file, whole};
 ghost use Rattle.job_state.specs.JobStateView.{before_shipping};
 ghost use Rattle.job_machine.specs.Effects.{new_pages};
 ghost use Rattle.job_machine.specs.Machine.{Machine, first_machine};
 ghost use Rattle.dvi_write.specs.Writing.{GoesOn};
 ghost use Rattle.job_core.specs.Jobs.{Represents, KeepsTo, RunsTo, FinishesTo, before_writing};
-ghost use Rattle.job_core.specs.Private.Sound.{IsSound, IsBoundedFile, refusal_for, view_of};
+ghost use Rattle.job_core.specs.Private.Sound.{IsSound, IsBoundedFile, write_refusal, view_of};
 ghost use Rattle.job_core.specs.Shown.{FilesPages};
 ghost use Rattle.job_core.specs.Closing.{ClosesFile};
 
@@ -24,8 +24,8 @@ use std::marker::Model;
 use tfm_core::FontFile;
 
 /// The refusal of a job if its writer does not take a page.
-fn refusal_for(fault: WriteFault) -> Refusal
-    ensures { result ≡ refusal_for fault }
+fn write_refusal(fault: WriteFault) -> Refusal
+    ensures { result ≡ write_refusal fault }
 {
     match fault {
         WriteFault::JobOver => Refusal::JobOver,
@@ -55,7 +55,7 @@ fn ship_page<D: Device>(
     ensures bounded { writer.new.over ≡ false → IsBoundedFile kept.new.fonts writer.new }
     ensures part { result ≡ Err Refusal.Device → (m : Machine) → Represents (view_of kept.old writer.old) m
         → GrowsByFront (before_writing writer.old.bytes_written) writer.new.bytes_written
-        (front m.state.fonts (m.pages ++ new_pages m.state (commands.Ship register))) }
+        (unfinished_file m.state.fonts (m.pages ++ new_pages m.state (commands.Ship register))) }
     ensures goes_on { GoesOn writer.old writer.new }
 {
     let Some(box_node) = kept.held(register) else {
@@ -66,7 +66,7 @@ fn ship_page<D: Device>(
             kept.empty(register);
             Ok(Answer::Shipped(writer.pages()))
         }
-        Err(fault) => Err(refusal_for(fault)),
+        Err(fault) => Err(write_refusal(fault)),
     }
 }
 
@@ -100,7 +100,7 @@ impl<D: Device> Job<D> {
     ghost use Rattle.std.specs.Prelude.{◌≡◌, ◌≢◌, ◌<◌, ◌+◌, ◌^◌, ◌++◌, [], true, List, IfOk, IfErr, OnOk, OnErr, IfSome, Err, length};
     ghost use Rattle.job_machine.specs.Effects.{new_pages};
     ghost use Rattle.job_machine.specs.Machine.{Machine, first_machine};
-    ghost use Rattle.dvi_write.specs.Layout.{front, whole};
+    ghost use Rattle.dvi_write.specs.Layout.{unfinished_file, whole};
     ghost use Rattle.dvi_device.specs.Written.{GrowsByFront};
     ghost use Rattle.job_machine.specs.declared.command.Command.TheVariants as commands;
     ghost use Rattle.job_machine.specs.declared.replies.Refusal.{Refusal};
@@ -141,7 +141,7 @@ impl<D: Device> Job<D> {
         ensures idle { self.old.state.over ≡ true → self.new ≡ self.old }
         ensures part { result ≡ Err Refusal.Device → (m : Machine) → Represents self.old m
             → GrowsByFront (before_writing self.old.bytes_written) self.new.bytes_written
-            (front m.state.fonts (m.pages ++ new_pages m.state command.now)) }
+            (unfinished_file m.state.fonts (m.pages ++ new_pages m.state command.now)) }
         ensures goes_on { GoesOn (writing_of self.old) (writing_of self.new) }
     {
         if self.writer.is_over() {

@@ -11,7 +11,7 @@ ghost use Rattle.dvi_device.specs.Written.{IsFrontOf};
 ghost use Rattle.dvi_write.specs.Layout.{whole};
 ghost use Rattle.job_machine.specs.Machine.{Machine, first_machine};
 ghost use Rattle.job_machine.specs.Runs.{Run, Finishes};
-ghost use Rattle.job_core.specs.Jobs.{JobView, due, Represents, KeepsTo, RunsTo, FinishesTo};
+ghost use Rattle.job_core.specs.Jobs.{JobView, due_bytes, Represents, KeepsTo, RunsTo, FinishesTo};
 ghost use Rattle.std.specs.List.{AllByRecursion};
 ghost use Rattle.job_core.specs.GlyphWidths.{IsMeasuredPage};
 ghost use Rattle.job_core.specs.Closing.{ClosesFile};
@@ -51,7 +51,7 @@ pub fn a_refused_end_is_no_step()
 /// A device for the rest of a file has no failure of its own in a job of that file: if the bytes that it was to meet when the job was made, and all
 /// bytes that the machine gives to it, begin one file, it has as many as then. So a reply Device says that the inner device has failed.
 pub fn the_rest_of_one_file_never_differs()
-    ensures { (job : JobView) (m : Machine) (file : List ℕ) → Represents job m → IsFrontOf job.began.left file → IsFrontOf (due m) file
+    ensures { (job : JobView) (m : Machine) (file : List ℕ) → Represents job m → IsFrontOf job.began.left file → IsFrontOf (due_bytes m) file
         → job.past.differing ≡ job.began.differing }
 {}
 

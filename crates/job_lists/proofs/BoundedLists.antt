@@ -15,7 +15,7 @@ use Rattle.node_core.specs.declared.params.Params.{Params}
 use Rattle.node_core.specs.declared.tree.BoxNode.{BoxNode}
 use Rattle.node_core.specs.declared.tree.Glue as glues
 use Rattle.node_core.specs.declared.tree.Node.{Node}
-use Rattle.vert_core.specs.Interline.{glue_of, appended}
+use Rattle.vert_core.specs.Interline.{glue_of, appended_nodes}
 use Rattle.job_machine.specs.declared.OpenList.{OpenList}
 use Rattle.job_machine.specs.Checks.{box_checks, first_refusal}
 use Rattle.job_machine.specs.Effects.{list_with_box}
@@ -61,7 +61,7 @@ second_fails true b p q none = cc
 second_fails false true p q none = cc
 second_fails false false p q none = refl
 
-same_count : (glue : Option glues.Glue) (shift : ℤ) (b : BoxNode) → length (appended glue shift b) ≡ length (appended glue (pos 0) b)
+same_count : (glue : Option glues.Glue) (shift : ℤ) (b : BoxNode) → length (appended_nodes glue shift b) ≡ length (appended_nodes glue (pos 0) b)
 same_count None shift b = refl
 same_count (Some glue) shift b = refl
 

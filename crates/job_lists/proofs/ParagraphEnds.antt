@@ -12,7 +12,7 @@ use Rattle.vert_core.specs.declared.appending.UnappendedLines.{UnappendedLines}
 use Rattle.vert_core.specs.declared.appending.UnappendedLines.TheVariants.{Unset, TooDeep, TooLong}
 use Rattle.vert_core.specs.declared.paragraph.ParagraphFault.{ParagraphFault}
 use Rattle.vert_core.specs.declared.paragraph.ParagraphFault.TheVariants as faults
-use Rattle.vert_core.specs.Paragraphs.{unbroken, IsUnset}
+use Rattle.vert_core.specs.Paragraphs.{break_fault, IsUnset}
 use Rattle.vert_core.specs.Setting.{setting}
 use Rattle.vert_core.proofs.Settings.{paragraph_unset, memory_free}
 use Rattle.job_machine.specs.declared.replies.Refusal.{Refusal}
@@ -20,11 +20,11 @@ use Rattle.job_machine.specs.declared.replies.Refusal.TheVariants as refusals
 use Rattle.job_machine.specs.declared.OpenList.{OpenList}
 use Rattle.job_machine.specs.State.{innermost, items_in}
 use Rattle.job_machine.specs.Checks.{first_refusal}
-use Rattle.job_machine.specs.Paragraphs.{depth_in, set_after, paragraph_answer, with_paragraph, refusal_for, paragraph_checks, early_paragraph_checks}
+use Rattle.job_machine.specs.Paragraphs.{depth_in, set_after, paragraph_answer, with_paragraph, paragraph_refusal, paragraph_checks, early_paragraph_checks}
 use Rattle.job_lists.specs.Private.EndedParagraphs.{IsEnded, IsRefused, refusal_of}
 
 -- The only fault that is no refusal of the machine is refused memory.
-pub only_memory : (fault : ParagraphFault) → refusal_for fault ≡ None → fault ≡ faults.OutOfMemory
+pub only_memory : (fault : ParagraphFault) → paragraph_refusal fault ≡ None → fault ≡ faults.OutOfMemory
 only_memory faults.InfiniteShrink is = cc
 only_memory faults.TooManyBreaks is = cc
 only_memory faults.DimensionTooLarge is = cc
@@ -32,7 +32,7 @@ only_memory faults.OutOfMemory is = cc
 
 -- Where a list is around a paragraph that may be broken, no early check refuses its end.
 pub early_free : (params : Params) (around : List OpenList) (items : Items) → is_none (innermost around) ≡ false
-    → unbroken (nodes_of items) params.par_fill_skip ≡ None → first_refusal (early_paragraph_checks params around items) ≡ None
+    → break_fault (nodes_of items) params.par_fill_skip ≡ None → first_refusal (early_paragraph_checks params around items) ≡ None
 early_free params around items some free = rw (some, free) refl
 
 -- A paragraph whose lines were appended is not refused; its answer and the lists after it are the machine's.
@@ -56,7 +56,7 @@ refused_so params around items (Unset fault) refusal some is told =
     paragraph_unset (nodes_of items) params (depth_in (innermost around)) fault (λ memory. absurd (no_refusal fault memory told)) is in
     rw (some, unset, told) refl
   where
-    no_refusal : (fault : ParagraphFault) → fault ≡ faults.OutOfMemory → refusal_for fault ≡ Some refusal → ⊥
+    no_refusal : (fault : ParagraphFault) → fault ≡ faults.OutOfMemory → paragraph_refusal fault ≡ Some refusal → ⊥
     no_refusal fault memory told = cc
 refused_so params around items TooDeep refusal some is told =
     let deep : nat_lt MAX_DEPTH (items_depth is.0.items) ≡ true = lt-ltb MAX_DEPTH (items_depth is.0.items) is.2 in

@@ -13,7 +13,7 @@ use Rattle.job_machine.specs.declared.replies.Refusal.TheVariants.{ListTooLong}
 use Rattle.job_machine.specs.declared.replies.Answer.TheVariants.{Shaped}
 use Rattle.shape_core.specs.Texts.{text_items, text_missing}
 use Rattle.tfm_core.specs.declared.slots.LoadedFont.{LoadedFont}
-use Rattle.job_machine.specs.FontSlots.{CharacterItems, unshaped, text_items_in}
+use Rattle.job_machine.specs.FontSlots.{CharacterItems, no_characters, text_items_in}
 use Rattle.job_machine.specs.Answers.{shaped_answer}
 use Rattle.job_machine.specs.declared.OpenList.{OpenList}
 use Rattle.job_machine.specs.State.{innermost, with_innermost, items_in}
@@ -25,7 +25,7 @@ use Rattle.job_machine.proofs.ListElements.{get_set, set_again}
 use Rattle.job_machine.proofs.States.{same_innermost}
 
 -- An empty text becomes no items, for which there is always room.
-no_text : (loaded : LoadedFont) (slot : ℕ) (text : List ℕ) → (length text == 0) ≡ true → text_items_in (Some loaded) slot text ≡ unshaped
+no_text : (loaded : LoadedFont) (slot : ℕ) (text : List ℕ) → (length text == 0) ≡ true → text_items_in (Some loaded) slot text ≡ no_characters
 unfolding text_items text_missing
 no_text loaded slot [] empty = refl
 no_text loaded slot (c ∷ text) empty = absurd (omega (arith, eqb-true (length (c ∷ text)) 0 empty))
@@ -34,8 +34,8 @@ room_for_none : (count : ℕ) → count ≤ MAX_ITEMS → first_refusal (room_ch
 room_for_none count short = rw (le-ltb MAX_ITEMS (count + 0) (omega (arith, short))) refl
 
 module _ (loaded : LoadedFont) (slot : ℕ) (text : List ℕ) (items : List Node) (empty : (length text == 0) ≡ true) (short : length items ≤ MAX_ITEMS) where
-  none_reply : reply_by (first_refusal (room_checks (length items) [])) (shaped_answer unshaped) ≡ Ok (Shaped 0 0)
-  none_reply = ap (λ (o : Option Refusal). reply_by o (shaped_answer unshaped)) (room_for_none (length items) short)
+  none_reply : reply_by (first_refusal (room_checks (length items) [])) (shaped_answer no_characters) ≡ Ok (Shaped 0 0)
+  none_reply = ap (λ (o : Option Refusal). reply_by o (shaped_answer no_characters)) (room_for_none (length items) short)
 
   pub reply_to_none : Ok (Shaped 0 0) ≡ reply_by (first_refusal (room_checks (length items) (text_items_in (Some loaded) slot text).items)) (shaped_answer (text_items_in (Some loaded) slot text))
   reply_to_none =

@@ -3,9 +3,9 @@
 ghost use Rattle.std.specs.Prelude.{◌≡◌, ◌<◌, ◌≤◌, ◌+◌, ◌++◌, pos, max, length, None, OnOk, OnErr, IfOk, IfErr, IfSome, IsOk, Some, option_copied};
 ghost use Rattle.node_core.specs.Items.{none};
 ghost use Rattle.node_core.specs.Nodes.{max_nodes, items_of, nodes_of};
-ghost use Rattle.vert_core.specs.Interline.{interline, glue_of, appended};
+ghost use Rattle.vert_core.specs.Interline.{interline, glue_of, appended_nodes};
 ghost use Rattle.vert_core.specs.Appended.{IsAppended, IsUnappended};
-ghost use Rattle.vert_core.specs.Paragraphs.{unbroken, IsUnset};
+ghost use Rattle.vert_core.specs.Paragraphs.{break_fault, IsUnset};
 ghost use Rattle.vert_core.specs.Setting.{setting};
 ghost use Rattle.job_machine.specs.State.{nodes_in};
 ghost use Rattle.job_machine.specs.OpenLists.{packed_by, glue_in, box_items, packed_as, packed_list};
@@ -144,7 +144,11 @@ pub fn room_for_items(
 fn append_across(open_list: &mut OpenList, box_node: BoxNode, shift: Dimen) -> Result<(), BoxNode>
     requires { length (nodes_of open_list.old.list) < max_nodes }
     ensures ok { OnOk result (open_list.new
-        ≡ record open_list.old { list = items_of (nodes_of open_list.old.list ++ appended None shift box_node); previous_depth = box_node.depth }) }
+        ≡ record open_list.old {
+          list = items_of
+              (nodes_of open_list.old.list ++ appended_nodes None shift box_node);
+          previous_depth = box_node.depth;
+        }) }
     ensures err { OnErr result (open_list.new ≡ open_list.old) }
     ensures box_returned { IfErr result (λ back. back ≡ box_node) }
 {
@@ -165,7 +169,8 @@ fn append_down(
     requires fits { IsOk (interline params.now open_list.old.previous_depth box_node.height) }
     ensures ok { OnOk result (open_list.new ≡ record open_list.old {
       list = items_of
-          (nodes_of open_list.old.list ++ appended (glue_of (interline params.now open_list.old.previous_depth box_node.height)) shift box_node);
+          (nodes_of open_list.old.list ++ appended_nodes
+          (glue_of (interline params.now open_list.old.previous_depth box_node.height)) shift box_node);
       previous_depth = box_node.depth;
     }) }
     ensures err { OnErr result (open_list.new ≡ open_list.old) }
@@ -212,7 +217,7 @@ pub(crate) fn append_lines(
     requires list_bounded { length (nodes_of open_list.old.list) ≤ MAX_ITEMS }
     ensures ok { IfOk result (IsAppended (setting (nodes_of items.old) params.now open_list.old.previous_depth) (nodes_of open_list.old.list)
         (nodes_of open_list.new.list)) }
-    ensures fits { OnOk result (unbroken (nodes_of items.old) params.now.par_fill_skip ≡ None) }
+    ensures fits { OnOk result (break_fault (nodes_of items.old) params.now.par_fill_skip ≡ None) }
     ensures changed { IfOk result (λ told. open_list.new ≡ record open_list.old { list = open_list.new.list; previous_depth = told.depth }) }
     ensures emptied { OnOk result (items.new ≡ none) }
     ensures refused { IfErr result (IsUnappended (setting (nodes_of items.old) params.now open_list.old.previous_depth)

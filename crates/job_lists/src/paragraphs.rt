@@ -7,7 +7,7 @@ ghost use Rattle.job_machine.specs.State.{innermost, outer, items_in};
 ghost use Rattle.job_machine.specs.OpenLists.{opened_list};
 ghost use Rattle.job_machine.specs.Checks.{par_checks, first_refusal};
 ghost use Rattle.job_machine.specs.Machine.{reply_by, state_by};
-ghost use Rattle.job_machine.specs.Paragraphs.{pass_number, refusal_for, lines_checks, set_after, paragraph_checks, early_paragraph_checks};
+ghost use Rattle.job_machine.specs.Paragraphs.{pass_number, paragraph_refusal, lines_checks, set_after, paragraph_checks, early_paragraph_checks};
 ghost use Rattle.job_machine.specs.Paragraphs.{paragraph_answer, with_paragraph};
 
 use crate::nest::Nest;
@@ -44,8 +44,8 @@ fn answer_of(told: &AppendedParagraph) -> Answer
 }
 
 /// The refusal of a paragraph that is not set. None where memory was refused, which is no refusal of the machine's table.
-fn refusal_for(fault: ParagraphFault) -> Option<Refusal>
-    ensures { result ≡ refusal_for fault }
+fn paragraph_refusal(fault: ParagraphFault) -> Option<Refusal>
+    ensures { result ≡ paragraph_refusal fault }
 {
     match fault {
         ParagraphFault::InfiniteShrink => Some(Refusal::InfiniteShrink),
@@ -60,7 +60,7 @@ fn refusal_of(unappended: UnappendedLines) -> Option<Refusal>
     ensures { result ≡ refusal_of unappended }
 {
     match unappended {
-        UnappendedLines::Unset(fault) => refusal_for(fault),
+        UnappendedLines::Unset(fault) => paragraph_refusal(fault),
         UnappendedLines::TooDeep => Some(Refusal::TooDeep),
         UnappendedLines::TooLong => Some(Refusal::ListTooLong),
     }

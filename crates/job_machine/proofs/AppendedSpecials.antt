@@ -9,7 +9,7 @@ use Rattle.job_machine.specs.declared.command.Command.TheVariants.{Special}
 use Rattle.job_machine.specs.declared.OpenList.{OpenList}
 use Rattle.job_machine.specs.State.{State, innermost}
 use Rattle.job_machine.specs.Checks.{checks, first_refusal}
-use Rattle.job_machine.specs.Effects.{with_nodes, after}
+use Rattle.job_machine.specs.Effects.{with_nodes, state_after_command}
 use Rattle.job_machine.specs.Machine.{reply_by, reply_to, state_by, state_after}
 use Rattle.job_machine.proofs.ListElements.{get_set}
 
@@ -21,6 +21,6 @@ pub special_last : (s : State) (l : OpenList) (text : List ℕ) → first_refusa
 special_last s l text free is =
     let longer : OpenList = record l { list = items_of (nodes_of l.list ++ nodes.Special text ∷ []) } in
     let last = length s.nest - 1 in
-    ap (λ refused. innermost (state_by refused s (after s (Special text))).nest) free
+    ap (λ refused. innermost (state_by refused s (state_after_command s (Special text))).nest) free
     ∙ (ap (λ (o : Option OpenList). innermost (with_nodes s.nest (nodes.Special text ∷ []) o)) is
     ∙ (ap (λ n. slice_get (set s.nest last longer) (n - 1)) (length-set s.nest last longer) ∙ get_set s.nest last l longer is))

@@ -10,7 +10,7 @@ use Rattle.job_machine.specs.declared.ListPurpose.{ListPurpose}
 use Rattle.job_machine.specs.declared.ListPurpose.TheVariants as purposes
 use Rattle.job_machine.specs.OpenLists.{packed_list}
 use Rattle.job_machine.specs.Checks.{checks, first_refusal}
-use Rattle.job_machine.specs.Effects.{with_home, with_closed, with_purpose, with_ended, with_used, with_unboxed, after}
+use Rattle.job_machine.specs.Effects.{with_home, with_closed, with_purpose, with_ended, with_used, with_unboxed, state_after_command}
 use Rattle.job_machine.specs.Machine.{state_by, state_after}
 use Rattle.job_machine.specs.declared.command.AppendBox.{AppendBox}
 use Rattle.job_machine.specs.declared.command.Unboxing.{Unboxing}
@@ -50,13 +50,13 @@ unboxed_rest : (s : State) (taking : Transfer) (r : ℕ) (held : Option BoxNode)
 unboxed_rest s taking r None = same_rest s
 unboxed_rest s taking r (Some b) = record { files = refl; fonts = refl; over = refl }
 
-pub end_keeps : (s : State) → KeepsRest s (after s End)
+pub end_keeps : (s : State) → KeepsRest s (state_after_command s End)
 end_keeps s = ended_rest s (innermost s.nest)
 
-pub append_keeps : (s : State) (taken : AppendBox) → KeepsRest s (after s (Append taken))
+pub append_keeps : (s : State) (taken : AppendBox) → KeepsRest s (state_after_command s (Append taken))
 append_keeps s taken = used_rest s taken.taking taken.register taken.shift (held_in s.registers taken.register)
 
-pub unbox_keeps : (s : State) (taken : Unboxing) → KeepsRest s (after s (Unbox taken))
+pub unbox_keeps : (s : State) (taken : Unboxing) → KeepsRest s (state_after_command s (Unbox taken))
 unbox_keeps s taken = unboxed_rest s taken.taking taken.register (held_in s.registers taken.register)
 
 -- What no command changes.
@@ -67,20 +67,20 @@ pub record KeepsJob (s t : State) : Type 0 where
 by_rest : (s t : State) → KeepsRest s t → KeepsJob s t
 by_rest s t keeps = record { files = keeps.files; over = keeps.over }
 
-after_kept : (s : State) (command : Command) → KeepsJob s (after s command)
+after_kept : (s : State) (command : Command) → KeepsJob s (state_after_command s command)
 after_kept s (LoadFont load) = record { files = refl; over = refl }
 after_kept s (UseFont slot) = record { files = refl; over = refl }
 after_kept s (Open opening) = record { files = refl; over = refl }
 after_kept s Paragraph = record { files = refl; over = refl }
-after_kept s End = by_rest s (after s End) (end_keeps s)
+after_kept s End = by_rest s (state_after_command s End) (end_keeps s)
 after_kept s (Text text) = record { files = refl; over = refl }
 after_kept s (Character code) = record { files = refl; over = refl }
 after_kept s (Rule rule) = record { files = refl; over = refl }
 after_kept s (Kern width) = record { files = refl; over = refl }
 after_kept s (Glue glue) = record { files = refl; over = refl }
 after_kept s (Penalty n) = record { files = refl; over = refl }
-after_kept s (Append taken) = by_rest s (after s (Append taken)) (append_keeps s taken)
-after_kept s (Unbox taken) = by_rest s (after s (Unbox taken)) (unbox_keeps s taken)
+after_kept s (Append taken) = by_rest s (state_after_command s (Append taken)) (append_keeps s taken)
+after_kept s (Unbox taken) = by_rest s (state_after_command s (Unbox taken)) (unbox_keeps s taken)
 after_kept s (LastBox r) = record { files = refl; over = refl }
 after_kept s (Split splitting) = record { files = refl; over = refl }
 after_kept s (Measure r) = record { files = refl; over = refl }
@@ -93,6 +93,6 @@ after_kept s (Ship r) = record { files = refl; over = refl }
 pub job_kept : (s : State) (command : Command) → KeepsJob s (state_after s command)
 job_kept s command = cases (first_refusal (checks s command))
   where
-    cases : (refused : Option Refusal) → KeepsJob s (state_by refused s (after s command))
+    cases : (refused : Option Refusal) → KeepsJob s (state_by refused s (state_after_command s command))
     cases None = after_kept s command
     cases (Some refusal) = record { files = refl; over = refl }

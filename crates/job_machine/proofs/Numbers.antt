@@ -15,7 +15,7 @@ use Rattle.job_machine.specs.OpenLists.{packed_list}
 use Rattle.job_machine.specs.State.{State, innermost, outer, held_in}
 use Rattle.job_machine.specs.Checks.{checks, first_refusal}
 use Rattle.job_machine.specs.Answers.{answer_of}
-use Rattle.job_machine.specs.Effects.{with_home, with_closed, with_purpose, with_ended, with_used, with_unboxed, after, new_pages}
+use Rattle.job_machine.specs.Effects.{with_home, with_closed, with_purpose, with_ended, with_used, with_unboxed, state_after_command, new_pages}
 use Rattle.job_machine.specs.Machine.{reply_by, reply_to, state_by, state_after}
 use Rattle.job_machine.specs.Runs.{IsShip, MayRunOutOfMemory, early_checks}
 
@@ -53,7 +53,7 @@ pub record IsApart (s : State) (n : Load) (p : ℕ) (command : Command) : Type 0
   pub checked : first_refusal (checks (numbered s n p) command) ≡ first_refusal (checks s command)
   pub early : first_refusal (early_checks (numbered s n p) command) ≡ first_refusal (early_checks s command)
   pub answer : answer_of (numbered s n p) command ≡ answer_of s command
-  pub state : after (numbered s n p) command ≡ numbered (after s command) n p
+  pub state : state_after_command (numbered s n p) command ≡ numbered (state_after_command s command) n p
   pub memory : MayRunOutOfMemory s command → MayRunOutOfMemory (numbered s n p) command
   pub none : new_pages s command ≡ []
 
@@ -108,13 +108,13 @@ module _ (s : State) (n : Load) (p : ℕ) (command : Command) (other : IsShip co
   pub state_apart : state_after (numbered s n p) command ≡ numbered (state_after s command) n p
   state_apart =
       let same = apart s n p command other in
-      ap (λ refused. state_by refused (numbered s n p) (after (numbered s n p) command)) same.checked
+      ap (λ refused. state_by refused (numbered s n p) (state_after_command (numbered s n p) command)) same.checked
       ∙ (ap (state_by (first_refusal (checks s command)) (numbered s n p)) same.state ∙ by_refusal (first_refusal (checks s command)))
     where
-      by_refusal : (refused : Option Refusal) → state_by refused (numbered s n p) (numbered (after s command) n p) ≡ numbered (state_by refused s (after s command)) n p
+      by_refusal : (refused : Option Refusal) → state_by refused (numbered s n p) (numbered (state_after_command s command) n p) ≡ numbered (state_by refused s (state_after_command s command)) n p
       by_refusal None = refl
       by_refusal (Some refusal) = refl
 
 -- Such a command leaves the number of pages as it is.
-pub pages_stay : (s : State) (command : Command) → (IsShip command → ⊥) → (after s command).pages ≡ s.pages
+pub pages_stay : (s : State) (command : Command) → (IsShip command → ⊥) → (state_after_command s command).pages ≡ s.pages
 pages_stay s command other = ap (λ (t : State). t.pages) (apart s s.shipped s.pages command other).state

@@ -13,7 +13,7 @@ use Rattle.job_machine.specs.Reply.{Reply}
 use Rattle.job_machine.specs.State.{State, held_in, shipped_with}
 use Rattle.job_machine.specs.NextPages.{is_huge_in, shipped_pages}
 use Rattle.job_machine.specs.Checks.{checks, first_refusal}
-use Rattle.job_machine.specs.Effects.{after, new_pages}
+use Rattle.job_machine.specs.Effects.{state_after_command, new_pages}
 use Rattle.job_machine.specs.Machine.{Machine, state_by}
 use Rattle.job_machine.specs.Runs.{StepsTo, Replies, LacksMemory, LosesDevice, Run}
 use Rattle.job_machine.proofs.KeptRest.{job_kept}
@@ -33,7 +33,7 @@ box_is_held s r none =
     none
 
 -- A command counts the pages that it adds.
-after-pages : (s : State) (command : Command) → first_refusal (checks s command) ≡ None → (after s command).pages ≡ s.pages + length (new_pages s command)
+after-pages : (s : State) (command : Command) → first_refusal (checks s command) ≡ None → (state_after_command s command).pages ≡ s.pages + length (new_pages s command)
 after-pages s (Ship r) none = cases (held_in s.registers r) (box_is_held s r none)
   where
     cases : (held : Option BoxNode) → is_none held ≡ false → s.pages + 1 ≡ s.pages + length (shipped_pages s held)
@@ -63,7 +63,7 @@ after-pages s (Special text) none = omega arith
 -- After a step there are as many pages as the state counts.
 pub counted :
     (s : State) (command : Command) (pages : List ShippedPage) (refused : Option Refusal) → first_refusal (checks s command) ≡ refused → s.pages ≡ length pages
-    → (state_by refused s (after s command)).pages ≡ length (state_by refused pages (pages ++ new_pages s command))
+    → (state_by refused s (state_after_command s command)).pages ≡ length (state_by refused pages (pages ++ new_pages s command))
 counted s command pages None is count = omega (arith, after-pages s command is, length-append pages (new_pages s command))
 counted s command pages (Some refusal) is count = count
 

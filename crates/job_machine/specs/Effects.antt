@@ -7,7 +7,7 @@ use Rattle.node_core.specs.declared.tree.BoxNode.{BoxNode}
 use Rattle.std.specs.Option.{option_map}
 use Rattle.node_core.specs.declared.params.Params.{Params}
 use Rattle.node_core.specs.declared.params.SplitParams.{SplitParams}
-use Rattle.node_core.specs.Nodes.{items_of, nodes_of, last_box, without}
+use Rattle.node_core.specs.Nodes.{items_of, nodes_of, last_box, without_last_box}
 use Rattle.vert_core.specs.Interline.{ignored_depth}
 use Rattle.job_machine.specs.declared.OpenList.{OpenList}
 use Rattle.job_machine.specs.declared.ListPurpose.{ListPurpose}
@@ -61,7 +61,7 @@ abbrev pub without_last : List OpenList → Option OpenList → List OpenList
 without_last nest None = nest
 without_last nest (Some open_list) =
     with_innermost nest
-    (record open_list { list = items_of (without (last_box (nodes_of open_list.list)) (nodes_of open_list.list)) })
+    (record open_list { list = items_of (without_last_box (last_box (nodes_of open_list.list)) (nodes_of open_list.list)) })
 
 -- The registers after the box of one was used: moving it out makes the register void, copying leaves it.
 abbrev pub with_taken : Transfer → List (Option BoxNode) → ℕ → List (Option BoxNode)
@@ -113,32 +113,33 @@ with_split params registers splitting (Some b) =
     with_parts registers splitting (front_of params splitting.height (nodes_of b.list)) (rest_of params splitting.height (nodes_of b.list))
 
 -- The state after an accepted command.
-abbrev pub after : State → Command → State
-after m (LoadFont load) = record m { fonts = with_font m.fonts load.slot load.name (font_for m load) }
-after m (UseFont slot) = record m { current = Some slot }
-after m (Text text) = with_items m (text_shaped m.fonts m.current text).items
-after m (Character code) = with_items m (character_shaped m.fonts m.current code).items
-after m (Open opening) = record m { nest = m.nest ++ opened_list (purposes.Box opening) ∷ [] }
-after m Paragraph = record m { nest = m.nest ++ opened_list purposes.Paragraph ∷ [] }
-after m End = with_ended m (innermost m.nest)
-after m (Rule rule) = record m { nest = with_rule m.nest rule (innermost m.nest) }
-after m (Kern width) = with_items m (nodes.Kern width ∷ [])
-after m (Glue glue) = with_items m (nodes.Glue glue ∷ [])
-after m (Penalty n) = with_items m (nodes.Penalty n ∷ [])
-after m (Append taken) = with_used m taken.taking taken.register taken.shift (held_in m.registers taken.register)
-after m (Unbox taken) = with_unboxed m taken.taking taken.register (held_in m.registers taken.register)
-after m (LastBox r) =
+abbrev pub state_after_command : State → Command → State
+state_after_command m (LoadFont load) = record m { fonts = with_font m.fonts load.slot load.name (font_for m load) }
+state_after_command m (UseFont slot) = record m { current = Some slot }
+state_after_command m (Text text) = with_items m (text_shaped m.fonts m.current text).items
+state_after_command m (Character code) = with_items m (character_shaped m.fonts m.current code).items
+state_after_command m (Open opening) = record m { nest = m.nest ++ opened_list (purposes.Box opening) ∷ [] }
+state_after_command m Paragraph = record m { nest = m.nest ++ opened_list purposes.Paragraph ∷ [] }
+state_after_command m End = with_ended m (innermost m.nest)
+state_after_command m (Rule rule) = record m { nest = with_rule m.nest rule (innermost m.nest) }
+state_after_command m (Kern width) = with_items m (nodes.Kern width ∷ [])
+state_after_command m (Glue glue) = with_items m (nodes.Glue glue ∷ [])
+state_after_command m (Penalty n) = with_items m (nodes.Penalty n ∷ [])
+state_after_command m (Append taken) = with_used m taken.taking taken.register taken.shift (held_in m.registers taken.register)
+state_after_command m (Unbox taken) = with_unboxed m taken.taking taken.register (held_in m.registers taken.register)
+state_after_command m (LastBox r) =
     record m {
       nest = without_last m.nest (innermost m.nest);
       registers = slice_set m.registers r (last_box (nodes_of (items_in (innermost m.nest))));
     }
-after m (Split splitting) = record m { registers = with_split m.params.split m.registers splitting (held_in m.registers splitting.register) }
-after m (Measure r) = m
-after m (Void r) = record m { registers = slice_set m.registers r None }
-after m (Set parameter) = record m { params = with_parameter m.params parameter }
-after m (Count counting) = record m { counts = slice_set m.counts counting.count counting.value }
-after m (Special text) = with_items m (nodes.Special text ∷ [])
-after m (Ship r) =
+state_after_command m (Split splitting) =
+    record m { registers = with_split m.params.split m.registers splitting (held_in m.registers splitting.register) }
+state_after_command m (Measure r) = m
+state_after_command m (Void r) = record m { registers = slice_set m.registers r None }
+state_after_command m (Set parameter) = record m { params = with_parameter m.params parameter }
+state_after_command m (Count counting) = record m { counts = slice_set m.counts counting.count counting.value }
+state_after_command m (Special text) = with_items m (nodes.Special text ∷ [])
+state_after_command m (Ship r) =
     record m {
       registers = slice_set m.registers r None;
       shipped = shipped_with m.shipped (held_in m.registers r);

@@ -40,12 +40,12 @@ pub record CharacterItems : Type 0 where
   pub missing : ℕ
 
 -- What characters become without a font: nothing. They are refused then.
-abbrev pub unshaped : CharacterItems
-unshaped = record { items = []; missing = 0 }
+abbrev pub no_characters : CharacterItems
+no_characters = record { items = []; missing = 0 }
 
 -- What a text becomes in the font of a slot.
 abbrev pub text_items_in : Option LoadedFont → ℕ → List ℕ → CharacterItems
-text_items_in None slot text = unshaped
+text_items_in None slot text = no_characters
 text_items_in (Some loaded) slot text =
     record {
       items = text_items slot (glyph_of loaded.font) (step_of loaded.font) (space_glue loaded.font.space) text;
@@ -54,7 +54,7 @@ text_items_in (Some loaded) slot text =
 
 -- What one character becomes in the font of a slot: it is shaped as a word of its own, without kerns or ligatures to its neighbours.
 abbrev pub character_in : Option LoadedFont → ℕ → ℕ → CharacterItems
-character_in None slot code = unshaped
+character_in None slot code = no_characters
 character_in (Some loaded) slot code =
     record {
       items = shaped_items slot (glyph_of loaded.font) (step_of loaded.font) (code ∷ []);
@@ -63,10 +63,10 @@ character_in (Some loaded) slot code =
 
 -- What a text becomes in the current font.
 abbrev pub text_shaped : Slots → Option ℕ → List ℕ → CharacterItems
-text_shaped fonts None text = unshaped
+text_shaped fonts None text = no_characters
 text_shaped fonts (Some slot) text = text_items_in (font_in fonts slot) slot text
 
 -- What one character becomes in the current font.
 abbrev pub character_shaped : Slots → Option ℕ → ℕ → CharacterItems
-character_shaped fonts None code = unshaped
+character_shaped fonts None code = no_characters
 character_shaped fonts (Some slot) code = character_in (font_in fonts slot) slot code

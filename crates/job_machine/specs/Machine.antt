@@ -9,7 +9,7 @@ use Rattle.tfm_core.specs.NamedBytes.{NamedBytes}
 use Rattle.job_machine.specs.State.{State, first_state}
 use Rattle.job_machine.specs.Checks.{first_refusal, checks}
 use Rattle.job_machine.specs.Answers.{answer_of}
-use Rattle.job_machine.specs.Effects.{after, new_pages}
+use Rattle.job_machine.specs.Effects.{state_after_command, new_pages}
 
 -- The reply to a command: the first refusal whose condition holds, or the answer.
 abbrev pub reply_by : Option Refusal → Answer → Reply
@@ -27,7 +27,7 @@ state_by (Some refusal) old new = old
 
 -- The state after a command. A refused command leaves it unchanged.
 abbrev pub state_after : State → Command → State
-state_after m command = state_by (first_refusal (checks m command)) m (after m command)
+state_after m command = state_by (first_refusal (checks m command)) m (state_after_command m command)
 
 -- The machine: a state; the pages that were shipped, in order; and, where the device failed in a `ship`, the page that was being sent.
 pub record Machine : Type 0 where

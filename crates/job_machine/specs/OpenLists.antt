@@ -8,7 +8,7 @@ use Rattle.node_core.specs.declared.params.Params.{Params}
 use Rattle.node_core.specs.declared.tree.Glue as glues
 use Rattle.node_core.specs.Items.{Items, none}
 use Rattle.vert_core.specs.declared.interline.DimensionTooLarge as distances
-use Rattle.vert_core.specs.Interline.{ignored_depth, interline, glue_of, appended}
+use Rattle.vert_core.specs.Interline.{ignored_depth, interline, glue_of, appended_nodes}
 use Rattle.job_machine.specs.declared.OpenList.{OpenList}
 use Rattle.job_machine.specs.declared.ListPurpose.{ListPurpose}
 use Rattle.job_machine.specs.declared.ListPurpose.TheVariants.{Box, Paragraph}
@@ -50,7 +50,7 @@ glue_in params open_list height = glue_by (kind_by open_list.purpose) params ope
 
 -- The items that a box adds to an open list: the glue before it, if any, and the box with its shift.
 abbrev pub box_items : Params → OpenList → (shift : ℤ) → BoxNode → List Node
-box_items params open_list shift b = appended (glue_of (glue_in params open_list b.height)) shift b
+box_items params open_list shift b = appended_nodes (glue_of (glue_in params open_list b.height)) shift b
 
 -- The box that a list of items becomes, or the items where a size does not fit. A vbox is no deeper than boxmaxdepth
 -- (TeX: The Program, part 47, §1086).

@@ -12,7 +12,7 @@ use Rattle.vert_core.specs.Interline.{ignored_depth}
 use Rattle.vert_core.specs.declared.paragraph.SetParagraph.{SetParagraph}
 use Rattle.vert_core.specs.declared.paragraph.ParagraphFault.{ParagraphFault}
 use Rattle.vert_core.specs.declared.paragraph.ParagraphFault.TheVariants as faults
-use Rattle.vert_core.specs.Paragraphs.{unbroken}
+use Rattle.vert_core.specs.Paragraphs.{break_fault}
 use Rattle.vert_core.specs.Setting.{setting}
 use Rattle.job_machine.specs.declared.replies.Answer.{Answer}
 use Rattle.job_machine.specs.declared.replies.Answer.TheVariants as answers
@@ -44,11 +44,11 @@ paragraph_answer (Ok set) = answers.Paragraph set.lines (pass_number set.pass) s
 paragraph_answer (Err fault) = answers.Done
 
 -- The refusal of a paragraph that is not set. Refused memory is no refusal here: `Steps` allows it apart from the table.
-abbrev pub refusal_for : ParagraphFault → Option Refusal
-refusal_for faults.InfiniteShrink = Some InfiniteShrink
-refusal_for faults.TooManyBreaks = Some TooManyBreaks
-refusal_for faults.DimensionTooLarge = Some DimensionTooLarge
-refusal_for faults.OutOfMemory = None
+abbrev pub paragraph_refusal : ParagraphFault → Option Refusal
+paragraph_refusal faults.InfiniteShrink = Some InfiniteShrink
+paragraph_refusal faults.TooManyBreaks = Some TooManyBreaks
+paragraph_refusal faults.DimensionTooLarge = Some DimensionTooLarge
+paragraph_refusal faults.OutOfMemory = None
 
 -- The checks of a refusal that is already found.
 abbrev pub refused_by : Option Refusal → List (Bool × Refusal)
@@ -62,7 +62,7 @@ lines_checks count items = (nat_lt MAX_DEPTH (items_depth items), TooDeep) ∷ (
 -- The refusals of a paragraph for a list that has this number of items: why it is not set, else those of its lines.
 abbrev pub set_checks : (count : ℕ) → Result SetParagraph ParagraphFault → List (Bool × Refusal)
 set_checks count (Ok set) = lines_checks count set.items
-set_checks count (Err fault) = refused_by (refusal_for fault)
+set_checks count (Err fault) = refused_by (paragraph_refusal fault)
 
 -- The refusals of the end of a paragraph of these items with these lists around.
 abbrev pub paragraph_checks : Params → (around : List OpenList) → Items → List (Bool × Refusal)
@@ -79,7 +79,7 @@ unbroken_checks (Some breaking.OutOfMemory) = []
 -- The refusals of the end of a paragraph that are found before memory is taken: no list is around it, or it may not be broken.
 abbrev pub early_paragraph_checks : Params → (around : List OpenList) → Items → List (Bool × Refusal)
 early_paragraph_checks params around items =
-    (is_none (innermost around), NoOpenList) ∷ unbroken_checks (unbroken (nodes_of items) params.par_fill_skip)
+    (is_none (innermost around), NoOpenList) ∷ unbroken_checks (break_fault (nodes_of items) params.par_fill_skip)
 
 -- The lists around a paragraph, with its lines at the end of the innermost one, whose previous depth is then that of the last line.
 abbrev pub with_lines : (around : List OpenList) → Option OpenList → Result SetParagraph ParagraphFault → List OpenList

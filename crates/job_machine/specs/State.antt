@@ -6,7 +6,7 @@ use Rattle.node_core.specs.declared.tree.BoxNode.{BoxNode}
 use Rattle.node_core.specs.declared.params.Params.{Params}
 use Rattle.node_core.specs.Items.{Items, none}
 use Rattle.node_core.specs.Nodes.{nodes_of}
-use Rattle.node_core.specs.Loads.{Load, heavier}
+use Rattle.node_core.specs.Loads.{Load, load_with_box}
 use Rattle.node_core.specs.Parameters.{first_params}
 use Rattle.job_machine.specs.declared.OpenList.{OpenList}
 use Rattle.job_machine.specs.declared.command.FontLoad.{FontLoad}
@@ -83,7 +83,7 @@ nodes_in (Some b) = nodes_of b.list
 -- How much was shipped, counting also the box of a register.
 abbrev pub shipped_with : Load → (held : Option BoxNode) → Load
 shipped_with load None = load
-shipped_with load (Some b) = heavier load b
+shipped_with load (Some b) = load_with_box load b
 
 -- The font that a `font` command loads, or why there is none.
 abbrev pub font_for : State → FontLoad → Result SizedFont Refusal

@@ -12,7 +12,7 @@ use Rattle.job_machine.specs.OpenLists.{opened_list}
 use Rattle.job_machine.specs.State.{State, innermost, outer, items_in}
 use Rattle.job_machine.specs.Checks.{par_checks, checks, first_refusal}
 use Rattle.job_machine.specs.Answers.{answer_of}
-use Rattle.job_machine.specs.Effects.{after}
+use Rattle.job_machine.specs.Effects.{state_after_command}
 use Rattle.job_machine.specs.Machine.{reply_by, reply_to, state_by, state_after}
 use Rattle.job_machine.specs.Paragraphs.{set_after, paragraph_checks, early_paragraph_checks, paragraph_answer, with_paragraph}
 use Rattle.job_machine.specs.Runs.{early_checks}
@@ -38,7 +38,7 @@ module _ (s : State) (l : OpenList) (running : s.over ≡ false) (is : innermost
   given_so : given s ≡ answer_of s End
   given_so = rw (is, opened) refl
 
-  left_so : record s { nest = lists_left s } ≡ after s End
+  left_so : record s { nest = lists_left s } ≡ state_after_command s End
   left_so = rw (is, opened) refl
 
   reply_so : reply_by (refused s) (given s) ≡ reply_to s End

@@ -23,7 +23,7 @@ use Rattle.job_state.specs.Loaded.{GivesNumbersFor}
 use Rattle.job_state.specs.Private.Loaded.{IsLoaded, AreLoaded}
 use Rattle.job_machine.specs.State.{State, font_for}
 use Rattle.job_machine.specs.Checks.{checks, first_refusal}
-use Rattle.job_machine.specs.Effects.{after}
+use Rattle.job_machine.specs.Effects.{state_after_command}
 use Rattle.scaled_core.proofs.EachOf.{each_set, each_copy, each_held, held_within}
 
 -- A metric file whose sizes fit gives the font of these sizes.
@@ -64,20 +64,20 @@ still_loaded s t keeps loaded =
 
 -- After a command that is accepted the fonts of the slots are still what the font files give.
 pub loaded_after : (s : State) (command : Command) → first_refusal (checks s command) ≡ None → GivesNumbersFor s command → AreLoaded s.files s.fonts
-    → AreLoaded (after s command).files (after s command).fonts
+    → AreLoaded (state_after_command s command).files (state_after_command s command).fonts
 loaded_after s (LoadFont load) may gives loaded = with_font_loaded s.files s.fonts load.slot load.name load.size (font_for s load) refl gives.0 gives.1 loaded
 loaded_after s (UseFont slot) may gives loaded = loaded
 loaded_after s (Open opening) may gives loaded = loaded
 loaded_after s Paragraph may gives loaded = loaded
-loaded_after s End may gives loaded = still_loaded s (after s End) (end_keeps s) loaded
+loaded_after s End may gives loaded = still_loaded s (state_after_command s End) (end_keeps s) loaded
 loaded_after s (Text text) may gives loaded = loaded
 loaded_after s (Character code) may gives loaded = loaded
 loaded_after s (Rule rule) may gives loaded = loaded
 loaded_after s (Kern width) may gives loaded = loaded
 loaded_after s (Glue glue) may gives loaded = loaded
 loaded_after s (Penalty n) may gives loaded = loaded
-loaded_after s (Append taken) may gives loaded = still_loaded s (after s (Append taken)) (append_keeps s taken) loaded
-loaded_after s (Unbox taken) may gives loaded = still_loaded s (after s (Unbox taken)) (unbox_keeps s taken) loaded
+loaded_after s (Append taken) may gives loaded = still_loaded s (state_after_command s (Append taken)) (append_keeps s taken) loaded
+loaded_after s (Unbox taken) may gives loaded = still_loaded s (state_after_command s (Unbox taken)) (unbox_keeps s taken) loaded
 loaded_after s (LastBox r) may gives loaded = loaded
 loaded_after s (Split splitting) may gives loaded = loaded
 loaded_after s (Measure r) may gives loaded = loaded

@@ -10,19 +10,19 @@ use Rattle.node_core.specs.declared.tree.Node.TheVariants as nodes
 use Rattle.node_core.specs.Items.{EachLeaf}
 use Rattle.node_core.specs.Nodes.{items_of}
 use Rattle.break_lines.specs.Legal.{is_dropped, up_to}
-use Rattle.break_lines.specs.LineItems.{at_break, without_first, kept}
+use Rattle.break_lines.specs.LineItems.{at_break, without_first, kept_items}
 use Rattle.break_lines.specs.Facts.{facts_of, refusal}
 use Rattle.break_lines.specs.declared.fault.BreakFault.{BreakFault}
 use Rattle.break_lines.specs.declared.fault.BreakFault.TheVariants as breaking
 use Rattle.pack_core.specs.Boxes.{hbox}
 use Rattle.pack_core.specs.Glue.{is_zero}
-use Rattle.vert_core.specs.Interline.{interline, glue_of, appended}
+use Rattle.vert_core.specs.Interline.{interline, glue_of, appended_nodes}
 use Rattle.vert_core.specs.declared.paragraph.SetParagraph.{SetParagraph}
 use Rattle.vert_core.specs.declared.paragraph.ParagraphFault.{ParagraphFault}
 use Rattle.vert_core.specs.declared.paragraph.ParagraphFault.TheVariants.{DimensionTooLarge}
 use Rattle.vert_core.specs.Lines.{BrokenParagraph, boxed_line, line_box, line_begin, line_items, depth_before, penalty_after, penalty_nodes, brought_by, vertical_items, lines_fit}
-use Rattle.vert_core.specs.Finished.{final_glue, without_glue, finished}
-use Rattle.vert_core.specs.Setting.{ChosenLines, chosen_lines, lined, set_by, set_if_fit, set_or, list_setting, setting}
+use Rattle.vert_core.specs.Finished.{final_glue, without_glue, finished_list}
+use Rattle.vert_core.specs.Setting.{ChosenLines, chosen_lines, paragraph_in_lines, set_by, set_if_fit, set_or, list_setting, setting}
 use Rattle.scaled_core.proofs.EachOf.{all_append, all_weaker, each_taken}
 use Rattle.tfm_core.specs.Slots.{Slots}
 use Rattle.job_state.proofs.SplitParts.{each_dropped}
@@ -73,7 +73,7 @@ module _ (fonts : Slots) where
   without_have None list all = all
   without_have (Some glue) list all = each_taken (HasGlyphs fonts) (length list - 1) list all
 
-  finished_have : (list : List Node) (skip : glues.Glue) → HaveGlyphs fonts list → HaveGlyphs fonts (finished list skip)
+  finished_have : (list : List Node) (skip : glues.Glue) → HaveGlyphs fonts list → HaveGlyphs fonts (finished_list list skip)
   finished_have list skip all = all_append (HasGlyphs fonts) (without_glue (final_glue list) list) _ (without_have (final_glue list) list all) (tt, (tt, tt))
 
   -- The item at a break leaves no glyph of its own.
@@ -97,7 +97,7 @@ module _ (fonts : Slots) where
   first_have [] all = tt
   first_have (x ∷ rest) all = first_by x rest (is_dropped x) refl all (first_have rest all.1)
 
-  kept_have : (list : List Node) (from : Option ℕ) (b : ℕ) → HaveGlyphs fonts list → HaveGlyphs fonts (kept list from b)
+  kept_have : (list : List Node) (from : Option ℕ) (b : ℕ) → HaveGlyphs fonts list → HaveGlyphs fonts (kept_items list from b)
   kept_have list None b all = all_append (HasGlyphs fonts) (take b list) _ (each_taken (HasGlyphs fonts) b list all) (at_break_have (slice_get list b))
   kept_have list (Some a) b all =
       all_append (HasGlyphs fonts) (without_first (drop (a + 1) (take b list))) _
@@ -112,7 +112,7 @@ module _ (fonts : Slots) where
   unfolding line_box
   line_have p line all = boxed_have _ (line_items p line) (kept_have p.nodes (line_begin p.places line) (get_or p.places line 0) all)
 
-  appended_have : (glue : Option glues.Glue) (b : BoxNode) → EachLeaf (IsSizedLeaf fonts) b.list → HaveGlyphs fonts (appended glue (pos 0) b)
+  appended_have : (glue : Option glues.Glue) (b : BoxNode) → EachLeaf (IsSizedLeaf fonts) b.list → HaveGlyphs fonts (appended_nodes glue (pos 0) b)
   appended_have None b all = (all, tt)
   appended_have (Some glue) b all = (tt, (all, tt))
 
@@ -128,7 +128,7 @@ module _ (fonts : Slots) where
   unfolding brought_by
   brought_have p line all =
       let b = line_box p line in
-      all_append (HasGlyphs fonts) (appended (glue_of (interline p.params (depth_before p line) b.height)) (pos 0) b) _
+      all_append (HasGlyphs fonts) (appended_nodes (glue_of (interline p.params (depth_before p line) b.height)) (pos 0) b) _
       (appended_have (glue_of (interline p.params (depth_before p line) b.height)) b (line_have p line all))
       (step_after (penalty_after p.params (length p.places) line) _)
 
@@ -144,7 +144,7 @@ module _ (fonts : Slots) where
   fit_have : (list : List Node) (params : Params) (previous : ℤ) (chosen : ChosenLines) (fit : Bool) (set : SetParagraph) → HaveGlyphs fonts list
       → if◌then◌else◌ {A = Result SetParagraph ParagraphFault} fit (Ok (set_by list params previous chosen)) (Err DimensionTooLarge) ≡ Ok set → EachLeaf (IsSizedLeaf fonts) set.items
   fit_have list params previous chosen true set all is =
-      subst (λ (s : SetParagraph). EachLeaf (IsSizedLeaf fonts) s.items) (ok_same is) (vertical_have (lined list params previous chosen) all)
+      subst (λ (s : SetParagraph). EachLeaf (IsSizedLeaf fonts) s.items) (ok_same is) (vertical_have (paragraph_in_lines list params previous chosen) all)
     where
       ok_same : {s t : SetParagraph} → set_as s ≡ set_as t → s ≡ t
       ok_same e = cc
@@ -153,7 +153,7 @@ module _ (fonts : Slots) where
   chosen_have : (list : List Node) (params : Params) (previous : ℤ) (chosen : Option ChosenLines) (set : SetParagraph) → HaveGlyphs fonts list
       → set_if_fit list params previous chosen ≡ Ok set → EachLeaf (IsSizedLeaf fonts) set.items
   chosen_have list params previous None set all is = cc
-  chosen_have list params previous (Some chosen) set all is = fit_have list params previous chosen (lines_fit (lined list params previous chosen)) set all is
+  chosen_have list params previous (Some chosen) set all is = fit_have list params previous chosen (lines_fit (paragraph_in_lines list params previous chosen)) set all is
 
   or_have : (fault : Option BreakFault) (result : Result SetParagraph ParagraphFault) (set : SetParagraph) → set_or fault result ≡ Ok set → result ≡ Ok set
   or_have None result set is = is
@@ -176,7 +176,7 @@ module _ (fonts : Slots) where
       ok_same : {s t : SetParagraph} → set_as s ≡ set_as t → s ≡ t
       ok_same e = cc
   set_have (x ∷ rest) params previous set all is =
-      list_have (finished (x ∷ rest) params.par_fill_skip) params previous set (finished_have (x ∷ rest) params.par_fill_skip all) is
+      list_have (finished_list (x ∷ rest) params.par_fill_skip) params previous set (finished_have (x ∷ rest) params.par_fill_skip all) is
 
   pub set_sized : (list : List Node) (params : Params) (previous : ℤ) (set : SetParagraph) → AreSized fonts list → setting list params previous ≡ Ok set
       → EachLeaf (IsSizedLeaf fonts) set.items

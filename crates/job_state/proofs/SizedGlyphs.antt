@@ -12,8 +12,8 @@ use Rattle.node_core.specs.declared.tree.Rule as rules
 use Rattle.node_core.specs.declared.params.Params.{Params}
 use Rattle.node_core.specs.Items as leaves
 use Rattle.node_core.specs.Items.{Leaf, Items, EachLeaf, items_depth}
-use Rattle.node_core.specs.Nodes.{items_of, node_of, nodes_of, box_depth, box_in, box_at, last_box, without}
-use Rattle.vert_core.specs.Interline.{glue_of, appended}
+use Rattle.node_core.specs.Nodes.{items_of, node_of, nodes_of, box_depth, box_in, box_at, last_box, without_last_box}
+use Rattle.vert_core.specs.Interline.{glue_of, appended_nodes}
 use Rattle.node_core.proofs.NodeLemmas.{nodes_of-items_of}
 use Rattle.tfm_core.specs.NamedBytes.{NamedBytes}
 use Rattle.tfm_core.specs.Fonts.{SizedFont, glyph_of, step_of}
@@ -51,7 +51,7 @@ use Rattle.node_core.specs.declared.limits.TheConstants.{REGISTERS, MAX_DEPTH, M
 use Rattle.job_machine.specs.State.{State, first_state, innermost, outer, items_in, held_in, font_for}
 use Rattle.job_machine.specs.OpenLists.{glue_in, box_items, if_packed, packed_by}
 use Rattle.job_machine.specs.Checks.{home_checks, packed_checks, purpose_checks, close_checks, checks, first_refusal, refusal_in}
-use Rattle.job_machine.specs.Effects.{with_nodes, with_rule, with_items, with_box, without_last, with_taken, with_home, with_closed, with_purpose, with_ended, with_used, with_unboxed, with_split, after}
+use Rattle.job_machine.specs.Effects.{with_nodes, with_rule, with_items, with_box, without_last, with_taken, with_home, with_closed, with_purpose, with_ended, with_used, with_unboxed, with_split, state_after_command}
 
 -- A slot that has a font keeps it when another slot is given a font.
 font_kept : (fonts : Slots) (other : ℕ) (font : LoadedFont) (slot : ℕ) (loaded : LoadedFont) → font_in fonts other ≡ None
@@ -90,20 +90,20 @@ still_loaded s t slot loaded keeps is = ap (λ fonts. font_in fonts slot) keeps.
 
 -- A slot that has a font keeps it.
 pub stays_loaded : (s : State) (command : Command) → first_refusal (checks s command) ≡ None → (slot : ℕ) (loaded : LoadedFont)
-    → font_in s.fonts slot ≡ Some loaded → font_in (after s command).fonts slot ≡ Some loaded
+    → font_in s.fonts slot ≡ Some loaded → font_in (state_after_command s command).fonts slot ≡ Some loaded
 stays_loaded s (LoadFont load) may slot loaded is = with_font_kept s.fonts load.slot load.name (font_for s load) slot loaded (slot_empty s load may) is
 stays_loaded s (UseFont other) may slot loaded is = is
 stays_loaded s (Open opening) may slot loaded is = is
 stays_loaded s Paragraph may slot loaded is = is
-stays_loaded s End may slot loaded is = still_loaded s (after s End) slot loaded (end_keeps s) is
+stays_loaded s End may slot loaded is = still_loaded s (state_after_command s End) slot loaded (end_keeps s) is
 stays_loaded s (Text text) may slot loaded is = is
 stays_loaded s (Character code) may slot loaded is = is
 stays_loaded s (Rule rule) may slot loaded is = is
 stays_loaded s (Kern width) may slot loaded is = is
 stays_loaded s (Glue glue) may slot loaded is = is
 stays_loaded s (Penalty n) may slot loaded is = is
-stays_loaded s (Append taken) may slot loaded is = still_loaded s (after s (Append taken)) slot loaded (append_keeps s taken) is
-stays_loaded s (Unbox taken) may slot loaded is = still_loaded s (after s (Unbox taken)) slot loaded (unbox_keeps s taken) is
+stays_loaded s (Append taken) may slot loaded is = still_loaded s (state_after_command s (Append taken)) slot loaded (append_keeps s taken) is
+stays_loaded s (Unbox taken) may slot loaded is = still_loaded s (state_after_command s (Unbox taken)) slot loaded (unbox_keeps s taken) is
 stays_loaded s (LastBox r) may slot loaded is = is
 stays_loaded s (Split splitting) may slot loaded is = is
 stays_loaded s (Measure r) may slot loaded is = is
@@ -148,8 +148,8 @@ node_kept old new keeps (nodes.Rule sizes) is = tt
 node_kept old new keeps (nodes.Special text) is = tt
 node_kept old new keeps (nodes.Box shift b) is = box_kept old new keeps b is
 
-pub stays_sized : (s : State) (command : Command) → first_refusal (checks s command) ≡ None → (b : BoxNode) → IsSoundBox s.fonts b → IsSoundBox (after s command).fonts b
-stays_sized s command may b is = box_kept s.fonts (after s command).fonts (stays_loaded s command may) b is
+pub stays_sized : (s : State) (command : Command) → first_refusal (checks s command) ≡ None → (b : BoxNode) → IsSoundBox s.fonts b → IsSoundBox (state_after_command s command).fonts b
+stays_sized s command may b is = box_kept s.fonts (state_after_command s command).fonts (stays_loaded s command may) b is
 
 -- Items are sized as nodes if and only if they are sized as leaves, as long as no box among them is too deep.
 leaf_sized : (fonts : Slots) (x : Leaf) → IsSized fonts (node_of x) → IsSizedLeaf fonts x
@@ -239,7 +239,7 @@ pub sized_held : (s : State) (r : ℕ) (b : BoxNode) → HasSizedGlyphs s → he
 sized_held s r b sized is = each_held (IsSizedHeld s.fonts) s.registers r b sized.registers is
 
 -- A sound box is sized as an item of a list, with or without interline glue.
-items_of_box : (fonts : Slots) (glue : Option glues.Glue) (shift : ℤ) (b : BoxNode) → IsSoundBox fonts b → AreSized fonts (appended glue shift b)
+items_of_box : (fonts : Slots) (glue : Option glues.Glue) (shift : ℤ) (b : BoxNode) → IsSoundBox fonts b → AreSized fonts (appended_nodes glue shift b)
 items_of_box fonts None shift b is = (is, tt)
 items_of_box fonts (Some glue) shift b is = (tt, (is, tt))
 
@@ -259,7 +259,7 @@ nest_with_rule fonts nest sizes (Some l) all is =
     (nodes_sized fonts (nodes_of l.list) (nodes.Rule sizes ∷ []) (each_at (IsSizedList fonts) nest (length nest - 1) l all is) (tt, tt))
 
 -- A list stays sized without its last box.
-sized_without : (fonts : Slots) (xs : List Node) (last : Option BoxNode) → AreSized fonts xs → AreSized fonts (nodes_of (items_of (without last xs)))
+sized_without : (fonts : Slots) (xs : List Node) (last : Option BoxNode) → AreSized fonts xs → AreSized fonts (nodes_of (items_of (without_last_box last xs)))
 sized_without fonts xs None all = rw nodes_of-items_of all
 sized_without fonts xs (Some b) all = rw nodes_of-items_of (each_taken (IsSized fonts) (length xs - 1) xs all)
 
@@ -400,9 +400,9 @@ pub sized_first : (files : List NamedBytes) → HasSizedGlyphs (first_state file
 sized_first files = record { nest = tt; registers = each_copy (IsSizedHeld (first_state files).fonts) REGISTERS None tt }
 
 -- A command that is accepted leaves all glyphs sized.
-pub sized_after : (s : State) (command : Command) → first_refusal (checks s command) ≡ None → HasSizedGlyphs s → HasSizedGlyphs (after s command)
+pub sized_after : (s : State) (command : Command) → first_refusal (checks s command) ≡ None → HasSizedGlyphs s → HasSizedGlyphs (state_after_command s command)
 sized_after s (LoadFont load) may sized =
-    let new : Slots = (after s (LoadFont load)).fonts in
+    let new : Slots = (state_after_command s (LoadFont load)).fonts in
     let keeps = stays_loaded s (LoadFont load) may in
     record {
       nest = all_weaker (IsSizedList s.fonts) (IsSizedList new) s.nest (list_kept s.fonts new keeps) sized.nest;

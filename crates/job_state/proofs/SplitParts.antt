@@ -12,7 +12,7 @@ use Rattle.node_core.specs.Nodes.{items_of, node_of, nodes_of, box_depth}
 use Rattle.pack_core.specs.declared.pack.Packed as packs
 use Rattle.pack_core.specs.Boxes.{vbox}
 use Rattle.vert_core.specs.Places.{is_box_or_rule}
-use Rattle.vert_core.specs.Split.{from_box_or_rule, is_special, specials_above, split_place, topped, left_of, items_after, packed_rest, front_of, rest_of}
+use Rattle.vert_core.specs.Split.{from_box_or_rule, is_special, specials_above, split_place, from_first_box, left_of, items_after, packed_rest, front_of, rest_of}
 use Rattle.node_core.specs.declared.limits.TheConstants.{MAX_DEPTH}
 use Rattle.scaled_core.proofs.EachOf.{all_append, each_taken}
 use Rattle.tfm_core.specs.Slots.{Slots}
@@ -105,7 +105,7 @@ from_inner : (fonts : Slots) (items : List Node) → AreInner fonts items → Ar
 from_inner fonts [] all = tt
 from_inner fonts (x ∷ xs) all = from_by fonts x xs (is_box_or_rule x) refl all (from_inner fonts xs all.1)
 
-topped_inner : (fonts : Slots) (params : SplitParams) (items : List Node) → AreInner fonts items → AreInner fonts (topped params items)
+topped_inner : (fonts : Slots) (params : SplitParams) (items : List Node) → AreInner fonts items → AreInner fonts (from_first_box params items)
 topped_inner fonts params [] all = tt
 topped_inner fonts params (x ∷ xs) all = (tt, all)
 
@@ -121,7 +121,7 @@ specials_inner fonts (x ∷ xs) all = above_by fonts x xs (is_box_or_rule x) (is
 
 left_inner : (fonts : Slots) (params : SplitParams) (after : List Node) → AreInner fonts after → AreInner fonts (left_of params after)
 left_inner fonts params after all =
-    all_append (IsInner fonts) (specials_above after) (topped params (from_box_or_rule after)) (specials_inner fonts after all)
+    all_append (IsInner fonts) (specials_above after) (from_first_box params (from_box_or_rule after)) (specials_inner fonts after all)
     (topped_inner fonts params (from_box_or_rule after) (from_inner fonts after all))
 
 packed_sound : (fonts : Slots) (items : List Node) → AreInner fonts items → IsSizedHeld fonts (option_map (λ (p : packs.Packed). p.box_node) (packed_rest items))

@@ -21,31 +21,31 @@ use Rattle.job_machine.specs.State.{held_in}
 use Rattle.job_machine.specs.Checks.{is_other, split_checks, first_refusal}
 use Rattle.job_machine.specs.Effects.{with_parts, with_split}
 use Rattle.job_machine.specs.Machine.{state_by}
-use Rattle.job_state.specs.Private.SplitFaults.{refusal_for}
+use Rattle.job_state.specs.Private.SplitFaults.{split_refusal}
 use Rattle.job_machine.proofs.ListElements.{set_again}
 use Rattle.job_machine.proofs.States.{held_back, void_again}
 
 -- The fault of a split is the first refusal of the items of a vbox.
 pub fault_refused : (params : SplitParams) (height : ℤ) (items : List Node)
-    → refusal_for (fault_of (refusal params height items))
+    → split_refusal (fault_of (refusal params height items))
     ≡ first_refusal ((list_any shrinks_infinitely items, InfiniteShrink) ∷ (not (list_all fits (split_numbers params height items)), DimensionTooLarge) ∷ [])
 unfolding refusal
 fault_refused params height items = by (list_any shrinks_infinitely items) (list_all fits (split_numbers params height items)) refl refl
   where
     by : (shrinks large : Bool) → list_any shrinks_infinitely items ≡ shrinks → list_all fits (split_numbers params height items) ≡ large
-        → refusal_for (fault_of (refusal params height items))
+        → split_refusal (fault_of (refusal params height items))
         ≡ first_refusal ((list_any shrinks_infinitely items, InfiniteShrink) ∷ (not (list_all fits (split_numbers params height items)), DimensionTooLarge) ∷ [])
     by true large e f = rw e refl
     by false true e f = rw (e, f) refl
     by false false e f = rw (e, f) refl
 
 -- If only memory was refused, no check refuses the split.
-none_against : (params : SplitParams) (height : ℤ) (items : List Node) → refusal_for (fault_of (refusal params height items)) ≡ None → refusal params height items ≡ None
+none_against : (params : SplitParams) (height : ℤ) (items : List Node) → split_refusal (fault_of (refusal params height items)) ≡ None → refusal params height items ≡ None
 unfolding refusal
 none_against params height items none = by (list_any shrinks_infinitely items) (list_all fits (split_numbers params height items)) refl refl
   where
-    told : (found : Option SplitFault) → refusal params height items ≡ found → refusal_for (fault_of found) ≡ None
-    told found is = ap (λ o. refusal_for (fault_of o)) (sym is) ∙ none
+    told : (found : Option SplitFault) → refusal params height items ≡ found → split_refusal (fault_of found) ≡ None
+    told found is = ap (λ o. split_refusal (fault_of o)) (sym is) ∙ none
 
     by : (shrinks large : Bool) → list_any shrinks_infinitely items ≡ shrinks → list_all fits (split_numbers params height items) ≡ large
         → refusal params height items ≡ None
@@ -56,13 +56,13 @@ none_against params height items none = by (list_any shrinks_infinitely items) (
 -- Only a split that leaves a rest runs out of memory.
 pub left_by : (params : SplitParams) (height : ℤ) (items : List Node) (fault : SplitFault)
     → fault ≡ fault_of (refusal params height items) → (refusal params height items ≡ None → is_some (rest_of params height items) ≡ true)
-    → refusal_for fault ≡ None → IsSome (rest_of params height items)
-left_by params height items fault is growth none = growth (none_against params height items (sym (ap refusal_for is) ∙ none))
+    → split_refusal fault ≡ None → IsSome (rest_of params height items)
+left_by params height items fault is growth none = growth (none_against params height items (sym (ap split_refusal is) ∙ none))
 
 -- A vbox that can be split is not refused.
 pub vbox_free : (params : SplitParams) (height : ℤ) (b : BoxNode) → is_other Vertical b.kind ≡ false → refusal params height (nodes_of b.list) ≡ None
     → first_refusal (split_checks params height (Some b)) ≡ None
-vbox_free params height b vertical free = rw vertical (sym (fault_refused params height (nodes_of b.list)) ∙ ap (λ o. refusal_for (fault_of o)) free)
+vbox_free params height b vertical free = rw vertical (sym (fault_refused params height (nodes_of b.list)) ∙ ap (λ o. split_refusal (fault_of o)) free)
 
 module _ (params : SplitParams) (splitting : Splitting) (registers taken : List (Option BoxNode)) (is_taken : taken ≡ slice_set registers splitting.register None) where
   -- The registers after a split, by what the split register held.

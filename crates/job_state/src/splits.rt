@@ -4,7 +4,7 @@ ghost use Rattle.std.specs.Prelude.{◌≡◌, None, Some, IfOk, IfErr, OnOk, Is
 ghost use Rattle.node_core.specs.Nodes.{nodes_of};
 ghost use Rattle.vert_core.specs.Split.{front_of, rest_of};
 ghost use Rattle.job_machine.specs.Checks.{split_checks, first_refusal};
-ghost use Rattle.job_state.specs.Private.SplitFaults.{refusal_for};
+ghost use Rattle.job_state.specs.Private.SplitFaults.{split_refusal};
 
 use job_machine::Refusal;
 use node_core::{BoxNode, Kind, SplitParams};
@@ -19,8 +19,8 @@ pub struct UnsplitBox {
 }
 
 /// The refusal for a fault; None if memory was refused.
-fn refusal_for(fault: SplitFault) -> Option<Refusal>
-    ensures { result ≡ refusal_for fault }
+fn split_refusal(fault: SplitFault) -> Option<Refusal>
+    ensures { result ≡ split_refusal fault }
 {
     match fault {
         SplitFault::InfiniteShrink => Some(Refusal::InfiniteShrink),
@@ -57,7 +57,7 @@ pub fn split_box(
                 list: unsplit.list,
                 ..box_node
             },
-            refusal: refusal_for(unsplit.fault),
+            refusal: split_refusal(unsplit.fault),
         }),
     }
 }

@@ -3,7 +3,7 @@ use Rattle.std.proofs.Common.{◌≡◌, ℤ, Option, Some, None, Bool, true, fa
 use Rattle.std.proofs.lemmas.Bool.Decides.{Decides-int_eq}
 use Rattle.dvi_ops.specs.Instruction.{MoveRegister, First, Second}
 use Rattle.dvi_ops.specs.Body.{Pair, MoveRegisters, movement_amount, held_after}
-use Rattle.move_core.specs.Registers.{RegisterPair, Known, nothing_known, is_amount, other, set_in, choice}
+use Rattle.move_core.specs.Registers.{RegisterPair, Known, nothing_known, is_amount, other_register, set_in, choice}
 
 -- A known value is the value of the register.
 abbrev pub Holds : Option ℤ → ℤ → Type 0
@@ -31,7 +31,7 @@ pub goes_as_far : (first second again : Bool) (k : RegisterPair) (n : ℤ) (p : 
     Agree k p → movement_amount p (choice first second again k n).step ≡ n
 goes_as_far true second again k n p a b h = held_amount k.first n p.first h.0 a
 goes_as_far false true again k n p a b h = held_amount k.second n p.second h.1 b
-goes_as_far false false true k n p a b h = by_register (other k.last)
+goes_as_far false false true k n p a b h = by_register (other_register k.last)
   where
     by_register : (register : MoveRegister) → movement_amount p (set_in register k n).step ≡ n
     by_register First = refl
@@ -43,7 +43,7 @@ pub knows_on : (first second again : Bool) (k : RegisterPair) (n : ℤ) (p : Pai
     Agree (choice first second again k n).held (held_after p (choice first second again k n).step)
 knows_on true second again k n p h = h
 knows_on false true again k n p h = h
-knows_on false false true k n p h = by_register (other k.last)
+knows_on false false true k n p h = by_register (other_register k.last)
   where
     by_register : (register : MoveRegister) → Agree (set_in register k n).held (held_after p (set_in register k n).step)
     by_register First = (refl, h.1)

@@ -6,7 +6,7 @@ use Rattle.dvi_ops.specs.Instruction.{Across, Downward, By, Set, Again, Move, In
 use Rattle.dvi_ops.specs.View.{body_view}
 use Rattle.dvi_ops.specs.declared.body_op.BodyOp.{BodyOp}
 use Rattle.move_core.specs.Registers.{Known}
-use Rattle.move_core.specs.Private.Passes.{Groups, again_in, entered, flags_of, is_move, amounts_after, op_written, rewritten}
+use Rattle.move_core.specs.Private.Passes.{Groups, again_in, groups_entered, flags_of, is_move, amounts_after, op_written, rewritten_instructions}
 
 -- The instructions from the one before i on.
 pub in_front : (ops : List BodyOp) (i : ℕ) (d : BodyOp) → 0 < i → i - 1 < length ops →
@@ -46,15 +46,15 @@ popped_flag flags flags' (Some again) i rest n n' move e l some all =
 -- A movement is written by the known values, and enters and leaves no group.
 pub written_move : (known known' : Known) (outer : List Known) (i written : Instruction) (again : Bool) (rest : List Instruction) → is_move i ≡ true →
     again ≡ again_in i rest → written ≡ op_written known i again → known' ≡ amounts_after known i again →
-    rewritten (i ∷ rest) (record { known = known; outer = outer }) ≡ written ∷ rewritten rest (record { known = known'; outer = outer })
+    rewritten_instructions (i ∷ rest) (record { known = known; outer = outer }) ≡ written ∷ rewritten_instructions rest (record { known = known'; outer = outer })
 written_move known known' outer (Do (Move axis (By n))) written again rest move e w k = rw (w, k, e) refl
 written_move known known' outer (Do (Move axis (Set register n))) written again rest move e w k = absurd (cc)
 written_move known known' outer (Do (Move axis (Again register))) written again rest move e w k = absurd (cc)
 written_move known known' outer i written again rest move e w k = absurd (cc)
 
 -- Any other instruction is unchanged, and changes the known values only where it enters or leaves a group.
-pub written_other : (g g' : Groups) (i : Instruction) (rest : List Instruction) → is_move i ≡ false → g' ≡ entered i g →
-    rewritten (i ∷ rest) g ≡ i ∷ rewritten rest g'
+pub written_other : (g g' : Groups) (i : Instruction) (rest : List Instruction) → is_move i ≡ false → g' ≡ groups_entered i g →
+    rewritten_instructions (i ∷ rest) g ≡ i ∷ rewritten_instructions rest g'
 written_other g g' (Do (Move axis (By n))) rest other e = absurd (cc)
 written_other g g' (Do (Move Across (Set register n))) rest other e = rw e refl
 written_other g g' (Do (Move Downward (Set register n))) rest other e = rw e refl

@@ -4,14 +4,14 @@ use Rattle.std.specs.Prelude.{option_to_list, MatchOption}
 use Rattle.std.proofs.lemmas.List.{reverse-append, nil_from_length}
 use Rattle.dvi_ops.specs.Instruction.{Axis, Instruction, Push, Pop}
 use Rattle.move_core.specs.declared.later.Amounts.{Amounts}
-use Rattle.move_core.specs.Private.Passes.{has, held_at, comes}
+use Rattle.move_core.specs.Private.Passes.{contains_amount, held_at, amount_comes}
 
 -- The collected amounts are those that come.
 abbrev pub KnowsAt : Amounts → List Amounts → List Instruction → Type 0
-KnowsAt here outer rest = (pops : ℕ) → (axis : Axis) → (n : ℤ) → held_at (here ∷ reverse outer) pops axis n ≡ comes rest pops axis n
+KnowsAt here outer rest = (pops : ℕ) → (axis : Axis) → (n : ℤ) → held_at (here ∷ reverse outer) pops axis n ≡ amount_comes rest pops axis n
 
 abbrev pub HasNone : Amounts → Type 0
-HasNone amounts = (axis : Axis) (n : ℤ) → has amounts axis n ≡ false
+HasNone amounts = (axis : Axis) (n : ℤ) → contains_amount amounts axis n ≡ false
 
 -- After all instructions.
 pub knows_nothing : (here : Amounts) (outer : List Amounts) → HasNone here → outer ≡ [] → KnowsAt here outer []

@@ -4,8 +4,8 @@ use Rattle.std.proofs.lemmas.Bool.Decides.{Decides-int_eq}
 use Rattle.dvi_ops.specs.Instruction.{Axis, Across, Downward, MoveRegister, First, Second, Movement, By, Set, Again, BodyLeaf, Move, Do}
 use Rattle.dvi_ops.specs.Forest.{Forest, Empty, Then, Group, nests}
 use Rattle.dvi_ops.specs.Plain.{NamesNoRegister}
-use Rattle.move_core.specs.Registers.{RegisterPair, Known, WrittenOp, written, other, set_in, choice, is_amount}
-use Rattle.move_core.specs.Reused.{along, plain_amount, has_move, comes_again, reused_from}
+use Rattle.move_core.specs.Registers.{RegisterPair, Known, WrittenOp, written_leaf, other_register, set_in, choice, is_amount}
+use Rattle.move_core.specs.Reused.{movement_along, plain_amount, has_move, comes_again, reused_from}
 use Rattle.move_core.specs.SamePage.{is_hollow, HasNoHollow, Stored, stored_after, NamesNoStored, UsesStored, then_meaning, goes_later, GoesNoLater, SetsAhead}
 use Rattle.move_core.proofs.Meanings.{IsPlain}
 
@@ -21,7 +21,7 @@ choice_keeps : (first second again : Bool) (k : RegisterPair) (n : ℤ) →
     stored_of (choice first second again k n).held ≡ stored_after (stored_of k) (Some (choice first second again k n).step)
 choice_keeps true second again k n = refl
 choice_keeps false true again k n = refl
-choice_keeps false false true k n = by_register (other k.last)
+choice_keeps false false true k n = by_register (other_register k.last)
   where
     by_register : (register : MoveRegister) → stored_of (set_in register k n).held ≡ stored_after (stored_of k) (Some (set_in register k n).step)
     by_register First = refl
@@ -32,7 +32,7 @@ choice_uses : (first second again : Bool) (k : RegisterPair) (n : ℤ) → is_am
     NamesNoStored (stored_of k) (Some (choice first second again k n).step)
 choice_uses true second again k n a b = tt
 choice_uses false true again k n a b = tt
-choice_uses false false true k n a b = by_register (other k.last)
+choice_uses false false true k n a b = by_register (other_register k.last)
   where
     by_register : (register : MoveRegister) → NamesNoStored (stored_of k) (Some (set_in register k n).step)
     by_register First = (a, b)
@@ -47,7 +47,7 @@ choice_goes : (first second again : Bool) (k : RegisterPair) (n : ℤ) → is_am
     then_meaning (stored_of k) (Some (choice first second again k n).step) ≡ Some n
 choice_goes true second again k n a b = known_amount k.first n a
 choice_goes false true again k n a b = known_amount k.second n b
-choice_goes false false true k n a b = by_register (other k.last)
+choice_goes false false true k n a b = by_register (other_register k.last)
   where
     by_register : (register : MoveRegister) → then_meaning (stored_of k) (Some (set_in register k n).step) ≡ Some n
     by_register First = refl
@@ -64,7 +64,7 @@ choice_last : (first second again : Bool) (k : RegisterPair) (n : ℤ) (later : 
 unfolding IsLast
 choice_last true second again k n later e = tt
 choice_last false true again k n later e = tt
-choice_last false false true k n later e = by_register (other k.last)
+choice_last false false true k n later e = by_register (other_register k.last)
   where
     by_register : (register : MoveRegister) → IsLast later (Some (set_in register k n).step)
     by_register First = tt
@@ -73,13 +73,13 @@ choice_last false false false k n later e = e
 
 -- What is written for an instruction, seen in one direction.
 record Fits (axis : Axis) (k : Known) (leaf : BodyLeaf) (later : Axis → ℤ → Bool) (out : WrittenOp) : Type 0 where
-  pub keeps : stored_of (known_in axis out.known) ≡ stored_after (stored_of (known_in axis k)) (along axis out.leaf)
-  pub uses : NamesNoStored (stored_of (known_in axis k)) (along axis out.leaf)
-  pub far : then_meaning (stored_of (known_in axis k)) (along axis out.leaf) ≡ plain_amount (along axis leaf)
-  pub last : IsLast (later axis) (along axis out.leaf)
+  pub keeps : stored_of (known_in axis out.known) ≡ stored_after (stored_of (known_in axis k)) (movement_along axis out.leaf)
+  pub uses : NamesNoStored (stored_of (known_in axis k)) (movement_along axis out.leaf)
+  pub far : then_meaning (stored_of (known_in axis k)) (movement_along axis out.leaf) ≡ plain_amount (movement_along axis leaf)
+  pub last : IsLast (later axis) (movement_along axis out.leaf)
 
 fits : (axis : Axis) (k : Known) (leaf : BodyLeaf) (later : Axis → ℤ → Bool) → NamesNoRegister (Do leaf) →
-    Fits axis k leaf later (written k leaf (comes_again leaf later))
+    Fits axis k leaf later (written_leaf k leaf (comes_again leaf later))
 unfolding IsLast
 fits Across k (Move Across (By n)) later plain =
     let a = is_amount k.across.first n in let b = is_amount k.across.second n in let again = later Across n in
@@ -115,7 +115,7 @@ later_same : (axis : Axis) (k : Known) (f : Forest) (n : ℤ) → IsPlain f →
     goes_later axis (stored_of (known_in axis k)) n (reused_from k f) ≡ has_move f axis n
 later_same axis k Empty n plain = refl
 later_same axis k (Then leaf rest) n (here, plain) =
-    let out = written k leaf (comes_again leaf (has_move rest)) in
+    let out = written_leaf k leaf (comes_again leaf (has_move rest)) in
     let fit = fits axis k leaf (has_move rest) here in
     ap₂ (λ (far : Option ℤ) (later : Bool). is_amount far n || later) fit.far
     (ap (λ (s : Stored). goes_later axis s n (reused_from out.known rest)) (sym fit.keeps) ∙ later_same axis out.known rest n plain)
@@ -125,7 +125,7 @@ later_same axis k (Group inner rest) n (within, plain) = later_same axis k rest 
 pub uses_stored : (axis : Axis) (k : Known) (f : Forest) → IsPlain f → UsesStored axis (stored_of (known_in axis k)) (reused_from k f)
 uses_stored axis k Empty plain = tt
 uses_stored axis k (Then leaf rest) (here, plain) =
-    let out = written k leaf (comes_again leaf (has_move rest)) in
+    let out = written_leaf k leaf (comes_again leaf (has_move rest)) in
     let fit = fits axis k leaf (has_move rest) here in
     (fit.uses, subst (λ (s : Stored). UsesStored axis s (reused_from out.known rest)) fit.keeps (uses_stored axis out.known rest plain))
 uses_stored axis k (Group inner rest) (within, plain) = (uses_stored axis k inner within, uses_stored axis k rest plain)
@@ -148,12 +148,12 @@ no_later_from axis s (Some (Again register)) rest h = tt
 pub sets_ahead : (axis : Axis) (k : Known) (f : Forest) → IsPlain f → SetsAhead axis (stored_of (known_in axis k)) (reused_from k f)
 sets_ahead axis k Empty plain = tt
 sets_ahead axis k (Then leaf rest) (here, plain) =
-    let out = written k leaf (comes_again leaf (has_move rest)) in
+    let out = written_leaf k leaf (comes_again leaf (has_move rest)) in
     let fit = fits axis k leaf (has_move rest) here in
     let after = reused_from out.known rest in (
-      no_later_from axis (stored_of (known_in axis k)) (along axis out.leaf) after
-          (subst (λ (s : Stored). GoesNoLater axis s (along axis out.leaf) after) fit.keeps
-          (no_later axis (stored_of (known_in axis out.known)) (along axis out.leaf) (has_move rest axis) after fit.last (λ n. later_same axis out.known rest n plain))),
+      no_later_from axis (stored_of (known_in axis k)) (movement_along axis out.leaf) after
+          (subst (λ (s : Stored). GoesNoLater axis s (movement_along axis out.leaf) after) fit.keeps
+          (no_later axis (stored_of (known_in axis out.known)) (movement_along axis out.leaf) (has_move rest axis) after fit.last (λ n. later_same axis out.known rest n plain))),
       subst (λ (s : Stored). SetsAhead axis s after) fit.keeps (sets_ahead axis out.known rest plain),
     )
 sets_ahead axis k (Group inner rest) (within, plain) = (sets_ahead axis k inner within, sets_ahead axis k rest plain)
@@ -166,11 +166,11 @@ hollow_same k (Group inner rest) = ap₂ ◌&&◌ (hollow_same k inner) (hollow_
 -- The written body has no hollow group, where the given one has none.
 pub no_hollow-reused : (k : Known) (f : Forest) → HasNoHollow f → HasNoHollow (reused_from k f)
 no_hollow-reused k Empty h = tt
-no_hollow-reused k (Then leaf rest) h = no_hollow-reused (written k leaf (comes_again leaf (has_move rest))).known rest h
+no_hollow-reused k (Then leaf rest) h = no_hollow-reused (written_leaf k leaf (comes_again leaf (has_move rest))).known rest h
 no_hollow-reused k (Group inner rest) (full, within, h) = (hollow_same k inner ∙ full, no_hollow-reused k inner within, no_hollow-reused k rest h)
 
 -- The written body nests as deep as the given one.
 pub nests-reused : (k : Known) (f : Forest) → nests (reused_from k f) ≡ nests f
 nests-reused k Empty = refl
-nests-reused k (Then leaf rest) = nests-reused (written k leaf (comes_again leaf (has_move rest))).known rest
+nests-reused k (Then leaf rest) = nests-reused (written_leaf k leaf (comes_again leaf (has_move rest))).known rest
 nests-reused k (Group inner rest) = ap₂ (λ (a b : ℕ). max (a + 1) b) (nests-reused k inner) (nests-reused k rest)

@@ -16,12 +16,12 @@ pub record Known : Type 0 where
   pub down : RegisterPair
 
 -- No value is known, and x or z counts as the register that was used last.
-abbrev pub nothing : RegisterPair
-nothing = record { first = None; second = None; last = Second }
+abbrev pub no_known_pair : RegisterPair
+no_known_pair = record { first = None; second = None; last = Second }
 
 -- No value of w, x, y or z is known.
 abbrev pub nothing_known : Known
-nothing_known = record { across = nothing; down = nothing }
+nothing_known = record { across = no_known_pair; down = no_known_pair }
 
 -- Whether the value is known and is this amount.
 abbrev pub is_amount : Option ℤ → ℤ → Bool
@@ -34,9 +34,9 @@ pub record Choice : Type 0 where
   pub held : RegisterPair
 
 -- The other register of the direction.
-abbrev pub other : MoveRegister → MoveRegister
-other First = Second
-other Second = First
+abbrev pub other_register : MoveRegister → MoveRegister
+other_register First = Second
+other_register Second = First
 
 -- The choice to set a register.
 abbrev pub set_in : MoveRegister → RegisterPair → ℤ → Choice
@@ -48,7 +48,7 @@ set_in Second k n = record { step = Set Second n; held = record k { second = Som
 abbrev pub choice : (in_first in_second again : Bool) → RegisterPair → ℤ → Choice
 choice true in_second again k n = record { step = Again First; held = record k { last = First } }
 choice false true again k n = record { step = Again Second; held = record k { last = Second } }
-choice false false true k n = set_in (other k.last) k n
+choice false false true k n = set_in (other_register k.last) k n
 choice false false false k n = record { step = By n; held = k }
 
 -- The same choice, from the known values.
@@ -61,9 +61,9 @@ pub record WrittenOp : Type 0 where
   pub known : Known
 
 -- A movement to the right or down is written by the known values of its direction. Any other instruction is unchanged.
-abbrev pub written : Known → BodyLeaf → (again : Bool) → WrittenOp
-written k (Move Across (By n)) again =
+abbrev pub written_leaf : Known → BodyLeaf → (again : Bool) → WrittenOp
+written_leaf k (Move Across (By n)) again =
     record { leaf = Move Across (choose k.across n again).step; known = record k { across = (choose k.across n again).held } }
-written k (Move Downward (By n)) again =
+written_leaf k (Move Downward (By n)) again =
     record { leaf = Move Downward (choose k.down n again).step; known = record k { down = (choose k.down n again).held } }
-written k leaf again = record { leaf = leaf; known = k }
+written_leaf k leaf again = record { leaf = leaf; known = k }

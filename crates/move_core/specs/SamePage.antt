@@ -3,12 +3,12 @@
 use Rattle.std.specs.Prelude.{◌≡◌, ◌≤◌, [], ◌∷◌, List, Option, Some, None, Bool, true, false, ◌&&◌, ◌||◌, ℤ, Contains}
 use Rattle.std.specs.List.{flat_map, AllByRecursion}
 use Rattle.dvi_ops.specs.Instruction.{Axis, First, Second, Movement, By, Set, Again, BodyLeaf, Move, Instruction, Do}
-use Rattle.dvi_ops.specs.Body.{DviState, Widths, Meaning, acts}
+use Rattle.dvi_ops.specs.Body.{DviState, Widths, Meaning, instruction_acts}
 use Rattle.scaled_core.specs.Mark.{Mark}
 use Rattle.dvi_ops.specs.Forest.{Forest, Empty, Then, Group, flat, meaning, nests, points}
 use Rattle.dvi_ops.specs.Plain.{NamesNoRegister}
 use Rattle.move_core.specs.Registers.{is_amount}
-use Rattle.move_core.specs.Reused.{along}
+use Rattle.move_core.specs.Reused.{movement_along}
 
 -- Instructions are the body of a page, and none sets or reads w, x, y or z.
 abbrev pub IsPlainBody : List Instruction → Type 0
@@ -26,18 +26,20 @@ pub record Shown : Type 0 where
   pub font : Option ℤ
 
 -- What a meaning shows; None where there is no meaning.
-abbrev pub shown : Meaning → Option Shown
-shown None = None
-shown (Some (marks, s)) = Some (record { marks = marks; h = s.place.h; v = s.place.v; font = s.font })
+abbrev pub shown_meaning : Meaning → Option Shown
+shown_meaning None = None
+shown_meaning (Some (marks, s)) = Some (record { marks = marks; h = s.place.h; v = s.place.v; font = s.font })
 
 -- From every h, v, w, x, y, z and font: the same marks, and the same h, v and font at the end; and no meaning where there was none.
 abbrev pub MeansTheSame : (given answered : Forest) → Type 0
-MeansTheSame f g = (widths : Widths) (s : DviState) → shown (meaning (acts widths) g s) ≡ shown (meaning (acts widths) f s)
+MeansTheSame f g = (widths : Widths) (s : DviState)
+    → shown_meaning (meaning (instruction_acts widths) g s) ≡ shown_meaning (meaning (instruction_acts widths) f s)
 
 -- From every state, each place (h, v) after an instruction or a group of the result is such a place of the given body.
 abbrev pub PassesThroughNoOther : (given answered : Forest) → Type 0
 PassesThroughNoOther f g =
-    (widths : Widths) (s : DviState) (p : ℤ × ℤ) → Contains (points (acts widths) g s) p → Contains (points (acts widths) f s) p
+    (widths : Widths) (s : DviState) (p : ℤ × ℤ) → Contains (points (instruction_acts widths) g s) p
+        → Contains (points (instruction_acts widths) f s) p
 
 -- No more pushes are open at once than before.
 abbrev pub NestsNoDeeper : (given answered : Forest) → Type 0
@@ -61,8 +63,8 @@ pub record Stored : Type 0 where
   pub second : Option ℤ
 
 -- Neither register was set.
-abbrev pub unset : Stored
-unset = record { first = None; second = None }
+abbrev pub unset_registers : Stored
+unset_registers = record { first = None; second = None }
 
 -- The values after an instruction with this movement in their direction, or with none.
 abbrev pub stored_after : Stored → Option Movement → Stored
@@ -84,7 +86,7 @@ NamesNoStored k step = Unit {0}
 -- push.
 abbrev pub UsesStored : Axis → Stored → Forest → Type 0
 UsesStored axis k Empty = Unit {0}
-UsesStored axis k (Then leaf rest) = NamesNoStored k (along axis leaf) × UsesStored axis (stored_after k (along axis leaf)) rest
+UsesStored axis k (Then leaf rest) = NamesNoStored k (movement_along axis leaf) × UsesStored axis (stored_after k (movement_along axis leaf)) rest
 UsesStored axis k (Group inner rest) = UsesStored axis k inner × UsesStored axis k rest
 
 -- The distance of a movement, where it is known from the values that were set.
@@ -98,7 +100,8 @@ then_meaning k None = None
 -- Whether a movement in that direction has that distance, in a body outside of its groups.
 abbrev pub goes_later : Axis → Stored → ℤ → Forest → Bool
 goes_later axis k n Empty = false
-goes_later axis k n (Then leaf rest) = is_amount (then_meaning k (along axis leaf)) n || goes_later axis (stored_after k (along axis leaf)) n rest
+goes_later axis k n (Then leaf rest) = is_amount (then_meaning k (movement_along axis leaf)) n || goes_later axis
+    (stored_after k (movement_along axis leaf)) n rest
 goes_later axis k n (Group inner rest) = goes_later axis k n rest
 
 -- A right (a down) does not have the distance of a later horizontal (vertical) movement of the same group.
@@ -109,7 +112,8 @@ GoesNoLater axis k step rest = Unit {0}
 -- No right (down) of a body has the distance of a later horizontal (vertical) movement of the same group.
 abbrev pub SetsAhead : Axis → Stored → Forest → Type 0
 SetsAhead axis k Empty = Unit {0}
-SetsAhead axis k (Then leaf rest) = GoesNoLater axis k (along axis leaf) rest × SetsAhead axis (stored_after k (along axis leaf)) rest
+SetsAhead axis k (Then leaf rest) = GoesNoLater axis k (movement_along axis leaf) rest
+    × SetsAhead axis (stored_after k (movement_along axis leaf)) rest
 SetsAhead axis k (Group inner rest) = SetsAhead axis k inner × SetsAhead axis k rest
 
 -- An instruction other than a movement, a push or a pop, as a list of one or none.
@@ -119,5 +123,5 @@ still_of (Do leaf) = leaf ∷ []
 still_of i = []
 
 -- The characters, rules, selections and definitions of fonts, specials and nops among instructions, in order.
-abbrev pub still : List Instruction → List BodyLeaf
-still is = flat_map still_of is
+abbrev pub leaves_in_order : List Instruction → List BodyLeaf
+leaves_in_order is = flat_map still_of is

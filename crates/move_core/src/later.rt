@@ -3,7 +3,7 @@
 ghost use Rattle.std.specs.Prelude.{◌≡◌, ◌∷◌, [], List, ℤ, false, IfOk};
 ghost use Rattle.dvi_ops.specs.Instruction.{Axis, Instruction};
 ghost use Rattle.dvi_ops.specs.View.{body_view};
-ghost use Rattle.move_core.specs.Private.Passes.{Knows, again_in, has};
+ghost use Rattle.move_core.specs.Private.Passes.{Knows, again_in, contains_amount};
 
 use crate::amount_set::AmountSet;
 use dvi_ops::BodyOp;
@@ -20,7 +20,7 @@ pub struct Amounts {
 impl Amounts {
     /// Empty sets.
     fn new(alloc: Global) -> Amounts
-        ensures { (axis : Axis) (n : ℤ) → has result axis n ≡ false }
+        ensures { (axis : Axis) (n : ℤ) → contains_amount result axis n ≡ false }
     {
         Amounts {
             across: AmountSet::new(alloc),

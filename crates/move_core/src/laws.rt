@@ -7,9 +7,11 @@ ghost use Rattle.dvi_ops.specs.Forest.{Forest, flat};
 ghost use Rattle.dvi_ops.specs.Layout.{IsWritable, bytes_of};
 ghost use Rattle.dvi_ops.specs.Plain.{NamesNoRegister};
 ghost use Rattle.move_core.specs.Reused.{reused};
-ghost use Rattle.move_core.specs.SamePage.{HasNoHollow, MeansTheSame, NestsNoDeeper, PassesThroughNoOther, SetsAhead, UsesStored, still, unset};
+ghost use Rattle.move_core.specs.SamePage.{HasNoHollow, MeansTheSame, NestsNoDeeper, PassesThroughNoOther, SetsAhead, UsesStored, leaves_in_order};
+ghost use Rattle.move_core.specs.SamePage.{unset_registers};
 ghost use Rattle.move_core.specs.Examples.{apart_amounts, empty_groups, empty_groups_reused, fonts_in_nested_boxes, kerned_rules};
-ghost use Rattle.move_core.specs.Examples.{kerned_rules_reused, nested, nested_reused, set_in_a_group, set_in_a_group_reused, three_amounts};
+ghost use Rattle.move_core.specs.Examples.{kerned_rules_reused, nested_movements, nested_reused, set_in_a_group, set_in_a_group_reused};
+ghost use Rattle.move_core.specs.Examples.{three_amounts};
 ghost use Rattle.move_core.specs.Examples.{three_amounts_reused, three_depths, three_depths_reused, two_directions};
 
 /// The reused body of every page body that names no register, also of one with font definitions and with numbers of fonts and characters above 255,
@@ -20,17 +22,17 @@ pub fn reused_means_the_same()
     ensures points { (body : Forest) → AllByRecursion NamesNoRegister (flat body) → PassesThroughNoOther body (reused body) }
     ensures nesting { (body : Forest) → NestsNoDeeper body (reused body) }
     ensures bytes { (body : Forest) → length (bytes_of (flat (reused body))) ≤ length (bytes_of (flat body)) }
-    ensures order { (body : Forest) → still (flat (reused body)) ≡ still (flat body) }
+    ensures order { (body : Forest) → leaves_in_order (flat (reused body)) ≡ leaves_in_order (flat body) }
     ensures writable { (body : Forest) → AllByRecursion IsWritable (flat body) → AllByRecursion IsWritable (flat (reused body)) }
     ensures full { (body : Forest) → HasNoHollow (reused body) }
-    ensures held { (body : Forest) (axis : Axis) → AllByRecursion NamesNoRegister (flat body) → UsesStored axis unset (reused body) }
-    ensures ahead { (body : Forest) (axis : Axis) → AllByRecursion NamesNoRegister (flat body) → SetsAhead axis unset (reused body) }
+    ensures held { (body : Forest) (axis : Axis) → AllByRecursion NamesNoRegister (flat body) → UsesStored axis unset_registers (reused body) }
+    ensures ahead { (body : Forest) (axis : Axis) → AllByRecursion NamesNoRegister (flat body) → SetsAhead axis unset_registers (reused body) }
 {}
 
 /// What `reused` gives for known bodies.
 #[tactic(auto, unfolding(crate::specs::Reused::reused))]
 pub fn known_bodies()
-    ensures nested { reused nested ≡ nested_reused }
+    ensures nested { reused nested_movements ≡ nested_reused }
     ensures three_amounts { reused three_amounts ≡ three_amounts_reused }
     ensures three_depths { reused three_depths ≡ three_depths_reused }
     ensures two_directions { reused two_directions ≡ two_directions }

@@ -9,7 +9,7 @@ ghost use Rattle.dvi_ops.specs.Runs.{instructions_of};
 ghost use Rattle.dvi_ops.specs.View.{body_view};
 ghost use Rattle.move_core.specs.Reused.{reused};
 ghost use Rattle.move_core.specs.SamePage.{AreBodies, HasNoHollow, IsPlainBody, MeansTheSame, NestsNoDeeper, PassesThroughNoOther, SetsAhead};
-ghost use Rattle.move_core.specs.SamePage.{UsesStored, still, unset};
+ghost use Rattle.move_core.specs.SamePage.{UsesStored, leaves_in_order, unset_registers};
 
 use crate::passes::{has_empty_group, with_registers, without_empty_groups};
 use dvi_ops::{BodyOp, PageRuns};
@@ -31,17 +31,17 @@ pub fn reuse<'a>(ops: Vec<BodyOp<'a>>) -> Result<Vec<BodyOp<'a>>, AllocError>
     // The body has no more bytes.
     ensures bytes { IfOk result (λ written. length (bytes_of (map body_view written.items)) ≤ length (bytes_of (map body_view ops.entry.items))) }
     // All instructions but movements, push and pop are the same, in the same order.
-    ensures order { IfOk result (λ written. still (map body_view written.items) ≡ still (map body_view ops.entry.items)) }
+    ensures order { IfOk result (λ written. leaves_in_order (map body_view written.items) ≡ leaves_in_order (map body_view ops.entry.items)) }
     // Instructions that could be written can still be written.
     ensures writable { IfOk result (λ written. AllByRecursion IsWritable (map body_view ops.entry.items)
         → AllByRecursion IsWritable (map body_view written.items)) }
     // No group is empty or consists of empty groups alone.
     ensures full { IfOk result (λ written. AreBodies (λ f g. HasNoHollow g) (map body_view ops.entry.items) (map body_view written.items)) }
     // No movement has an amount as its operand that a register was set to and still holds.
-    ensures held { IfOk result (λ written. AreBodies (λ f g. (axis : Axis) → UsesStored axis unset g) (map body_view ops.entry.items)
+    ensures held { IfOk result (λ written. AreBodies (λ f g. (axis : Axis) → UsesStored axis unset_registers g) (map body_view ops.entry.items)
         (map body_view written.items)) }
     // No movement without a register goes as far as a later one of its group.
-    ensures ahead { IfOk result (λ written. AreBodies (λ f g. (axis : Axis) → SetsAhead axis unset g) (map body_view ops.entry.items)
+    ensures ahead { IfOk result (λ written. AreBodies (λ f g. (axis : Axis) → SetsAhead axis unset_registers g) (map body_view ops.entry.items)
         (map body_view written.items)) }
     // The result is the reused body.
     ensures reused { IfOk result (λ written. (body : Forest) → map body_view ops.entry.items ≡ flat body

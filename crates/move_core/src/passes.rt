@@ -3,8 +3,9 @@
 ghost use Rattle.std.specs.Prelude.{◌≡◌, ◌<◌, [], ◌∷◌, List, false, length, map, reverse, IfOk, OnOk};
 ghost use Rattle.dvi_ops.specs.Instruction.{Instruction};
 ghost use Rattle.dvi_ops.specs.View.{body_view};
-ghost use Rattle.move_core.specs.Private.Passes.{again_in, trimmed, ends_empty_group, is_push, has_empty_group, flags_of, is_move, rewritten};
-ghost use Rattle.move_core.specs.Private.Passes.{outside_groups, entered, known_groups, RewritesOp};
+ghost use Rattle.move_core.specs.Private.Passes.{again_in, trimmed_instructions, ends_empty_group, is_push, has_empty_group, flags_of, is_move};
+ghost use Rattle.move_core.specs.Private.Passes.{rewritten_instructions};
+ghost use Rattle.move_core.specs.Private.Passes.{outside_groups, groups_entered, known_groups, RewritesOp};
 
 use crate::later::Later;
 use crate::registers::Known;
@@ -14,7 +15,8 @@ use std::alloc::{AllocError, Global};
 /// Appends an instruction. A pop is not appended directly after a push, and removes it.
 fn append_trimmed<'a>(out: &mut Vec<BodyOp<'a>>, op: BodyOp<'a>) -> Result<(), AllocError>
     ensures { OnOk result ((rest : List Instruction) →
-        trimmed rest (reverse (map body_view out.new.items)) ≡ trimmed (body_view op.entry ∷ rest) (reverse (map body_view out.old.items))) }
+        trimmed_instructions rest (reverse (map body_view out.new.items))
+            ≡ trimmed_instructions (body_view op.entry ∷ rest) (reverse (map body_view out.old.items))) }
 {
     if matches!(op, BodyOp::Pop) && matches!(out.last(), Some(BodyOp::Push)) {
         out.pop();
@@ -55,7 +57,7 @@ pub fn has_empty_group(ops: &[BodyOp<'_>]) -> bool
 /// The instructions without groups that are empty or consist of empty groups alone. Where there is none, the list is returned as it is, and takes no
 /// memory.
 pub fn without_empty_groups<'a>(ops: Vec<BodyOp<'a>>) -> Result<Vec<BodyOp<'a>>, AllocError>
-    ensures { IfOk result (λ out. map body_view out.items ≡ trimmed (map body_view ops.entry.items) []) }
+    ensures { IfOk result (λ out. map body_view out.items ≡ trimmed_instructions (map body_view ops.entry.items) []) }
 {
     if !has_empty_group(&ops) {
         return Ok(ops);
@@ -116,7 +118,7 @@ pub struct RegisterPass {
 impl RegisterPass {
     /// Saves the known values at a push, and restores them at a pop.
     fn enter(&mut self, op: BodyOp<'_>) -> Result<(), AllocError>
-        ensures groups { OnOk result (known_groups self.new ≡ entered (body_view op.entry) (known_groups self.old)) }
+        ensures groups { OnOk result (known_groups self.new ≡ groups_entered (body_view op.entry) (known_groups self.old)) }
         ensures flags { OnOk result (self.new.flags ≡ self.old.flags) }
     {
         match op {
@@ -149,7 +151,7 @@ impl RegisterPass {
 
 /// The instructions with their movements written with registers, each in its place.
 pub fn with_registers<'a>(mut ops: Vec<BodyOp<'a>>) -> Result<Vec<BodyOp<'a>>, AllocError>
-    ensures { IfOk result (λ written. map body_view written.items ≡ rewritten (map body_view ops.entry.items) outside_groups) }
+    ensures { IfOk result (λ written. map body_view written.items ≡ rewritten_instructions (map body_view ops.entry.items) outside_groups) }
 {
     let alloc = *ops.allocator();
     let mut pass = RegisterPass {

@@ -3,7 +3,7 @@
 ghost use Rattle.std.specs.Prelude.{◌≡◌};
 ghost use Rattle.dvi_ops.specs.Instruction.{Across, Downward, Do, Move};
 ghost use Rattle.dvi_ops.specs.View.{body_view};
-ghost use Rattle.move_core.specs.Registers.{nothing_known, choose, other};
+ghost use Rattle.move_core.specs.Registers.{nothing_known, choose, other_register};
 ghost use Rattle.move_core.specs.Private.Passes.{register_view, step_view, held_view, known_view, op_written, amounts_after};
 
 use dvi_ops::BodyOp;
@@ -70,7 +70,7 @@ fn down_op(step: Movement) -> BodyOp<'static>
 impl MoveRegister {
     /// The other register of the direction.
     fn other(self) -> MoveRegister
-        ensures { register_view result ≡ other (register_view self) }
+        ensures { register_view result ≡ other_register (register_view self) }
     {
         match self {
             MoveRegister::First => MoveRegister::Second,

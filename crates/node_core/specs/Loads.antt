@@ -9,5 +9,5 @@ pub record Load : Type 0 where
   pub text : ℕ
 
 -- The load with one more box (own).
-abbrev pub heavier : Load → BoxNode → Load
-heavier load b = record { nodes = load.nodes + box_count b; text = load.text + box_text b }
+abbrev pub load_with_box : Load → BoxNode → Load
+load_with_box load b = record { nodes = load.nodes + box_count b; text = load.text + box_text b }

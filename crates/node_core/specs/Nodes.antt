@@ -86,6 +86,6 @@ abbrev pub last_box : List Node → Option BoxNode
 last_box nodes = box_at (slice_get nodes (length nodes - 1))
 
 -- The list without the box at its end, if there is one there (own).
-abbrev pub without : Option BoxNode → List Node → List Node
-without None nodes = nodes
-without (Some b) nodes = take (length nodes - 1) nodes
+abbrev pub without_last_box : Option BoxNode → List Node → List Node
+without_last_box None nodes = nodes
+without_last_box (Some b) nodes = take (length nodes - 1) nodes

@@ -7,7 +7,7 @@ ghost use Rattle.std.specs.Prelude.{◌≡◌, ◌==◌, ◌<◌, ◌≤◌, ◌
 ghost use Rattle.std.specs.List.{list_any};
 ghost use Rattle.node_core.specs.Classes.{has_content};
 ghost use Rattle.node_core.specs.Items.{Items, none};
-ghost use Rattle.node_core.specs.Nodes.{max_nodes, IsPlain, items_of, nodes_of, last_box, without};
+ghost use Rattle.node_core.specs.Nodes.{max_nodes, IsPlain, items_of, nodes_of, last_box, without_last_box};
 
 use crate::special::SpecialText;
 use scaled_core::{Dimen, Ratio};
@@ -362,8 +362,8 @@ impl NodeList {
     #[tactic(auto, using(crate::proofs::NodeLemmas::nodes))]
     pub fn pop_box(&mut self) -> Option<BoxNode>
         ensures value { result ≡ last_box (nodes_of self.old) }
-        ensures remaining { self.new ≡ items_of (without (last_box (nodes_of self.old)) (nodes_of self.old)) }
-        ensures nodes { nodes_of self.new ≡ without (last_box (nodes_of self.old)) (nodes_of self.old) }
+        ensures remaining { self.new ≡ items_of (without_last_box (last_box (nodes_of self.old)) (nodes_of self.old)) }
+        ensures nodes { nodes_of self.new ≡ without_last_box (last_box (nodes_of self.old)) (nodes_of self.old) }
     {
         self.plain = false;
         match self.nodes.last() {

@@ -13,7 +13,7 @@ use Rattle.scaled_core.specs.Rounding.{nearest, rounded}
 use Rattle.scaled_core.proofs.RoundingLaws.{nearest-only}
 use Rattle.pack_core.specs.Items.{advance, shrink_in}
 use Rattle.pack_core.specs.Totals.{total}
-use Rattle.pack_core.specs.Glue.{is_zero, highest, fraction, stretched, is_short, shrunk, stretch_totals, shrink_totals, setting_of, setting_badness, shrink_badness}
+use Rattle.pack_core.specs.Glue.{is_zero, highest, fraction, stretched_setting, is_short, shrunk_setting, stretch_totals, shrink_totals, setting_of, setting_badness, shrink_badness}
 use Rattle.pack_core.specs.Places.{share, place}
 
 -- The rounded quotient of a multiple is exact.
@@ -92,8 +92,8 @@ highest-total totals order e =
 stretch-fills :
     (kind : Kind) (nodes : List Node) (amount : ℤ) (found : Option Order)
     → highest (stretch_totals nodes) ≡ found
-    → stretched amount (stretch_totals nodes) found ≢ Natural
-    → place kind (stretched amount (stretch_totals nodes) found) nodes ≡ total (advance kind) nodes +ℤ amount
+    → stretched_setting amount (stretch_totals nodes) found ≢ Natural
+    → place kind (stretched_setting amount (stretch_totals nodes) found) nodes ≡ total (advance kind) nodes +ℤ amount
 unfolding place
 stretch-fills kind nodes amount None e set = absurd (set refl)
 stretch-fills kind nodes amount (Some order) e set =
@@ -125,9 +125,9 @@ shrink-normal kind nodes amount false e is good = shrink-fills-by kind nodes amo
 shrink-fills :
     (kind : Kind) (nodes : List Node) (amount : ℤ) (found : Option Order)
     → highest (shrink_totals nodes) ≡ found
-    → shrunk amount (shrink_totals nodes) found ≢ Natural
+    → shrunk_setting amount (shrink_totals nodes) found ≢ Natural
     → shrink_badness amount (shrink_totals nodes) ≢ 1000000
-    → place kind (shrunk amount (shrink_totals nodes) found) nodes ≡ total (advance kind) nodes +ℤ neg_ℤ amount
+    → place kind (shrunk_setting amount (shrink_totals nodes) found) nodes ≡ total (advance kind) nodes +ℤ neg_ℤ amount
 shrink-fills kind nodes amount None e set good = absurd (set refl)
 shrink-fills kind nodes amount (Some Normal) e set good = shrink-normal kind nodes amount (is_short amount (shrink_totals nodes)) e refl good
 shrink-fills kind nodes amount (Some Fil) e set good = shrink-fills-by kind nodes amount Fil e

@@ -13,8 +13,8 @@ use Rattle.pack_core.specs.declared.pack.Target.{Target}
 use Rattle.pack_core.specs.declared.pack.Target.TheVariants.{Natural}
 use Rattle.pack_core.specs.declared.pack.Shell.{Shell}
 use Rattle.pack_core.specs.Items.{is_sizeless, downward, breadth, last_below, stretch_in, shrink_in}
-use Rattle.pack_core.specs.Totals.{total, greatest, pending_depth}
-use Rattle.pack_core.specs.Glue.{highest, stretched, shrunk, setting_of, setting_badness, stretch_totals, shrink_totals, stretch_badness, shrink_badness}
+use Rattle.pack_core.specs.Totals.{total, greatest_of, pending_depth}
+use Rattle.pack_core.specs.Glue.{highest, stretched_setting, shrunk_setting, setting_of, setting_badness, stretch_totals, shrink_totals, stretch_badness, shrink_badness}
 use Rattle.pack_core.specs.Boxes.{glue_totals, natural_height, vbox_excess, vbox_frame, vbox_badness, vbox_numbers, vbox_shell}
 use Rattle.pack_core.proofs.Sums.{greatest_positive, pending-none}
 
@@ -48,7 +48,7 @@ total-front size none (x ∷ front) xs all =
     let parts = both (is_sizeless x) (list_all is_sizeless front) all in
     omega (arith, ints, none x parts.0, total-front size none front xs parts.1)
 
-breadth-front : (front xs : List Node) → list_all is_sizeless front ≡ true → greatest breadth (front ++ xs) ≡ greatest breadth xs
+breadth-front : (front xs : List Node) → list_all is_sizeless front ≡ true → greatest_of breadth (front ++ xs) ≡ greatest_of breadth xs
 breadth-front [] xs all = refl
 breadth-front (x ∷ front) xs all =
     let parts = both (is_sizeless x) (list_all is_sizeless front) all in
@@ -92,8 +92,8 @@ numbers-front target limit front xs all =
 setting-front : (excess : ℤ) (front xs : List Node) → list_all is_sizeless front ≡ true → setting_of excess (front ++ xs) ≡ setting_of excess xs
 unfolding setting_of
 setting-front (pos zero) front xs all = refl
-setting-front (pos (suc n)) front xs all = ap (λ (totals : Order → ℤ). stretched (pos (suc n)) totals (highest totals)) (stretch-front front xs all)
-setting-front (negsuc n) front xs all = ap (λ (totals : Order → ℤ). shrunk (pos (suc n)) totals (highest totals)) (shrink-front front xs all)
+setting-front (pos (suc n)) front xs all = ap (λ (totals : Order → ℤ). stretched_setting (pos (suc n)) totals (highest totals)) (stretch-front front xs all)
+setting-front (negsuc n) front xs all = ap (λ (totals : Order → ℤ). shrunk_setting (pos (suc n)) totals (highest totals)) (shrink-front front xs all)
 
 -- They do not change the frame.
 pub frame-front : (target : Target) (limit : ℤ) (front xs : List Node) → list_all is_sizeless front ≡ true → vbox_frame target limit (front ++ xs) ≡ vbox_frame target limit xs

@@ -12,11 +12,11 @@ use Rattle.node_core.specs.declared.tree.Order.TheVariants.{Normal, Fil, Fill, F
 use Rattle.node_core.specs.declared.tree.Setting.{Setting}
 use Rattle.pack_core.specs.declared.orders.OrderAmounts.{OrderAmounts}
 use Rattle.pack_core.specs.declared.orders.OrderDimens.{OrderDimens}
-use Rattle.pack_core.specs.Items.{advance, across, above, below, downward, breadth}
+use Rattle.pack_core.specs.Items.{advance, item_width, height_above_baseline, depth_below_baseline, downward, breadth}
 use Rattle.scaled_core.specs.Dimensions.{fits, Within, dimension_of}
-use Rattle.pack_core.specs.Totals.{total, greatest, first_height}
+use Rattle.pack_core.specs.Totals.{total, greatest_of, first_height}
 use Rattle.pack_core.specs.Glue.{glue_badness, glue_setting, setting_of, setting_badness, stretch_totals, shrink_totals}
-use Rattle.pack_core.specs.Boxes.{wanted, hbox_shell, glue_totals, hbox_width, hbox_excess, hbox_badness, hbox_numbers, natural_height, vbox_depth, vbox_height, vbox_excess, vbox_badness, vbox_numbers, vtop_depth, vtop_numbers, some_if, vbox_shell}
+use Rattle.pack_core.specs.Boxes.{target_size, hbox_shell, glue_totals, hbox_width, hbox_excess, hbox_badness, hbox_numbers, natural_height, vbox_depth, vbox_height, vbox_excess, vbox_badness, vbox_numbers, vtop_depth, vtop_numbers, some_if, vbox_shell}
 use Rattle.pack_core.specs.declared.setting.GlueSet.{GlueSet}
 use Rattle.pack_core.specs.declared.pack.Target.{Target}
 use Rattle.pack_core.specs.declared.pack.Shell.{Shell}
@@ -57,7 +57,7 @@ some_if-value true x = refl
 some_if-value false x = tt
 
 -- The advances of a horizontal and of a vertical list.
-pub total-across : (nodes : List Node) → total (advance Horizontal) nodes ≡ total across nodes
+pub total-across : (nodes : List Node) → total (advance Horizontal) nodes ≡ total item_width nodes
 total-across nodes = refl
 
 pub total-downward : (nodes : List Node) → total (advance Vertical) nodes ≡ total downward nodes
@@ -186,19 +186,19 @@ some_if-all b x e = rw e (sym (some_if-true x))
 
 pub hbox-given :
     (target : Target) (nodes : List Node) (natural width height depth : ℤ) (set : GlueSet)
-    → dimension_of (total across nodes) ≡ Some natural
-    → dimension_of (wanted target natural) ≡ Some width
-    → dimension_of (greatest above nodes) ≡ Some height
-    → dimension_of (greatest below nodes) ≡ Some depth
+    → dimension_of (total item_width nodes) ≡ Some natural
+    → dimension_of (target_size target natural) ≡ Some width
+    → dimension_of (greatest_of height_above_baseline nodes) ≡ Some height
+    → dimension_of (greatest_of depth_below_baseline nodes) ≡ Some depth
     → some_if (list_all fits (glue_totals nodes)) (glue_set (width -ℤ natural) nodes) ≡ Some set
     → Some (record { kind = Horizontal; width = width; height = height; depth = depth; setting = set.setting; badness = set.badness })
     ≡ some_if (list_all fits (hbox_numbers target nodes)) (hbox_shell target nodes)
 unfolding hbox_shell glue_set
 hbox-given target nodes natural width height depth set n w h d s =
-    let n' = dimension_found (total across nodes) natural n in
-    let w' = dimension_found (wanted target natural) width w in
-    let h' = dimension_found (greatest above nodes) height h in
-    let d' = dimension_found (greatest below nodes) depth d in
+    let n' = dimension_found (total item_width nodes) natural n in
+    let w' = dimension_found (target_size target natural) width w in
+    let h' = dimension_found (greatest_of height_above_baseline nodes) height h in
+    let d' = dimension_found (greatest_of depth_below_baseline nodes) depth d in
     let s' = some_if-some (list_all fits (glue_totals nodes)) (glue_set (width -ℤ natural) nodes) set s in
     let width-fits : fits (hbox_width target nodes) ≡ true = rw n'.1 w'.0 in
     let width-is : hbox_width target nodes ≡ width = rw n'.1 w'.1 in
@@ -214,23 +214,23 @@ some_if-none-of b x unfit = rw unfit (sym (some_if-false x))
 
 pub hbox-unfit-width :
     (target : Target) (nodes : List Node)
-    → dimension_of (total across nodes) ≡ None
+    → dimension_of (total item_width nodes) ≡ None
     → None ≡ some_if (list_all fits (hbox_numbers target nodes)) (hbox_shell target nodes)
-hbox-unfit-width target nodes n = some_if-none-of _ _ (unfit-first _ _ (dimension_missing (total across nodes) n))
+hbox-unfit-width target nodes n = some_if-none-of _ _ (unfit-first _ _ (dimension_missing (total item_width nodes) n))
 
 pub hbox-unfit-height :
     (target : Target) (nodes : List Node)
-    → dimension_of (greatest above nodes) ≡ None
+    → dimension_of (greatest_of height_above_baseline nodes) ≡ None
     → None ≡ some_if (list_all fits (hbox_numbers target nodes)) (hbox_shell target nodes)
-hbox-unfit-height target nodes h = some_if-none-of _ _ (unfit-third _ _ _ _ (dimension_missing (greatest above nodes) h))
+hbox-unfit-height target nodes h = some_if-none-of _ _ (unfit-third _ _ _ _ (dimension_missing (greatest_of height_above_baseline nodes) h))
 
 pub hbox-unfit-depth :
     (target : Target) (nodes : List Node)
-    → dimension_of (greatest below nodes) ≡ None
+    → dimension_of (greatest_of depth_below_baseline nodes) ≡ None
     → None ≡ some_if (list_all fits (hbox_numbers target nodes)) (hbox_shell target nodes)
 hbox-unfit-depth target nodes d =
-    let unfit = unfit-fourth (fits (total across nodes)) (fits (hbox_width target nodes)) (fits (greatest above nodes)) (fits (greatest below nodes)) (list_all fits (glue_totals nodes))
-    (dimension_missing (greatest below nodes) d) in
+    let unfit = unfit-fourth (fits (total item_width nodes)) (fits (hbox_width target nodes)) (fits (greatest_of height_above_baseline nodes)) (fits (greatest_of depth_below_baseline nodes)) (list_all fits (glue_totals nodes))
+    (dimension_missing (greatest_of depth_below_baseline nodes) d) in
     some_if-none-of (list_all fits (hbox_numbers target nodes)) (hbox_shell target nodes) unfit
 
 pub hbox-unfit-glue :
@@ -238,18 +238,18 @@ pub hbox-unfit-glue :
     → some_if (list_all fits (glue_totals nodes)) set ≡ None
     → None ≡ some_if (list_all fits (hbox_numbers target nodes)) (hbox_shell target nodes)
 hbox-unfit-glue target nodes set s =
-    let unfit = unfit-last (fits (total across nodes)) (fits (hbox_width target nodes)) (fits (greatest above nodes)) (fits (greatest below nodes)) (list_all fits (glue_totals nodes))
+    let unfit = unfit-last (fits (total item_width nodes)) (fits (hbox_width target nodes)) (fits (greatest_of height_above_baseline nodes)) (fits (greatest_of depth_below_baseline nodes)) (list_all fits (glue_totals nodes))
     (some_if-none _ set s) in
     some_if-none-of (list_all fits (hbox_numbers target nodes)) (hbox_shell target nodes) unfit
 
 pub hbox-refused :
     (target : Target) (nodes : List Node) (natural : ℤ)
-    → dimension_of (total across nodes) ≡ Some natural
-    → dimension_of (wanted target natural) ≡ None
+    → dimension_of (total item_width nodes) ≡ Some natural
+    → dimension_of (target_size target natural) ≡ None
     → None ≡ some_if (list_all fits (hbox_numbers target nodes)) (hbox_shell target nodes)
 hbox-refused target nodes natural n w =
-    let n' = dimension_found (total across nodes) natural n in
-    let width-unfit : fits (hbox_width target nodes) ≡ false = rw n'.1 (dimension_missing (wanted target natural) w) in
+    let n' = dimension_found (total item_width nodes) natural n in
+    let width-unfit : fits (hbox_width target nodes) ≡ false = rw n'.1 (dimension_missing (target_size target natural) w) in
     let some : list_all fits (hbox_numbers target nodes) ≡ false = rw (n'.0, width-unfit) refl in
     rw some (sym (some_if-false _))
 
@@ -257,8 +257,8 @@ pub vbox-given :
     (target : Target) (limit : ℤ) (nodes : List Node) (natural width height depth : ℤ) (set : GlueSet)
     → depth ≡ vbox_depth limit nodes
     → dimension_of (total downward nodes -ℤ depth) ≡ Some natural
-    → dimension_of (wanted target natural) ≡ Some height
-    → dimension_of (greatest breadth nodes) ≡ Some width
+    → dimension_of (target_size target natural) ≡ Some height
+    → dimension_of (greatest_of breadth nodes) ≡ Some width
     → some_if (list_all fits (glue_totals nodes)) (glue_set (height -ℤ natural) nodes) ≡ Some set
     → Within 1073741823 depth
     → Some (record { kind = Vertical; width = width; height = height; depth = depth; setting = set.setting; badness = set.badness })
@@ -266,8 +266,8 @@ pub vbox-given :
 unfolding vbox_shell glue_set
 vbox-given target limit nodes natural width height depth set d n h w s deep =
     let n' = dimension_found (total downward nodes -ℤ depth) natural n in
-    let h' = dimension_found (wanted target natural) height h in
-    let w' = dimension_found (greatest breadth nodes) width w in
+    let h' = dimension_found (target_size target natural) height h in
+    let w' = dimension_found (greatest_of breadth nodes) width w in
     let s' = some_if-some (list_all fits (glue_totals nodes)) (glue_set (height -ℤ natural) nodes) set s in
     let natural-is : natural_height limit nodes ≡ natural = rw (← d) n'.1 in
     let natural-fits : fits (natural_height limit nodes) ≡ true = rw (← d) n'.0 in
@@ -291,11 +291,11 @@ vbox-unfit-natural target limit nodes depth d n =
 
 pub vbox-unfit-width :
     (target : Target) (limit : ℤ) (nodes : List Node)
-    → dimension_of (greatest breadth nodes) ≡ None
+    → dimension_of (greatest_of breadth nodes) ≡ None
     → None ≡ some_if (list_all fits (vbox_numbers target limit nodes)) (vbox_shell target limit nodes)
 vbox-unfit-width target limit nodes w =
-    let unfit = unfit-fourth (fits (natural_height limit nodes)) (fits (vbox_height target limit nodes)) (fits (vbox_depth limit nodes)) (fits (greatest breadth nodes)) (list_all fits (glue_totals nodes))
-    (dimension_missing (greatest breadth nodes) w) in
+    let unfit = unfit-fourth (fits (natural_height limit nodes)) (fits (vbox_height target limit nodes)) (fits (vbox_depth limit nodes)) (fits (greatest_of breadth nodes)) (list_all fits (glue_totals nodes))
+    (dimension_missing (greatest_of breadth nodes) w) in
     some_if-none-of (list_all fits (vbox_numbers target limit nodes)) (vbox_shell target limit nodes) unfit
 
 pub vbox-unfit-glue :
@@ -303,7 +303,7 @@ pub vbox-unfit-glue :
     → some_if (list_all fits (glue_totals nodes)) set ≡ None
     → None ≡ some_if (list_all fits (vbox_numbers target limit nodes)) (vbox_shell target limit nodes)
 vbox-unfit-glue target limit nodes set s =
-    let unfit = unfit-last (fits (natural_height limit nodes)) (fits (vbox_height target limit nodes)) (fits (vbox_depth limit nodes)) (fits (greatest breadth nodes)) (list_all fits (glue_totals nodes))
+    let unfit = unfit-last (fits (natural_height limit nodes)) (fits (vbox_height target limit nodes)) (fits (vbox_depth limit nodes)) (fits (greatest_of breadth nodes)) (list_all fits (glue_totals nodes))
     (some_if-none _ set s) in
     some_if-none-of (list_all fits (vbox_numbers target limit nodes)) (vbox_shell target limit nodes) unfit
 
@@ -314,13 +314,13 @@ pub vbox-refused :
     (target : Target) (limit : ℤ) (nodes : List Node) (natural depth : ℤ)
     → depth ≡ vbox_depth limit nodes
     → dimension_of (total downward nodes -ℤ depth) ≡ Some natural
-    → dimension_of (wanted target natural) ≡ None
+    → dimension_of (target_size target natural) ≡ None
     → None ≡ some_if (list_all fits (vbox_numbers target limit nodes)) (vbox_shell target limit nodes)
 vbox-refused target limit nodes natural depth d n h =
     let n' = dimension_found (total downward nodes -ℤ depth) natural n in
     let natural-is : natural_height limit nodes ≡ natural = rw (← d) n'.1 in
     let natural-fits : fits (natural_height limit nodes) ≡ true = rw (← d) n'.0 in
-    let height-unfit : fits (vbox_height target limit nodes) ≡ false = rw natural-is (dimension_missing (wanted target natural) h) in
+    let height-unfit : fits (vbox_height target limit nodes) ≡ false = rw natural-is (dimension_missing (target_size target natural) h) in
     let some : list_all fits (vbox_numbers target limit nodes) ≡ false = rw (natural-fits, height-unfit) refl in
     rw some (sym (some_if-false _))
 

@@ -11,7 +11,7 @@ use Rattle.pack_core.specs.ListTotals.{pending_after}
 use Rattle.node_core.specs.declared.tree.Node.{Node}
 use Rattle.node_core.specs.declared.tree.Node.TheVariants as nodes
 use Rattle.std.proofs.Math.Bool.{and-true, and-false}
-use Rattle.pack_core.specs.Totals.{total, greatest, pending_depth}
+use Rattle.pack_core.specs.Totals.{total, greatest_of, pending_depth}
 
 pub total-append : (size : Node → ℤ) (xs ys : List Node) → total size (xs ++ ys) ≡ total size xs +ℤ total size ys
 total-append size [] ys = omega (arith, ints)
@@ -26,19 +26,19 @@ total_more size xs i x within is =
     let same : size (get_or xs i x) ≡ size x = ap size (sym is) in
     omega (arith, ints, all, parts, same)
 
-pub greatest_positive : (size : Node → ℤ) (xs : List Node) → pos 0 ≤ℤ greatest size xs
+pub greatest_positive : (size : Node → ℤ) (xs : List Node) → pos 0 ≤ℤ greatest_of size xs
 greatest_positive size [] = omega (arith, ints)
 greatest_positive size (x ∷ xs) = omega (arith, ints, clamps, greatest_positive size xs)
 
-pub greatest-append : (size : Node → ℤ) (xs ys : List Node) → greatest size (xs ++ ys) ≡ int_max (greatest size xs) (greatest size ys)
+pub greatest-append : (size : Node → ℤ) (xs ys : List Node) → greatest_of size (xs ++ ys) ≡ int_max (greatest_of size xs) (greatest_of size ys)
 greatest-append size [] ys = omega (arith, ints, clamps, greatest_positive size ys)
 greatest-append size (x ∷ xs) ys = omega (arith, ints, clamps, greatest-append size xs ys)
 
 pub greatest_more :
     (size : Node → ℤ) (xs : List Node) (i : ℕ) (x : Node) → i < length xs → x ≡ get_or xs i x
-    → greatest size (take (i + 1) xs) ≡ int_max (greatest size (take i xs)) (size x)
+    → greatest_of size (take (i + 1) xs) ≡ int_max (greatest_of size (take i xs)) (size x)
 greatest_more size xs i x within is =
-    let all : greatest size (take (i + 1) xs) ≡ greatest size (take i xs ++ get_or xs i x ∷ []) = ap (greatest size) (take_more xs i x within) in
+    let all : greatest_of size (take (i + 1) xs) ≡ greatest_of size (take i xs ++ get_or xs i x ∷ []) = ap (greatest_of size) (take_more xs i x within) in
     let parts = greatest-append size (take i xs) (get_or xs i x ∷ []) in
     let same : size (get_or xs i x) ≡ size x = ap size (sym is) in
     let low = greatest_positive size (take i xs) in

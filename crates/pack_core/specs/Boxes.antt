@@ -13,17 +13,17 @@ use Rattle.pack_core.specs.declared.pack.Target.TheVariants.{Natural, To, Spread
 use Rattle.pack_core.specs.declared.pack.Packed.{Packed}
 use Rattle.pack_core.specs.declared.pack.Shell.{Shell}
 use Rattle.pack_core.specs.declared.pack.TooLarge.{TooLarge}
-use Rattle.pack_core.specs.Items.{across, above, below, downward, breadth}
+use Rattle.pack_core.specs.Items.{item_width, height_above_baseline, depth_below_baseline, downward, breadth}
 use Rattle.scaled_core.specs.Dimensions.{fits}
-use Rattle.pack_core.specs.Totals.{total, greatest, pending_depth, first_height}
+use Rattle.pack_core.specs.Totals.{total, greatest_of, pending_depth, first_height}
 use Rattle.pack_core.specs.Glue.{stretch_totals, shrink_totals, setting_of, setting_badness}
 
 -- The target size of a list of this natural size: the natural size, a given size, or the natural size plus an amount (TeX: The Program, part 33, §657
 -- and §672).
-abbrev pub wanted : Target → (natural : ℤ) → ℤ
-wanted Natural natural = natural
-wanted (To size) natural = size
-wanted (Spread more) natural = natural +ℤ more
+abbrev pub target_size : Target → (natural : ℤ) → ℤ
+target_size Natural natural = natural
+target_size (To size) natural = size
+target_size (Spread more) natural = natural +ℤ more
 
 -- The result of packing without the list: the frame of the box, its badness, and the numbers that have to fit (own).
 pub record Packing : Type 0 where
@@ -45,11 +45,11 @@ glue_totals nodes =
 
 -- The width of an hbox: the target size for its natural width, which is the sum of the widths of its items (TeX: The Program, part 33, §657).
 abbrev pub hbox_width : Target → List Node → ℤ
-hbox_width target nodes = wanted target (total across nodes)
+hbox_width target nodes = target_size target (total item_width nodes)
 
 -- The width of an hbox minus its natural width: what its glue has to make up (TeX: The Program, part 33, §657).
 abbrev pub hbox_excess : Target → List Node → ℤ
-hbox_excess target nodes = hbox_width target nodes -ℤ total across nodes
+hbox_excess target nodes = hbox_width target nodes -ℤ total item_width nodes
 
 -- The frame of an hbox: it has the target width, and the height and depth of its highest and its deepest item (TeX: The Program, part 33, §649).
 abbrev pub hbox_frame : Target → List Node → BoxFrame
@@ -57,8 +57,8 @@ hbox_frame target nodes =
     record {
       kind = Horizontal;
       width = hbox_width target nodes;
-      height = greatest above nodes;
-      depth = greatest below nodes;
+      height = greatest_of height_above_baseline nodes;
+      depth = greatest_of depth_below_baseline nodes;
       setting = setting_of (hbox_excess target nodes) nodes;
     }
 
@@ -73,7 +73,8 @@ hbox_badness target nodes = setting_badness (hbox_excess target nodes) nodes
 -- The numbers of a horizontal list that have to fit: its natural width, the totals of its glue, and the sizes of its box (own).
 abbrev pub hbox_numbers : Target → List Node → List ℤ
 hbox_numbers target nodes =
-    total across nodes ∷ hbox_width target nodes ∷ greatest above nodes ∷ greatest below nodes ∷ glue_totals nodes
+    total item_width nodes ∷ hbox_width target nodes ∷ greatest_of height_above_baseline nodes ∷ greatest_of depth_below_baseline nodes
+        ∷ glue_totals nodes
 
 -- The result of packing a horizontal list, without the list.
 abbrev pub hbox_packing : Target → List Node → Packing
@@ -93,7 +94,7 @@ natural_height limit nodes = total downward nodes -ℤ vbox_depth limit nodes
 
 -- The height of a vbox: the target size for its natural height (TeX: The Program, part 33, §672).
 abbrev pub vbox_height : Target → (limit : ℤ) → List Node → ℤ
-vbox_height target limit nodes = wanted target (natural_height limit nodes)
+vbox_height target limit nodes = target_size target (natural_height limit nodes)
 
 -- The height of a vbox minus its natural height: what its glue has to make up (TeX: The Program, part 33, §672).
 abbrev pub vbox_excess : Target → (limit : ℤ) → List Node → ℤ
@@ -105,7 +106,7 @@ abbrev pub vbox_frame : Target → (limit : ℤ) → List Node → BoxFrame
 vbox_frame target limit nodes =
     record {
       kind = Vertical;
-      width = greatest breadth nodes;
+      width = greatest_of breadth nodes;
       height = vbox_height target limit nodes;
       depth = vbox_depth limit nodes;
       setting = setting_of (vbox_excess target limit nodes) nodes;
@@ -122,7 +123,7 @@ vbox_badness target limit nodes = setting_badness (vbox_excess target limit node
 -- The numbers of a vertical list that have to fit: its natural height, the totals of its glue, and the sizes of its box (own).
 abbrev pub vbox_numbers : Target → (limit : ℤ) → List Node → List ℤ
 vbox_numbers target limit nodes =
-    natural_height limit nodes ∷ vbox_height target limit nodes ∷ vbox_depth limit nodes ∷ greatest breadth nodes ∷ glue_totals nodes
+    natural_height limit nodes ∷ vbox_height target limit nodes ∷ vbox_depth limit nodes ∷ greatest_of breadth nodes ∷ glue_totals nodes
 
 -- The result of packing a vertical list into a vbox, without the list.
 abbrev pub vbox_packing : Target → (limit : ℤ) → List Node → Packing

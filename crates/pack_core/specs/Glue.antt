@@ -39,9 +39,9 @@ fraction amount (negsuc n) = record { num = neg_ℤ amount; den = pos (suc n) }
 
 -- The setting of glue that is stretched by an amount above 0: the ratio of the highest order is the amount as a fraction of the total (TeX: The
 -- Program, part 33, §658 and §673).
-abbrev pub stretched : (amount : ℤ) → (totals : Order → ℤ) → Option Order → Setting
-stretched amount totals None = Natural
-stretched amount totals (Some order) = Stretch order (fraction amount (totals order))
+abbrev pub stretched_setting : (amount : ℤ) → (totals : Order → ℤ) → Option Order → Setting
+stretched_setting amount totals None = Natural
+stretched_setting amount totals (Some order) = Stretch order (fraction amount (totals order))
 
 -- The total shrink of normal order is less than the amount (TeX: The Program, part 33, §664 and §676).
 abbrev pub is_short : (amount : ℤ) → (totals : Order → ℤ) → Bool
@@ -54,16 +54,16 @@ shrink_ratio amount totals Normal = if is_short amount totals then record { num 
 shrink_ratio amount totals order = fraction amount (totals order)
 
 -- The setting of glue that is shrunk by an amount above 0 (TeX: The Program, part 33, §664 and §676).
-abbrev pub shrunk : (amount : ℤ) → (totals : Order → ℤ) → Option Order → Setting
-shrunk amount totals None = Natural
-shrunk amount totals (Some order) = Shrink order (shrink_ratio amount totals order)
+abbrev pub shrunk_setting : (amount : ℤ) → (totals : Order → ℤ) → Option Order → Setting
+shrunk_setting amount totals None = Natural
+shrunk_setting amount totals (Some order) = Shrink order (shrink_ratio amount totals order)
 
 -- The setting of glue with these totals for an excess, which is the size of the box minus the natural size of its list: glue stretches if it is above
 -- 0, and shrinks if it is below 0 (TeX: The Program, part 33, §657 and §672).
 abbrev pub glue_setting : (excess : ℤ) → (stretch shrink : Order → ℤ) → Setting
 glue_setting (pos zero) stretch shrink = Natural
-glue_setting (pos (suc n)) stretch shrink = stretched (pos (suc n)) stretch (highest stretch)
-glue_setting (negsuc n) stretch shrink = shrunk (pos (suc n)) shrink (highest shrink)
+glue_setting (pos (suc n)) stretch shrink = stretched_setting (pos (suc n)) stretch (highest stretch)
+glue_setting (negsuc n) stretch shrink = shrunk_setting (pos (suc n)) shrink (highest shrink)
 
 -- The total stretch of the glue of a list in each order (TeX: The Program, part 33, §656 and §671).
 abbrev pub stretch_totals : List Node → Order → ℤ

@@ -17,37 +17,37 @@ own_size Running = pos 0
 own_size (Fixed size) = size
 
 -- The width of an item, which is its advance in a horizontal list.
-abbrev pub across : Node → ℤ
-across (nodes.Glyph glyph) = glyph.width
-across (nodes.FontKern width) = width
-across (nodes.Kern width) = width
-across (nodes.Glue glue) = glue.width
-across (nodes.Penalty penalty) = pos 0
-across (nodes.Special text) = pos 0
-across (nodes.Rule rule) = own_size rule.width
-across (nodes.Box shift b) = b.width
+abbrev pub item_width : Node → ℤ
+item_width (nodes.Glyph glyph) = glyph.width
+item_width (nodes.FontKern width) = width
+item_width (nodes.Kern width) = width
+item_width (nodes.Glue glue) = glue.width
+item_width (nodes.Penalty penalty) = pos 0
+item_width (nodes.Special text) = pos 0
+item_width (nodes.Rule rule) = own_size rule.width
+item_width (nodes.Box shift b) = b.width
 
 -- The height of an item above the baseline; for a box, minus its shift down.
-abbrev pub above : Node → ℤ
-above (nodes.Glyph glyph) = glyph.height
-above (nodes.FontKern width) = pos 0
-above (nodes.Kern width) = pos 0
-above (nodes.Glue glue) = pos 0
-above (nodes.Penalty penalty) = pos 0
-above (nodes.Special text) = pos 0
-above (nodes.Rule rule) = own_size rule.height
-above (nodes.Box shift b) = b.height -ℤ shift
+abbrev pub height_above_baseline : Node → ℤ
+height_above_baseline (nodes.Glyph glyph) = glyph.height
+height_above_baseline (nodes.FontKern width) = pos 0
+height_above_baseline (nodes.Kern width) = pos 0
+height_above_baseline (nodes.Glue glue) = pos 0
+height_above_baseline (nodes.Penalty penalty) = pos 0
+height_above_baseline (nodes.Special text) = pos 0
+height_above_baseline (nodes.Rule rule) = own_size rule.height
+height_above_baseline (nodes.Box shift b) = b.height -ℤ shift
 
 -- The depth of an item below the baseline; for a box, plus its shift down.
-abbrev pub below : Node → ℤ
-below (nodes.Glyph glyph) = glyph.depth
-below (nodes.FontKern width) = pos 0
-below (nodes.Kern width) = pos 0
-below (nodes.Glue glue) = pos 0
-below (nodes.Penalty penalty) = pos 0
-below (nodes.Special text) = pos 0
-below (nodes.Rule rule) = own_size rule.depth
-below (nodes.Box shift b) = b.depth +ℤ shift
+abbrev pub depth_below_baseline : Node → ℤ
+depth_below_baseline (nodes.Glyph glyph) = glyph.depth
+depth_below_baseline (nodes.FontKern width) = pos 0
+depth_below_baseline (nodes.Kern width) = pos 0
+depth_below_baseline (nodes.Glue glue) = pos 0
+depth_below_baseline (nodes.Penalty penalty) = pos 0
+depth_below_baseline (nodes.Special text) = pos 0
+depth_below_baseline (nodes.Rule rule) = own_size rule.depth
+depth_below_baseline (nodes.Box shift b) = b.depth +ℤ shift
 
 -- The advance of an item in a vertical list: height plus depth for a rule or a box, and the width for glue and kerns. Characters do not occur in
 -- vertical lists.
@@ -74,7 +74,7 @@ breadth (nodes.Box shift b) = b.width +ℤ shift
 
 -- The advance of an item, by the kind of its list.
 abbrev pub advance : Kind → Node → ℤ
-advance Horizontal node = across node
+advance Horizontal node = item_width node
 advance Vertical node = downward node
 
 -- Whether two orders of glue are the same (own).

@@ -6,8 +6,8 @@ use Rattle.node_core.specs.declared.tree.Order.TheVariants.{Normal, Fil}
 use Rattle.node_core.specs.Items.{Items, none, leaf, glue, kern}
 
 -- Glue of width 0 with this stretch in this order, and without shrink.
-abbrev pub stretching : ℤ → Order → Glue
-stretching stretch order = record { width = pos 0; stretch = stretch; stretch_order = order; shrink = pos 0; shrink_order = Normal }
+abbrev pub stretching_glue : ℤ → Order → Glue
+stretching_glue stretch order = record { width = pos 0; stretch = stretch; stretch_order = order; shrink = pos 0; shrink_order = Normal }
 
 -- Glue of width 0 with this shrink in the normal order, and without stretch.
 abbrev pub shrinking_setting : ℤ → Glue
@@ -15,7 +15,8 @@ shrinking_setting shrink = record { width = pos 0; stretch = pos 0; stretch_orde
 
 -- Three glues that stretch by 1sp each.
 abbrev pub three_stretching : Items
-three_stretching = leaf (glue (stretching (pos 1) Normal)) (leaf (glue (stretching (pos 1) Normal)) (leaf (glue (stretching (pos 1) Normal)) none))
+three_stretching = leaf (glue (stretching_glue (pos 1) Normal))
+    (leaf (glue (stretching_glue (pos 1) Normal)) (leaf (glue (stretching_glue (pos 1) Normal)) none))
 
 -- Two glues that shrink by 1sp each.
 abbrev pub two_shrinking : Items
@@ -23,4 +24,4 @@ two_shrinking = leaf (glue (shrinking_setting (pos 1))) (leaf (glue (shrinking_s
 
 -- A kern of 5pt, glue that stretches by 5pt, and glue that stretches by 1fil.
 abbrev pub kern_and_fil : Items
-kern_and_fil = leaf (kern (pos 327680)) (leaf (glue (stretching (pos 327680) Normal)) (leaf (glue (stretching (pos 65536) Fil)) none))
+kern_and_fil = leaf (kern (pos 327680)) (leaf (glue (stretching_glue (pos 327680) Normal)) (leaf (glue (stretching_glue (pos 65536) Fil)) none))

@@ -11,9 +11,9 @@ total size [] = pos 0
 total size (x ∷ xs) = size x +ℤ total size xs
 
 -- The greatest value of a size over a list, at least 0.
-abbrev pub greatest : (Node → ℤ) → List Node → ℤ
-greatest size [] = pos 0
-greatest size (x ∷ xs) = int_max (size x) (greatest size xs)
+abbrev pub greatest_of : (Node → ℤ) → List Node → ℤ
+greatest_of size [] = pos 0
+greatest_of size (x ∷ xs) = int_max (size x) (greatest_of size xs)
 
 -- The pending depth at the end of a list: the depth of the last rule or box if only penalties and specials follow it, and otherwise 0 (TeX: The
 -- Program, part 33, §669 to §671).

@@ -3,8 +3,8 @@
 ghost use Rattle.std.specs.Prelude.{◌≡◌, ◌≤◌, ◌+◌, ◌+ℤ◌, ℕ, pos, length};
 ghost use Rattle.std.specs.Int.{int_max};
 ghost use Rattle.node_core.specs.Nodes.{max_nodes};
-ghost use Rattle.pack_core.specs.Items.{across, above, below, stretch_in, shrink_in};
-ghost use Rattle.pack_core.specs.Totals.{total, greatest};
+ghost use Rattle.pack_core.specs.Items.{item_width, height_above_baseline, depth_below_baseline, stretch_in, shrink_in};
+ghost use Rattle.pack_core.specs.Totals.{total, greatest_of};
 ghost use Rattle.pack_core.specs.Glue.{stretch_totals, shrink_totals};
 ghost use Rattle.pack_core.specs.Orders.{order_amounts, plus};
 ghost use Rattle.pack_core.specs.Private.Measures.{HasPassed};
@@ -49,9 +49,9 @@ impl Across {
     /// Passes one more item. Characters, glue and kerns have match arms of their own for speed, since nearly all items of a line are of these kinds.
     fn pass(&mut self, node: &Node)
         requires { HasPassed max_nodes self.old }
-        ensures width { self.new.width ≡ self.old.width +ℤ across node.now }
-        ensures height { self.new.height ≡ int_max self.old.height (above node.now) }
-        ensures depth { self.new.depth ≡ int_max self.old.depth (below node.now) }
+        ensures width { self.new.width ≡ self.old.width +ℤ item_width node.now }
+        ensures height { self.new.height ≡ int_max self.old.height (height_above_baseline node.now) }
+        ensures depth { self.new.depth ≡ int_max self.old.depth (depth_below_baseline node.now) }
         ensures stretch { self.new.stretch ≡ plus self.old.stretch (λ order. stretch_in order node.now) }
         ensures shrink { self.new.shrink ≡ plus self.old.shrink (λ order. shrink_in order node.now) }
         ensures bound { (n : ℕ) → HasPassed n self.old → HasPassed (n + 1) self.new }
@@ -80,9 +80,9 @@ impl Across {
     /// The measures of the items of a list.
     pub fn of(nodes: &[Node]) -> Across
         requires { length nodes.now ≤ max_nodes }
-        ensures width { result.width ≡ total across nodes.now }
-        ensures height { result.height ≡ greatest above nodes.now }
-        ensures depth { result.depth ≡ greatest below nodes.now }
+        ensures width { result.width ≡ total item_width nodes.now }
+        ensures height { result.height ≡ greatest_of height_above_baseline nodes.now }
+        ensures depth { result.depth ≡ greatest_of depth_below_baseline nodes.now }
         ensures stretch { result.stretch ≡ order_amounts (stretch_totals nodes.now) }
         ensures shrink { result.shrink ≡ order_amounts (shrink_totals nodes.now) }
         ensures sums_bounded { HasPassed max_nodes result }

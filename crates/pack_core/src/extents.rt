@@ -3,7 +3,7 @@
 ghost use Rattle.std.specs.Prelude.{◌≡◌, ◌^◌};
 ghost use Rattle.scaled_core.specs.Dimensions.{Within};
 ghost use Rattle.pack_core.specs.Items.{breadth};
-ghost use Rattle.pack_core.specs.Totals.{greatest, first_height};
+ghost use Rattle.pack_core.specs.Totals.{greatest_of, first_height};
 
 use crate::sizes::{breadth_of, first_height_of};
 use node_core::Node;
@@ -11,7 +11,7 @@ use scaled_core::Dimen;
 
 /// The distance to the right edge of the widest item of a vertical list, at least 0.
 pub fn greatest_breadth(nodes: &[Node]) -> i64
-    ensures value { result ≡ greatest breadth nodes.now }
+    ensures value { result ≡ greatest_of breadth nodes.now }
     ensures value_bounded { Within (2 ^ 31) result }
 {
     let mut most: i64 = 0;

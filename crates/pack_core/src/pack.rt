@@ -9,9 +9,9 @@ ghost use Rattle.scaled_core.specs.Dimensions.{Fits, fits, dimension_of};
 ghost use Rattle.node_core.specs.Nodes.{max_nodes, nodes_of};
 ghost use Rattle.node_core.specs.declared.tree.Node.{Node};
 ghost use Rattle.pack_core.specs.Items.{breadth};
-ghost use Rattle.pack_core.specs.Totals.{greatest, first_height};
+ghost use Rattle.pack_core.specs.Totals.{greatest_of, first_height};
 ghost use Rattle.pack_core.specs.ListTotals.{totals_of};
-ghost use Rattle.pack_core.specs.Boxes.{wanted, hbox, hbox_badness, hbox_numbers, hpacked, vbox, vbox_badness, vbox_numbers, vpacked, vtop_box};
+ghost use Rattle.pack_core.specs.Boxes.{target_size, hbox, hbox_badness, hbox_numbers, hpacked, vbox, vbox_badness, vbox_numbers, vpacked, vtop_box};
 ghost use Rattle.pack_core.specs.Boxes.{vtop_numbers, vtopped, some_if, hbox_shell, vbox_shell, packed_of};
 ghost use Rattle.pack_core.specs.Places.{place_in};
 ghost use Rattle.pack_core.specs.Private.Steps.{vtop_shell, boxed_list};
@@ -111,7 +111,7 @@ pub struct Shell {
 /// The target size of a list of this natural size, if it fits.
 #[tactic(auto, using(scaled_core::proofs::Fitting::some_dimension))]
 fn wanted_size(target: Target, natural: Dimen) -> Option<Dimen>
-    ensures { result ≡ dimension_of (wanted target natural) }
+    ensures { result ≡ dimension_of (target_size target natural) }
 {
     match target {
         Target::Natural => Some(natural.known_to_fit()),
@@ -167,7 +167,7 @@ pub fn vertical_shell(
     empty: bool,
     totals: &Totals,
 ) -> Option<Shell>
-    ensures { (nodes : List Node) → totals.now ≡ totals_of Kind.Vertical nodes → width ≡ greatest breadth nodes → empty ≡ (length nodes == 0) →
+    ensures { (nodes : List Node) → totals.now ≡ totals_of Kind.Vertical nodes → width ≡ greatest_of breadth nodes → empty ≡ (length nodes == 0) →
         result ≡ some_if (list_all fits (vbox_numbers target limit nodes)) (vbox_shell target limit nodes) }
 {
     let depth = at_most(totals.pending_depth(), limit);

@@ -5,7 +5,8 @@ ghost use Rattle.std.specs.Option.{IfSome};
 ghost use Rattle.std.specs.List.{list_all};
 ghost use Rattle.scaled_core.specs.Dimensions.{Within, fits};
 ghost use Rattle.node_core.specs.declared.tree.Node.{Node};
-ghost use Rattle.pack_core.specs.Glue.{highest, fraction, is_finite, stretched, shrink_ratio, shrunk, glue_setting, stretch_badness, shrink_badness};
+ghost use Rattle.pack_core.specs.Glue.{highest, fraction, is_finite, stretched_setting, shrink_ratio, shrunk_setting, glue_setting, stretch_badness};
+ghost use Rattle.pack_core.specs.Glue.{shrink_badness};
 ghost use Rattle.pack_core.specs.Glue.{glue_badness, stretch_totals, shrink_totals};
 ghost use Rattle.pack_core.specs.Boxes.{glue_totals, some_if};
 ghost use Rattle.pack_core.specs.Orders.{order_amounts};
@@ -89,7 +90,7 @@ fn fraction(amount: i64, total: Dimen) -> Ratio
 /// The setting that stretches glue by an amount.
 fn stretch_setting(amount: i64, totals: &OrderDimens) -> Setting
     requires { Within (2 ^ 31) amount }
-    ensures { result ≡ stretched amount (by_order totals.now) (highest (by_order totals.now)) }
+    ensures { result ≡ stretched_setting amount (by_order totals.now) (highest (by_order totals.now)) }
 {
     match highest_order(totals) {
         None => Setting::Natural,
@@ -123,7 +124,7 @@ fn shrink_ratio(amount: i64, totals: &OrderDimens, order: Order) -> Ratio
 /// The setting that shrinks glue by an amount.
 fn shrink_setting(amount: i64, totals: &OrderDimens) -> Setting
     requires { Within (2 ^ 31) amount }
-    ensures { result ≡ shrunk amount (by_order totals.now) (highest (by_order totals.now)) }
+    ensures { result ≡ shrunk_setting amount (by_order totals.now) (highest (by_order totals.now)) }
 {
     match highest_order(totals) {
         None => Setting::Natural,

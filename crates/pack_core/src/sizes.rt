@@ -2,7 +2,8 @@
 
 ghost use Rattle.std.specs.Prelude.{◌≡◌, ◌^◌};
 ghost use Rattle.scaled_core.specs.Dimensions.{Within};
-ghost use Rattle.pack_core.specs.Items.{own_size, across, above, below, downward, breadth, advance, stretch_in, shrink_in};
+ghost use Rattle.pack_core.specs.Items.{own_size, item_width, height_above_baseline, depth_below_baseline, downward, breadth, advance, stretch_in};
+ghost use Rattle.pack_core.specs.Items.{shrink_in};
 ghost use Rattle.pack_core.specs.Items.{item_height, item_depth, first_above};
 ghost use Rattle.pack_core.specs.Places.{share};
 
@@ -21,7 +22,7 @@ pub fn own_size(size: RuleSize) -> Dimen
 
 /// The width of an item.
 pub fn width_of(node: &Node) -> Dimen
-    ensures { result ≡ across node.now }
+    ensures { result ≡ item_width node.now }
 {
     match node {
         Node::Glyph(glyph) => glyph.width,
@@ -36,7 +37,7 @@ pub fn width_of(node: &Node) -> Dimen
 
 /// The height of an item above the baseline; for a box, minus its shift down.
 pub fn height_of(node: &Node) -> i64
-    ensures value { result ≡ above node.now }
+    ensures value { result ≡ height_above_baseline node.now }
     ensures value_bounded { Within (2 ^ 31) result }
 {
     match node {
@@ -49,7 +50,7 @@ pub fn height_of(node: &Node) -> i64
 
 /// The depth of an item below the baseline; for a box, plus its shift down.
 pub fn depth_of(node: &Node) -> i64
-    ensures value { result ≡ below node.now }
+    ensures value { result ≡ depth_below_baseline node.now }
     ensures value_bounded { Within (2 ^ 31) result }
 {
     match node {
@@ -108,7 +109,7 @@ pub fn first_height_of(node: &Node) -> Dimen
 
 /// The advance of an item of a horizontal list: how far it moves what follows it.
 pub fn across_of(node: &Node) -> i64
-    ensures value { result ≡ across node.now }
+    ensures value { result ≡ item_width node.now }
     ensures value_bounded { Within (2 ^ 31) result }
 {
     i64::from(width_of(node).get())

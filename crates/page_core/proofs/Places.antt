@@ -19,7 +19,7 @@ use Rattle.pack_core.specs.Cursors.{Reached, reached, one_more, place_at}
 use Rattle.pack_core.proofs.Walks.{one_more-reached, place-reached, reached-passed}
 use Rattle.page_core.specs.Marks.{ShippedPage, page_v, is_huge, right_at, down_at, list_v, item_h, item_v, box_h, box_v, numbers_at, numbers_after}
 use Rattle.scaled_core.specs.Mark as body
-use Rattle.page_core.specs.Pictures.{Picture, stroke, group, grouped, picture_after}
+use Rattle.page_core.specs.Pictures.{Picture, stroke, group, grouped_picture, picture_after}
 use Rattle.page_core.specs.Placing.{Reaches, strokes_of, reference_h, reference_v}
 use Rattle.page_core.specs.Private.Placing.{numbers_between, strokes_at}
 use Rattle.page_core.proofs.Walked.{reach_by}
@@ -35,7 +35,7 @@ taken_at xs i x within is = sym (take_more xs i x within ∙ ap (λ y. take i xs
 -- The items inside an item at (h, v), before a picture: for a box its picture, as a group; and their numbers.
 abbrev pub inside : BoxNode → (h v : ℤ) → Node → Picture → Picture
 inside b h v (nodes.Box shift inner) rest =
-    grouped inner.list inner.kind
+    grouped_picture inner.list inner.kind
     (picture_after inner (box_h b.kind h shift) (list_v inner.kind inner.height (box_v b.kind v shift inner.height)) [] inner.list) rest
 inside b h v (nodes.Special text) rest = stroke (body.Special h v text) (pos 0) rest
 inside b h v other rest = rest
@@ -222,7 +222,7 @@ inner_numbers b inner h v shift begin_h begin_v x is (right, down) = rw (is, rig
 pub inner_picture :
     (b inner : BoxNode) (h v shift begin_h begin_v : ℤ) (x : Node) (rest : Picture) → x ≡ nodes.Box shift inner
     → (begin_h ≡ box_h b.kind h shift) × (begin_v ≡ list_v inner.kind inner.height (box_v b.kind v shift inner.height))
-    → inside b h v x rest ≡ grouped inner.list inner.kind (picture_after inner begin_h begin_v [] inner.list) rest
+    → inside b h v x rest ≡ grouped_picture inner.list inner.kind (picture_after inner begin_h begin_v [] inner.list) rest
 inner_picture b inner h v shift begin_h begin_v x rest is (right, down) = rw (is, right, down) refl
 
 -- A list without items, and its numbers.
@@ -333,10 +333,10 @@ unfolding is_huge
 items_fit page small = last_of_three _ _ _ small
 
 -- A box without items is no group, and a box with items is one.
-pub grouped-none : (items : Items) (kind : Kind) (inner rest : Picture) → (length (nodes_of items) == 0) ≡ true → grouped items kind inner rest ≡ rest
-grouped-none items kind inner rest empty = ap (λ items. grouped items kind inner rest) (no_items items empty)
+pub grouped-none : (items : Items) (kind : Kind) (inner rest : Picture) → (length (nodes_of items) == 0) ≡ true → grouped_picture items kind inner rest ≡ rest
+grouped-none items kind inner rest empty = ap (λ items. grouped_picture items kind inner rest) (no_items items empty)
 
-pub grouped-some : (items : Items) (kind : Kind) (inner rest : Picture) → (length (nodes_of items) == 0) ≡ false → grouped items kind inner rest ≡ group kind inner rest
+pub grouped-some : (items : Items) (kind : Kind) (inner rest : Picture) → (length (nodes_of items) == 0) ≡ false → grouped_picture items kind inner rest ≡ group kind inner rest
 grouped-some none kind inner rest full = absurd (cc)
 grouped-some (leaf x items) kind inner rest full = refl
 grouped-some (box shift frame some items) kind inner rest full = refl

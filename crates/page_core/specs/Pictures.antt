@@ -33,10 +33,10 @@ in_front [] width rest = rest
 in_front (mark ∷ marks) width rest = stroke mark width (in_front marks width rest)
 
 -- The picture of a box before another picture. A box without items makes no group.
-abbrev pub grouped : Items → Kind → Picture → Picture → Picture
-grouped none kind inner rest = rest
-grouped (leaf x items) kind inner rest = group kind inner rest
-grouped (box shift frame more items) kind inner rest = group kind inner rest
+abbrev pub grouped_picture : Items → Kind → Picture → Picture → Picture
+grouped_picture none kind inner rest = rest
+grouped_picture (leaf x items) kind inner rest = group kind inner rest
+grouped_picture (box shift frame more items) kind inner rest = group kind inner rest
 
 -- The picture of the items `after`, which follow the items `before` in the list of the box; the list begins at (h, v).
 abbrev pub picture_after : BoxNode → (h v : ℤ) → (before : List Node) → (after : Items) → Picture
@@ -44,7 +44,7 @@ picture_after b h v before none = blank
 picture_after b h v before (leaf x after) =
     in_front (marks_of_item b (item_h b h before) (item_v b v before) x) (width_in b x) (picture_after b h v (before ++ node_of x ∷ []) after)
 picture_after b h v before (box shift frame inner after) =
-    grouped inner frame.kind
+    grouped_picture inner frame.kind
     (picture_after (box_of frame inner) (box_h b.kind (item_h b h before) shift)
     (list_v frame.kind frame.height (box_v b.kind (item_v b v before) shift frame.height)) [] inner)
     (picture_after b h v (before ++ Box shift (box_of frame inner) ∷ []) after)

@@ -7,7 +7,7 @@ ghost use Rattle.scaled_core.specs.Dimensions.{fits};
 ghost use Rattle.pack_core.specs.Cursors.{reached, one_more, place_at};
 ghost use Rattle.page_core.specs.Marks.{right_at, down_at, list_v, numbers_after, points_and_sizes};
 ghost use Rattle.node_core.specs.declared.tree.Kind.{Kind};
-ghost use Rattle.page_core.specs.Pictures.{Picture, blank, grouped, picture_after};
+ghost use Rattle.page_core.specs.Pictures.{Picture, blank, grouped_picture, picture_after};
 ghost use Rattle.node_core.specs.declared.tree.Node.TheVariants as nodes;
 ghost use Rattle.page_core.specs.Placing.{Reaches, strokes_of, reference_h, reference_v};
 ghost use Rattle.page_core.specs.Private.Placing.{is_blank, level_with, point_in, numbers_between, strokes_at};
@@ -305,7 +305,7 @@ fn draw_group<B: BoxRef, S: MarkSink<B>>(
     ensures fits { IfOk result (λ fit. fit ≡ list_all fits (numbers_after (B.box_node tree) at.h
         (list_v (B.box_node tree).kind (B.box_node tree).height at.v) [] (B.box_node tree).list)) }
     ensures marks { IfOk result (λ fit. fit ≡ true → (kind : Kind) (rest : Picture) → S.drawn_with kind sink.old
-        (grouped (B.box_node tree).list (B.box_node tree).kind
+        (grouped_picture (B.box_node tree).list (B.box_node tree).kind
         (picture_after (B.box_node tree) at.h (list_v (B.box_node tree).kind (B.box_node tree).height at.v) [] (B.box_node tree).list) rest)
         ≡ S.drawn_with kind sink.new rest) }
 {

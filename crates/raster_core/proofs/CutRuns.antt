@@ -5,7 +5,7 @@ use Rattle.std.specs.Int.{w128, cast_signed, cast_unsigned}
 use Rattle.std.proofs.lemmas.Int.{ints}
 use Rattle.scaled_core.specs.Dimensions.{Within}
 use Rattle.std.proofs.lemmas.Bool.{cases_lt, lt-ltb, le-ltb, le-leb, lt-leb}
-use Rattle.raster_core.specs.Words.{between}
+use Rattle.raster_core.specs.Words.{is_between}
 use Rattle.raster_core.specs.Pixels.{spans}
 
 not_below : (a x : ℕ) → leb a x ≡ not (ltb x a)
@@ -19,7 +19,7 @@ not_below_z : (z : ℤ) (x : ℕ) → int_le z (pos x) ≡ not (int_lt (pos x) z
 not_below_z (pos n) x = not_below n x
 not_below_z (negsuc n) x = refl
 
-pub run_is : (start end x : ℕ) (first last : ℤ) → ltb x start ≡ int_lt (pos x) first → ltb x end ≡ int_le (pos x) last → between start end x ≡ spans first last x
+pub run_is : (start end x : ℕ) (first last : ℤ) → ltb x start ≡ int_lt (pos x) first → ltb x end ≡ int_le (pos x) last → is_between start end x ≡ spans first last x
 run_is start end x first last p q =
     ap (λ b. b && ltb x end) (not_below start x ∙ (ap not p ∙ sym (not_below_z first x))) ∙ ap (λ b. int_le first (pos x) && b) q
 

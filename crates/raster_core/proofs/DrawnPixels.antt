@@ -9,7 +9,7 @@ use Rattle.raster_core.specs.Words.{AreFull, in_rows, is_set}
 use Rattle.dvi_scan.specs.View.{mark_of}
 use Rattle.dvi_scan.specs.declared.page.Mark.{Mark as PassMark}
 use Rattle.raster_core.specs.Pixels.{Scale, is_covered}
-use Rattle.raster_core.specs.Pictures.{PixelGrid, drawn, is_black, painted, white}
+use Rattle.raster_core.specs.Pictures.{PixelGrid, drawn, is_black, painted_picture, white}
 
 -- A row of a picture.
 abbrev pub row_of : (width : ℕ) → (black : ℕ → ℕ → Bool) → ℕ → List Bool
@@ -39,7 +39,7 @@ drawn_pixel w h f x y within below =
     ∙ get_or-map-range_with_len (λ z. f z y) 0 w x x false within (omega arith)
 
 pub painted_is : (w h : ℕ) (old new : List ℕ) (n : ℕ) (black : ℕ → ℕ → Bool) → ((x y : ℕ) → x < w → y < h → in_rows new n x y ≡ (in_rows old n x y || black x y))
-    → drawn w h (in_rows new n) ≡ painted black (drawn w h (in_rows old n))
+    → drawn w h (in_rows new n) ≡ painted_picture black (drawn w h (in_rows old n))
 unfolding drawn
 painted_is w h old new n black step =
     same_drawn w h (in_rows new n) (λ x y. is_black (drawn w h (in_rows old n)) x y || black x y)
@@ -49,15 +49,15 @@ painted_is w h old new n black step =
 pub repainted : (w h : ℕ) (words mask old before new after new_words new_mask : List ℕ) (s t : Scale) (marks seen : List PassMark)
     → new_words ≡ new → new_mask ≡ after → length after ≡ length before → old ≡ words → before ≡ mask → s ≡ t → seen ≡ marks
     → ((x y : ℕ) → x < w → y < h → in_rows new (length before) x y ≡ (in_rows old (length before) x y || is_covered s (map mark_of seen) x y))
-    → drawn w h (in_rows new_words (length new_mask)) ≡ painted (is_covered t (map mark_of marks)) (drawn w h (in_rows words (length mask)))
+    → drawn w h (in_rows new_words (length new_mask)) ≡ painted_picture (is_covered t (map mark_of marks)) (drawn w h (in_rows words (length mask)))
 repainted w h words mask old before new after new_words new_mask s t marks seen a b c d e f g step =
     ap (λ l. drawn w h (in_rows l (length new_mask))) a
     ∙ (ap (λ n. drawn w h (in_rows new n)) (ap length b ∙ c)
     ∙ (painted_is w h old new (length before) (is_covered s (map mark_of seen)) step
-    ∙ (ap (λ l. painted (is_covered s (map mark_of seen)) (drawn w h (in_rows l (length before)))) d
-    ∙ (ap (λ l. painted (is_covered s (map mark_of seen)) (drawn w h (in_rows words (length l)))) e
-    ∙ (ap (λ u. painted (is_covered u (map mark_of seen)) (drawn w h (in_rows words (length mask)))) f
-    ∙ ap (λ l. painted (is_covered t (map mark_of l)) (drawn w h (in_rows words (length mask)))) g)))))
+    ∙ (ap (λ l. painted_picture (is_covered s (map mark_of seen)) (drawn w h (in_rows l (length before)))) d
+    ∙ (ap (λ l. painted_picture (is_covered s (map mark_of seen)) (drawn w h (in_rows words (length l)))) e
+    ∙ (ap (λ u. painted_picture (is_covered u (map mark_of seen)) (drawn w h (in_rows words (length mask)))) f
+    ∙ ap (λ l. painted_picture (is_covered t (map mark_of l)) (drawn w h (in_rows words (length mask)))) g)))))
 
 abbrev zeros : ℕ → List ℕ
 zeros n = replicate n 0

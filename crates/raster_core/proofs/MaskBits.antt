@@ -6,7 +6,7 @@ use Rattle.std.proofs.lemmas.Nat.{one_shl, mod_below}
 use Rattle.std.proofs.lemmas.Nat.Bits.{bit_at_and, bit_at_or, bit_at_not, bit_at_ones, bit_at_ones_above, bit_at-lt}
 use Rattle.std.proofs.lemmas.Bool.{cases_lt, lt-ltb, le-ltb, le-leb, lt-leb}
 use Rattle.std.proofs.lemmas.List.{get_or-set_same, get_or-set_other}
-use Rattle.raster_core.specs.Words.{is_set, between}
+use Rattle.raster_core.specs.Words.{is_set, is_between}
 use Rattle.raster_core.specs.Private.Words.{in_row}
 
 bit_cases : (P : ℕ → Type 0) → P 0 → P 1 → (x : ℕ) → x < 2 → P x
@@ -40,10 +40,10 @@ pub low_bits_are_set : (i count : ℕ) → count < 64 → is_set (1 * 2 ^ count 
 low_bits_are_set i count few = ap (λ n. is_set (n - 1) i) (one_shl count 64 few) ∙ few_are_set i count (cases_lt i count)
 
 -- The tests of the two masks, at bit i of word k.
-run_is : (k i first last : ℕ) → (ltb i (last - 64 * k) && not (ltb i (first - 64 * k))) ≡ between first last (64 * k + i)
+run_is : (k i first last : ℕ) → (ltb i (last - 64 * k) && not (ltb i (first - 64 * k))) ≡ is_between first last (64 * k + i)
 run_is k i first last = go (cases_lt (64 * k + i) last) (cases_lt (64 * k + i) first)
   where
-    go : ((64 * k + i) < last) ⊎ (last ≤ (64 * k + i)) → ((64 * k + i) < first) ⊎ (first ≤ (64 * k + i)) → (ltb i (last - 64 * k) && not (ltb i (first - 64 * k))) ≡ between first last (64 * k + i)
+    go : ((64 * k + i) < last) ⊎ (last ≤ (64 * k + i)) → ((64 * k + i) < first) ⊎ (first ≤ (64 * k + i)) → (ltb i (last - 64 * k) && not (ltb i (first - 64 * k))) ≡ is_between first last (64 * k + i)
     go (inl a) (inl b) = rw (lt-ltb i (last - 64 * k) (omega arith), lt-ltb i (first - 64 * k) (omega arith), lt-leb first (64 * k + i) b)
     go (inl a) (inr b) = rw (lt-ltb i (last - 64 * k) (omega arith), le-ltb i (first - 64 * k) (omega arith), le-leb first (64 * k + i) b, lt-ltb (64 * k + i) last a)
     go (inr a) (inl b) = rw (le-ltb i (last - 64 * k) (omega arith), lt-leb first (64 * k + i) b)
@@ -51,7 +51,7 @@ run_is k i first last = go (cases_lt (64 * k + i) last) (cases_lt (64 * k + i) f
 
 -- Bit i of word k of the mask.
 word_bit : (low high k i first last : ℕ) → high < 2 ^ 64 → i < 64 → ((j : ℕ) → j < 64 → is_set low j ≡ ltb j (last - 64 * k)) → ((j : ℕ) → j < 64 → is_set high j ≡ ltb j (first - 64 * k))
-    → is_set (bit_and low (2 ^ 64 - 1 - high)) i ≡ between first last (64 * k + i)
+    → is_set (bit_and low (2 ^ 64 - 1 - high)) i ≡ is_between first last (64 * k + i)
 word_bit low high k i first last fits h p q =
     is_set-and low (2 ^ 64 - 1 - high) i
     ∙ (ap (λ b. is_set low i && b) (is_set-not high i fits h)
@@ -59,24 +59,24 @@ word_bit low high k i first last fits h p q =
     ∙ (ap (λ b. ltb i (last - 64 * k) && not b) (q i h) ∙ run_is k i first last)))
 
 -- A word is written, and the words before it are unchanged.
-pub fill_more : (mask : List ℕ) (k word first last from : ℕ) → k < length mask → ((i : ℕ) → i < 64 → is_set word i ≡ between first last (64 * k + i))
-    → ((x : ℕ) → 64 * from ≤ x → x < 64 * k → in_row mask x ≡ between first last x)
-    → (x : ℕ) → 64 * from ≤ x → x < 64 * (k + 1) → in_row (set mask k word) x ≡ between first last x
+pub fill_more : (mask : List ℕ) (k word first last from : ℕ) → k < length mask → ((i : ℕ) → i < 64 → is_set word i ≡ is_between first last (64 * k + i))
+    → ((x : ℕ) → 64 * from ≤ x → x < 64 * k → in_row mask x ≡ is_between first last x)
+    → (x : ℕ) → 64 * from ≤ x → x < 64 * (k + 1) → in_row (set mask k word) x ≡ is_between first last x
 unfolding in_row
 fill_more mask k word first last from room here below x low high = go (cases_lt x (64 * k))
   where
-    go : (x < 64 * k) ⊎ (64 * k ≤ x) → is_set (get_or (set mask k word) (x / 64) 0) (x % 64) ≡ between first last x
+    go : (x < 64 * k) ⊎ (64 * k ≤ x) → is_set (get_or (set mask k word) (x / 64) 0) (x % 64) ≡ is_between first last x
     go (inl h) = let other : x / 64 ≢ k = omega arith in ap (λ w. is_set w (x % 64)) (get_or-set_other mask k (x / 64) word 0 other) ∙ below x low h
     go (inr h) =
         let same : x / 64 ≡ k = omega arith in
         let whole : 64 * k + x % 64 ≡ x = omega arith in
         ap (λ j. is_set (get_or (set mask k word) j 0) (x % 64)) same
         ∙ (ap (λ w. is_set w (x % 64)) (get_or-set_same mask k word 0 room)
-        ∙ (here (x % 64) (mod_below x 64 (omega arith)) ∙ ap (between first last) whole))
+        ∙ (here (x % 64) (mod_below x 64 (omega arith)) ∙ ap (is_between first last) whole))
 
 -- The word that `fill` writes.
 pub filled_word : (low high k first last : ℕ) → high < 2 ^ 64 → ((j : ℕ) → j < 64 → is_set low j ≡ ltb j (last - 64 * k)) → ((j : ℕ) → j < 64 → is_set high j ≡ ltb j (first - 64 * k))
-    → (i : ℕ) → i < 64 → is_set (bit_and low (2 ^ 64 - 1 - high)) i ≡ between first last (64 * k + i)
+    → (i : ℕ) → i < 64 → is_set (bit_and low (2 ^ 64 - 1 - high)) i ≡ is_between first last (64 * k + i)
 filled_word low high k first last fits p q i h = word_bit low high k i first last fits h p q
 
 -- Another word is unchanged.

@@ -22,8 +22,8 @@ abbrev pub white : (width height : ℕ) → PixelGrid
 white width height = drawn width height (λ x y. false)
 
 -- A picture after these pixels were made black, as far as they are within it (own).
-abbrev pub painted : (black : ℕ → ℕ → Bool) → PixelGrid → PixelGrid
-painted black p = drawn p.width p.height (λ x y. is_black p x y || black x y)
+abbrev pub painted_picture : (black : ℕ → ℕ → Bool) → PixelGrid → PixelGrid
+painted_picture black p = drawn p.width p.height (λ x y. is_black p x y || black x y)
 
 -- Whether a bitmap may have this number of columns or rows (own).
 abbrev pub is_size : ℕ → Bool

@@ -11,8 +11,8 @@ unfoldable pub in_rows : List ℕ → (stride x y : ℕ) → Bool
 in_rows words stride x y = is_set (slice_index words (y * stride + x / 64)) (x % 64)
 
 -- Whether x is at least `first` and below `end` (own).
-abbrev pub between : (first end x : ℕ) → Bool
-between first end x = nat_le first x && nat_lt x end
+abbrev pub is_between : (first end x : ℕ) → Bool
+is_between first end x = nat_le first x && nat_lt x end
 
 -- Bits for the words of rows, 192 bits for each row: where a bit is 1, all pixels of its word are black (own).
 abbrev pub AreFull : (full words : List ℕ) → (stride : ℕ) → Type 0

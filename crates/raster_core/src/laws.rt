@@ -2,7 +2,7 @@
 
 ghost use Rattle.std.specs.Prelude.{◌≡◌, ◌+◌, ◌*◌, ◌<◌, ◌≤◌, ◌||◌, ℕ, Bool, false, pos};
 ghost use Rattle.raster_core.specs.Pixels.{Scale, pixels};
-ghost use Rattle.raster_core.specs.Pictures.{PixelGrid, drawn, is_black, painted};
+ghost use Rattle.raster_core.specs.Pictures.{PixelGrid, drawn, is_black, painted_picture};
 
 /// A drawn picture has its size. A pixel inside it is black exactly where it should be, and none outside is.
 pub fn drawn_pixels()

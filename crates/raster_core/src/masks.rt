@@ -1,7 +1,7 @@
 //! The mask of a row: a run of black pixels as words.
 
 ghost use Rattle.std.specs.Prelude.{◌≡◌, ◌*◌, ◌^◌, ◌<◌, ◌≤◌, ℕ, length, nat_lt, slice_index};
-ghost use Rattle.raster_core.specs.Words.{between, is_set};
+ghost use Rattle.raster_core.specs.Words.{is_between, is_set};
 ghost use Rattle.raster_core.specs.Private.Words.{in_row};
 
 /// The word whose lowest `count` bits are 1 and whose other bits are 0.
@@ -19,7 +19,7 @@ fn low_bits(count: usize) -> u64
 pub fn fill(mask: &mut [u64], from: usize, to: usize, first: usize, last: usize)
     requires words { to ≤ length mask.old }
     requires length_bounded { 64 * to < 2 ^ 64 }
-    ensures run { (x : ℕ) → 64 * from ≤ x → x < 64 * to → in_row mask.new x ≡ between first last x }
+    ensures run { (x : ℕ) → 64 * from ≤ x → x < 64 * to → in_row mask.new x ≡ is_between first last x }
     ensures before { (k : ℕ) → k < from → slice_index mask.new k ≡ slice_index mask.old k }
     ensures after { (k : ℕ) → to ≤ k → slice_index mask.new k ≡ slice_index mask.old k }
 {

@@ -6,7 +6,7 @@ ghost use Rattle.dvi_ops.specs.View.{units as units_of};
 ghost use Rattle.dvi_scan.specs.View.{mark_of, marked_page};
 ghost use Rattle.raster_core.specs.Words.{AreFull, in_rows};
 ghost use Rattle.raster_core.specs.Pixels.{covers, is_covered, scale_of};
-ghost use Rattle.raster_core.specs.Pictures.{is_size, painted, white};
+ghost use Rattle.raster_core.specs.Pictures.{is_size, painted_picture, white};
 ghost use Rattle.raster_core.specs.PlainText.{header_text, pbm, rows_text};
 ghost use Rattle.raster_core.specs.TextAhead.{pbm_text_ahead};
 
@@ -67,7 +67,7 @@ impl Bitmap {
     pub fn paint(&mut self, page: &Page<'_>, units: Units, dpi: u32)
         requires units { AreUnits (units_of units) }
         requires dpi { dpi ≤ 10000 }
-        ensures { self.new ≡ painted (is_covered (scale_of (units_of units) dpi) (marked_page page.now).marks) self.old }
+        ensures { self.new ≡ painted_picture (is_covered (scale_of (units_of units) dpi) (marked_page page.now).marks) self.old }
     {
         let scale = Scale::new(units, dpi);
         let window = Window {

@@ -4,7 +4,7 @@ ghost use Rattle.std.specs.Prelude.{◌≡◌, ◌+◌, ◌*◌, ◌^◌, ◌*�
 ghost use Rattle.scaled_core.specs.Dimensions.{Within};
 ghost use Rattle.dvi_ops.specs.File.{AreUnits};
 ghost use Rattle.dvi_ops.specs.View.{units as units_of};
-ghost use Rattle.raster_core.specs.Words.{between};
+ghost use Rattle.raster_core.specs.Words.{is_between};
 ghost use Rattle.raster_core.specs.Pixels.{in_columns, in_rows, pixels, place, scale_of, spans};
 
 use dvi_ops::Units;
@@ -72,7 +72,7 @@ impl Scale {
     #[tactic(auto, unfolding(crate::specs::Pixels::in_columns))]
     pub fn columns(&self, h: i32, width: i32, limit: usize) -> Range<usize>
         ensures end_bounded { result.end ≤ limit }
-        ensures exact { (x : ℕ) → x < limit → between result.start result.end x ≡ in_columns self.now h width x }
+        ensures exact { (x : ℕ) → x < limit → is_between result.start result.end x ≡ in_columns self.now h width x }
     {
         let first = self.place(h);
         cut(first, first + self.pixels(width) as i128 - 1, limit)
@@ -82,7 +82,7 @@ impl Scale {
     #[tactic(auto, unfolding(crate::specs::Pixels::in_rows))]
     pub fn rows(&self, v: i32, height: i32, limit: usize) -> Range<usize>
         ensures end_bounded { result.end ≤ limit }
-        ensures exact { (y : ℕ) → y < limit → between result.start result.end y ≡ in_rows self.now v height y }
+        ensures exact { (y : ℕ) → y < limit → is_between result.start result.end y ≡ in_rows self.now v height y }
     {
         let last = self.place(v);
         cut(last - self.pixels(height) as i128 + 1, last, limit)
@@ -129,7 +129,7 @@ fn count_up_to(place: i128, limit: usize) -> usize
 /// The numbers from `first` to `last` (included), cut to those from 0 and below `limit`.
 fn cut(first: i128, last: i128, limit: usize) -> Range<usize>
     ensures end_bounded { result.end ≤ limit }
-    ensures exact { (x : ℕ) → x < limit → between result.start result.end x ≡ spans first last x }
+    ensures exact { (x : ℕ) → x < limit → is_between result.start result.end x ≡ spans first last x }
 {
     count_below(first, limit)..count_up_to(last, limit)
 }

@@ -1,7 +1,7 @@
 //! Pixels of many rows.
 
 ghost use Rattle.std.specs.Prelude.{◌≡◌, ◌==◌, ◌+◌, ◌*◌, ◌/◌, ◌<◌, ◌≤◌, ◌&&◌, ◌||◌, ℕ, length};
-ghost use Rattle.raster_core.specs.Words.{AreFull, between, in_rows, is_set};
+ghost use Rattle.raster_core.specs.Words.{AreFull, is_between, in_rows, is_set};
 ghost use Rattle.raster_core.specs.Private.Words.{IsRun};
 
 use crate::lanes::{has_row, or_row};
@@ -31,7 +31,7 @@ fn blacken_row(words: &mut [u64], full: &mut [u64], run: Run<'_>, row: usize)
     ensures full { AreFull full.new words.new (length run.entry.mask.now) }
     ensures pixels { let stride = length run.entry.mask.now in
         (x y : ℕ) → x < 64 * stride → in_rows words.new stride x y
-        ≡ (in_rows words.old stride x y || ((y == row) && between run.entry.first run.entry.last x)) }
+        ≡ (in_rows words.old stride x y || ((y == row) && is_between run.entry.first run.entry.last x)) }
 {
     let at = row * run.mask.len();
     let from = run.first / 64;
@@ -54,7 +54,7 @@ fn blacken_rows(words: &mut [u64], full: &mut [u64], run: Run<'_>, rows: Range<u
     ensures full { AreFull full.new words.new (length run.entry.mask.now) }
     ensures pixels { let stride = length run.entry.mask.now in
         (x y : ℕ) → x < 64 * stride → in_rows words.new stride x y
-        ≡ (in_rows words.old stride x y || (between rows.start rows.end y && between run.entry.first run.entry.last x)) }
+        ≡ (in_rows words.old stride x y || (is_between rows.start rows.end y && is_between run.entry.first run.entry.last x)) }
 {
     for row in rows.start..rows.end {
         blacken_row(words, full, run, row);
@@ -79,7 +79,7 @@ pub fn blacken(
     ensures full { AreFull full.new words.new (length mask.old) }
     ensures pixels { let stride = length mask.old in
         (x y : ℕ) → x < 64 * stride → in_rows words.new stride x y
-        ≡ (in_rows words.old stride x y || (between columns.start columns.end x && between rows.start rows.end y)) }
+        ≡ (in_rows words.old stride x y || (is_between columns.start columns.end x && is_between rows.start rows.end y)) }
 {
     if columns.start >= columns.end || rows.start >= rows.end {
         return;

@@ -12,20 +12,20 @@ use Rattle.node_core.specs.declared.tree.Kind.{Kind}
 use Rattle.node_core.specs.declared.tree.Kind.TheVariants.{Horizontal}
 use Rattle.scaled_core.specs.Mark as body
 use Rattle.dvi_ops.specs.Forest.{Forest, Then, flat}
-use Rattle.ship_core.specs.Drawing.{moved_by, selected, ruled, font_after, body_of_picture}
+use Rattle.ship_core.specs.Drawing.{moved_by, selection_before, rule_leaf, font_after, body_of_picture}
 use Rattle.page_core.specs.Pictures.{Picture, stroke, group, after_rule}
 use Rattle.page_core.specs.declared.placing.MarkKind.{MarkKind}
 use Rattle.page_core.specs.declared.placing.MarkKind.TheVariants as ink
 use Rattle.ship_core.specs.declared.drawing.Drawing.{Drawing}
 use Rattle.page_core.specs.Placing.{mark_with, h_after_mark}
-use Rattle.ship_core.specs.Private.Inking.{movement, selection, inked, makes, leaves}
+use Rattle.ship_core.specs.Private.Inking.{movement, selection, ink_instructions, instructions_made, font_left}
 
 pub flat-moved_by : (axis : Axis) (z : ℤ) (rest : Forest) → flat (moved_by axis z rest) ≡ movement axis z ++ flat rest
 flat-moved_by axis (pos zero) rest = refl
 flat-moved_by axis (pos (suc n)) rest = refl
 flat-moved_by axis (negsuc n) rest = refl
 
-pub flat-selected : (current : Option ℤ) (font : ℤ) (rest : Forest) → flat (selected current font rest) ≡ selection current font ++ flat rest
+pub flat-selected : (current : Option ℤ) (font : ℤ) (rest : Forest) → flat (selection_before current font rest) ≡ selection current font ++ flat rest
 flat-selected None font rest = refl
 flat-selected (Some current) font rest = by_test (int_eq font current)
   where
@@ -38,7 +38,7 @@ pub flat-drawn_rule :
     (kind : Kind) (h v : ℤ) (current : Option ℤ) (x y height width by : ℤ) (rest : Picture)
     → flat (body_of_picture kind h v current (stroke (body.Rule x y height width) by rest))
     ≡ movement Across (x -ℤ h)
-    ++ (movement Downward (y -ℤ v) ++ (Do (ruled kind height width) ∷ flat (body_of_picture kind (after_rule kind x width) y current rest)))
+    ++ (movement Downward (y -ℤ v) ++ (Do (rule_leaf kind height width) ∷ flat (body_of_picture kind (after_rule kind x width) y current rest)))
 flat-drawn_rule kind h v current x y height width by rest =
     flat-moved_by Across (x -ℤ h) _ ∙ ap (λ is. movement Across (x -ℤ h) ++ is) (flat-moved_by Downward (y -ℤ v) _)
 
@@ -82,7 +82,7 @@ left_by current (ink.Glyph slot code) = Some (pos slot)
 drawn_ink :
     (kind : Kind) (before : List Instruction) (h v : ℤ) (current : Option ℤ) (x y width : ℤ) (i : MarkKind) (rest : Picture)
     → before ++ flat (body_of_picture kind h v current (stroke (mark_with x y width i) width rest))
-    ≡ ((((before ++ movement Across (x -ℤ h)) ++ movement Downward (y -ℤ v)) ++ chosen current i) ++ inked kind width i)
+    ≡ ((((before ++ movement Across (x -ℤ h)) ++ movement Downward (y -ℤ v)) ++ chosen current i) ++ ink_instructions kind width i)
     ++ flat (body_of_picture kind (h_after_mark kind x width i) y (left_by current i) rest)
 drawn_ink kind before h v current x y width (ink.Rule height) rest =
     rw (flat-drawn_rule kind h v current x y height width width rest) (simp append_assoc)
@@ -92,7 +92,7 @@ drawn_ink kind before h v current x y width (ink.Glyph slot code) rest =
 -- The drawing after a mark makes the same as the one before it, for the strokes that follow.
 pub drawn_mark :
     (kind : Kind) (before after : List Instruction) (h v : ℤ) (current left : Option ℤ) (x y width end down : ℤ) (i : MarkKind) (rest : Picture)
-    → after ≡ (((before ++ movement Across (x -ℤ h)) ++ movement Downward (y -ℤ v)) ++ chosen current i) ++ inked kind width i
+    → after ≡ (((before ++ movement Across (x -ℤ h)) ++ movement Downward (y -ℤ v)) ++ chosen current i) ++ ink_instructions kind width i
     → end ≡ h_after_mark kind x width i
     → left ≡ left_by current i
     → down ≡ y
@@ -153,21 +153,21 @@ unselected_ops after moved current height i rule is = rw (rule, is, append-nil m
 
 -- What the drawing comes to as a sink: the instructions with those for a picture that follows, and the font after it.
 abbrev pub Draws : Kind → Drawing → Picture → Drawing → Picture → Type 0
-Draws kind from picture to rest = (makes kind from picture ≡ makes kind to rest) × (leaves from picture ≡ leaves to rest)
+Draws kind from picture to rest = (instructions_made kind from picture ≡ instructions_made kind to rest) × (font_left from picture ≡ font_left to rest)
 
 -- The drawing after a box in a group makes the same as the one before it, for the picture that follows, and leaves the same font.
 pub drawn_group :
     (kind own : Kind) (before opened inside after : Drawing) (inner rest : Picture)
     → instructions_of opened.ops ≡ instructions_of before.ops ++ Push ∷ []
     → opened.h ≡ before.h → opened.v ≡ before.v → opened.font ≡ before.font
-    → instructions_of inside.ops ≡ makes own opened inner
-    → option_map pos inside.font ≡ leaves opened inner
+    → instructions_of inside.ops ≡ instructions_made own opened inner
+    → option_map pos inside.font ≡ font_left opened inner
     → instructions_of after.ops ≡ instructions_of inside.ops ++ Pop ∷ []
     → after.h ≡ before.h → after.v ≡ before.v → after.font ≡ inside.font
     → Draws kind before (group own inner rest) after rest
 drawn_group kind own before opened inside after inner rest push h v font drawn left pop right down same =
-    let current : leaves opened inner ≡ leaves before inner = ap (λ (f : Option ℕ). font_after (option_map pos f) inner) font in
-    let h_after_mark : option_map pos after.font ≡ leaves before inner = ap (option_map pos) same ∙ (left ∙ current) in (
+    let current : font_left opened inner ≡ font_left before inner = ap (λ (f : Option ℕ). font_after (option_map pos f) inner) font in
+    let h_after_mark : option_map pos after.font ≡ font_left before inner = ap (option_map pos) same ∙ (left ∙ current) in (
       rw (h_after_mark, right, down, pop, drawn, h, v, font, push) (simp append_assoc),
       ap (λ (f : Option ℤ). font_after f rest) (sym h_after_mark),
     )

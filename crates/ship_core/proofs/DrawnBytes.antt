@@ -19,7 +19,7 @@ use Rattle.dvi_ops.proofs.Layouts.{length-bytes_of-append}
 use Rattle.dvi_ops.proofs.Spelled.{operand_length}
 use Rattle.dvi_ops.proofs.Shortest.{brief_length, special_length, movement_length, one_byte}
 use Rattle.page_core.specs.Marks.{ShippedPage, rule_below, rule_tall, rule_wide, marks_of_item, page_v}
-use Rattle.ship_core.specs.Drawing.{moved_by, selected, ruled, font_after, body_of_picture, body_of}
+use Rattle.ship_core.specs.Drawing.{moved_by, selection_before, rule_leaf, font_after, body_of_picture, body_of}
 use Rattle.page_core.specs.Pictures.{Picture, blank, stroke, group, width_in, after_rule, picture_of_page}
 use Rattle.ship_core.specs.Shown.{HasWidth}
 use Rattle.ship_core.proofs.DrawnMarks.{EachStroke, IsByte}
@@ -32,7 +32,7 @@ moved_bytes axis (pos (suc n)) rest =
 moved_bytes axis (negsuc n) rest =
     omega (arith, length-append (spelling (Do (Move axis (By (negsuc n))))) (bytes_of (flat rest)), movement_length axis (By (negsuc n)))
 
-length-rule : (kind : Kind) (height width : ℤ) → length (spelling (Do (ruled kind height width))) ≤ 9
+length-rule : (kind : Kind) (height width : ℤ) → length (spelling (Do (rule_leaf kind height width))) ≤ 9
 length-rule Horizontal height width = brief_length (SetRule height width) tt
 length-rule Vertical height width = brief_length (PutRule height width) tt
 
@@ -60,7 +60,7 @@ length-font (pos n) small = by_test (nat_lt n 64)
     by_test false = omega (arith, operand_length (code_size (pos n)) (pos n), byte_size n small)
 
 selected_bytes :
-    (current : Option ℤ) (font : ℤ) (rest : Forest) → IsByte font → length (bytes_of (flat (selected current font rest))) ≤ 2 + length (bytes_of (flat rest))
+    (current : Option ℤ) (font : ℤ) (rest : Forest) → IsByte font → length (bytes_of (flat (selection_before current font rest))) ≤ 2 + length (bytes_of (flat rest))
 selected_bytes None font rest small = omega (arith, length-append (spelling (Do (FontNum font))) (bytes_of (flat rest)), length-font font small)
 selected_bytes (Some current) font rest small = by_test (int_eq font current)
   where
@@ -80,12 +80,12 @@ pub drawing_bytes :
 drawing_bytes kind h v current blank all = omega arith
 drawing_bytes kind h v current (stroke (body.Rule x y height width) by rest) (here, all) =
     let others = body_of_picture kind (after_rule kind x width) y current rest in
-    let ink = Then (ruled kind height width) others in
+    let ink = Then (rule_leaf kind height width) others in
     omega (
       arith,
       moved_bytes Across (x -ℤ h) (moved_by Downward (y -ℤ v) ink),
       moved_bytes Downward (y -ℤ v) ink,
-      length-append (spelling (Do (ruled kind height width))) (bytes_of (flat others)),
+      length-append (spelling (Do (rule_leaf kind height width))) (bytes_of (flat others)),
       length-rule kind height width,
       drawing_bytes kind (after_rule kind x width) y current rest all,
     )
@@ -94,8 +94,8 @@ drawing_bytes kind h v current (stroke (body.Glyph font code x y) by rest) (here
     let ink = Then (SetChar code) others in
     omega (
       arith,
-      moved_bytes Across (x -ℤ h) (moved_by Downward (y -ℤ v) (selected current font ink)),
-      moved_bytes Downward (y -ℤ v) (selected current font ink),
+      moved_bytes Across (x -ℤ h) (moved_by Downward (y -ℤ v) (selection_before current font ink)),
+      moved_bytes Downward (y -ℤ v) (selection_before current font ink),
       selected_bytes current font ink here.0,
       length-append (spelling (Do (SetChar code))) (bytes_of (flat others)),
       length-char code here.1,

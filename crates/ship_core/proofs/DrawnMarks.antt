@@ -11,15 +11,15 @@ use Rattle.node_core.specs.declared.tree.Kind.{Kind}
 use Rattle.node_core.specs.declared.tree.Kind.TheVariants.{Horizontal, Vertical}
 use Rattle.dvi_ops.specs.Instruction.{Axis, Across, Downward, By, Move, SetChar, SetRule, PutRule, FontNum, Xxx, Instruction, Do, Push, Pop}
 use Rattle.scaled_core.specs.Mark as body
-use Rattle.dvi_ops.specs.Body.{Position, DviState, MoveRegisters, Meaning, Widths, acts, kept, in_range}
+use Rattle.dvi_ops.specs.Body.{Position, DviState, MoveRegisters, Meaning, Widths, instruction_acts, bounded_acts, in_range}
 use Rattle.scaled_core.specs.Mark.{Mark}
-use Rattle.dvi_ops.specs.Forest.{Forest, Then, flat, meaning, nests, ahead, and_then, restored}
+use Rattle.dvi_ops.specs.Forest.{Forest, Then, flat, meaning, nests, marks_ahead, and_then, restored_meaning}
 use Rattle.dvi_ops.specs.Spelling.{NumberFits}
 use Rattle.dvi_ops.specs.Layout.{IsWritable}
 use Rattle.scaled_core.proofs.EachOf.{all_append}
-use Rattle.ship_core.specs.Drawing.{moved_by, selected, ruled, font_after, body_of_picture}
+use Rattle.ship_core.specs.Drawing.{moved_by, selection_before, rule_leaf, font_after, body_of_picture}
 use Rattle.page_core.specs.Pictures.{Picture, blank, stroke, group, after_rule}
-use Rattle.ship_core.specs.Shown.{at}
+use Rattle.ship_core.specs.Shown.{state_at}
 use Rattle.scaled_core.proofs.Fitting.{fits_within}
 
 -- The marks of a picture.
@@ -121,13 +121,13 @@ IsDrawn widths kind (body.Rule x y height width) by = IsSeen kind x y height wid
 IsDrawn widths kind (body.Glyph font code x y) by = IsLettered widths font code x y by
 IsDrawn widths kind (body.Special x y text) by = IsNoted x y
 
-ahead_none : (m : Meaning) → ahead [] m ≡ m
+ahead_none : (m : Meaning) → marks_ahead [] m ≡ m
 ahead_none None = refl
 ahead_none (Some (marks, s)) = refl
 
 module _ (widths : Widths) (held : MoveRegisters) where
   shown : Forest → ℤ → ℤ → Option ℤ → Meaning
-  shown f h v font = meaning (kept (acts widths)) f (at h v held font)
+  shown f h v font = meaning (bounded_acts (instruction_acts widths)) f (state_at h v held font)
 
   moved_across :
       (h v z : ℤ) (font : Option ℤ) (rest : Forest) → in_range (h +ℤ z) ≡ true → in_range v ≡ true
@@ -158,7 +158,7 @@ module _ (widths : Widths) (held : MoveRegisters) where
 
   selected_font :
       (h v : ℤ) (current : Option ℤ) (font : ℤ) (rest : Forest) → in_range h ≡ true → in_range v ≡ true
-      → shown (selected current font rest) h v current ≡ shown rest h v (Some font)
+      → shown (selection_before current font rest) h v current ≡ shown rest h v (Some font)
   unfolding shown
   selected_font h v None font rest here there = rw (here, there) (ahead_none (shown rest h v (Some font)))
   selected_font h v (Some current) font rest here there = by_test (int_eq font current) refl
@@ -170,43 +170,43 @@ module _ (widths : Widths) (held : MoveRegisters) where
 
   inked_rule :
       (kind : Kind) (h v height width : ℤ) (font : Option ℤ) (rest : Forest) → IsSeen kind h v height width
-      → shown (Then (ruled kind height width) rest) h v font ≡ ahead (body.Rule h v height width ∷ []) (shown rest (after_rule kind h width) v font)
+      → shown (Then (rule_leaf kind height width) rest) h v font ≡ marks_ahead (body.Rule h v height width ∷ []) (shown rest (after_rule kind h width) v font)
   unfolding shown
   inked_rule Horizontal h v height width font rest seen = rw (point_within (h +ℤ width) seen.end, point_within v seen.v, seen.positive) refl
   inked_rule Vertical h v height width font rest seen = rw (point_within h seen.h, point_within v seen.v, seen.positive) refl
 
   lettered :
       (font code h v by : ℤ) (rest : Forest) → IsLettered widths font code h v by
-      → shown (Then (SetChar code) rest) h v (Some font) ≡ ahead (body.Glyph font code h v ∷ []) (shown rest (h +ℤ by) v (Some font))
+      → shown (Then (SetChar code) rest) h v (Some font) ≡ marks_ahead (body.Glyph font code h v ∷ []) (shown rest (h +ℤ by) v (Some font))
   unfolding shown
   lettered font code h v by rest can = rw (can.wide, point_within (h +ℤ by) can.end, point_within v can.v) refl
 
   noted :
       (h v : ℤ) (text : List ℕ) (font : Option ℤ) (rest : Forest) → IsNoted h v
-      → shown (Then (Xxx text) rest) h v font ≡ ahead (body.Special h v text ∷ []) (shown rest h v font)
+      → shown (Then (Xxx text) rest) h v font ≡ marks_ahead (body.Special h v text ∷ []) (shown rest h v font)
   unfolding shown
   noted h v text font rest can = rw (point_within h can.h, point_within v can.v) refl
 
   -- After a group, the rest begins at the place before the group, with the font from its end.
   group_left :
       (m : Meaning) (p : Position) (marks : List Mark) (last : DviState) (font : Option ℤ) (next : DviState → Meaning) → m ≡ Some (marks, last) → last.font ≡ font
-      → and_then (restored p m) next ≡ ahead marks (next (record { place = p; font = font }))
+      → and_then (restored_meaning p m) next ≡ marks_ahead marks (next (record { place = p; font = font }))
   group_left m p marks last font next is left = rw (is, left) refl
 
   -- The body drawn for a picture has its marks, and ends with its font.
   pub drawn_marks :
       (kind : Kind) (h v : ℤ) (current : Option ℤ) (p : Picture) → in_range v ≡ true → EachStroke (IsDrawn widths) kind p
-      → Shows (meaning (kept (acts widths)) (body_of_picture kind h v current p) (at h v held current)) (marks_in p) (font_after current p)
+      → Shows (meaning (bounded_acts (instruction_acts widths)) (body_of_picture kind h v current p) (state_at h v held current)) (marks_in p) (font_after current p)
   unfolding shown
-  drawn_marks kind h v current blank below all = record { last = at h v held current; left = refl; shows = refl }
+  drawn_marks kind h v current blank below all = record { last = state_at h v held current; left = refl; shows = refl }
   drawn_marks kind h v current (stroke (body.Rule x y height width) by rest) below (seen, all) =
       let later = drawn_marks kind (after_rule kind x width) y current rest (point_within y seen.v) all in
       let others = body_of_picture kind (after_rule kind x width) y current rest in
       record {
         last = later.last;
         left = later.left;
-        shows = moved_to h v x y current (Then (ruled kind height width) others) below (point_within x seen.h) (point_within y seen.v)
-            ∙ (inked_rule kind x y height width current others seen ∙ ap (ahead (body.Rule x y height width ∷ [])) later.shows);
+        shows = moved_to h v x y current (Then (rule_leaf kind height width) others) below (point_within x seen.h) (point_within y seen.v)
+            ∙ (inked_rule kind x y height width current others seen ∙ ap (marks_ahead (body.Rule x y height width ∷ [])) later.shows);
       }
   drawn_marks kind h v current (stroke (body.Glyph font code x y) by rest) below (can, all) =
       let later = drawn_marks kind (x +ℤ by) y (Some font) rest (point_within y can.v) all in
@@ -214,9 +214,9 @@ module _ (widths : Widths) (held : MoveRegisters) where
       record {
         last = later.last;
         left = later.left;
-        shows = moved_to h v x y current (selected current font (Then (SetChar code) others)) below (point_within x can.h) (point_within y can.v)
+        shows = moved_to h v x y current (selection_before current font (Then (SetChar code) others)) below (point_within x can.h) (point_within y can.v)
             ∙ (selected_font x y current font (Then (SetChar code) others) (point_within x can.h) (point_within y can.v)
-            ∙ (lettered font code x y by others can ∙ ap (ahead (body.Glyph font code x y ∷ [])) later.shows));
+            ∙ (lettered font code x y by others can ∙ ap (marks_ahead (body.Glyph font code x y ∷ [])) later.shows));
       }
   drawn_marks kind h v current (stroke (body.Special x y text) by rest) below (can, all) =
       let later = drawn_marks kind x y current rest (point_within y can.v) all in
@@ -225,7 +225,7 @@ module _ (widths : Widths) (held : MoveRegisters) where
         last = later.last;
         left = later.left;
         shows = moved_to h v x y current (Then (Xxx text) others) below (point_within x can.h) (point_within y can.v)
-            ∙ (noted x y text current others can ∙ ap (ahead (body.Special x y text ∷ [])) later.shows);
+            ∙ (noted x y text current others can ∙ ap (marks_ahead (body.Special x y text ∷ [])) later.shows);
       }
   drawn_marks kind h v current (group own inner rest) below (within, all) =
       let first = drawn_marks own h v current inner below within in
@@ -233,9 +233,9 @@ module _ (widths : Widths) (held : MoveRegisters) where
       record {
         last = later.last;
         left = later.left;
-        shows = group_left (shown (body_of_picture own h v current inner) h v current) (at h v held current).place (marks_in inner) first.last (font_after current inner)
-            (λ t. meaning (kept (acts widths)) (body_of_picture kind h v (font_after current inner) rest) t) first.shows first.left
-            ∙ ap (ahead (marks_in inner)) later.shows;
+        shows = group_left (shown (body_of_picture own h v current inner) h v current) (state_at h v held current).place (marks_in inner) first.last (font_after current inner)
+            (λ t. meaning (bounded_acts (instruction_acts widths)) (body_of_picture kind h v (font_after current inner) rest) t) first.shows first.left
+            ∙ ap (marks_ahead (marks_in inner)) later.shows;
       }
 
 -- The body can be spelled, and its numbers fit their fields.
@@ -246,7 +246,7 @@ writable_movement axis (negsuc n) rest fit all = ((tt, fit), all)
 
 writable_selection :
     (current : Option ℤ) (font : ℤ) (rest : Forest) → NumberFits font → AllByRecursion IsWritable (flat rest)
-    → AllByRecursion IsWritable (flat (selected current font rest))
+    → AllByRecursion IsWritable (flat (selection_before current font rest))
 writable_selection None font rest fit all = ((tt, fit), all)
 writable_selection (Some current) font rest fit all = by_test (int_eq font current)
   where
@@ -254,7 +254,7 @@ writable_selection (Some current) font rest fit all = by_test (int_eq font curre
     by_test true = all
     by_test false = ((tt, fit), all)
 
-writable_rule : (kind : Kind) (height width : ℤ) → NumberFits height → NumberFits width → IsWritable (Do (ruled kind height width))
+writable_rule : (kind : Kind) (height width : ℤ) → NumberFits height → NumberFits width → IsWritable (Do (rule_leaf kind height width))
 writable_rule Horizontal height width tall wide = (tt, (tall, wide))
 writable_rule Vertical height width tall wide = (tt, (tall, wide))
 
@@ -287,7 +287,7 @@ drawn_writable widths kind h v current (group own inner rest) right low (within,
 module _ (P : Instruction → Type 0) where
   -- The instructions made for a mark: a rule, or the selection of a font and a character.
   abbrev pub IsInked : Kind → Mark → (by : ℤ) → Type 0
-  IsInked kind (body.Rule x y height width) by = P (Do (ruled kind height width))
+  IsInked kind (body.Rule x y height width) by = P (Do (rule_leaf kind height width))
   IsInked kind (body.Glyph font code x y) by = P (Do (FontNum font)) × P (Do (SetChar code))
   IsInked kind (body.Special x y text) by = P (Do (Xxx text))
 
@@ -303,7 +303,7 @@ module _ (P : Instruction → Type 0) where
   each_movement axis (negsuc n) rest here all = (here, all)
 
   each_selection :
-      (current : Option ℤ) (font : ℤ) (rest : Forest) → P (Do (FontNum font)) → AllByRecursion P (flat rest) → AllByRecursion P (flat (selected current font rest))
+      (current : Option ℤ) (font : ℤ) (rest : Forest) → P (Do (FontNum font)) → AllByRecursion P (flat rest) → AllByRecursion P (flat (selection_before current font rest))
   each_selection None font rest here all = (here, all)
   each_selection (Some current) font rest here all = by_test (int_eq font current)
     where
@@ -361,7 +361,7 @@ nests_moved axis (pos zero) rest = refl
 nests_moved axis (pos (suc n)) rest = refl
 nests_moved axis (negsuc n) rest = refl
 
-nests_selected : (current : Option ℤ) (font : ℤ) (rest : Forest) → nests (selected current font rest) ≡ nests rest
+nests_selected : (current : Option ℤ) (font : ℤ) (rest : Forest) → nests (selection_before current font rest) ≡ nests rest
 nests_selected None font rest = refl
 nests_selected (Some current) font rest = by_test (int_eq font current)
   where

@@ -10,7 +10,7 @@ use Rattle.node_core.specs.declared.tree.BoxNode.{BoxNode}
 use Rattle.node_core.specs.Items.{Leaf, glyph, font_kern, kern, glue, penalty, rule, special, Items, none, leaf, box, EachLeaf, items_depth, text_size_in, items_text}
 use Rattle.dvi_ops.specs.Instruction.{Instruction}
 use Rattle.scaled_core.specs.Mark as body
-use Rattle.dvi_ops.specs.Body.{DviState, MoveRegisters, Widths, acts, kept}
+use Rattle.dvi_ops.specs.Body.{DviState, MoveRegisters, Widths, instruction_acts, bounded_acts}
 use Rattle.scaled_core.specs.Mark.{Mark}
 use Rattle.dvi_ops.specs.Forest.{flat, meaning, nests}
 use Rattle.dvi_ops.specs.Fonts.{definitions_in, definitions, selection_of, selections}
@@ -21,7 +21,7 @@ use Rattle.page_core.specs.Marks.{ShippedPage, rule_below, rule_tall, rule_wide,
 use Rattle.ship_core.specs.Drawing.{body_of}
 use Rattle.page_core.specs.Pictures.{width_in, picture_of_page}
 use Rattle.dvi_ops.specs.Plain.{NamesNoRegister}
-use Rattle.ship_core.specs.Shown.{HasWidth, at}
+use Rattle.ship_core.specs.Shown.{HasWidth, state_at}
 use Rattle.page_core.proofs.Places.{first_of_three, second_of_three, items_fit}
 use Rattle.ship_core.proofs.DrawnMarks.{EachStroke, IsDrawn, IsInked, IsShort, HoldsBetween, HoldsOfAll, every_stroke, all_within, drawn_marks, drawn_writable, each_drawn, all_drawn, nests-body_of_picture}
 use Rattle.ship_core.proofs.Pictures.{marks-picture, each_rule, each_glyph, each_after, strokes_drawn, few_groups}
@@ -50,7 +50,7 @@ page_drawn widths page small wide =
 -- The body shows the marks of the page, whatever the values of w, x, y and z are at its start.
 pub drawn_page :
     (widths : Widths) (held : MoveRegisters) (page : ShippedPage) → is_huge page ≡ false → EachLeaf (HasWidth widths) page.box_node.list
-    → (last : DviState) × (meaning (kept (acts widths)) (body_of page) (at (pos 0) (pos 0) held None) ≡ Some (marks_of_page page, last))
+    → (last : DviState) × (meaning (bounded_acts (instruction_acts widths)) (body_of page) (state_at (pos 0) (pos 0) held None) ≡ Some (marks_of_page page, last))
 unfolding body_of marks_of_box
 drawn_page widths held page small wide =
     let shown = drawn_marks widths held page.box_node.kind (pos 0) (pos 0) None (picture_of_page page) refl (page_drawn widths page small wide) in

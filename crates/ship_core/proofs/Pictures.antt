@@ -19,7 +19,7 @@ use Rattle.scaled_core.specs.Mark.{Mark}
 use Rattle.scaled_core.proofs.EachOf.{all_front, all_back}
 use Rattle.pack_core.specs.Items.{own_size}
 use Rattle.page_core.specs.Marks.{right_at, rule_below, rule_tall, rule_wide, rule_mark, glyph_mark, marks_of_item, list_v, item_h, item_v, box_h, box_v, marks_after, numbers_at, numbers_after}
-use Rattle.page_core.specs.Pictures.{Picture, blank, stroke, group, width_in, in_front, grouped, picture_after, after_rule}
+use Rattle.page_core.specs.Pictures.{Picture, blank, stroke, group, width_in, in_front, grouped_picture, picture_after, after_rule}
 use Rattle.ship_core.specs.Shown.{HasWidth}
 use Rattle.page_core.proofs.Places.{reach}
 use Rattle.ship_core.proofs.DrawnMarks.{marks_in, groups, EachStroke, IsDrawn}
@@ -31,7 +31,7 @@ marks-in_front (mark ∷ marks) by rest = ap (λ more. mark ∷ more) (marks-in_
 
 marks-grouped :
     (c : BoxNode) (h v : ℤ) (own : Kind) (items : Items) (rest : Picture)
-    → marks_in (grouped items own (picture_after c h v [] items) rest) ≡ marks_in (picture_after c h v [] items) ++ marks_in rest
+    → marks_in (grouped_picture items own (picture_after c h v [] items) rest) ≡ marks_in (picture_after c h v [] items) ++ marks_in rest
 marks-grouped c h v own none rest = refl
 marks-grouped c h v own (leaf x items) rest = refl
 marks-grouped c h v own (box shift frame inner items) rest = refl
@@ -72,7 +72,7 @@ module _ (P : Kind → Mark → (by : ℤ) → Type 0) where
   each_in_front kind (mark ∷ marks) by rest (here, all) later = (here, each_in_front kind marks by rest all later)
 
   each_grouped :
-      (kind own : Kind) (items : Items) (inner rest : Picture) → EachStroke P own inner → EachStroke P kind rest → EachStroke P kind (grouped items own inner rest)
+      (kind own : Kind) (items : Items) (inner rest : Picture) → EachStroke P own inner → EachStroke P kind rest → EachStroke P kind (grouped_picture items own inner rest)
   each_grouped kind own none inner rest within later = later
   each_grouped kind own (leaf x items) inner rest within later = (within, later)
   each_grouped kind own (box shift frame more items) inner rest within later = (within, later)
@@ -187,7 +187,7 @@ texts-in_leaf b h v (special text) rest = refl
 texts-in_leaf b h v (rule r) rest =
     omega (arith, texts-in_rule h (v +ℤ rule_below b.kind b r) (rule_tall b.kind b r) (rule_wide b.kind b r) (rule_wide b.kind b r) rest)
 
-texts-grouped : (items : Items) (own : Kind) (inner rest : Picture) → texts (grouped items own inner rest) ≤ texts inner + texts rest
+texts-grouped : (items : Items) (own : Kind) (inner rest : Picture) → texts (grouped_picture items own inner rest) ≤ texts inner + texts rest
 texts-grouped none own inner rest = omega arith
 texts-grouped (leaf x items) own inner rest = omega arith
 texts-grouped (box shift frame more items) own inner rest = omega arith
@@ -240,12 +240,12 @@ groups-in_front : (marks : List Mark) (by : ℤ) (rest : Picture) → groups (in
 groups-in_front [] by rest = refl
 groups-in_front (mark ∷ marks) by rest = groups-in_front marks by rest
 
-few_grouped : (items : Items) (own : Kind) (inner rest : Picture) → parts (grouped items own inner rest) ≤ parts inner + 1 + parts rest
+few_grouped : (items : Items) (own : Kind) (inner rest : Picture) → parts (grouped_picture items own inner rest) ≤ parts inner + 1 + parts rest
 few_grouped none own inner rest = omega arith
 few_grouped (leaf x items) own inner rest = omega arith
 few_grouped (box shift frame more items) own inner rest = omega arith
 
-grouped_depth : (items : Items) (own : Kind) (inner rest : Picture) → groups (grouped items own inner rest) ≤ max (groups inner + 1) (groups rest)
+grouped_depth : (items : Items) (own : Kind) (inner rest : Picture) → groups (grouped_picture items own inner rest) ≤ max (groups inner + 1) (groups rest)
 grouped_depth none own inner rest = omega arith
 grouped_depth (leaf x items) own inner rest = omega arith
 grouped_depth (box shift frame more items) own inner rest = omega arith

@@ -4,7 +4,7 @@ use Rattle.std.specs.Prelude.{pos}
 use Rattle.std.proofs.lemmas.List.{append-nil, drop_all}
 use Rattle.dvi_ops.specs.Instruction.{SetChar, Instruction, Do, Push, Pop, Bop, Eop, Pre, Post, PostPost}
 use Rattle.dvi_ops.specs.Forest.{Forest, Empty, Then, Group, flat, nests}
-use Rattle.dvi_ops.specs.Runs.{characters, woven}
+use Rattle.dvi_ops.specs.Runs.{characters, woven_instructions}
 use Rattle.dvi_ops.specs.View.{body_view}
 use Rattle.dvi_ops.specs.declared.body_op.BodyOp.{BodyOp}
 use Rattle.ship_core.specs.Pushes.{pushed_after}
@@ -95,10 +95,10 @@ pushed-alone pushed codes = ap (max_pushed pushed) (sym (append-nil (characters 
 
 -- So the depth of a body is found without its characters.
 pub pushed-woven :
-    (pushed from : ℕ) (codes places : List ℕ) (is : List Instruction) → length places ≡ length is → max_pushed pushed (woven from codes places is) ≡ max_pushed pushed is
+    (pushed from : ℕ) (codes places : List ℕ) (is : List Instruction) → length places ≡ length is → max_pushed pushed (woven_instructions from codes places is) ≡ max_pushed pushed is
 pushed-woven pushed from codes [] [] paired = pushed-alone pushed codes
 pushed-woven pushed from codes [] (i ∷ is) paired = absurd (omega (arith, paired))
 pushed-woven pushed from codes (place ∷ places) [] paired = absurd (omega (arith, paired))
 pushed-woven pushed from codes (place ∷ places) (i ∷ is) paired =
-    pushed-characters pushed (take (place - from) codes) (i ∷ woven place (drop (place - from) codes) places is)
+    pushed-characters pushed (take (place - from) codes) (i ∷ woven_instructions place (drop (place - from) codes) places is)
     ∙ ap (max pushed) (pushed-woven (pushed_after pushed i) place (drop (place - from) codes) places is (omega (arith, paired)))

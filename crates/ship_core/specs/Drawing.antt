@@ -17,14 +17,14 @@ moved_by axis (pos (suc n)) rest = Then (Move axis (By (pos (suc n)))) rest
 moved_by axis (negsuc n) rest = Then (Move axis (By (negsuc n))) rest
 
 -- The selection of a font, where it is not the current one.
-abbrev pub selected : (current : Option ℤ) → (font : ℤ) → Forest → Forest
-selected None font rest = Then (FontNum font) rest
-selected (Some current) font rest = if int_eq font current then rest else Then (FontNum font) rest
+abbrev pub selection_before : (current : Option ℤ) → (font : ℤ) → Forest → Forest
+selection_before None font rest = Then (FontNum font) rest
+selection_before (Some current) font rest = if int_eq font current then rest else Then (FontNum font) rest
 
 -- The instruction for a rule: in a horizontal list it moves to the right by its width, in a vertical one it moves nothing.
-abbrev pub ruled : Kind → (height width : ℤ) → instructions.BodyLeaf
-ruled Horizontal height width = SetRule height width
-ruled Vertical height width = PutRule height width
+abbrev pub rule_leaf : Kind → (height width : ℤ) → instructions.BodyLeaf
+rule_leaf Horizontal height width = SetRule height width
+rule_leaf Vertical height width = PutRule height width
 
 -- The font after a picture, where `current` is the font before it.
 abbrev pub font_after : (current : Option ℤ) → Picture → Option ℤ
@@ -41,10 +41,10 @@ abbrev pub body_of_picture : Kind → (h v : ℤ) → (current : Option ℤ) →
 body_of_picture kind h v current blank = Empty
 body_of_picture kind h v current (stroke (Rule x y height width) by rest) =
     moved_by Across (x -ℤ h)
-    (moved_by Downward (y -ℤ v) (Then (ruled kind height width) (body_of_picture kind (after_rule kind x width) y current rest)))
+    (moved_by Downward (y -ℤ v) (Then (rule_leaf kind height width) (body_of_picture kind (after_rule kind x width) y current rest)))
 body_of_picture kind h v current (stroke (Glyph font code x y) by rest) =
     moved_by Across (x -ℤ h)
-    (moved_by Downward (y -ℤ v) (selected current font (Then (SetChar code) (body_of_picture kind (x +ℤ by) y (Some font) rest))))
+    (moved_by Downward (y -ℤ v) (selection_before current font (Then (SetChar code) (body_of_picture kind (x +ℤ by) y (Some font) rest))))
 body_of_picture kind h v current (stroke (Special x y text) by rest) =
     moved_by Across (x -ℤ h) (moved_by Downward (y -ℤ v) (Then (Xxx text) (body_of_picture kind x y current rest)))
 body_of_picture kind h v current (group own inner rest) =

@@ -9,10 +9,10 @@ ghost use Rattle.dvi_ops.specs.Runs.{instructions_of};
 ghost use Rattle.dvi_ops.specs.View.{body_view};
 ghost use Rattle.scaled_core.specs.Mark as body;
 ghost use Rattle.scaled_core.specs.Mark.{Special};
-ghost use Rattle.ship_core.specs.Drawing.{ruled, body_of_picture};
+ghost use Rattle.ship_core.specs.Drawing.{rule_leaf, body_of_picture};
 ghost use Rattle.page_core.specs.Pictures.{Picture, stroke};
 ghost use Rattle.page_core.specs.Placing.{IsMarkEnd, strokes_in};
-ghost use Rattle.ship_core.specs.Private.Inking.{inked, makes, leaves, movement, selection};
+ghost use Rattle.ship_core.specs.Private.Inking.{ink_instructions, instructions_made, font_left, movement, selection};
 
 use dvi_ops::{BodyOp, PageRuns};
 use node_core::{BoxNode, Glyph, Kind};
@@ -57,7 +57,7 @@ fn append_down(ops: &mut PageRuns<'_>, from: Dimen, to: Dimen) -> Result<(), All
 /// The instruction for a rule: set_rule in a horizontal list, since the next item is to its right. In a vertical list the next item is at the left
 /// edge, where h still is after put_rule.
 fn rule_op(kind: Kind, height: i32, width: i32) -> BodyOp<'static>
-    ensures { body_view result ≡ Do (ruled kind height width) }
+    ensures { body_view result ≡ Do (rule_leaf kind height width) }
 {
     match kind {
         Kind::Horizontal => BodyOp::SetRule { height, width },
@@ -73,7 +73,7 @@ fn append_ink(
     width: Dimen,
     ink: MarkKind,
 ) -> Result<(), AllocError>
-    ensures { OnOk result (instructions_of ops.new ≡ instructions_of ops.old ++ inked kind width ink) }
+    ensures { OnOk result (instructions_of ops.new ≡ instructions_of ops.old ++ ink_instructions kind width ink) }
 {
     match ink {
         MarkKind::Glyph { code, .. } => ops.push_character(code),
@@ -85,7 +85,7 @@ impl<'a> Drawing<'a> {
     /// A drawing without instructions, with capacity for `room` of them. The place is (0, 0), and no font is selected.
     pub fn new(alloc: Global, room: usize) -> Result<Drawing<'a>, AllocError>
         ensures { IfOk result (λ drawing. (kind : Kind) (rest : Picture)
-            → makes kind drawing rest ≡ flat (body_of_picture kind (pos 0) (pos 0) None rest)) }
+            → instructions_made kind drawing rest ≡ flat (body_of_picture kind (pos 0) (pos 0) None rest)) }
     {
         Ok(Drawing {
             ops: PageRuns::new(alloc, room)?,
@@ -134,8 +134,9 @@ impl<'a> Drawing<'a> {
     #[inline(always)]
     fn draw_mark(&mut self, kind: Kind, mark: PlacedMark) -> Result<(), AllocError>
         requires { IsMarkEnd kind mark }
-        ensures ops { OnOk result ((rest : Picture) → makes kind self.old (strokes_in (Some mark) rest) ≡ makes kind self.new rest) }
-        ensures font { OnOk result ((rest : Picture) → leaves self.old (strokes_in (Some mark) rest) ≡ leaves self.new rest) }
+        ensures ops { OnOk result ((rest : Picture)
+            → instructions_made kind self.old (strokes_in (Some mark) rest) ≡ instructions_made kind self.new rest) }
+        ensures font { OnOk result ((rest : Picture) → font_left self.old (strokes_in (Some mark) rest) ≡ font_left self.new rest) }
     {
         self.move_to(mark.h, mark.v)?;
         if let MarkKind::Glyph { slot, .. } = mark.ink {
@@ -151,10 +152,10 @@ impl<'a> Drawing<'a> {
     #[inline(always)]
     fn append_glyph(&mut self, at: PagePosition, glyph: Glyph, end: Dimen) -> Result<(), AllocError>
         requires { end ≡ at.h +ℤ glyph.width }
-        ensures ops { OnOk result ((rest : Picture) → makes Kind.Horizontal self.old
-            (stroke (body.Glyph (pos glyph.slot) (pos glyph.code) at.h at.v) glyph.width rest) ≡ makes Kind.Horizontal self.new rest) }
-        ensures left { OnOk result ((rest : Picture) → leaves self.old
-            (stroke (body.Glyph (pos glyph.slot) (pos glyph.code) at.h at.v) glyph.width rest) ≡ leaves self.new rest) }
+        ensures ops { OnOk result ((rest : Picture) → instructions_made Kind.Horizontal self.old
+            (stroke (body.Glyph (pos glyph.slot) (pos glyph.code) at.h at.v) glyph.width rest) ≡ instructions_made Kind.Horizontal self.new rest) }
+        ensures left { OnOk result ((rest : Picture) → font_left self.old
+            (stroke (body.Glyph (pos glyph.slot) (pos glyph.code) at.h at.v) glyph.width rest) ≡ font_left self.new rest) }
         ensures h { OnOk result (self.new.h ≡ end) }
         ensures v { OnOk result (self.new.v ≡ at.v) }
         ensures font { OnOk result (self.new.font ≡ Some glyph.slot) }
@@ -175,10 +176,10 @@ impl<'a> Drawing<'a> {
         requires h { self.old.h ≡ at.h }
         requires v { self.old.v ≡ at.v }
         requires font { self.old.font ≡ Some glyph.slot }
-        ensures ops { result ≡ true → (rest : Picture) → makes Kind.Horizontal self.old
-            (stroke (body.Glyph (pos glyph.slot) (pos glyph.code) at.h at.v) glyph.width rest) ≡ makes Kind.Horizontal self.new rest }
-        ensures left { result ≡ true → (rest : Picture) → leaves self.old
-            (stroke (body.Glyph (pos glyph.slot) (pos glyph.code) at.h at.v) glyph.width rest) ≡ leaves self.new rest }
+        ensures ops { result ≡ true → (rest : Picture) → instructions_made Kind.Horizontal self.old
+            (stroke (body.Glyph (pos glyph.slot) (pos glyph.code) at.h at.v) glyph.width rest) ≡ instructions_made Kind.Horizontal self.new rest }
+        ensures left { result ≡ true → (rest : Picture) → font_left self.old
+            (stroke (body.Glyph (pos glyph.slot) (pos glyph.code) at.h at.v) glyph.width rest) ≡ font_left self.new rest }
         ensures h { result ≡ true → self.new.h ≡ end }
         ensures v { result ≡ true → self.new.v ≡ at.v }
         ensures font { result ≡ true → self.new.font ≡ Some glyph.slot }
@@ -195,9 +196,10 @@ impl<'a> Drawing<'a> {
     /// Draws a special at a place. It leaves h and v there, since a special has no width.
     #[tactic(auto, using(crate::proofs::Drawings::movements))]
     fn append_special(&mut self, at: PagePosition, text: &'a [u8]) -> Result<(), AllocError>
-        ensures ops { OnOk result ((kind : Kind) (rest : Picture) → makes kind self.old (stroke (Special at.h at.v text.now) (pos 0) rest)
-            ≡ makes kind self.new rest) }
-        ensures font { OnOk result ((rest : Picture) → leaves self.old (stroke (Special at.h at.v text.now) (pos 0) rest) ≡ leaves self.new rest) }
+        ensures ops { OnOk result ((kind : Kind) (rest : Picture) → instructions_made kind self.old (stroke (Special at.h at.v text.now) (pos 0) rest)
+            ≡ instructions_made kind self.new rest) }
+        ensures font { OnOk result ((rest : Picture)
+            → font_left self.old (stroke (Special at.h at.v text.now) (pos 0) rest) ≡ font_left self.new rest) }
     {
         self.move_to(at.h, at.v)?;
         self.ops.push(BodyOp::Xxx(text))?;
@@ -236,7 +238,7 @@ impl<'a> Drawing<'a> {
 impl<'a> MarkSink<&'a BoxNode> for Drawing<'a> {
     ghost use Rattle.std.specs.Prelude.{◌≡◌, List, Option, Some, ℤ};
     ghost use Rattle.dvi_ops.specs.Instruction.{Instruction};
-    ghost use Rattle.ship_core.specs.Private.Inking.{makes, leaves, IsOpened};
+    ghost use Rattle.ship_core.specs.Private.Inking.{instructions_made, font_left, IsOpened};
 
     type Place = PagePosition;
 
@@ -244,7 +246,7 @@ impl<'a> MarkSink<&'a BoxNode> for Drawing<'a> {
 
     ghost Drawn = { List Instruction × Option ℤ };
 
-    ghost drawn_with = { λ kind drawing rest. (makes kind drawing rest, leaves drawing rest) };
+    ghost drawn_with = { λ kind drawing rest. (instructions_made kind drawing rest, font_left drawing rest) };
 
     ghost Opens = { IsOpened };
 

@@ -20,14 +20,14 @@ use Rattle.pack_core.specs.declared.pack.Packed.{Packed}
 use Rattle.pack_core.specs.declared.pack.Target.TheVariants.{To}
 use Rattle.pack_core.specs.Boxes.{hbox_packing, hbox_badness, hpacked}
 use Rattle.pack_core.specs.Glue.{is_zero, highest, is_finite, overfull, stretch_totals, shrink_totals, stretch_badness, shrink_badness, setting_badness}
-use Rattle.pack_core.specs.Items.{across, shrink_in}
+use Rattle.pack_core.specs.Items.{item_width, shrink_in}
 use Rattle.pack_core.specs.Totals.{total}
 use Rattle.break_lines.specs.declared.cost.LineFit.{LineFit}
 use Rattle.break_lines.specs.Costs.{stretches_forever, fit_short, fit_long, fit_by, line_fit}
 use Rattle.break_lines.specs.Sizes.{line_size}
 use Rattle.node_core.specs.Classes.{shrinks_infinitely}
 use Rattle.break_lines.specs.Legal.{is_dropped}
-use Rattle.break_lines.specs.LineItems.{at_break, without_first, kept, sums_of}
+use Rattle.break_lines.specs.LineItems.{at_break, without_first, kept_items, sums_of}
 use Rattle.break_lines.specs.Facts.{position_of, begins_at, facts_of, refusal}
 use Rattle.break_lines.proofs.Refusals.{no_infinite_shrink}
 
@@ -74,7 +74,7 @@ none_at_break (Some (nodes.Rule sizes)) = refl
 none_at_break (Some (nodes.Special text)) = refl
 none_at_break (Some (nodes.Box shift b)) = refl
 
-none_kept : (list : List Node) (begin : Option ℕ) (end : ℕ) → list_any shrinks_infinitely list ≡ false → list_any shrinks_infinitely (kept list begin end) ≡ false
+none_kept : (list : List Node) (begin : Option ℕ) (end : ℕ) → list_any shrinks_infinitely list ≡ false → list_any shrinks_infinitely (kept_items list begin end) ≡ false
 none_kept list None end is = none_joined (take end list) (at_break (slice_get list end)) (none_taken list end is) (none_at_break (slice_get list end))
 none_kept list (Some a) end is =
     none_joined (without_first (drop (a + 1) (take end list))) (at_break (slice_get list end))
@@ -205,7 +205,7 @@ line_as_bad :
     (items : List Node) (size : ℤ) → items ≢ [] → list_any shrinks_infinitely items ≡ false → (line_fit (sums_of items) size).overfull ≡ false
     → hbox_badness (To size) items ≡ (line_fit (sums_of items) size).badness
 unfolding line_fit sums_of
-line_as_bad items size some free fits = as_bad items (size -ℤ total across items) some free fits
+line_as_bad items size some free fits = as_bad items (size -ℤ total item_width items) some free fits
 
 -- A box has the badness of its packing.
 packed_bad : (fit : Bool) (p packed : Packed) {E : Type 0} (e : E) → cond fit (Ok p) (Err e) ≡ Ok packed → packed.badness ≡ p.badness
@@ -219,11 +219,11 @@ box_bad size items packed is =
     ∙ ap (hbox_badness (To size)) (nodes_of-items_of items)
 
 pub boxed_as_bad :
-    (list : List Node) (params : Params) (a b lines : ℕ) (packed : Packed) → refusal list ≡ None → kept list (begins_at list a) (position_of list b) ≢ []
+    (list : List Node) (params : Params) (a b lines : ℕ) (packed : Packed) → refusal list ≡ None → kept_items list (begins_at list a) (position_of list b) ≢ []
     → (line_fit ((facts_of list).sums a b) (line_size params lines)).overfull ≡ false
-    → hpacked (To (line_size params lines)) (items_of (kept list (begins_at list a) (position_of list b))) ≡ Ok packed
+    → hpacked (To (line_size params lines)) (items_of (kept_items list (begins_at list a) (position_of list b))) ≡ Ok packed
     → packed.badness ≡ (line_fit ((facts_of list).sums a b) (line_size params lines)).badness
 boxed_as_bad list params a b lines packed free some fits is =
-    box_bad (line_size params lines) (kept list (begins_at list a) (position_of list b)) packed is
-    ∙ line_as_bad (kept list (begins_at list a) (position_of list b)) (line_size params lines) some
+    box_bad (line_size params lines) (kept_items list (begins_at list a) (position_of list b)) packed is
+    ∙ line_as_bad (kept_items list (begins_at list a) (position_of list b)) (line_size params lines) some
     (none_kept list (begins_at list a) (position_of list b) (no_infinite_shrink list free)) fits

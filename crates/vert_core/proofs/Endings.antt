@@ -7,7 +7,7 @@ use Rattle.std.proofs.Math.Seq.{take-append_seam}
 use Rattle.node_core.specs.declared.tree.Glue.{Glue}
 use Rattle.node_core.specs.declared.tree.Node.{Node}
 use Rattle.node_core.specs.declared.tree.Node.TheVariants as nodes
-use Rattle.vert_core.specs.Finished.{glue_at, final_glue, without_glue, finished}
+use Rattle.vert_core.specs.Finished.{glue_at, final_glue, without_glue, finished_list}
 
 -- The last item of a list, and the items before it.
 last_item : (list : List Node) (k : ℕ) (x : Node) → slice_get list k ≡ Some x → k + 1 ≡ length list → list ≡ take k list ++ x ∷ []
@@ -50,7 +50,7 @@ joined_more (z ∷ front) x y = ap (λ l. z ∷ l) (joined_more front x y)
 -- The glue at the end is replaced.
 pub finished_glue :
     (list longer : List Node) (skip g : Glue) (k : ℕ) → final_glue list ≡ Some g → longer ≡ list ++ nodes.Glue skip ∷ [] → k + 1 ≡ length list
-    → slice_set longer k (nodes.Penalty (pos 10000)) ≡ finished list skip
+    → slice_set longer k (nodes.Penalty (pos 10000)) ≡ finished_list list skip
 finished_glue list longer skip g k is more last =
     let parts = ends_in_glue list g is in
     let front : List Node = take (length list - 1) list in
@@ -60,7 +60,7 @@ finished_glue list longer skip g k is more last =
 
 -- The glue is put back.
 pub unfinished_glue :
-    (list old new : List Node) (skip g : Glue) (count : ℕ) → old ≡ finished list skip → final_glue list ≡ Some g → count ≡ length old
+    (list old new : List Node) (skip g : Glue) (count : ℕ) → old ≡ finished_list list skip → final_glue list ≡ Some g → count ≡ length old
     → new ≡ slice_set (take (count - 1) old) (count - 2) (nodes.Glue g) → new ≡ list
 unfinished_glue list old new skip g count was is count_is now =
     let parts = ends_in_glue list g is in

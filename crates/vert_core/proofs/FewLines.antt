@@ -17,7 +17,7 @@ use Rattle.break_lines.specs.Legal.{up_to}
 use Rattle.break_lines.specs.Facts.{facts_of, refusal}
 use Rattle.break_lines.proofs.Refusals.{few_places}
 use Rattle.break_core.specs.Passes.{line_end_at, IsBroken}
-use Rattle.vert_core.specs.Interline.{interline, glue_of, appended}
+use Rattle.vert_core.specs.Interline.{interline, glue_of, appended_nodes}
 use Rattle.vert_core.specs.Lines.{BrokenParagraph, penalty_nodes, penalty_after, after_line, brought_by, depth_before, line_box, vertical_items}
 
 -- A falling list has at most as many places as the number of its first place.
@@ -45,7 +45,7 @@ few_lines list params breaks fits is =
       is_list.ends,
     )
 
-box_and_glue : (glue : Option Glue) (shift : ℤ) (b : BoxNode) → length (appended glue shift b) ≤ 2
+box_and_glue : (glue : Option Glue) (shift : ℤ) (b : BoxNode) → length (appended_nodes glue shift b) ≤ 2
 box_and_glue None shift b = omega arith
 box_and_glue (Some glue) shift b = omega arith
 
@@ -66,7 +66,7 @@ brings_three p line =
     let glue = glue_of (interline p.params (depth_before p line) (line_box p line).height) in
     omega (
       arith,
-      length-append (appended glue (pos 0) (line_box p line)) (after_line p.params (length p.places) line),
+      length-append (appended_nodes glue (pos 0) (line_box p line)) (after_line p.params (length p.places) line),
       box_and_glue glue (pos 0) (line_box p line),
       one_penalty p.params (length p.places) line,
     )

@@ -5,7 +5,7 @@ use Rattle.node_core.specs.declared.tree.Node.{Node}
 use Rattle.node_core.specs.Nodes.{items_of, nodes_of}
 use Rattle.node_core.proofs.NodeLemmas.{nodes_of-items_of}
 use Rattle.vert_core.specs.declared.planning.PlannedLine.{PlannedLine}
-use Rattle.vert_core.specs.Private.Planned.{with_part, next_begin, moved, items_in, AreInOrder}
+use Rattle.vert_core.specs.Private.Planned.{with_part, next_begin, moved_lines, items_in, AreInOrder}
 
 -- What the last of some lines gives goes to the end of a list.
 pub popped :
@@ -58,10 +58,10 @@ order_weak bound later (line ∷ next ∷ rest) at order = (order.0, order.1, or
 -- The last of some lines gets the items from where it begins on.
 pub moved_last :
     (list : List Node) (end : ℕ) (lines : List PlannedLine) (line : PlannedLine)
-    → moved list end (lines ++ line ∷ []) ≡ moved list line.begin lines ++ with_part (drop line.begin (take end list)) line ∷ []
+    → moved_lines list end (lines ++ line ∷ []) ≡ moved_lines list line.begin lines ++ with_part (drop line.begin (take end list)) line ∷ []
 moved_last list end [] line = refl
 moved_last list end (first ∷ rest) line =
-    ap (λ n. with_part (drop first.begin (take n list)) first ∷ moved list end (rest ++ line ∷ [])) (next_more rest line end)
+    ap (λ n. with_part (drop first.begin (take n list)) first ∷ moved_lines list end (rest ++ line ∷ [])) (next_more rest line end)
     ∙ ap (λ lines. with_part (drop first.begin (take (next_begin rest line.begin) list)) first ∷ lines) (moved_last list end rest line)
 
 -- A line more that is filled goes before those that are.
@@ -72,11 +72,11 @@ filled_more front filled line =
 -- While lines are filled from a list: what is left of it, the lines without items, and those with items, the last one first.
 pub record IsMoving (list : List Node) (lines : List PlannedLine) (left : List Node) (before filled : List PlannedLine) : Type 0 where
   pub whole : left ++ flat_map items_in (reverse filled) ≡ list
-  pub moved : moved list (length left) before ++ reverse filled ≡ moved list (length list) lines
+  pub moved : moved_lines list (length left) before ++ reverse filled ≡ moved_lines list (length list) lines
   pub order : AreInOrder (length left + 1) before
 
 pub moving_first : (list : List Node) (lines : List PlannedLine) → AreInOrder (length list + 1) lines → IsMoving list lines list lines []
-moving_first list lines order = record { whole = append-nil list; moved = append-nil (moved list (length list) lines); order = order }
+moving_first list lines order = record { whole = append-nil list; moved = append-nil (moved_lines list (length list) lines); order = order }
 
 -- The last line begins within what is left.
 pub begins_within :
@@ -107,12 +107,12 @@ moving_more list lines left before filled after line moving split =
     ∙ (sym (append_assoc (take b left) part (flat_map items_in (reverse filled)))
     ∙ (ap (λ xs. xs ++ flat_map items_in (reverse filled)) (take-append-drop b left) ∙ moving.whole))) in
     let given_is : with_part (drop b (take (length left) list)) line ≡ given = ap (λ xs. with_part (drop b xs) line) front in
-    let all : moved list (length (take b left)) after ++ reverse (filled ++ given ∷ []) ≡ moved list (length list) lines =
-    ap (λ n. moved list n after ++ reverse (filled ++ given ∷ [])) count
-    ∙ (sym (filled_more (moved list b after) filled given)
-    ∙ (ap (λ x. (moved list b after ++ x ∷ []) ++ reverse filled) (sym given_is)
+    let all : moved_lines list (length (take b left)) after ++ reverse (filled ++ given ∷ []) ≡ moved_lines list (length list) lines =
+    ap (λ n. moved_lines list n after ++ reverse (filled ++ given ∷ [])) count
+    ∙ (sym (filled_more (moved_lines list b after) filled given)
+    ∙ (ap (λ x. (moved_lines list b after ++ x ∷ []) ++ reverse filled) (sym given_is)
     ∙ (ap (λ xs. xs ++ reverse filled) (sym (moved_last list (length left) after line))
-    ∙ (ap (λ xs. moved list (length left) xs ++ reverse filled) (sym split) ∙ moving.moved)))) in
+    ∙ (ap (λ xs. moved_lines list (length left) xs ++ reverse filled) (sym split) ∙ moving.moved)))) in
     record {
       whole = whole;
       moved = all;

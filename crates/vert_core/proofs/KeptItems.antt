@@ -9,7 +9,7 @@ use Rattle.node_core.specs.declared.tree.Node.{Node}
 use Rattle.node_core.specs.declared.tree.Node.TheVariants as nodes
 use Rattle.node_core.specs.Classes.{class_of, is_discardable}
 use Rattle.break_lines.specs.Legal.{is_dropped}
-use Rattle.break_lines.specs.LineItems.{at_break, without_first, kept}
+use Rattle.break_lines.specs.LineItems.{at_break, without_first, kept_items}
 
 -- The items that are dropped at the beginning of a line are those of three classes.
 pub dropped_class : (x : Node) → is_dropped x ≡ is_discardable (class_of x)
@@ -40,9 +40,9 @@ without_dropped list i x within is dropped =
 pub without_kept :
     (list : List Node) (i : ℕ) (x : Node) → i < length list → x ≡ get_or list i x → is_discardable (class_of x) ≡ false
     → without_first (drop i list) ≡ drop i list
-without_kept list i x within is kept =
+without_kept list i x within is kept_items =
     ap without_first (from_item list i x within is)
-    ∙ cond-false (is_dropped x) (without_first (drop (i + 1) list)) (x ∷ drop (i + 1) list) (dropped_class x ∙ kept)
+    ∙ cond-false (is_dropped x) (without_first (drop (i + 1) list)) (x ∷ drop (i + 1) list) (dropped_class x ∙ kept_items)
     ∙ sym (from_item list i x within is)
 
 -- Dropping items does not make a list longer.
@@ -52,7 +52,7 @@ length-without_first (x ∷ rest) = cases (length-without_first rest) (cases_Boo
   where
     cases : length (without_first rest) ≤ length rest → (is_dropped x ≡ true) ⊎ (is_dropped x ≡ false) → length (without_first (x ∷ rest)) ≤ length (x ∷ rest)
     cases shorter (inl dropped) = omega (arith, ap length (cond-true (is_dropped x) (without_first rest) (x ∷ rest) dropped))
-    cases shorter (inr kept) = omega (arith, ap length (cond-false (is_dropped x) (without_first rest) (x ∷ rest) kept))
+    cases shorter (inr kept_items) = omega (arith, ap length (cond-false (is_dropped x) (without_first rest) (x ∷ rest) kept_items))
 
 -- A line keeps at most one item in place of the item at its end.
 at_break_one : (x : Node) → length (at_break (Some x)) ≤ 1
@@ -66,14 +66,14 @@ at_break_one (nodes.Special text) = omega arith
 at_break_one (nodes.Box shift b) = omega arith
 
 -- A line keeps at most as many items as the list has.
-pub length_kept : (list : List Node) (begin : Option ℕ) (end : ℕ) → length (kept list begin end) ≤ length list
+pub length_kept : (list : List Node) (begin : Option ℕ) (end : ℕ) → length (kept_items list begin end) ≤ length list
 length_kept list begin end = by_item begin (slice_get list end) refl
   where
     front : (begin : Option ℕ) → List Node
     front None = take end list
     front (Some a) = without_first (drop (a + 1) (take end list))
 
-    is_front : (begin : Option ℕ) → kept list begin end ≡ front begin ++ at_break (slice_get list end)
+    is_front : (begin : Option ℕ) → kept_items list begin end ≡ front begin ++ at_break (slice_get list end)
     is_front None = refl
     is_front (Some a) = refl
 
@@ -81,7 +81,7 @@ length_kept list begin end = by_item begin (slice_get list end) refl
     short None = omega arith
     short (Some a) = omega (arith, length-without_first (drop (a + 1) (take end list)), length-drop (a + 1) (take end list))
 
-    by_item : (begin : Option ℕ) (at : Option Node) → slice_get list end ≡ at → length (kept list begin end) ≤ length list
+    by_item : (begin : Option ℕ) (at : Option Node) → slice_get list end ≡ at → length (kept_items list begin end) ≤ length list
     by_item begin None is =
         omega (arith, ap length (is_front begin), ap (λ at. length (front begin ++ at_break at)) is, length-append (front begin) [], short begin, length-take end list)
     by_item begin (Some x) is =

@@ -20,13 +20,13 @@ use Rattle.node_core.specs.declared.tree.Order.{Order}
 use Rattle.node_core.specs.declared.tree.Order.TheVariants.{Normal, Fil, Fill, Filll}
 use Rattle.pack_core.specs.declared.pack.Target.TheVariants.{To}
 use Rattle.pack_core.specs.declared.pack.Shell.{Shell}
-use Rattle.pack_core.specs.Items.{across, above, below, stretch_in, shrink_in}
-use Rattle.pack_core.specs.Totals.{total, greatest}
-use Rattle.pack_core.specs.Glue.{highest, stretched, shrunk, setting_of, stretch_totals, shrink_totals}
+use Rattle.pack_core.specs.Items.{item_width, height_above_baseline, depth_below_baseline, stretch_in, shrink_in}
+use Rattle.pack_core.specs.Totals.{total, greatest_of}
+use Rattle.pack_core.specs.Glue.{highest, stretched_setting, shrunk_setting, setting_of, stretch_totals, shrink_totals}
 use Rattle.pack_core.specs.Boxes.{glue_totals, hbox, hbox_frame, hbox_numbers, hbox_shell, packed_of}
 use Rattle.pack_core.proofs.Sums.{total-append}
-use Rattle.break_lines.specs.LineItems.{at_break, kept}
-use Rattle.vert_core.specs.Interline.{interline, glue_of, appended}
+use Rattle.break_lines.specs.LineItems.{at_break, kept_items}
+use Rattle.vert_core.specs.Interline.{interline, glue_of, appended_nodes}
 use Rattle.vert_core.specs.Lines.{boxed_line, items_fit, fits_after, after_line, line_brings}
 
 -- A size that neither a kern of width 0 nor a penalty has.
@@ -45,7 +45,7 @@ total-of-end size none (Some (nodes.Rule sizes)) = refl
 total-of-end size none (Some (nodes.Special text)) = refl
 total-of-end size none (Some (nodes.Box shift b)) = refl
 
-greatest-of-end : (size : Node → ℤ) → IsOfOthers size → (at : Option Node) → greatest size (at_break at) ≡ pos 0
+greatest-of-end : (size : Node → ℤ) → IsOfOthers size → (at : Option Node) → greatest_of size (at_break at) ≡ pos 0
 greatest-of-end size none None = refl
 greatest-of-end size none (Some (nodes.Glyph g)) = refl
 greatest-of-end size none (Some (nodes.FontKern width)) = refl
@@ -59,18 +59,18 @@ greatest-of-end size none (Some (nodes.Box shift b)) = refl
 total-end : (size : Node → ℤ) → IsOfOthers size → (front : List Node) (at : Option Node) → total size (front ++ at_break at) ≡ total size front
 total-end size none front at = omega (arith, ints, total-append size front (at_break at), total-of-end size none at)
 
-greatest-end : (size : Node → ℤ) → IsOfOthers size → (front : List Node) (at : Option Node) → greatest size (front ++ at_break at) ≡ greatest size front
+greatest-end : (size : Node → ℤ) → IsOfOthers size → (front : List Node) (at : Option Node) → greatest_of size (front ++ at_break at) ≡ greatest_of size front
 greatest-end size none [] at = greatest-of-end size none at
 greatest-end size none (x ∷ front) at = ap (int_max (size x)) (greatest-end size none front at)
 
-width-end : (front : List Node) (at : Option Node) → total across (front ++ at_break at) ≡ total across front
-width-end = total-end across (record { kern = refl; penalty = λ p. refl })
+width-end : (front : List Node) (at : Option Node) → total item_width (front ++ at_break at) ≡ total item_width front
+width-end = total-end item_width (record { kern = refl; penalty = λ p. refl })
 
-height-end : (front : List Node) (at : Option Node) → greatest above (front ++ at_break at) ≡ greatest above front
-height-end = greatest-end above (record { kern = refl; penalty = λ p. refl })
+height-end : (front : List Node) (at : Option Node) → greatest_of height_above_baseline (front ++ at_break at) ≡ greatest_of height_above_baseline front
+height-end = greatest-end height_above_baseline (record { kern = refl; penalty = λ p. refl })
 
-depth-end : (front : List Node) (at : Option Node) → greatest below (front ++ at_break at) ≡ greatest below front
-depth-end = greatest-end below (record { kern = refl; penalty = λ p. refl })
+depth-end : (front : List Node) (at : Option Node) → greatest_of depth_below_baseline (front ++ at_break at) ≡ greatest_of depth_below_baseline front
+depth-end = greatest-end depth_below_baseline (record { kern = refl; penalty = λ p. refl })
 
 stretch-end : (front : List Node) (at : Option Node) → stretch_totals (front ++ at_break at) ≡ stretch_totals front
 stretch-end front at = fun_ext (λ order. total-end (stretch_in order) (record { kern = refl; penalty = λ p. refl }) front at)
@@ -89,8 +89,8 @@ numbers-end size front at = rw (width-end front at, height-end front at, depth-e
 setting-end : (excess : ℤ) (front : List Node) (at : Option Node) → setting_of excess (front ++ at_break at) ≡ setting_of excess front
 unfolding setting_of
 setting-end (pos zero) front at = refl
-setting-end (pos (suc n)) front at = ap (λ (totals : Order → ℤ). stretched (pos (suc n)) totals (highest totals)) (stretch-end front at)
-setting-end (negsuc n) front at = ap (λ (totals : Order → ℤ). shrunk (pos (suc n)) totals (highest totals)) (shrink-end front at)
+setting-end (pos (suc n)) front at = ap (λ (totals : Order → ℤ). stretched_setting (pos (suc n)) totals (highest totals)) (stretch-end front at)
+setting-end (negsuc n) front at = ap (λ (totals : Order → ℤ). shrunk_setting (pos (suc n)) totals (highest totals)) (shrink-end front at)
 
 frame-end : (size : ℤ) (front : List Node) (at : Option Node) → hbox_frame (To size) (front ++ at_break at) ≡ hbox_frame (To size) front
 frame-end size front at =
@@ -98,20 +98,20 @@ frame-end size front at =
 
 -- The line fits exactly where its items before the end do.
 pub measured_fits :
-    (size : ℤ) (list : List Node) (begin : Option ℕ) (end : ℕ) (front : List Node) → front ++ at_break (slice_get list end) ≡ kept list begin end
-    → items_fit size (kept list begin end) ≡ list_all fits (hbox_numbers (To size) front)
+    (size : ℤ) (list : List Node) (begin : Option ℕ) (end : ℕ) (front : List Node) → front ++ at_break (slice_get list end) ≡ kept_items list begin end
+    → items_fit size (kept_items list begin end) ≡ list_all fits (hbox_numbers (To size) front)
 unfolding items_fit
 measured_fits size list begin end front is =
     ap (λ items. list_all fits (hbox_numbers (To size) items)) (sym is) ∙ ap (list_all fits) (numbers-end size front (slice_get list end))
 
 -- Its box is the one that is made of these items, with all items in it.
 pub measured_box :
-    (size : ℤ) (list : List Node) (begin : Option ℕ) (end : ℕ) (front : List Node) (shell : Shell) → front ++ at_break (slice_get list end) ≡ kept list begin end
-    → shell ≡ hbox_shell (To size) front → (packed_of (items_of (kept list begin end)) shell).box_node ≡ boxed_line size (kept list begin end)
+    (size : ℤ) (list : List Node) (begin : Option ℕ) (end : ℕ) (front : List Node) (shell : Shell) → front ++ at_break (slice_get list end) ≡ kept_items list begin end
+    → shell ≡ hbox_shell (To size) front → (packed_of (items_of (kept_items list begin end)) shell).box_node ≡ boxed_line size (kept_items list begin end)
 unfolding boxed_line hbox hbox_shell packed_of
 measured_box size list begin end front shell is shell_is =
-    let items : Items = items_of (kept list begin end) in
-    let same : nodes_of (items_of (kept list begin end)) ≡ front ++ at_break (slice_get list end) = nodes_of-items_of (kept list begin end) ∙ sym is in
+    let items : Items = items_of (kept_items list begin end) in
+    let same : nodes_of (items_of (kept_items list begin end)) ≡ front ++ at_break (slice_get list end) = nodes_of-items_of (kept_items list begin end) ∙ sym is in
     ap (λ (s : Shell). (packed_of items s).box_node) shell_is
     ∙ ap (λ (frame : BoxFrame). box_of frame items) (sym (frame-end size front (slice_get list end)))
     ∙ ap (λ xs. box_of (hbox_frame (To size) xs) items) (sym same)
@@ -128,17 +128,17 @@ measured_depth items shell = refl
 -- Whether the line fits after a previous depth, by the glue before it.
 pub unfit_after :
     (params : Params) (size previous : ℤ) (list : List Node) (begin : Option ℕ) (end : ℕ) (front : List Node)
-    → front ++ at_break (slice_get list end) ≡ kept list begin end → list_all fits (hbox_numbers (To size) front) ≡ false
-    → fits_after params size previous (kept list begin end) ≡ false
+    → front ++ at_break (slice_get list end) ≡ kept_items list begin end → list_all fits (hbox_numbers (To size) front) ≡ false
+    → fits_after params size previous (kept_items list begin end) ≡ false
 unfit_after params size previous list begin end front is unfit =
-    ap (λ b. b && is_ok (interline params previous (boxed_line size (kept list begin end)).height)) (measured_fits size list begin end front is ∙ unfit)
+    ap (λ b. b && is_ok (interline params previous (boxed_line size (kept_items list begin end)).height)) (measured_fits size list begin end front is ∙ unfit)
 
 pub fit_after :
     (params : Params) (size previous : ℤ) (list : List Node) (begin : Option ℕ) (end : ℕ) (front : List Node) (shell : Shell)
-    → front ++ at_break (slice_get list end) ≡ kept list begin end → list_all fits (hbox_numbers (To size) front) ≡ true → shell ≡ hbox_shell (To size) front
-    → fits_after params size previous (kept list begin end) ≡ is_ok (interline params previous shell.height)
+    → front ++ at_break (slice_get list end) ≡ kept_items list begin end → list_all fits (hbox_numbers (To size) front) ≡ true → shell ≡ hbox_shell (To size) front
+    → fits_after params size previous (kept_items list begin end) ≡ is_ok (interline params previous shell.height)
 fit_after params size previous list begin end front shell is fit shell_is =
-    let items = kept list begin end in
+    let items = kept_items list begin end in
     let height : (boxed_line size items).height ≡ shell.height =
     ap (λ (b : BoxNode). b.height) (sym (measured_box size list begin end front shell is shell_is)) ∙ measured_height (items_of items) shell in
     ap (λ b. b && is_ok (interline params previous (boxed_line size items).height)) (measured_fits size list begin end front is ∙ fit)
@@ -147,8 +147,8 @@ fit_after params size previous list begin end front shell is fit shell_is =
 -- A line keeps the items before its end, and at most one more.
 pub measured_count :
     (list : List Node) (begin : Option ℕ) (end : ℕ) (front : List Node) (last : Option Node)
-    → front ++ at_break (slice_get list end) ≡ kept list begin end → cons_option last [] ≡ at_break (slice_get list end)
-    → length front + (if is_some last then 1 else 0) ≡ length (kept list begin end)
+    → front ++ at_break (slice_get list end) ≡ kept_items list begin end → cons_option last [] ≡ at_break (slice_get list end)
+    → length front + (if is_some last then 1 else 0) ≡ length (kept_items list begin end)
 measured_count list begin end front last is at =
     omega (arith, one last, length-append front (cons_option last []), ap (λ xs. length (front ++ xs)) at, ap length is)
   where
@@ -160,9 +160,9 @@ measured_count list begin end front last is at =
 pub brings_measured :
     (params : Params) (count line : ℕ) (previous : ℤ) (items : Items) (shell : Shell) (x b : BoxNode) (glue : Option Glue)
     → (packed_of items shell).box_node ≡ b → x ≡ (packed_of items shell).box_node → glue ≡ glue_of (interline params previous shell.height)
-    → appended glue (pos 0) x ++ after_line params count line ≡ line_brings params count line previous b
+    → appended_nodes glue (pos 0) x ++ after_line params count line ≡ line_brings params count line previous b
 brings_measured params count line previous items shell x b glue is x_is glue_is =
     let height : shell.height ≡ b.height = sym (measured_height items shell) ∙ ap (λ (y : BoxNode). y.height) is in
     let same : glue ≡ glue_of (interline params previous b.height) = glue_is ∙ ap (λ h. glue_of (interline params previous h)) height in
-    ap (λ g. appended g (pos 0) x ++ after_line params count line) same
-    ∙ ap (λ y. appended (glue_of (interline params previous b.height)) (pos 0) y ++ after_line params count line) (x_is ∙ is)
+    ap (λ g. appended_nodes g (pos 0) x ++ after_line params count line) same
+    ∙ ap (λ y. appended_nodes (glue_of (interline params previous b.height)) (pos 0) y ++ after_line params count line) (x_is ∙ is)

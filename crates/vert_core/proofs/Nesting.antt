@@ -12,9 +12,9 @@ use Rattle.node_core.specs.Nodes.{items_of}
 use Rattle.pack_core.specs.Glue.{is_zero}
 use Rattle.break_lines.specs.LineItems.{at_break}
 use Rattle.vert_core.specs.declared.planning.PlannedLine.{PlannedLine}
-use Rattle.vert_core.specs.Interline.{appended}
+use Rattle.vert_core.specs.Interline.{appended_nodes}
 use Rattle.vert_core.specs.Lines.{penalty_nodes}
-use Rattle.vert_core.specs.Private.Planned.{line_of, stacked, copied}
+use Rattle.vert_core.specs.Private.Planned.{items_with_break, stacked, copied_line}
 use Rattle.vert_core.proofs.PlannedLines.{stacked_copy}
 
 -- The depth of two lists together.
@@ -48,22 +48,22 @@ depth_penalty penalty = cases (is_zero penalty)
     cases true = refl
     cases false = refl
 
-depth_appended : (glue : Option Glue) (b : BoxNode) → items_depth (items_of (appended glue (pos 0) b)) ≡ items_depth b.list + 1
+depth_appended : (glue : Option Glue) (b : BoxNode) → items_depth (items_of (appended_nodes glue (pos 0) b)) ≡ items_depth b.list + 1
 depth_appended None b = omega arith
 depth_appended (Some glue) b = omega arith
 
 -- The depth of what a line adds, by its items before its end.
 line_depth :
     (list : List Node) (line : PlannedLine)
-    → items_depth (items_of (stacked (copied list line))) ≡ items_depth (items_of (take (line.end - line.begin) (drop line.begin list))) + 1
+    → items_depth (items_of (stacked (copied_line list line))) ≡ items_depth (items_of (take (line.end - line.begin) (drop line.begin list))) + 1
 line_depth list line =
     let c = line.end - line.begin in
     let ys = drop line.begin list in
-    let b : BoxNode = record line.box_node { list = items_of (line_of c ys) } in
+    let b : BoxNode = record line.box_node { list = items_of (items_with_break c ys) } in
     omega (
       arith,
       ap (λ (xs : List Node). items_depth (items_of xs)) (stacked_copy list line),
-      depth_joined (appended line.glue (pos 0) b) (penalty_nodes line.penalty),
+      depth_joined (appended_nodes line.glue (pos 0) b) (penalty_nodes line.penalty),
       depth_appended line.glue b,
       depth_penalty line.penalty,
       depth_joined (take c ys) (at_break (slice_get ys c)),
@@ -73,19 +73,19 @@ line_depth list line =
 -- With one more line.
 pub levels_more :
     (list : List Node) (lines : List PlannedLine) (i : ℕ) (line : PlannedLine) → i < length lines → line ≡ get_or lines i line
-    → items_depth (items_of (flat_map stacked (map (copied list) (take (i + 1) lines))))
-    ≡ max (items_depth (items_of (flat_map stacked (map (copied list) (take i lines))))) (items_depth (items_of (take (line.end - line.begin) (drop line.begin list))) + 1)
+    → items_depth (items_of (flat_map stacked (map (copied_line list) (take (i + 1) lines))))
+    ≡ max (items_depth (items_of (flat_map stacked (map (copied_line list) (take i lines))))) (items_depth (items_of (take (line.end - line.begin) (drop line.begin list))) + 1)
 levels_more list lines i line below is =
     let front = take i lines in
     let all : take (i + 1) lines ≡ front ++ line ∷ [] = take_more lines i line below ∙ ap (λ x. front ++ x ∷ []) (sym is) in
-    let split : flat_map stacked (map (copied list) (take (i + 1) lines)) ≡ flat_map stacked (map (copied list) front) ++ stacked (copied list line) =
-    ap (λ (xs : List PlannedLine). flat_map stacked (map (copied list) xs)) all
-    ∙ (ap (flat_map stacked) (map-append (copied list) front (line ∷ []))
-    ∙ (flat_map-append stacked (map (copied list) front) (copied list line ∷ [])
-    ∙ ap (λ xs. flat_map stacked (map (copied list) front) ++ xs) (append-nil (stacked (copied list line))))) in
+    let split : flat_map stacked (map (copied_line list) (take (i + 1) lines)) ≡ flat_map stacked (map (copied_line list) front) ++ stacked (copied_line list line) =
+    ap (λ (xs : List PlannedLine). flat_map stacked (map (copied_line list) xs)) all
+    ∙ (ap (flat_map stacked) (map-append (copied_line list) front (line ∷ []))
+    ∙ (flat_map-append stacked (map (copied_line list) front) (copied_line list line ∷ [])
+    ∙ ap (λ xs. flat_map stacked (map (copied_line list) front) ++ xs) (append-nil (stacked (copied_line list line))))) in
     omega (
       arith,
       ap (λ (xs : List Node). items_depth (items_of xs)) split,
-      depth_joined (flat_map stacked (map (copied list) front)) (stacked (copied list line)),
+      depth_joined (flat_map stacked (map (copied_line list) front)) (stacked (copied_line list line)),
       line_depth list line,
     )

@@ -12,7 +12,7 @@ use Rattle.node_core.specs.Nodes.{IsPlain}
 use Rattle.node_core.proofs.NodeLemmas.{nodes_of-items_of}
 use Rattle.break_lines.specs.LineItems.{at_break}
 use Rattle.vert_core.specs.declared.planning.PlannedLine.{PlannedLine}
-use Rattle.vert_core.specs.Private.Planned.{HasPlainItems, copied, line_of, moved, next_begin, part_of, with_part}
+use Rattle.vert_core.specs.Private.Planned.{HasPlainItems, copied_line, items_with_break, moved_lines, next_begin, part_of, with_part}
 
 neither_left : (a b : Bool) → (a || b) ≡ false → a ≡ false
 neither_left true b is = absurd (cc)
@@ -56,7 +56,7 @@ plain_end (Some (nodes.Special text)) = refl
 plain_end (Some (nodes.Box shift b)) = refl
 
 -- What a line keeps of plain items is plain.
-pub plain_line : (count : ℕ) (part : List Node) → IsPlain part → IsPlain (line_of count part)
+pub plain_line : (count : ℕ) (part : List Node) → IsPlain part → IsPlain (items_with_break count part)
 plain_line count part is = plain_joined (take count part) (at_break (slice_get part count)) (plain_take count part is) (plain_end (slice_get part count))
 
 -- A line with plain items.
@@ -64,19 +64,19 @@ plain_given : (part : List Node) (line : PlannedLine) → IsPlain part → HasPl
 plain_given part line is = subst IsPlain (sym (nodes_of-items_of part)) is
 
 -- The lines of a plain list.
-pub plain_moved : (list : List Node) (end : ℕ) (lines : List PlannedLine) → IsPlain list → All HasPlainItems (moved list end lines)
+pub plain_moved : (list : List Node) (end : ℕ) (lines : List PlannedLine) → IsPlain list → All HasPlainItems (moved_lines list end lines)
 plain_moved list end [] is = All-nil HasPlainItems
 plain_moved list end (line ∷ rest) is =
     let front = take (next_begin rest end) list in
     let part = drop line.begin front in
-    All-cons HasPlainItems (with_part part line) (moved list end rest)
+    All-cons HasPlainItems (with_part part line) (moved_lines list end rest)
     (plain_given part line (plain_drop line.begin front (plain_take (next_begin rest end) list is)))
     (plain_moved list end rest is)
 
-pub plain_copied : (list : List Node) (lines : List PlannedLine) → IsPlain list → All HasPlainItems (map (copied list) lines)
+pub plain_copied : (list : List Node) (lines : List PlannedLine) → IsPlain list → All HasPlainItems (map (copied_line list) lines)
 plain_copied list [] is = All-nil HasPlainItems
 plain_copied list (line ∷ rest) is =
-    All-cons HasPlainItems (copied list line) (map (copied list) rest)
+    All-cons HasPlainItems (copied_line list line) (map (copied_line list) rest)
     (plain_given (part_of list line) line (plain_take (line.end - line.begin + 1) (drop line.begin list) (plain_drop line.begin list is)))
     (plain_copied list rest is)
 

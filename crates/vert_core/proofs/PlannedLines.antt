@@ -13,22 +13,22 @@ use Rattle.node_core.specs.Nodes.{items_of, nodes_of}
 use Rattle.node_core.proofs.NodeLemmas.{nodes_of-items_of}
 use Rattle.pack_core.specs.Boxes.{hbox, packed_of}
 use Rattle.break_lines.specs.Legal.{is_dropped, up_to}
-use Rattle.break_lines.specs.LineItems.{at_break, without_first, kept}
+use Rattle.break_lines.specs.LineItems.{at_break, without_first, kept_items}
 use Rattle.break_lines.specs.Sizes.{line_size}
 use Rattle.vert_core.specs.declared.measuring.MeasuredLine.{MeasuredLine}
 use Rattle.vert_core.specs.declared.planning.PlannedLine.{PlannedLine}
-use Rattle.vert_core.specs.Interline.{interline, glue_of, appended}
+use Rattle.vert_core.specs.Interline.{interline, glue_of, appended_nodes}
 use Rattle.vert_core.specs.Lines.{BrokenParagraph, line_begin, line_items, boxed_line, line_box, depth_before, penalty_after, penalty_nodes, after_line, line_brings, brought_by}
-use Rattle.vert_core.specs.Private.Planned.{front, first_index, penalty_between, hollow, planned, line_of, closed_box, stacked, with_part, part_of, copied, next_begin, moved, AreInOrder}
+use Rattle.vert_core.specs.Private.Planned.{front_items, first_index, penalty_between, hollow_box, planned, items_with_break, closed_box, stacked, with_part, part_of, copied_line, next_begin, moved_lines, AreInOrder}
 use Rattle.vert_core.proofs.KeptItems.{length-without_first}
 use Rattle.vert_core.proofs.Measured.{measured_height}
 
 -- The items before the end of a line are some of those up to the end.
-pub short_front : (list : List Node) (begin : Option ℕ) (end : ℕ) → length (front list begin end) ≤ length (take end list)
+pub short_front : (list : List Node) (begin : Option ℕ) (end : ℕ) → length (front_items list begin end) ≤ length (take end list)
 short_front list None end = omega arith
 short_front list (Some a) end = omega (arith, length-without_first (drop (a + 1) (take end list)), length-drop (a + 1) (take end list))
 
-pub front_within : (list : List Node) (begin : Option ℕ) (end : ℕ) (xs : List Node) (m : ℕ) → xs ≡ front list begin end → m ≡ min end (length list) → length xs ≤ m
+pub front_within : (list : List Node) (begin : Option ℕ) (end : ℕ) (xs : List Node) (m : ℕ) → xs ≡ front_items list begin end → m ≡ min end (length list) → length xs ≤ m
 front_within list begin end xs m is least = omega (arith, short_front list begin end, ap length is, least, length-take end list)
 
 pub index_within : (list : List Node) (begin : Option ℕ) (end : ℕ) → first_index list begin end ≤ end
@@ -57,7 +57,7 @@ suffix (x ∷ rest) = cases (suffix rest) (cases_Bool (is_dropped x))
         is ∙ ap (λ n. drop n (x ∷ rest)) (sym count)
 
 -- The items of a line are those from its first one on.
-front_drop : (list : List Node) (begin : Option ℕ) (end : ℕ) → front list begin end ≡ drop (first_index list begin end) (take end list)
+front_drop : (list : List Node) (begin : Option ℕ) (end : ℕ) → front_items list begin end ≡ drop (first_index list begin end) (take end list)
 front_drop list None end =
     let count : length (take end list) - length (take end list) ≡ 0 = omega arith in
     ap (λ n. drop n (take end list)) (sym count)
@@ -95,89 +95,89 @@ get_take (x ∷ xs) (suc n) zero below = refl
 get_take (x ∷ xs) (suc n) (suc k) below = get_take xs n k (omega arith)
 
 -- A line needs the items up to the one at its end.
-line_of_take : (xs : List Node) (n k : ℕ) → k < n → line_of k (take n xs) ≡ line_of k xs
+line_of_take : (xs : List Node) (n k : ℕ) → k < n → items_with_break k (take n xs) ≡ items_with_break k xs
 line_of_take xs n k below =
     ap (λ ys. ys ++ at_break (slice_get (take n xs) k)) (take-take k n xs (omega (arith, below)))
     ∙ ap (λ x. take k xs ++ at_break x) (get_take xs n k below)
 
-kept_front : (list : List Node) (begin : Option ℕ) (end : ℕ) → front list begin end ++ at_break (slice_get list end) ≡ kept list begin end
+kept_front : (list : List Node) (begin : Option ℕ) (end : ℕ) → front_items list begin end ++ at_break (slice_get list end) ≡ kept_items list begin end
 kept_front list None end = refl
 kept_front list (Some a) end = refl
 
 -- The items from the first one of a line on give what the line keeps.
 line_kept :
     (list : List Node) (begin : Option ℕ) (end : ℕ)
-    → line_of (end - first_index list begin end) (drop (first_index list begin end) list) ≡ kept list begin end
+    → items_with_break (end - first_index list begin end) (drop (first_index list begin end) list) ≡ kept_items list begin end
 line_kept list begin end =
     let b = first_index list begin end in
     let count : b + (end - b) ≡ end = omega (arith, index_within list begin end) in
     ap (λ xs. xs ++ at_break (slice_get (drop b list) (end - b)))
     (sym (drop-take b (end - b) list) ∙ (ap (λ n. drop b (take n list)) count ∙ sym (front_drop list begin end)))
-    ∙ (ap (λ x. front list begin end ++ at_break x) (get_drop list b (end - b) ∙ ap (slice_get list) count) ∙ kept_front list begin end)
+    ∙ (ap (λ x. front_items list begin end ++ at_break x) (get_drop list b (end - b) ∙ ap (slice_get list) count) ∙ kept_front list begin end)
 
 -- What a line adds, by what it keeps.
 stacked_part :
-    (line : PlannedLine) (part xs : List Node) → line_of (line.end - line.begin) part ≡ xs
-    → stacked (with_part part line) ≡ appended line.glue (pos 0) (record line.box_node { list = items_of xs }) ++ penalty_nodes line.penalty
+    (line : PlannedLine) (part xs : List Node) → items_with_break (line.end - line.begin) part ≡ xs
+    → stacked (with_part part line) ≡ appended_nodes line.glue (pos 0) (record line.box_node { list = items_of xs }) ++ penalty_nodes line.penalty
 unfolding stacked
 stacked_part line part xs is =
-    ap (λ ys. appended line.glue (pos 0) (record line.box_node { list = items_of (line_of (line.end - line.begin) ys) }) ++ penalty_nodes line.penalty) (nodes_of-items_of part)
-    ∙ ap (λ ys. appended line.glue (pos 0) (record line.box_node { list = items_of ys }) ++ penalty_nodes line.penalty) is
+    ap (λ ys. appended_nodes line.glue (pos 0) (record line.box_node { list = items_of (items_with_break (line.end - line.begin) ys) }) ++ penalty_nodes line.penalty) (nodes_of-items_of part)
+    ∙ ap (λ ys. appended_nodes line.glue (pos 0) (record line.box_node { list = items_of ys }) ++ penalty_nodes line.penalty) is
 
 pub stacked_copy :
     (list : List Node) (line : PlannedLine)
-    → stacked (copied list line) ≡ appended line.glue (pos 0) (record line.box_node { list = items_of (line_of (line.end - line.begin) (drop line.begin list)) }) ++ penalty_nodes line.penalty
+    → stacked (copied_line list line) ≡ appended_nodes line.glue (pos 0) (record line.box_node { list = items_of (items_with_break (line.end - line.begin) (drop line.begin list)) }) ++ penalty_nodes line.penalty
 stacked_copy list line =
-    stacked_part line (part_of list line) (line_of (line.end - line.begin) (drop line.begin list))
+    stacked_part line (part_of list line) (items_with_break (line.end - line.begin) (drop line.begin list))
     (line_of_take (drop line.begin list) (line.end - line.begin + 1) (line.end - line.begin) (omega arith))
 
 stacked_move :
     (list : List Node) (line : PlannedLine) (next : ℕ) → line.begin ≤ line.end → (line.end < next) ⊎ (next ≡ length list)
-    → stacked (with_part (drop line.begin (take next list)) line) ≡ stacked (copied list line)
+    → stacked (with_part (drop line.begin (take next list)) line) ≡ stacked (copied_line list line)
 stacked_move list line next within (inl later) =
     let b = line.begin in
     let count : b + (next - b) ≡ next = omega (arith, within, later) in
     let part : drop b (take next list) ≡ take (next - b) (drop b list) = ap (λ n. drop b (take n list)) (sym count) ∙ drop-take b (next - b) list in
-    stacked_part line (drop b (take next list)) (line_of (line.end - b) (drop b list))
-    (ap (line_of (line.end - b)) part ∙ line_of_take (drop b list) (next - b) (line.end - b) (omega (arith, within, later)))
+    stacked_part line (drop b (take next list)) (items_with_break (line.end - b) (drop b list))
+    (ap (items_with_break (line.end - b)) part ∙ line_of_take (drop b list) (next - b) (line.end - b) (omega (arith, within, later)))
     ∙ sym (stacked_copy list line)
 stacked_move list line next within (inr last) =
-    stacked_part line (drop line.begin (take next list)) (line_of (line.end - line.begin) (drop line.begin list))
-    (ap (λ xs. line_of (line.end - line.begin) (drop line.begin xs)) (take_all next list (omega (arith, last))))
+    stacked_part line (drop line.begin (take next list)) (items_with_break (line.end - line.begin) (drop line.begin list))
+    (ap (λ xs. items_with_break (line.end - line.begin) (drop line.begin xs)) (take_all next list (omega (arith, last))))
     ∙ sym (stacked_copy list line)
 
 -- Whether the items are moved or copied, the lines add the same.
 pub moved_copied :
     (list : List Node) (bound : ℕ) (lines : List PlannedLine) → AreInOrder bound lines
-    → flat_map stacked (moved list (length list) lines) ≡ flat_map stacked (map (copied list) lines)
+    → flat_map stacked (moved_lines list (length list) lines) ≡ flat_map stacked (map (copied_line list) lines)
 moved_copied list bound [] order = refl
 moved_copied list bound (line ∷ []) order =
     ap (λ xs. xs ++ []) (stacked_move list line (length list) order.0 (inr refl))
 moved_copied list bound (line ∷ next ∷ rest) order =
-    ap (λ xs. xs ++ flat_map stacked (moved list (length list) (next ∷ rest))) (stacked_move list line next.begin order.0 (inl order.1))
-    ∙ ap (λ xs. stacked (copied list line) ++ xs) (moved_copied list bound (next ∷ rest) order.2)
+    ap (λ xs. xs ++ flat_map stacked (moved_lines list (length list) (next ∷ rest))) (stacked_move list line next.begin order.0 (inl order.1))
+    ∙ ap (λ xs. stacked (copied_line list line) ++ xs) (moved_copied list bound (next ∷ rest) order.2)
 
-length_appended : (glue : Option Glue) (a b : BoxNode) → length (appended glue (pos 0) a) ≡ length (appended glue (pos 0) b)
+length_appended : (glue : Option Glue) (a b : BoxNode) → length (appended_nodes glue (pos 0) a) ≡ length (appended_nodes glue (pos 0) b)
 length_appended None a b = refl
 length_appended (Some glue) a b = refl
 
 -- The number of items that a line adds does not depend on its own items.
-length_copied : (list : List Node) (line : PlannedLine) → length (stacked (copied list line)) ≡ length (stacked line)
+length_copied : (list : List Node) (line : PlannedLine) → length (stacked (copied_line list line)) ≡ length (stacked line)
 unfolding stacked
 length_copied list line =
     omega (
       arith,
-      length-append (appended line.glue (pos 0) (closed_box (copied list line))) (penalty_nodes line.penalty),
-      length-append (appended line.glue (pos 0) (closed_box line)) (penalty_nodes line.penalty),
-      length_appended line.glue (closed_box (copied list line)) (closed_box line),
+      length-append (appended_nodes line.glue (pos 0) (closed_box (copied_line list line))) (penalty_nodes line.penalty),
+      length-append (appended_nodes line.glue (pos 0) (closed_box line)) (penalty_nodes line.penalty),
+      length_appended line.glue (closed_box (copied_line list line)) (closed_box line),
     )
 
-pub count_copied : (list : List Node) (lines : List PlannedLine) → length (flat_map stacked (map (copied list) lines)) ≡ length (flat_map stacked lines)
+pub count_copied : (list : List Node) (lines : List PlannedLine) → length (flat_map stacked (map (copied_line list) lines)) ≡ length (flat_map stacked lines)
 count_copied list [] = refl
 count_copied list (line ∷ rest) =
     omega (
       arith,
-      length-append (stacked (copied list line)) (flat_map stacked (map (copied list) rest)),
+      length-append (stacked (copied_line list line)) (flat_map stacked (map (copied_line list) rest)),
       length-append (stacked line) (flat_map stacked rest),
       length_copied list line,
       count_copied list rest,
@@ -214,11 +214,11 @@ planned_one p line depth m x before packed glue begin is =
     let height : m.shell.height ≡ b.height = ap (λ (b : BoxNode). b.height) packed in
     let same : m.glue ≡ glue_of (interline p.params (depth_before p line) b.height) =
     glue ∙ (ap (λ d. glue_of (interline p.params d m.shell.height)) before ∙ ap (λ h. glue_of (interline p.params (depth_before p line) h)) height) in
-    let box : (packed_of none m.shell).box_node ≡ hollow b = ap hollow packed in
+    let box : (packed_of none m.shell).box_node ≡ hollow_box b = ap hollow_box packed in
     is
     ∙ (ap (λ g. record { glue = g; box_node = (packed_of none m.shell).box_node; penalty = penalty_between p.params (length p.places) line; begin = m.begin; end = get_or p.places line 0 }) same
     ∙ (ap (λ y. record { glue = glue_of (interline p.params (depth_before p line) b.height); box_node = y; penalty = penalty_between p.params (length p.places) line; begin = m.begin; end = get_or p.places line 0 }) box
-    ∙ ap (λ n. record { glue = glue_of (interline p.params (depth_before p line) b.height); box_node = hollow b; penalty = penalty_between p.params (length p.places) line; begin = n; end = get_or p.places line 0 }) begin))
+    ∙ ap (λ n. record { glue = glue_of (interline p.params (depth_before p line) b.height); box_node = hollow_box b; penalty = penalty_between p.params (length p.places) line; begin = n; end = get_or p.places line 0 }) begin))
 
 box_list : (size : ℤ) (items : List Node) → (boxed_line size items).list ≡ items_of items
 unfolding boxed_line hbox
@@ -234,7 +234,7 @@ penalty_after_line params count line = cases (nat_lt (line + 1) count)
 -- With its items a planned line adds what the line brings.
 planned_stacked :
     (p : BrokenParagraph) (line : ℕ)
-    → appended (planned p line).glue (pos 0) (record (planned p line).box_node { list = items_of (line_of ((planned p line).end - (planned p line).begin) (drop (planned p line).begin p.nodes)) })
+    → appended_nodes (planned p line).glue (pos 0) (record (planned p line).box_node { list = items_of (items_with_break ((planned p line).end - (planned p line).begin) (drop (planned p line).begin p.nodes)) })
     ++ penalty_nodes (planned p line).penalty
     ≡ brought_by p line
 unfolding planned brought_by line_box
@@ -244,16 +244,16 @@ planned_stacked p line =
     let b = boxed_line (line_size p.params line) (line_items p line) in
     let glue = glue_of (interline p.params (depth_before p line) b.height) in
     let penalty = penalty_between p.params (length p.places) line in
-    let items : items_of (line_of (end - first_index p.nodes begin end) (drop (first_index p.nodes begin end) p.nodes)) ≡ b.list =
+    let items : items_of (items_with_break (end - first_index p.nodes begin end) (drop (first_index p.nodes begin end) p.nodes)) ≡ b.list =
     ap items_of (line_kept p.nodes begin end) ∙ sym (box_list (line_size p.params line) (line_items p line)) in
-    ap (λ (xs : Items). appended glue (pos 0) (record (hollow b) { list = xs }) ++ penalty_nodes penalty) items
-    ∙ ap (λ xs. appended glue (pos 0) b ++ xs) (penalty_after_line p.params (length p.places) line)
+    ap (λ (xs : Items). appended_nodes glue (pos 0) (record (hollow_box b) { list = xs }) ++ penalty_nodes penalty) items
+    ∙ ap (λ xs. appended_nodes glue (pos 0) b ++ xs) (penalty_after_line p.params (length p.places) line)
 
-line_stacked : (p : BrokenParagraph) (line : ℕ) → stacked (copied p.nodes (planned p line)) ≡ brought_by p line
+line_stacked : (p : BrokenParagraph) (line : ℕ) → stacked (copied_line p.nodes (planned p line)) ≡ brought_by p line
 line_stacked p line = stacked_copy p.nodes (planned p line) ∙ planned_stacked p line
 
-pub stacked_all : (p : BrokenParagraph) (lines : List ℕ) → flat_map stacked (map (copied p.nodes) (map (planned p) lines)) ≡ flat_map (brought_by p) lines
+pub stacked_all : (p : BrokenParagraph) (lines : List ℕ) → flat_map stacked (map (copied_line p.nodes) (map (planned p) lines)) ≡ flat_map (brought_by p) lines
 stacked_all p [] = refl
 stacked_all p (line ∷ rest) =
-    ap (λ xs. xs ++ flat_map stacked (map (copied p.nodes) (map (planned p) rest))) (line_stacked p line)
+    ap (λ xs. xs ++ flat_map stacked (map (copied_line p.nodes) (map (planned p) rest))) (line_stacked p line)
     ∙ ap (λ xs. brought_by p line ++ xs) (stacked_all p rest)

@@ -18,7 +18,7 @@ use Rattle.break_lines.proofs.Places.{place_at, rising_places}
 use Rattle.vert_core.specs.declared.planning.PlannedLine.{PlannedLine}
 use Rattle.vert_core.specs.Lines.{BrokenParagraph, line_places, broken_list, line_begin, brought_by, vertical_items, last_depth, lines_fit}
 use Rattle.vert_core.specs.Paragraphs.{with_breaks}
-use Rattle.vert_core.specs.Private.Planned.{first_index, planned, stacked, copied, moved, AreInOrder}
+use Rattle.vert_core.specs.Private.Planned.{first_index, planned, stacked, copied_line, moved_lines, AreInOrder}
 use Rattle.vert_core.proofs.Stacks.{count_places}
 use Rattle.vert_core.proofs.Filled.{order_more, order_weak}
 use Rattle.vert_core.proofs.PlannedLines.{index_within, index_after, moved_copied, count_copied, stacked_all}
@@ -167,23 +167,23 @@ broken_in_order list params previous breaks broken =
 -- Once they have copies of the items, planned lines add the vertical items.
 pub copied_items :
     (p : BrokenParagraph) (n : ℕ) (lines : List PlannedLine) → n ≡ length p.places → lines ≡ map (planned p) (up_to n)
-    → flat_map stacked (map (copied p.nodes) lines) ≡ vertical_items p
+    → flat_map stacked (map (copied_line p.nodes) lines) ≡ vertical_items p
 unfolding vertical_items
 copied_items p n lines count is =
-    ap (λ xs. flat_map stacked (map (copied p.nodes) xs)) is ∙ (stacked_all p (up_to n) ∙ ap (λ n. flat_map (brought_by p) (up_to n)) count)
+    ap (λ xs. flat_map stacked (map (copied_line p.nodes) xs)) is ∙ (stacked_all p (up_to n) ∙ ap (λ n. flat_map (brought_by p) (up_to n)) count)
 
 -- So they do with the items themselves.
 pub moved_items :
     (list : List Node) (params : Params) (previous : ℤ) (breaks : Breaks) (lines : List PlannedLine)
     → lines ≡ map (planned (with_breaks list params previous breaks)) (up_to (length breaks.lines.items)) → AreInOrder (length list + 1) lines
-    → flat_map stacked (moved list (length list) lines) ≡ vertical_items (with_breaks list params previous breaks)
+    → flat_map stacked (moved_lines list (length list) lines) ≡ vertical_items (with_breaks list params previous breaks)
 moved_items list params previous breaks lines is order =
     moved_copied list (length list + 1) lines order
     ∙ copied_items (with_breaks list params previous breaks) (length breaks.lines.items) lines (sym (count_places breaks.lines.items)) is
 
 pub moved_count :
     (list : List Node) (lines : List PlannedLine) (count : ℕ) → AreInOrder (length list + 1) lines → count ≡ length (flat_map stacked lines)
-    → count ≡ length (flat_map stacked (moved list (length list) lines))
+    → count ≡ length (flat_map stacked (moved_lines list (length list) lines))
 moved_count list lines count order is = omega (arith, is, count_copied list lines, ap length (moved_copied list (length list + 1) lines order))
 
 -- A paragraph without lines.

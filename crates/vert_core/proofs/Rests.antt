@@ -24,8 +24,8 @@ use Rattle.pack_core.proofs.Front.{numbers-front, shell-natural}
 use Rattle.vert_core.specs.declared.plan.SplitRest.{SplitRest}
 use Rattle.vert_core.specs.declared.parts.SplitFault.TheVariants.{InfiniteShrink, DimensionTooLarge}
 use Rattle.vert_core.specs.Places.{is_box_or_rule, is_some_before_break, precedes_break}
-use Rattle.vert_core.specs.Split.{from_box_or_rule, specials_above, split_place, front_items, items_after, topped, left_of, is_special, top_widths, rest_numbers, split_numbers, refusal, no_limit, packed_vbox, packed_rest, front_of, rest_of}
-use Rattle.vert_core.specs.Private.Steps.{glued, rest_list, left_items, packed_left, IsInside}
+use Rattle.vert_core.specs.Split.{from_box_or_rule, specials_above, split_place, front_items, items_after, from_first_box, left_of, is_special, top_widths, rest_numbers, split_numbers, refusal, no_limit, packed_vbox, packed_rest, front_of, rest_of}
+use Rattle.vert_core.specs.Private.Steps.{glued_items, rest_list, left_items, packed_left, IsInside}
 use Rattle.vert_core.proofs.Specials.{above-filtered, above-sizeless}
 
 -- Nothing is dropped from a box or a rule on.
@@ -97,32 +97,32 @@ none-fits params items place first specials solid end =
 pub planned-left :
     (params : SplitParams) (items : List Node) (place first start : ℕ) (glue : Option Glue) (shell : Shell) → first ≤ start → start ≤ length items
     → specials_above (drop first items) ≡ specials_above (drop place items) → from_box_or_rule (drop first items) ≡ from_box_or_rule (drop place items)
-    → drop start items ≡ from_box_or_rule (drop first items) → glued glue (drop start items) ≡ topped params (drop start items)
+    → drop start items ≡ from_box_or_rule (drop first items) → glued_items glue (drop start items) ≡ from_first_box params (drop start items)
     → rest_list (record { first = first; start = start; glue = glue; shell = shell }) items ≡ left_of params (drop place items)
 planned-left params items place first start glue shell ordered within specials solid at glue-is =
     let on : first + (start - first) ≡ start = omega (arith, ordered) in
     let there : drop (start - first) (drop first items) ≡ from_box_or_rule (drop first items) =
     drop-drop (start - first) first items ∙ ap (λ (i : ℕ). drop i items) on ∙ at in
     let above = above-filtered (drop first items) (start - first) (omega (arith, within, length-drop first items)) there in
-    ap (λ (xs : List Node). xs ++ glued glue (drop start items)) above
-    ∙ ap (λ (xs : List Node). specials_above (drop first items) ++ xs) (glue-is ∙ ap (topped params) at)
+    ap (λ (xs : List Node). xs ++ glued_items glue (drop start items)) above
+    ∙ ap (λ (xs : List Node). specials_above (drop first items) ++ xs) (glue-is ∙ ap (from_first_box params) at)
     ∙ same-left params items place first specials solid
 
 -- The numbers of the rest fit.
 pub rest-fits :
     (params : SplitParams) (after left : List Node) → left ≡ from_box_or_rule after
-    → list_all fits (top_widths params left ++ vbox_numbers Natural no_limit (topped params left)) ≡ list_all fits (rest_numbers params after)
+    → list_all fits (top_widths params left ++ vbox_numbers Natural no_limit (from_first_box params left)) ≡ list_all fits (rest_numbers params after)
 rest-fits params after left is =
-    ap (λ (xs : List Node). list_all fits (top_widths params xs ++ vbox_numbers Natural no_limit (topped params xs))) is
-    ∙ ap (λ (ns : List ℤ). list_all fits (top_widths params (from_box_or_rule after) ++ ns)) (sym (numbers-front Natural no_limit (specials_above after) (topped params (from_box_or_rule after)) (above-sizeless after)))
+    ap (λ (xs : List Node). list_all fits (top_widths params xs ++ vbox_numbers Natural no_limit (from_first_box params xs))) is
+    ∙ ap (λ (ns : List ℤ). list_all fits (top_widths params (from_box_or_rule after) ++ ns)) (sym (numbers-front Natural no_limit (specials_above after) (from_first_box params (from_box_or_rule after)) (above-sizeless after)))
 
 -- The box of the rest is the box of the items below the specials.
 pub left-shell :
     (params : SplitParams) (after left : List Node) → left ≡ from_box_or_rule after
-    → vbox_shell Natural no_limit (topped params left) ≡ vbox_shell Natural no_limit (left_of params after)
+    → vbox_shell Natural no_limit (from_first_box params left) ≡ vbox_shell Natural no_limit (left_of params after)
 left-shell params after left is =
-    ap (λ (xs : List Node). vbox_shell Natural no_limit (topped params xs)) is
-    ∙ sym (shell-natural no_limit (specials_above after) (topped params (from_box_or_rule after)) (above-sizeless after))
+    ap (λ (xs : List Node). vbox_shell Natural no_limit (from_first_box params xs)) is
+    ∙ sym (shell-natural no_limit (specials_above after) (from_first_box params (from_box_or_rule after)) (above-sizeless after))
 
 -- Why a list is not split.
 pub refusal-infinite : (params : SplitParams) (goal : ℤ) (items : List Node) → list_any shrinks_infinitely items ≡ true → refusal params goal items ≡ Some InfiniteShrink
@@ -195,7 +195,7 @@ filter-shorter (x ∷ xs) = here (is_special x) refl (filter-shorter xs)
     here true e less = rw e (omega arith)
     here false e less = rw e (omega arith)
 
-glued-shorter : (glue : Option Glue) (xs : List Node) → length (glued glue xs) ≤ length xs + 1
+glued-shorter : (glue : Option Glue) (xs : List Node) → length (glued_items glue xs) ≤ length xs + 1
 glued-shorter None xs = omega arith
 glued-shorter (Some glue) xs = omega arith
 
@@ -207,7 +207,7 @@ rest-shorter rest items inside =
       inside.free,
       inside.ordered,
       inside.within,
-      length-append (filter is_special above) (glued rest.glue (drop rest.start items)),
+      length-append (filter is_special above) (glued_items rest.glue (drop rest.start items)),
       filter-shorter above,
       length-take (rest.start - rest.first) (drop rest.first items),
       glued-shorter rest.glue (drop rest.start items),
@@ -217,7 +217,7 @@ rest-shorter rest items inside =
 -- The rest that is split off one item earlier.
 pub taken :
     (items left : List Node) (rest : SplitRest) → left ≡ drop (rest.first - 1) items → IsInside rest items
-    → filter is_special (take (rest.start - (rest.first - 1) - 1) (drop 1 left)) ++ glued rest.glue (drop (rest.start - (rest.first - 1)) left) ≡ rest_list rest items
+    → filter is_special (take (rest.start - (rest.first - 1) - 1) (drop 1 left)) ++ glued_items rest.glue (drop (rest.start - (rest.first - 1)) left) ≡ rest_list rest items
 taken items left rest is inside =
     let from : rest.first - 1 + 1 ≡ rest.first = omega (arith, inside.free) in
     let to : rest.first - 1 + (rest.start - (rest.first - 1)) ≡ rest.start = omega (arith, inside.free, inside.ordered) in
@@ -225,9 +225,9 @@ taken items left rest is inside =
     let above : drop 1 left ≡ drop rest.first items = ap (drop 1) is ∙ drop-drop 1 (rest.first - 1) items ∙ ap (λ (i : ℕ). drop i items) from in
     let below : drop (rest.start - (rest.first - 1)) left ≡ drop rest.start items =
     ap (drop (rest.start - (rest.first - 1))) is ∙ drop-drop (rest.start - (rest.first - 1)) (rest.first - 1) items ∙ ap (λ (i : ℕ). drop i items) to in
-    ap (λ (xs : List Node). filter is_special (take (rest.start - (rest.first - 1) - 1) xs) ++ glued rest.glue (drop (rest.start - (rest.first - 1)) left)) above
-    ∙ ap (λ (n : ℕ). filter is_special (take n (drop rest.first items)) ++ glued rest.glue (drop (rest.start - (rest.first - 1)) left)) many
-    ∙ ap (λ (xs : List Node). filter is_special (take (rest.start - rest.first) (drop rest.first items)) ++ glued rest.glue xs) below
+    ap (λ (xs : List Node). filter is_special (take (rest.start - (rest.first - 1) - 1) xs) ++ glued_items rest.glue (drop (rest.start - (rest.first - 1)) left)) above
+    ∙ ap (λ (n : ℕ). filter is_special (take n (drop rest.first items)) ++ glued_items rest.glue (drop (rest.start - (rest.first - 1)) left)) many
+    ∙ ap (λ (xs : List Node). filter is_special (take (rest.start - rest.first) (drop rest.first items)) ++ glued_items rest.glue xs) below
 
 -- A fact about an error that is passed on.
 pub handed_on : {A E : Type 0} (P : E → Type 0) (r : Result A E) (e : E) → IsErrAnd r (λ y. y ≡ e) → P e → IfErr r P

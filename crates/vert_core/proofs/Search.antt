@@ -13,7 +13,7 @@ use Rattle.vert_core.specs.declared.trials.Trial.{Trial}
 use Rattle.vert_core.specs.Costs.{awful, cost, is_last, front_badness}
 use Rattle.vert_core.specs.Split.{trial_at, trials, up_to_last, is_cheaper, last_cheapest, trial_place, split_place}
 use Rattle.vert_core.specs.Places.{eject, place_penalty}
-use Rattle.vert_core.specs.Private.Steps.{cheaper, trial_list, trials_from, IsOpen}
+use Rattle.vert_core.specs.Private.Steps.{cheaper_trial, trial_list, trials_from, IsOpen}
 
 less-trans : (a b c : ℤ) → int_lt a b ≡ true → int_lt b c ≡ true → int_lt a c ≡ true
 less-trans a b c ab bc = here (int_lt a c) refl
@@ -37,13 +37,13 @@ cheaper-all best t (x ∷ xs) less all =
 -- One of the best trial so far and the next one is kept.
 kept-by :
     (best t : Trial) (ts : List Trial) (less all rest : Bool) → is_cheaper best t ≡ less → list_all (is_cheaper best) ts ≡ all → list_all (is_cheaper t) ts ≡ rest
-    → last_cheapest (best ∷ t ∷ ts) ≡ last_cheapest (cheaper (Some best) t ∷ ts)
+    → last_cheapest (best ∷ t ∷ ts) ≡ last_cheapest (cheaper_trial (Some best) t ∷ ts)
 kept-by best t ts false all rest less-is all-is rest-is = rw less-is refl
 kept-by best t ts true true rest less-is all-is rest-is = rw (less-is, all-is) refl
 kept-by best t ts true false true less-is all-is rest-is = let other = cheaper-all best t ts less-is rest-is in absurd (cc)
 kept-by best t ts true false false less-is all-is rest-is = rw (less-is, all-is, rest-is) refl
 
-pub kept : (best : Option Trial) (t : Trial) (ts : List Trial) → last_cheapest (trial_list best ++ t ∷ ts) ≡ last_cheapest (cheaper best t ∷ ts)
+pub kept : (best : Option Trial) (t : Trial) (ts : List Trial) → last_cheapest (trial_list best ++ t ∷ ts) ≡ last_cheapest (cheaper_trial best t ∷ ts)
 kept None t ts = refl
 kept (Some best) t ts = kept-by best t ts (is_cheaper best t) (list_all (is_cheaper best) ts) (list_all (is_cheaper t) ts) refl refl refl
 
@@ -82,11 +82,11 @@ trials-all params goal items =
     let all : length items + 1 - 0 ≡ length items + 1 = omega arith in ap (λ (n : ℕ). filter_map (trial_at params goal items) (range_with_len 0 n)) all
 
 -- The kept trial is one of the two.
-pub kept-open : (items : List Node) (best : Option Trial) (t : Trial) → IfSome best (λ b. IsOpen items b.place) → IsOpen items t.place → IsOpen items ((cheaper best t).place)
+pub kept-open : (items : List Node) (best : Option Trial) (t : Trial) → IfSome best (λ b. IsOpen items b.place) → IsOpen items t.place → IsOpen items ((cheaper_trial best t).place)
 kept-open items None t so_far here = here
 kept-open items (Some best) t so_far here = by (is_cheaper best t) refl
   where
-    by : (less : Bool) → is_cheaper best t ≡ less → IsOpen items ((cheaper (Some best) t).place)
+    by : (less : Bool) → is_cheaper best t ≡ less → IsOpen items ((cheaper_trial (Some best) t).place)
     by true e = rw e so_far
     by false e = rw e here
 
@@ -103,7 +103,7 @@ chosen-none params goal items best i within none so_far =
 
 pub chosen-more :
     (params : SplitParams) (goal : ℤ) (items : List Node) (best : Option Trial) (i : ℕ) (t : Trial) → i ≤ length items → trial_at params goal items i ≡ Some t
-    → is_last t ≡ false → IsChosenFrom params goal items best i → IsChosenFrom params goal items (Some (cheaper best t)) (i + 1)
+    → is_last t ≡ false → IsChosenFrom params goal items best i → IsChosenFrom params goal items (Some (cheaper_trial best t)) (i + 1)
 chosen-more params goal items best i t within some more so_far =
     let rest : List Trial = trials_from params goal items (i + 1) in
     let first : up_to_last (trials_from params goal items i) ≡ t ∷ up_to_last rest = ap up_to_last (trials-some params goal items i t within some) ∙ rw more refl in
@@ -111,7 +111,7 @@ chosen-more params goal items best i t within some more so_far =
 
 pub chosen-last :
     (params : SplitParams) (goal : ℤ) (items : List Node) (best : Option Trial) (i : ℕ) (t : Trial) → i ≤ length items → trial_at params goal items i ≡ Some t
-    → is_last t ≡ true → IsChosenFrom params goal items best i → (cheaper best t).place ≡ split_place params goal items
+    → is_last t ≡ true → IsChosenFrom params goal items best i → (cheaper_trial best t).place ≡ split_place params goal items
 unfolding split_place
 chosen-last params goal items best i t within some last so_far =
     let first : up_to_last (trials_from params goal items i) ≡ t ∷ [] = ap up_to_last (trials-some params goal items i t within some) ∙ rw last refl in

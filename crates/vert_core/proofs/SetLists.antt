@@ -5,7 +5,7 @@ use Rattle.node_core.specs.declared.tree.Glue.{Glue}
 use Rattle.node_core.specs.declared.tree.Node.{Node}
 use Rattle.break_lines.specs.Facts.{Facts}
 use Rattle.vert_core.specs.declared.paragraph.SetParagraph.{SetParagraph}
-use Rattle.vert_core.specs.Paragraphs.{set_empty, unbroken, IsSetParagraph}
+use Rattle.vert_core.specs.Paragraphs.{set_empty, break_fault, IsSetParagraph}
 use Rattle.vert_core.specs.Tried.{AreFewTrials}
 
 pub empty_set :
@@ -13,7 +13,7 @@ pub empty_set :
 empty_set [] params previous set empty is = is
 empty_set (x ∷ rest) params previous set empty is = absurd (omega arith)
 
-pub empty_unbroken : (list : List Node) (skip : Glue) → length list ≡ 0 → unbroken list skip ≡ None
+pub empty_unbroken : (list : List Node) (skip : Glue) → length list ≡ 0 → break_fault list skip ≡ None
 empty_unbroken [] skip empty = refl
 empty_unbroken (x ∷ rest) skip empty = absurd (omega arith)
 

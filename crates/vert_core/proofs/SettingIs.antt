@@ -25,9 +25,9 @@ use Rattle.vert_core.specs.declared.paragraph.ParagraphFault.{ParagraphFault}
 use Rattle.vert_core.specs.declared.paragraph.ParagraphFault.TheVariants.{InfiniteShrink, TooManyBreaks, DimensionTooLarge, OutOfMemory}
 use Rattle.vert_core.specs.LeastLists.{least_path}
 use Rattle.vert_core.specs.Lines.{lines_fit}
-use Rattle.vert_core.specs.Finished.{finished}
-use Rattle.vert_core.specs.Paragraphs.{unbroken, IsSet, IsSetParagraph, IsUnsetList, IsUnset}
-use Rattle.vert_core.specs.Setting.{ChosenLines, chosen_or, chosen_lines, ends_by, lined, set_by, set_if_fit, set_or, list_setting, setting}
+use Rattle.vert_core.specs.Finished.{finished_list}
+use Rattle.vert_core.specs.Paragraphs.{break_fault, IsSet, IsSetParagraph, IsUnsetList, IsUnset}
+use Rattle.vert_core.specs.Setting.{ChosenLines, chosen_or, chosen_lines, ends_by, paragraph_in_lines, set_by, set_if_fit, set_or, list_setting, setting}
 use Rattle.vert_core.proofs.LeastLists.{none_least, least_chosen}
 use Rattle.vert_core.proofs.Unbroken.{not_for_memory}
 
@@ -124,13 +124,13 @@ module _ (list : List Node) (params : Params) (previous : ℤ) where
   unfolding list_setting
   list_is_set set is = cases (refusal list) (chosen_lines (facts_of list) params) refl refl is
     where
-      set_is : (chosen : ChosenLines) → refusal list ≡ None → AreChosen (facts_of list) params chosen → lines_fit (lined list params previous chosen) ≡ true
+      set_is : (chosen : ChosenLines) → refusal list ≡ None → AreChosen (facts_of list) params chosen → lines_fit (paragraph_in_lines list params previous chosen) ≡ true
           → IsSet list params previous (set_by list params previous chosen)
       set_is chosen free are fit =
           let few = few_lines chosen free are in
           record { breaks = breaks_by chosen few; broken = broken_by chosen few are; fit = fit; items = refl; depth = refl; lines = refl; pass = refl; overhang = refl; demerits = refl }
 
-      fits : (chosen : ChosenLines) → refusal list ≡ None → AreChosen (facts_of list) params chosen → (b : Bool) → lines_fit (lined list params previous chosen) ≡ b
+      fits : (chosen : ChosenLines) → refusal list ≡ None → AreChosen (facts_of list) params chosen → (b : Bool) → lines_fit (paragraph_in_lines list params previous chosen) ≡ b
           → (if b then Ok (set_by list params previous chosen) else Err DimensionTooLarge) ≡ Ok set → (refusal list ≡ None) × IsSet list params previous set
       fits chosen free are true fit is =
           let same : set_by list params previous chosen ≡ set = cc in
@@ -140,7 +140,7 @@ module _ (list : List Node) (params : Params) (previous : ℤ) where
       cases : (refused : Option BreakFault) (found : Option ChosenLines) → refusal list ≡ refused → chosen_lines (facts_of list) params ≡ found
           → set_or refused (set_if_fit list params previous found) ≡ Ok set → (refusal list ≡ None) × IsSet list params previous set
       cases None None free none is = absurd (cc)
-      cases None (Some chosen) free some is = fits chosen free (lines_are (facts_of list) params chosen some) (lines_fit (lined list params previous chosen)) refl is
+      cases None (Some chosen) free some is = fits chosen free (lines_are (facts_of list) params chosen some) (lines_fit (paragraph_in_lines list params previous chosen)) refl is
       cases (Some breaking.InfiniteShrink) found refused some is = absurd (cc)
       cases (Some breaking.TooManyBreaks) found refused some is = absurd (cc)
       cases (Some breaking.OutOfMemory) found refused some is = absurd (cc)
@@ -153,13 +153,13 @@ module _ (list : List Node) (params : Params) (previous : ℤ) where
   unfolding list_setting
   list_is_unset fault is = cases (refusal list) (chosen_lines (facts_of list) params) refl refl is
     where
-      large : (chosen : ChosenLines) → refusal list ≡ None → AreChosen (facts_of list) params chosen → lines_fit (lined list params previous chosen) ≡ false
+      large : (chosen : ChosenLines) → refusal list ≡ None → AreChosen (facts_of list) params chosen → lines_fit (paragraph_in_lines list params previous chosen) ≡ false
           → Told DimensionTooLarge
       large chosen free are fit =
           let few = few_lines chosen free are in
           ((λ same. cc), (free, (breaks_by chosen few, broken_by chosen few are, fit)))
 
-      fits : (chosen : ChosenLines) → refusal list ≡ None → AreChosen (facts_of list) params chosen → (b : Bool) → lines_fit (lined list params previous chosen) ≡ b
+      fits : (chosen : ChosenLines) → refusal list ≡ None → AreChosen (facts_of list) params chosen → (b : Bool) → lines_fit (paragraph_in_lines list params previous chosen) ≡ b
           → (if b then Ok (set_by list params previous chosen) else Err DimensionTooLarge) ≡ Err fault → Told fault
       fits chosen free are true fit is = absurd (cc)
       fits chosen free are false fit is =
@@ -169,7 +169,7 @@ module _ (list : List Node) (params : Params) (previous : ℤ) where
       cases : (refused : Option BreakFault) (found : Option ChosenLines) → refusal list ≡ refused → chosen_lines (facts_of list) params ≡ found
           → set_or refused (set_if_fit list params previous found) ≡ Err fault → Told fault
       cases None None free none is = absurd (some_lines (facts_of list) params none)
-      cases None (Some chosen) free some is = fits chosen free (lines_are (facts_of list) params chosen some) (lines_fit (lined list params previous chosen)) refl is
+      cases None (Some chosen) free some is = fits chosen free (lines_are (facts_of list) params chosen some) (lines_fit (paragraph_in_lines list params previous chosen)) refl is
       cases (Some breaking.InfiniteShrink) found refused some is =
           let same : InfiniteShrink ≡ fault = cc in
           subst Told same ((λ e. cc), refused)
@@ -180,14 +180,14 @@ module _ (list : List Node) (params : Params) (previous : ℤ) where
 
 -- A paragraph with a setting is set so.
 pub paragraph_is_set : (list : List Node) (params : Params) (previous : ℤ) (set : SetParagraph) → setting list params previous ≡ Ok set
-    → (unbroken list params.par_fill_skip ≡ None) × IsSetParagraph list params previous set
+    → (break_fault list params.par_fill_skip ≡ None) × IsSetParagraph list params previous set
 unfolding setting
 paragraph_is_set [] params previous set is = (refl, cc)
-paragraph_is_set (x ∷ rest) params previous set is = list_is_set (finished (x ∷ rest) params.par_fill_skip) params previous set is
+paragraph_is_set (x ∷ rest) params previous set is = list_is_set (finished_list (x ∷ rest) params.par_fill_skip) params previous set is
 
 -- A paragraph without a setting is not set for that fault, which is not lack of memory.
 pub paragraph_is_unset : (list : List Node) (params : Params) (previous : ℤ) (fault : ParagraphFault) → setting list params previous ≡ Err fault
     → (fault ≢ OutOfMemory) × IsUnset list params previous fault
 unfolding setting
 paragraph_is_unset [] params previous fault is = absurd (cc)
-paragraph_is_unset (x ∷ rest) params previous fault is = list_is_unset (finished (x ∷ rest) params.par_fill_skip) params previous fault is
+paragraph_is_unset (x ∷ rest) params previous fault is = list_is_unset (finished_list (x ∷ rest) params.par_fill_skip) params previous fault is

@@ -18,9 +18,9 @@ use Rattle.vert_core.specs.declared.paragraph.SetParagraph.{SetParagraph}
 use Rattle.vert_core.specs.declared.paragraph.ParagraphFault.{ParagraphFault}
 use Rattle.vert_core.specs.declared.paragraph.ParagraphFault.TheVariants.{InfiniteShrink, TooManyBreaks, DimensionTooLarge, OutOfMemory}
 use Rattle.vert_core.specs.Lines.{BrokenParagraph, broken_list, vertical_items, last_depth, lines_fit}
-use Rattle.vert_core.specs.Finished.{finished}
-use Rattle.vert_core.specs.Paragraphs.{with_breaks, unbroken, HasLargeLine, IsSet, IsSetParagraph, IsUnsetList, IsUnset}
-use Rattle.vert_core.specs.Setting.{chosen_lines, lined, set_by, list_setting, setting}
+use Rattle.vert_core.specs.Finished.{finished_list}
+use Rattle.vert_core.specs.Paragraphs.{with_breaks, break_fault, HasLargeLine, IsSet, IsSetParagraph, IsUnsetList, IsUnset}
+use Rattle.vert_core.specs.Setting.{chosen_lines, paragraph_in_lines, set_by, list_setting, setting}
 use Rattle.vert_core.proofs.LeastLists.{no_least, chosen_least}
 
 -- The best list of the first pass that admits one is the chosen list.
@@ -64,7 +64,7 @@ set_same s t items depth lines pass overhang demerits =
 -- A list with breaks is broken into the chosen lines.
 breaks_lined :
     (list : List Node) (params : Params) (previous : ℤ) (breaks : Breaks) (is : IsBroken (facts_of list) params breaks)
-    → with_breaks list params previous breaks ≡ lined list params previous (record { pass = breaks.pass; path = is.path })
+    → with_breaks list params previous breaks ≡ paragraph_in_lines list params previous (record { pass = breaks.pass; path = is.path })
 breaks_lined list params previous breaks is = ap (λ (ends : List LineEnd). broken_list list ends params previous) is.lines
 
 set_is :
@@ -86,7 +86,7 @@ pub list_set :
     → list_setting list params previous ≡ Ok set
 unfolding list_setting
 list_set list params previous set free is =
-    let fit : lines_fit (lined list params previous (record { pass = is.breaks.pass; path = is.broken.path })) ≡ true =
+    let fit : lines_fit (paragraph_in_lines list params previous (record { pass = is.breaks.pass; path = is.broken.path })) ≡ true =
     sym (ap lines_fit (breaks_lined list params previous is.breaks is.broken)) ∙ is.fit in
     rw (free, broken_chosen (facts_of list) params is.breaks is.broken, fit) (ap Ok (sym (set_is list params previous set is)))
 
@@ -103,17 +103,17 @@ list_large :
     (list : List Node) (params : Params) (previous : ℤ) → refusal list ≡ None → HasLargeLine list params previous → list_setting list params previous ≡ Err DimensionTooLarge
 unfolding list_setting
 list_large list params previous free (breaks, broken, large) =
-    let fit : lines_fit (lined list params previous (record { pass = breaks.pass; path = broken.path })) ≡ false =
+    let fit : lines_fit (paragraph_in_lines list params previous (record { pass = breaks.pass; path = broken.path })) ≡ false =
     sym (ap lines_fit (breaks_lined list params previous breaks broken)) ∙ large in
     rw (free, broken_chosen (facts_of list) params breaks broken, fit) refl
 
 -- A paragraph that was set has this setting.
 pub paragraph_set :
-    (list : List Node) (params : Params) (previous : ℤ) (set : SetParagraph) → unbroken list params.par_fill_skip ≡ None
+    (list : List Node) (params : Params) (previous : ℤ) (set : SetParagraph) → break_fault list params.par_fill_skip ≡ None
     → IsSetParagraph list params previous set → setting list params previous ≡ Ok set
 unfolding setting
 paragraph_set [] params previous set free is = ap Ok (sym is)
-paragraph_set (x ∷ rest) params previous set free is = list_set (finished (x ∷ rest) params.par_fill_skip) params previous set free is
+paragraph_set (x ∷ rest) params previous set free is = list_set (finished_list (x ∷ rest) params.par_fill_skip) params previous set free is
 
 -- A paragraph that was not set has this fault.
 pub paragraph_unset :
@@ -121,27 +121,27 @@ pub paragraph_unset :
     → IsUnset list params previous fault → setting list params previous ≡ Err fault
 unfolding setting
 paragraph_unset [] params previous fault told is = absurd is
-paragraph_unset (x ∷ rest) params previous InfiniteShrink told is = list_shrinks (finished (x ∷ rest) params.par_fill_skip) params previous is
-paragraph_unset (x ∷ rest) params previous TooManyBreaks told is = list_crowded (finished (x ∷ rest) params.par_fill_skip) params previous is
+paragraph_unset (x ∷ rest) params previous InfiniteShrink told is = list_shrinks (finished_list (x ∷ rest) params.par_fill_skip) params previous is
+paragraph_unset (x ∷ rest) params previous TooManyBreaks told is = list_crowded (finished_list (x ∷ rest) params.par_fill_skip) params previous is
 paragraph_unset (x ∷ rest) params previous DimensionTooLarge told (free, large) =
-    list_large (finished (x ∷ rest) params.par_fill_skip) params previous free large
+    list_large (finished_list (x ∷ rest) params.par_fill_skip) params previous free large
 paragraph_unset (x ∷ rest) params previous OutOfMemory told is = absurd (told refl)
 
 -- A paragraph that is not set has items.
 pub unset_some :
     (list : List Node) (params : Params) (previous : ℤ) (fault : ParagraphFault) → 0 < length list
-    → IsUnsetList (finished list params.par_fill_skip) params previous fault → IsUnset list params previous fault
+    → IsUnsetList (finished_list list params.par_fill_skip) params previous fault → IsUnset list params previous fault
 unset_some [] params previous fault some is = absurd (omega arith)
 unset_some (x ∷ rest) params previous fault some is = is
 
 -- If memory was refused, the paragraph can be broken.
-pub memory_free : (list : List Node) (params : Params) (previous : ℤ) → IsUnset list params previous OutOfMemory → unbroken list params.par_fill_skip ≡ None
+pub memory_free : (list : List Node) (params : Params) (previous : ℤ) → IsUnset list params previous OutOfMemory → break_fault list params.par_fill_skip ≡ None
 memory_free [] params previous is = refl
 memory_free (x ∷ rest) params previous is = is
 
 -- A list that is not empty is set as its finished list.
 pub some_set :
     (list : List Node) (params : Params) (previous : ℤ) (set : SetParagraph) → 0 < length list
-    → IsSet (finished list params.par_fill_skip) params previous set → IsSetParagraph list params previous set
+    → IsSet (finished_list list params.par_fill_skip) params previous set → IsSetParagraph list params previous set
 some_set [] params previous set some is = absurd (omega arith)
 some_set (x ∷ rest) params previous set some is = is

@@ -15,8 +15,8 @@ use Rattle.node_core.specs.Classes.{shrinks_infinitely}
 use Rattle.break_lines.specs.Legal.{is_glue, is_break, node_before, is_legal, up_to, legal_places}
 use Rattle.break_lines.specs.Facts.{refusal}
 use Rattle.break_lines.proofs.Places.{filter_up, count_passed, count_refused}
-use Rattle.vert_core.specs.Finished.{final_glue, without_glue, finished}
-use Rattle.vert_core.specs.Paragraphs.{unbroken}
+use Rattle.vert_core.specs.Finished.{final_glue, without_glue, finished_list}
+use Rattle.vert_core.specs.Paragraphs.{break_fault}
 
 slice_get_left : {A : Type 0} (xs ys : List A) (i : ℕ) → i < length xs → slice_get (xs ++ ys) i ≡ slice_get xs i
 slice_get_left [] ys i within = absurd (omega arith)
@@ -124,13 +124,13 @@ or_false true = refl
 or_false false = refl
 
 -- If parfillskip shrinks in an infinite order, the list is refused for that.
-pub refused_by_glue : (list : List Node) (skip : Glue) → shrinks_infinitely (nodes.Glue skip) ≡ true → refusal (finished list skip) ≡ Some InfiniteShrink
+pub refused_by_glue : (list : List Node) (skip : Glue) → shrinks_infinitely (nodes.Glue skip) ≡ true → refusal (finished_list list skip) ≡ Some InfiniteShrink
 refused_by_glue list skip is =
     let front : List Node = without_glue (final_glue list) list in
     ap (λ b. refused_for b (length (legal_places (front ++ ending skip)))) (glue_at_end front skip true is ∙ or_true (list_any shrinks_infinitely front))
 
 -- Otherwise it is refused as the list without its final glue is.
-pub refused_by_text : (list : List Node) (skip : Glue) → shrinks_infinitely (nodes.Glue skip) ≡ false → refusal (finished list skip) ≡ refusal (without_glue (final_glue list) list)
+pub refused_by_text : (list : List Node) (skip : Glue) → shrinks_infinitely (nodes.Glue skip) ≡ false → refusal (finished_list list skip) ≡ refusal (without_glue (final_glue list) list)
 refused_by_text list skip is =
     let front : List Node = without_glue (final_glue list) list in
     ap (λ b. refused_for b (length (legal_places (front ++ ending skip)))) (glue_at_end front skip false is ∙ or_false (list_any shrinks_infinitely front))
@@ -158,6 +158,6 @@ pub free_at_memory : (list : List Node) → OutOfMemory ≡ unwrap_or (refusal l
 free_at_memory list is = by_refusal (list_any shrinks_infinitely list) (nat_lt max_places (length (legal_places list))) is
 
 -- A paragraph with items cannot be broken exactly when its finished list cannot.
-pub some_unbroken : (list : List Node) (skip : Glue) → 0 < length list → unbroken list skip ≡ refusal (finished list skip)
+pub some_unbroken : (list : List Node) (skip : Glue) → 0 < length list → break_fault list skip ≡ refusal (finished_list list skip)
 some_unbroken [] skip some = absurd (omega arith)
 some_unbroken (x ∷ rest) skip some = refl

@@ -19,5 +19,5 @@ without_glue None list = list
 without_glue (Some glue) list = take (length list - 1) list
 
 -- The finished list: glue at the end is dropped; then come a penalty of 10000, at which no line ends, and parfillskip, which fills the last line.
-abbrev pub finished : List Node → (par_fill_skip : Glue) → List Node
-finished list par_fill_skip = without_glue (final_glue list) list ++ nodes.Penalty (pos 10000) ∷ nodes.Glue par_fill_skip ∷ []
+abbrev pub finished_list : List Node → (par_fill_skip : Glue) → List Node
+finished_list list par_fill_skip = without_glue (final_glue list) list ++ nodes.Penalty (pos 10000) ∷ nodes.Glue par_fill_skip ∷ []

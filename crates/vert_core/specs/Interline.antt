@@ -37,6 +37,6 @@ glue_of (Ok glue) = glue
 glue_of (Err e) = None
 
 -- The nodes that are appended to a vertical list for a box: the glue before it, if there is any, and the box with its shift.
-abbrev pub appended : Option Glue → (shift : ℤ) → BoxNode → List Node
-appended None shift b = nodes.Box shift b ∷ []
-appended (Some glue) shift b = nodes.Glue glue ∷ nodes.Box shift b ∷ []
+abbrev pub appended_nodes : Option Glue → (shift : ℤ) → BoxNode → List Node
+appended_nodes None shift b = nodes.Box shift b ∷ []
+appended_nodes (Some glue) shift b = nodes.Glue glue ∷ nodes.Box shift b ∷ []

@@ -25,8 +25,8 @@ abbrev pub space : (width : ℤ) → Node
 space width = nodes.Glue (rigid width)
 
 -- Glue of width 0 with this shrink in order fil.
-abbrev pub shrinking : ℤ → Node
-shrinking shrink = nodes.Glue (record { width = pos 0; stretch = pos 0; stretch_order = Normal; shrink = shrink; shrink_order = Fil })
+abbrev pub shrinking_glue : ℤ → Node
+shrinking_glue shrink = nodes.Glue (record { width = pos 0; stretch = pos 0; stretch_order = Normal; shrink = shrink; shrink_order = Fil })
 
 -- The height of the front of a split.
 abbrev pub front_height : SplitParams → (goal : ℤ) → List Node → ℤ
@@ -41,32 +41,32 @@ abbrev pub rest_height : SplitParams → (goal : ℤ) → List Node → Option �
 rest_height params goal items = option_map (λ (p : Packed). p.box_node.height) (rest_of params goal items)
 
 -- Three rules, 5pt high: glue of 2pt between the first two, and a penalty that forces a split between the last two.
-abbrev pub forced : List Node
-forced = rule (points 5) ∷ space (points 2) ∷ rule (points 5) ∷ nodes.Penalty (negsuc 9999) ∷ rule (points 5) ∷ []
+abbrev pub forced_split : List Node
+forced_split = rule (points 5) ∷ space (points 2) ∷ rule (points 5) ∷ nodes.Penalty (negsuc 9999) ∷ rule (points 5) ∷ []
 
 -- Three rules, 5pt high, with glue of 1pt between them.
-abbrev pub spaced : List Node
-spaced = rule (points 5) ∷ space (points 1) ∷ rule (points 5) ∷ space (points 1) ∷ rule (points 5) ∷ []
+abbrev pub spaced_rules : List Node
+spaced_rules = rule (points 5) ∷ space (points 1) ∷ rule (points 5) ∷ space (points 1) ∷ rule (points 5) ∷ []
 
 -- Two rules, 30pt high, with glue of 1pt between them.
 abbrev pub high : List Node
 high = rule (points 30) ∷ space (points 1) ∷ rule (points 30) ∷ []
 
 -- A rule, 5pt high, and one whose height is nearly the least dimension, with a penalty that forces a split between them.
-abbrev pub sunken : List Node
-sunken = rule (points 5) ∷ nodes.Penalty (negsuc 9999) ∷ rule (negsuc 1073741821) ∷ []
+abbrev pub sunken_rules : List Node
+sunken_rules = rule (points 5) ∷ nodes.Penalty (negsuc 9999) ∷ rule (negsuc 1073741821) ∷ []
 
 -- A rule of this depth, 10pt wide and 5pt high.
 abbrev pub deep : (depth : ℤ) → Node
 deep depth = nodes.Rule (record { width = Fixed (points 10); height = Fixed (points 5); depth = Fixed depth })
 
 -- Two rules, 5pt high, of which the first is 3pt deep, with glue of width 0 between them.
-abbrev pub hanging : List Node
-hanging = deep (points 3) ∷ space (pos 0) ∷ rule (points 5) ∷ []
+abbrev pub hanging_rules : List Node
+hanging_rules = deep (points 3) ∷ space (pos 0) ∷ rule (points 5) ∷ []
 
 -- Glue and kerns before, between and after rules, and penalties.
-abbrev pub mixed : List Node
-mixed =
+abbrev pub mixed_items : List Node
+mixed_items =
     space (pos 0) ∷ rule (points 5) ∷ nodes.Kern (pos 0) ∷ rule (points 5) ∷ nodes.Kern (pos 0) ∷ space (pos 0) ∷ space (pos 0)
     ∷ nodes.Penalty (pos 10000) ∷ nodes.Penalty (pos 9999) ∷ rule (points 5) ∷ space (pos 0) ∷ []
 
@@ -90,8 +90,8 @@ abbrev pub special : (byte : ℕ) → Node
 special byte = nodes.Special (byte ∷ [])
 
 -- Two rules, 5pt high, a penalty that forces a split between them, and specials and glue after it.
-abbrev pub marked : List Node
-marked =
+abbrev pub marked_rules : List Node
+marked_rules =
     rule (points 5) ∷ nodes.Penalty (negsuc 9999) ∷ special 97 ∷ space (points 2) ∷ special 98 ∷ nodes.Penalty (pos 0) ∷ rule (points 5) ∷ special 99
     ∷ []
 

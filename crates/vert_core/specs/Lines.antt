@@ -16,8 +16,8 @@ use Rattle.scaled_core.specs.Dimensions.{fits}
 use Rattle.break_lines.specs.Sizes.{line_size}
 use Rattle.break_core.specs.declared.broken.LineEnd.{LineEnd}
 use Rattle.break_lines.specs.Legal.{up_to}
-use Rattle.break_lines.specs.LineItems.{kept}
-use Rattle.vert_core.specs.Interline.{interline, glue_of, appended}
+use Rattle.break_lines.specs.LineItems.{kept_items}
+use Rattle.vert_core.specs.Interline.{interline, glue_of, appended_nodes}
 
 -- A paragraph that is broken into lines: its finished list, the places where its lines end, in order, the parameters, and the previous depth of the
 -- vertical list (own). Its lines are numbered from 0.
@@ -43,7 +43,7 @@ line_begin places (suc line) = slice_get places line
 
 -- The items that a line keeps, from where it begins to the place where it ends.
 abbrev pub line_items : BrokenParagraph → ℕ → List Node
-line_items p line = kept p.nodes (line_begin p.places line) (get_or p.places line 0)
+line_items p line = kept_items p.nodes (line_begin p.places line) (get_or p.places line 0)
 
 -- The box of the items of a line of this width (TeX: The Program, part 39, §889).
 unfoldable pub boxed_line : (size : ℤ) → List Node → BoxNode
@@ -79,7 +79,7 @@ after_line params count line = if nat_lt (line + 1) count then penalty_nodes (pe
 -- The nodes that a line with this box adds to a vertical list with this previous depth: the glue that any box gets, the box, and the nodes after it.
 abbrev pub line_brings : Params → (count line : ℕ) → (previous_depth : ℤ) → BoxNode → List Node
 line_brings params count line previous_depth b =
-    appended (glue_of (interline params previous_depth b.height)) (pos 0) b ++ after_line params count line
+    appended_nodes (glue_of (interline params previous_depth b.height)) (pos 0) b ++ after_line params count line
 
 -- The nodes that each line adds, by its box and the depth of the line before it.
 unfoldable pub brought_by : BrokenParagraph → ℕ → List Node

@@ -16,7 +16,7 @@ use Rattle.vert_core.specs.declared.paragraph.SetParagraph.{SetParagraph}
 use Rattle.vert_core.specs.declared.paragraph.ParagraphFault.{ParagraphFault}
 use Rattle.vert_core.specs.declared.paragraph.ParagraphFault.TheVariants.{InfiniteShrink, TooManyBreaks, DimensionTooLarge, OutOfMemory}
 use Rattle.vert_core.specs.Lines.{BrokenParagraph, broken_list, vertical_items, last_depth, lines_fit}
-use Rattle.vert_core.specs.Finished.{finished}
+use Rattle.vert_core.specs.Finished.{finished_list}
 
 -- A finished list with its breaks, after this previous depth.
 abbrev pub with_breaks : List Node → Params → (previous_depth : ℤ) → Breaks → BrokenParagraph
@@ -41,13 +41,13 @@ set_empty previous_depth = record { items = none; depth = previous_depth; lines 
 -- A paragraph is set; if it is not empty, its finished list is.
 abbrev pub IsSetParagraph : List Node → Params → (previous_depth : ℤ) → SetParagraph → Type 0
 IsSetParagraph [] params previous_depth set = set ≡ set_empty previous_depth
-IsSetParagraph (x ∷ rest) params previous_depth set = IsSet (finished (x ∷ rest) params.par_fill_skip) params previous_depth set
+IsSetParagraph (x ∷ rest) params previous_depth set = IsSet (finished_list (x ∷ rest) params.par_fill_skip) params previous_depth set
 
 -- Why a paragraph cannot be broken into lines, which depends on its list and parfillskip: its finished list has glue that shrinks in an infinite
 -- order, or otherwise too many legal places. An empty paragraph can always be broken (TeX: The Program, part 38, §825; own: the number of places).
-abbrev pub unbroken : List Node → (par_fill_skip : Glue) → Option BreakFault
-unbroken [] par_fill_skip = None
-unbroken (x ∷ rest) par_fill_skip = refusal (finished (x ∷ rest) par_fill_skip)
+abbrev pub break_fault : List Node → (par_fill_skip : Glue) → Option BreakFault
+break_fault [] par_fill_skip = None
+break_fault (x ∷ rest) par_fill_skip = refusal (finished_list (x ∷ rest) par_fill_skip)
 
 -- A finished list has breaks for which a line does not fit (own).
 abbrev pub HasLargeLine : List Node → Params → (previous_depth : ℤ) → Type 0
@@ -76,4 +76,4 @@ unstacked_by stacking.OutOfMemory = OutOfMemory
 -- Why a paragraph is not set: it is not empty, and its finished list is not set (own).
 abbrev pub IsUnset : List Node → Params → (previous_depth : ℤ) → ParagraphFault → Type 0
 IsUnset [] params previous_depth fault = ⊥
-IsUnset (x ∷ rest) params previous_depth fault = IsUnsetList (finished (x ∷ rest) params.par_fill_skip) params previous_depth fault
+IsUnset (x ∷ rest) params previous_depth fault = IsUnsetList (finished_list (x ∷ rest) params.par_fill_skip) params previous_depth fault

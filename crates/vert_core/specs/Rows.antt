@@ -8,7 +8,7 @@ use Rattle.node_core.specs.Parameters.{rigid, first_params}
 use Rattle.break_lines.specs.Legal.{up_to}
 use Rattle.vert_core.specs.Interline.{ignored_depth}
 use Rattle.vert_core.specs.Lines.{BrokenParagraph, after_line}
-use Rattle.vert_core.specs.Finished.{finished}
+use Rattle.vert_core.specs.Finished.{finished_list}
 
 -- The number of a penalty.
 abbrev pub penalty_in : Node → List ℤ
@@ -48,7 +48,7 @@ narrow = record first_params { hsize = pos 2621440 }
 -- These rules in two lines, of which the first one ends at the second glue.
 abbrev pub two_short_lines : BrokenParagraph
 two_short_lines =
-    record { nodes = finished negative_kern narrow.par_fill_skip; places = 4 ∷ 8 ∷ []; params = narrow; previous_depth = ignored_depth }
+    record { nodes = finished_list negative_kern narrow.par_fill_skip; places = 4 ∷ 8 ∷ []; params = narrow; previous_depth = ignored_depth }
 
 -- A special whose text is one byte.
 abbrev pub special : Node
@@ -57,7 +57,7 @@ special = nodes.Special (0x61 ∷ [])
 -- A paragraph that consists of a special, in one line.
 abbrev pub special_line : BrokenParagraph
 special_line =
-    record { nodes = finished (special ∷ []) narrow.par_fill_skip; places = 3 ∷ []; params = narrow; previous_depth = ignored_depth }
+    record { nodes = finished_list (special ∷ []) narrow.par_fill_skip; places = 3 ∷ []; params = narrow; previous_depth = ignored_depth }
 
 -- The sizes of a box, the width of glue, and the number of a penalty.
 abbrev pub numbers_in : Node → List ℤ

@@ -17,7 +17,7 @@ use Rattle.vert_core.specs.declared.paragraph.ParagraphFault.{ParagraphFault}
 use Rattle.vert_core.specs.declared.paragraph.ParagraphFault.TheVariants.{InfiniteShrink, TooManyBreaks, DimensionTooLarge, OutOfMemory}
 use Rattle.vert_core.specs.LeastLists.{least_path}
 use Rattle.vert_core.specs.Lines.{BrokenParagraph, broken_list, vertical_items, last_depth, lines_fit}
-use Rattle.vert_core.specs.Finished.{finished}
+use Rattle.vert_core.specs.Finished.{finished_list}
 use Rattle.vert_core.specs.Paragraphs.{set_empty}
 
 -- A pass, and the lines that are chosen in it.
@@ -42,15 +42,15 @@ abbrev pub ends_by : List Node → ChosenLines → List LineEnd
 ends_by list chosen = map (line_end_at (facts_of list)) (reverse (ends_of chosen.path))
 
 -- A finished list in these lines.
-abbrev pub lined : List Node → Params → (previous_depth : ℤ) → ChosenLines → BrokenParagraph
-lined list params previous_depth chosen = broken_list list (ends_by list chosen) params previous_depth
+abbrev pub paragraph_in_lines : List Node → Params → (previous_depth : ℤ) → ChosenLines → BrokenParagraph
+paragraph_in_lines list params previous_depth chosen = broken_list list (ends_by list chosen) params previous_depth
 
 -- The paragraph that is set by them.
 abbrev pub set_by : List Node → Params → (previous_depth : ℤ) → ChosenLines → SetParagraph
 set_by list params previous_depth chosen =
     record {
-      items = items_of (vertical_items (lined list params previous_depth chosen));
-      depth = last_depth (lined list params previous_depth chosen);
+      items = items_of (vertical_items (paragraph_in_lines list params previous_depth chosen));
+      depth = last_depth (paragraph_in_lines list params previous_depth chosen);
       lines = length (ends_by list chosen);
       pass = Some chosen.pass;
       overhang = chosen.path.overhang;
@@ -61,7 +61,7 @@ set_by list params previous_depth chosen =
 abbrev pub set_if_fit : List Node → Params → (previous_depth : ℤ) → Option ChosenLines → Result SetParagraph ParagraphFault
 set_if_fit list params previous_depth None = Err DimensionTooLarge
 set_if_fit list params previous_depth (Some chosen) =
-    if lines_fit (lined list params previous_depth chosen) then Ok (set_by list params previous_depth chosen) else Err DimensionTooLarge
+    if lines_fit (paragraph_in_lines list params previous_depth chosen) then Ok (set_by list params previous_depth chosen) else Err DimensionTooLarge
 
 -- Why a list cannot be broken, or otherwise its setting.
 abbrev pub set_or : Option BreakFault → Result SetParagraph ParagraphFault → Result SetParagraph ParagraphFault
@@ -78,4 +78,4 @@ list_setting list params previous_depth =
 -- The setting of a paragraph: that of its finished list, if it is not empty.
 unfoldable pub setting : List Node → Params → (previous_depth : ℤ) → Result SetParagraph ParagraphFault
 setting [] params previous_depth = Ok (set_empty previous_depth)
-setting (x ∷ rest) params previous_depth = list_setting (finished (x ∷ rest) params.par_fill_skip) params previous_depth
+setting (x ∷ rest) params previous_depth = list_setting (finished_list (x ∷ rest) params.par_fill_skip) params previous_depth

@@ -90,13 +90,13 @@ abbrev pub top_glue : SplitParams → (height : ℤ) → Glue
 top_glue params height = record params.split_top_skip { width = top_width params height }
 
 -- The items from the first box or rule on, with the glue above them; none if there is no box or rule.
-abbrev pub topped : SplitParams → List Node → List Node
-topped params [] = []
-topped params (x ∷ xs) = nodes.Glue (top_glue params (first_above x)) ∷ x ∷ xs
+abbrev pub from_first_box : SplitParams → List Node → List Node
+from_first_box params [] = []
+from_first_box params (x ∷ xs) = nodes.Glue (top_glue params (first_above x)) ∷ x ∷ xs
 
 -- What is left of the items after a place: the specials, and then the glue and the items below it.
 abbrev pub left_of : SplitParams → (after : List Node) → List Node
-left_of params after = specials_above after ++ topped params (from_box_or_rule after)
+left_of params after = specials_above after ++ from_first_box params (from_box_or_rule after)
 
 -- The items after the place of the split.
 abbrev pub items_after : SplitParams → (goal : ℤ) → List Node → List Node

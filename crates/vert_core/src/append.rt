@@ -2,7 +2,7 @@
 
 ghost use Rattle.std.specs.Prelude.{◌≡◌, ◌≤◌, ◌+◌, ◌++◌, [], ◌∷◌, is_ok, if◌then◌else◌, IsOk, OnOk, OnErr, IfOk, IfErr, length};
 ghost use Rattle.node_core.specs.Nodes.{max_nodes, items_of, nodes_of};
-ghost use Rattle.vert_core.specs.Interline.{interline, glue_of, appended};
+ghost use Rattle.vert_core.specs.Interline.{interline, glue_of, appended_nodes};
 
 use crate::interline::{DimensionTooLarge, interline_glue};
 use node_core::{BoxNode, Glue, Node, NodeList, Params, push_box};
@@ -39,7 +39,7 @@ pub fn append_box(
     params: &Params,
 ) -> Result<Dimen, Unappended>
     ensures ok { OnOk result (nodes.new.items ≡
-        nodes.old.items ++ appended (glue_of (interline params.now previous_depth box_node.height)) shift box_node) }
+        nodes.old.items ++ appended_nodes (glue_of (interline params.now previous_depth box_node.height)) shift box_node) }
     ensures depth { IfOk result (λ depth. depth ≡ box_node.depth) }
     // The glue fits; otherwise this is the fault, even if memory would be refused too.
     ensures fits { OnOk result (IsOk (interline params.now previous_depth box_node.height)) }
@@ -74,7 +74,7 @@ pub fn append_with_glue(
     box_node: BoxNode,
 ) -> Result<(), BoxNode>
     requires list_bounded { length (nodes_of list.old) + 2 ≤ max_nodes }
-    ensures ok { OnOk result (list.new ≡ items_of (nodes_of list.old ++ appended glue shift box_node)) }
+    ensures ok { OnOk result (list.new ≡ items_of (nodes_of list.old ++ appended_nodes glue shift box_node)) }
     ensures err { OnErr result (list.new ≡ list.old) }
     ensures box_returned { IfErr result (λ back. back ≡ box_node) }
 {
@@ -102,7 +102,7 @@ pub(crate) fn push_with_glue(
     shift: Dimen,
     box_node: BoxNode,
 ) -> Result<(), BoxNode>
-    ensures ok { OnOk result (nodes.new.items ≡ nodes.old.items ++ appended glue shift box_node) }
+    ensures ok { OnOk result (nodes.new.items ≡ nodes.old.items ++ appended_nodes glue shift box_node) }
     ensures err { OnErr result (nodes.new.items ≡ nodes.old.items) }
     ensures box_returned { IfErr result (λ back. back ≡ box_node) }
 {

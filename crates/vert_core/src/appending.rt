@@ -5,8 +5,8 @@ ghost use Rattle.node_core.specs.Items.{none};
 ghost use Rattle.node_core.specs.Nodes.{max_nodes, nodes_of};
 ghost use Rattle.break_lines.specs.Facts.{refusal};
 ghost use Rattle.vert_core.specs.Appended.{IsAppended, IsUnappended};
-ghost use Rattle.vert_core.specs.Finished.{finished};
-ghost use Rattle.vert_core.specs.Paragraphs.{unbroken, IsUnset, IsUnsetList};
+ghost use Rattle.vert_core.specs.Finished.{finished_list};
+ghost use Rattle.vert_core.specs.Paragraphs.{break_fault, IsUnset, IsUnsetList};
 ghost use Rattle.vert_core.specs.Setting.{list_setting, setting};
 
 use crate::finishing::{finish_paragraph, unfinish_paragraph};
@@ -106,12 +106,12 @@ fn append_items(
     previous_depth: Dimen,
 ) -> Result<AppendedParagraph, UnappendedLines>
     requires { length nodes.old.items + 2 ≤ max_nodes }
-    ensures ok { IfOk result (IsAppended (list_setting (finished nodes.old.items params.now.par_fill_skip) params.now previous_depth)
+    ensures ok { IfOk result (IsAppended (list_setting (finished_list nodes.old.items params.now.par_fill_skip) params.now previous_depth)
         around.old.items around.new.items) }
-    ensures fits { OnOk result (refusal (finished nodes.old.items params.now.par_fill_skip) ≡ None) }
+    ensures fits { OnOk result (refusal (finished_list nodes.old.items params.now.par_fill_skip) ≡ None) }
     ensures emptied { OnOk result (nodes.new.items ≡ []) }
-    ensures refused { IfErr result (IsUnappended (list_setting (finished nodes.old.items params.now.par_fill_skip) params.now previous_depth)
-        (IsUnsetList (finished nodes.old.items params.now.par_fill_skip) params.now previous_depth) around.old.items) }
+    ensures refused { IfErr result (IsUnappended (list_setting (finished_list nodes.old.items params.now.par_fill_skip) params.now previous_depth)
+        (IsUnsetList (finished_list nodes.old.items params.now.par_fill_skip) params.now previous_depth) around.old.items) }
     ensures err { OnErr result (nodes.new.items ≡ nodes.old.items) }
     ensures same { OnErr result (around.new.items ≡ around.old.items) }
 {
@@ -142,7 +142,7 @@ pub fn append_paragraph(
     requires list_bounded { length (nodes_of list.old) + 2 ≤ max_nodes }
     requires around_bounded { length (nodes_of around.old) ≤ MAX_ITEMS }
     ensures ok { IfOk result (IsAppended (setting (nodes_of list.old) params.now previous_depth) (nodes_of around.old) (nodes_of around.new)) }
-    ensures fits { OnOk result (unbroken (nodes_of list.old) params.now.par_fill_skip ≡ None) }
+    ensures fits { OnOk result (break_fault (nodes_of list.old) params.now.par_fill_skip ≡ None) }
     ensures emptied { OnOk result (list.new ≡ none) }
     ensures refused { IfErr result (IsUnappended (setting (nodes_of list.old) params.now previous_depth)
         (IsUnset (nodes_of list.old) params.now previous_depth) (nodes_of around.old)) }

@@ -2,7 +2,7 @@
 
 ghost use Rattle.std.specs.Prelude.{◌≡◌, ◌≤◌, ◌+◌, ◌++◌, ◌∷◌, [], length, map, drop, reverse, flat_map, vec_len, vec_capacity, IfOk, OnOk, OnErr};
 ghost use Rattle.node_core.specs.Nodes.{max_nodes};
-ghost use Rattle.vert_core.specs.Private.Planned.{AreInOrder, copied, items_in, moved, part_of, with_part};
+ghost use Rattle.vert_core.specs.Private.Planned.{AreInOrder, copied_line, items_in, moved_lines, part_of, with_part};
 
 use crate::planning::PlannedLine;
 use node_core::{Node, NodeList};
@@ -37,7 +37,7 @@ pub(crate) fn move_items(
 ) -> Result<Vec<PlannedLine>, AllocError>
     requires list_bounded { length nodes.old.items ≤ max_nodes }
     requires in_order { AreInOrder (length nodes.old.items + 1) lines.items }
-    ensures ok { IfOk result (λ filled. reverse filled.items ≡ moved nodes.old.items (length nodes.old.items) lines.items) }
+    ensures ok { IfOk result (λ filled. reverse filled.items ≡ moved_lines nodes.old.items (length nodes.old.items) lines.items) }
     ensures emptied { OnOk result (nodes.new.items ≡ []) }
     ensures err { OnErr result (nodes.new.items ≡ nodes.old.items) }
 {
@@ -108,7 +108,7 @@ pub(crate) fn copy_items(
     mut lines: Vec<PlannedLine>,
 ) -> Result<Vec<PlannedLine>, AllocError>
     requires list_bounded { length nodes.now ≤ max_nodes }
-    ensures { IfOk result (λ filled. reverse filled.items ≡ map (copied nodes.now) lines.items) }
+    ensures { IfOk result (λ filled. reverse filled.items ≡ map (copied_line nodes.now) lines.items) }
 {
     let mut filled = Vec::with_capacity(alloc, lines.len())?;
     while let Some(line) = lines.pop() {

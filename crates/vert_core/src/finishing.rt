@@ -5,7 +5,7 @@ ghost use Rattle.node_core.specs.declared.tree.Glue.{Glue};
 ghost use Rattle.node_core.specs.declared.tree.Node.{Node};
 ghost use Rattle.node_core.specs.Nodes.{max_nodes};
 ghost use Rattle.break_lines.specs.Facts.{refusal};
-ghost use Rattle.vert_core.specs.Finished.{final_glue, without_glue, finished};
+ghost use Rattle.vert_core.specs.Finished.{final_glue, without_glue, finished_list};
 
 use break_lines::{BreakFault, refusal};
 use node_core::{Glue, Node};
@@ -39,7 +39,7 @@ fn without_final_glue(nodes: &[Node]) -> &[Node]
 #[tactic(auto, using(crate::proofs::Unbroken::refused_by_glue, crate::proofs::Unbroken::refused_by_text))]
 pub fn refusal_of_finished(nodes: &[Node], par_fill_skip: Glue) -> Option<BreakFault>
     requires { length nodes.now ≤ max_nodes }
-    ensures { result ≡ refusal (finished nodes.now par_fill_skip) }
+    ensures { result ≡ refusal (finished_list nodes.now par_fill_skip) }
 {
     if Node::Glue(par_fill_skip).shrinks_infinitely() {
         return Some(BreakFault::InfiniteShrink);
@@ -85,7 +85,7 @@ pub fn finish_paragraph(
     nodes: &mut Vec<Node>,
     par_fill_skip: Glue,
 ) -> Result<Option<Glue>, AllocError>
-    ensures ok { OnOk result (nodes.new.items ≡ finished nodes.old.items par_fill_skip) }
+    ensures ok { OnOk result (nodes.new.items ≡ finished_list nodes.old.items par_fill_skip) }
     ensures replaced { IfOk result (λ glue. glue ≡ final_glue nodes.old.items) }
     ensures err { OnErr result (nodes.new.items ≡ nodes.old.items) }
 {
@@ -101,8 +101,8 @@ pub fn finish_paragraph(
 
 /// Turns a finished list back into the list from which it was made; `replaced` is the result of `finish_paragraph`.
 pub fn unfinish_paragraph(nodes: &mut Vec<Node>, replaced: Option<Glue>)
-    requires { (list : List Node) × (par_fill_skip : Glue) × (nodes.old.items ≡ finished list par_fill_skip) × (replaced ≡ final_glue list) }
-    ensures { (list : List Node) → (par_fill_skip : Glue) → nodes.old.items ≡ finished list par_fill_skip → replaced ≡ final_glue list
+    requires { (list : List Node) × (par_fill_skip : Glue) × (nodes.old.items ≡ finished_list list par_fill_skip) × (replaced ≡ final_glue list) }
+    ensures { (list : List Node) → (par_fill_skip : Glue) → nodes.old.items ≡ finished_list list par_fill_skip → replaced ≡ final_glue list
         → nodes.new.items ≡ list }
 {
     let count = nodes.len();

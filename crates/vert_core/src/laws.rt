@@ -12,22 +12,23 @@ ghost use Rattle.pack_core.specs.Boxes.{vbox_numbers, vpacked};
 ghost use Rattle.vert_core.specs.declared.parts.SplitFault.TheVariants.{InfiniteShrink, DimensionTooLarge};
 ghost use Rattle.vert_core.specs.Split.{split_place, front_of, refusal, packed_vbox};
 ghost use Rattle.vert_core.specs.Chosen.{IsSplitPlace};
-ghost use Rattle.vert_core.specs.Laws.{points, rule, space, shrinking, front_height, badness_of_front, rest_height, rest_nodes};
-ghost use Rattle.vert_core.specs.Laws.{forced, spaced, high, sunken, hanging, mixed, places, stretching_top, special, marked, marked_end, rest_sizes};
+ghost use Rattle.vert_core.specs.Laws.{points, rule, space, shrinking_glue, front_height, badness_of_front, rest_height, rest_nodes};
+ghost use Rattle.vert_core.specs.Laws.{forced_split, spaced_rules, high, sunken_rules, hanging_rules, mixed_items, places, stretching_top, special};
+ghost use Rattle.vert_core.specs.Laws.{marked_rules, marked_end, rest_sizes};
 
 /// A list is split at a penalty of -10000, however bad the front is there. Above the rest, which begins with a rule 5pt high, there are 5pt of glue.
 pub fn forced_place()
-    ensures place { split_place first_split_params (points 20) forced ≡ 3 }
-    ensures height { front_height first_split_params (points 20) forced ≡ points 20 }
-    ensures badness { badness_of_front first_split_params (points 20) forced ≡ 10000 }
-    ensures rest_height { rest_height first_split_params (points 20) forced ≡ Some (points 10) }
+    ensures place { split_place first_split_params (points 20) forced_split ≡ 3 }
+    ensures height { front_height first_split_params (points 20) forced_split ≡ points 20 }
+    ensures badness { badness_of_front first_split_params (points 20) forced_split ≡ 10000 }
+    ensures rest_height { rest_height first_split_params (points 20) forced_split ≡ Some (points 10) }
 {}
 
 /// Of two places with the same cost the later one is taken. The end is awful, and costs more.
 pub fn later_of_two_places()
-    ensures place { split_place first_split_params (points 15) spaced ≡ 3 }
-    ensures badness { badness_of_front first_split_params (points 15) spaced ≡ 10000 }
-    ensures rest_height { rest_height first_split_params (points 15) spaced ≡ Some (points 10) }
+    ensures place { split_place first_split_params (points 15) spaced_rules ≡ 3 }
+    ensures badness { badness_of_front first_split_params (points 15) spaced_rules ≡ 10000 }
+    ensures rest_height { rest_height first_split_params (points 15) spaced_rules ≡ Some (points 10) }
 {}
 
 /// If the first place is awful, it is taken. Above a rule that is higher than splittopskip the glue has width 0.
@@ -45,20 +46,20 @@ pub fn nothing_is_left()
 
 /// A list with glue that shrinks in an infinite order is not split, even if the glue is after the place, and even if other glue makes the total 0.
 pub fn infinite_shrink_refuses()
-    ensures after { refusal first_split_params (points 20) (forced ++ shrinking (pos 1) ∷ []) ≡ Some InfiniteShrink }
-    ensures no_total { refusal first_split_params (points 20) (shrinking (pos 1) ∷ shrinking (negsuc 0) ∷ []) ≡ Some InfiniteShrink }
-    ensures none { refusal first_split_params (points 20) (shrinking (pos 0) ∷ []) ≡ None }
+    ensures after { refusal first_split_params (points 20) (forced_split ++ shrinking_glue (pos 1) ∷ []) ≡ Some InfiniteShrink }
+    ensures no_total { refusal first_split_params (points 20) (shrinking_glue (pos 1) ∷ shrinking_glue (negsuc 0) ∷ []) ≡ Some InfiniteShrink }
+    ensures none { refusal first_split_params (points 20) (shrinking_glue (pos 0) ∷ []) ≡ None }
 {}
 
 /// Above a rule whose height is below 0, the glue is wider than splittopskip. It can be too wide even if all sizes of the rest fit.
 pub fn too_large_a_top_skip()
-    ensures place { split_place first_split_params (points 5) sunken ≡ 1 }
-    ensures refused { refusal first_split_params (points 5) sunken ≡ Some DimensionTooLarge }
+    ensures place { split_place first_split_params (points 5) sunken_rules ≡ 1 }
+    ensures refused { refusal first_split_params (points 5) sunken_rules ≡ Some DimensionTooLarge }
 {}
 
 /// A split is allowed before glue that follows a box or a rule, before a kern that glue follows, before a penalty below 10000, and at the end.
 pub fn allowed_places()
-    ensures { places mixed ≡ 4 ∷ 8 ∷ 10 ∷ 11 ∷ [] }
+    ensures { places mixed_items ≡ 4 ∷ 8 ∷ 10 ∷ 11 ∷ [] }
 {}
 
 /// A split is allowed before glue that follows a special.
@@ -68,7 +69,7 @@ pub fn place_after_a_special()
 
 /// The specials among the dropped items stay, above the glue of the rest.
 pub fn specials_stay()
-    ensures { rest_nodes first_split_params (points 20) marked ≡
+    ensures { rest_nodes first_split_params (points 20) marked_rules ≡
         Some (special 97 ∷ special 98 ∷ space (points 5) ∷ rule (points 5) ∷ special 99 ∷ []) }
 {}
 
@@ -80,14 +81,14 @@ pub fn specials_alone_are_left()
 
 /// The part of the depth of the last rule above splitmaxdepth counts as height.
 pub fn depth_counts_as_height()
-    ensures cut { badness_of_front (record first_split_params { split_max_depth = pos 0 }) (points 8) hanging ≡ 0 }
-    ensures whole { badness_of_front first_split_params (points 8) hanging ≡ 10000 }
-    ensures depth { ((front_of (record first_split_params { split_max_depth = pos 0 }) (points 8) hanging).box_node).depth ≡ pos 0 }
+    ensures cut { badness_of_front (record first_split_params { split_max_depth = pos 0 }) (points 8) hanging_rules ≡ 0 }
+    ensures whole { badness_of_front first_split_params (points 8) hanging_rules ≡ 10000 }
+    ensures depth { ((front_of (record first_split_params { split_max_depth = pos 0 }) (points 8) hanging_rules).box_node).depth ≡ pos 0 }
 {}
 
 /// The glue above the rest stretches as splittopskip does.
 pub fn top_skip_stretches()
-    ensures { rest_nodes (stretching_top (points 10)) (points 20) forced ≡
+    ensures { rest_nodes (stretching_top (points 10)) (points 20) forced_split ≡
         Some (Node.Glue (stretching_top (points 5)).split_top_skip ∷ rule (points 5) ∷ []) }
 {}
 

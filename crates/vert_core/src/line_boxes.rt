@@ -2,8 +2,8 @@
 
 ghost use Rattle.std.specs.Prelude.{◌≡◌, ◌<◌, ◌+◌, ◌++◌, ◌∷◌, [], length, drop, take, slice_get, IfSome};
 ghost use Rattle.std.specs.List.{cons_option};
-ghost use Rattle.break_lines.specs.LineItems.{at_break, without_first, kept};
-ghost use Rattle.vert_core.specs.Private.Planned.{front, line_of};
+ghost use Rattle.break_lines.specs.LineItems.{at_break, without_first, kept_items};
+ghost use Rattle.vert_core.specs.Private.Planned.{front_items, items_with_break};
 ghost use Rattle.vert_core.specs.declared.line_boxes.LinesFault.TheVariants.{OutOfMemory};
 
 use node_core::Node;
@@ -54,8 +54,8 @@ fn after(nodes: &[Node], place: usize) -> &[Node]
 
 /// The items that a line keeps before the place where it ends.
 pub(crate) fn front_of(nodes: &[Node], begin: Option<usize>, end: usize) -> &[Node]
-    ensures items { result.now ++ at_break (slice_get nodes.now end) ≡ kept nodes.now begin end }
-    ensures front { result.now ≡ front nodes.now begin end }
+    ensures items { result.now ++ at_break (slice_get nodes.now end) ≡ kept_items nodes.now begin end }
+    ensures front { result.now ≡ front_items nodes.now begin end }
 {
     let front = &nodes[..end.min(nodes.len())];
     match begin {
@@ -87,7 +87,7 @@ fn end_with(items: &mut Vec<Node>, index: usize, node: Node)
 
 /// Keeps this number of items, and after them what a line keeps of the item at its end.
 pub(crate) fn keep_line(items: &mut Vec<Node>, count: usize)
-    ensures { items.new.items ≡ line_of count items.old.items }
+    ensures { items.new.items ≡ items_with_break count items.old.items }
 {
     match kept_at(items, count) {
         Some(kept) => end_with(items, count, kept),

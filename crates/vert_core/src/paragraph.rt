@@ -8,9 +8,9 @@ ghost use Rattle.break_lines.specs.Facts.{facts_of, refusal};
 ghost use Rattle.break_core.specs.Passes.{IsBroken};
 ghost use Rattle.break_core.specs.Trials.{passes_run};
 ghost use Rattle.vert_core.specs.declared.paragraph.ParagraphFault.TheVariants.{OutOfMemory};
-ghost use Rattle.vert_core.specs.Finished.{finished};
-ghost use Rattle.vert_core.specs.Paragraphs.{set_empty, unbroken, unset_by, unstacked_by, IsSet, IsSetParagraph, IsUnsetList, IsUnset};
-ghost use Rattle.vert_core.specs.Private.Planned.{AreInOrder, moved, stacked};
+ghost use Rattle.vert_core.specs.Finished.{finished_list};
+ghost use Rattle.vert_core.specs.Paragraphs.{set_empty, break_fault, unset_by, unstacked_by, IsSet, IsSetParagraph, IsUnsetList, IsUnset};
+ghost use Rattle.vert_core.specs.Private.Planned.{AreInOrder, moved_lines, stacked};
 ghost use Rattle.vert_core.specs.Private.PlannedParagraphs.{IsPlanned};
 ghost use Rattle.vert_core.specs.Tried.{TrialsAreBounded, AreFewTrials};
 
@@ -117,7 +117,7 @@ fn set_empty(alloc: Global, previous_depth: Dimen) -> CountedParagraph
 /// Why a paragraph was not set whose list could not be finished: it cannot be broken, or otherwise memory was refused.
 pub(crate) fn unfinished_fault(nodes: &[Node], params: &Params) -> ParagraphFault
     requires { length nodes.now ≤ max_nodes }
-    ensures { (previous : ℤ) → IsUnsetList (finished nodes.now params.now.par_fill_skip) params.now previous result }
+    ensures { (previous : ℤ) → IsUnsetList (finished_list nodes.now params.now.par_fill_skip) params.now previous result }
 {
     match refusal_of_finished(nodes, params.par_fill_skip) {
         None => ParagraphFault::OutOfMemory,
@@ -195,10 +195,10 @@ pub(crate) fn stack_planned(
 ) -> Result<(), AllocError>
     requires list_bounded { length nodes.old.items ≤ max_nodes }
     requires in_order { AreInOrder (length nodes.old.items + 1) plan.lines.items }
-    requires count { plan.count ≡ length (flat_map stacked (moved nodes.old.items (length nodes.old.items) plan.lines.items)) }
+    requires count { plan.count ≡ length (flat_map stacked (moved_lines nodes.old.items (length nodes.old.items) plan.lines.items)) }
     requires plain { plain ≡ true → IsPlain nodes.old.items }
     ensures ok { OnOk result
-        (around.new.items ≡ around.old.items ++ flat_map stacked (moved nodes.old.items (length nodes.old.items) plan.lines.items)) }
+        (around.new.items ≡ around.old.items ++ flat_map stacked (moved_lines nodes.old.items (length nodes.old.items) plan.lines.items)) }
     ensures emptied { OnOk result (nodes.new.items ≡ []) }
     ensures err { OnErr result (nodes.new.items ≡ nodes.old.items) }
     ensures same { OnErr result (around.new.items ≡ around.old.items) }
@@ -252,11 +252,11 @@ fn set_items(
     previous_depth: Dimen,
 ) -> Result<CountedParagraph, ParagraphFault>
     requires { length nodes.old.items + 2 ≤ max_nodes }
-    ensures ok { IfOk result (λ counted. IsSet (finished nodes.old.items params.now.par_fill_skip) params.now previous_depth counted.set) }
-    ensures fits { OnOk result (refusal (finished nodes.old.items params.now.par_fill_skip) ≡ None) }
-    ensures trials { IfOk result (λ counted. AreFewTrials (facts_of (finished nodes.old.items params.now.par_fill_skip)) params.now
+    ensures ok { IfOk result (λ counted. IsSet (finished_list nodes.old.items params.now.par_fill_skip) params.now previous_depth counted.set) }
+    ensures fits { OnOk result (refusal (finished_list nodes.old.items params.now.par_fill_skip) ≡ None) }
+    ensures trials { IfOk result (λ counted. AreFewTrials (facts_of (finished_list nodes.old.items params.now.par_fill_skip)) params.now
         counted.set.pass counted.trials) }
-    ensures refused { IfErr result (IsUnsetList (finished nodes.old.items params.now.par_fill_skip) params.now previous_depth) }
+    ensures refused { IfErr result (IsUnsetList (finished_list nodes.old.items params.now.par_fill_skip) params.now previous_depth) }
     ensures emptied { OnOk result (nodes.new.items ≡ []) }
     ensures err { OnErr result (nodes.new.items ≡ nodes.old.items) }
 {
@@ -287,8 +287,8 @@ pub fn set_paragraph(
 ) -> Result<CountedParagraph, ParagraphFault>
     requires list_bounded { length (nodes_of list.old) + 2 ≤ max_nodes }
     ensures ok { IfOk result (λ counted. IsSetParagraph (nodes_of list.old) params.now previous_depth counted.set) }
-    ensures fits { OnOk result (unbroken (nodes_of list.old) params.now.par_fill_skip ≡ None) }
-    ensures trials { IfOk result (λ counted. AreFewTrials (facts_of (finished (nodes_of list.old) params.now.par_fill_skip)) params.now
+    ensures fits { OnOk result (break_fault (nodes_of list.old) params.now.par_fill_skip ≡ None) }
+    ensures trials { IfOk result (λ counted. AreFewTrials (facts_of (finished_list (nodes_of list.old) params.now.par_fill_skip)) params.now
         counted.set.pass counted.trials) }
     ensures refused { IfErr result (IsUnset (nodes_of list.old) params.now previous_depth) }
     ensures emptied { OnOk result (list.new ≡ none) }

@@ -5,10 +5,10 @@ ghost use Rattle.node_core.specs.declared.params.Params.{Params};
 ghost use Rattle.node_core.specs.declared.tree.Node.{Node};
 ghost use Rattle.node_core.specs.declared.tree.Node.TheVariants.{Glue, Penalty};
 ghost use Rattle.node_core.specs.Parameters.{first_params};
-ghost use Rattle.vert_core.specs.Interline.{interline, glue_of, appended};
+ghost use Rattle.vert_core.specs.Interline.{interline, glue_of, appended_nodes};
 ghost use Rattle.vert_core.specs.Lines.{line_box, penalty_nodes, vertical_items, last_depth};
 ghost use Rattle.break_lines.specs.Facts.{position_of, begins_at, facts_of, refusal};
-ghost use Rattle.break_lines.specs.LineItems.{kept};
+ghost use Rattle.break_lines.specs.LineItems.{kept_items};
 ghost use Rattle.break_lines.specs.Costs.{line_fit};
 ghost use Rattle.break_lines.specs.Sizes.{line_size};
 ghost use Rattle.pack_core.specs.declared.pack.Packed.{Packed};
@@ -18,8 +18,8 @@ ghost use Rattle.node_core.specs.Nodes.{items_of};
 ghost use Rattle.vert_core.specs.declared.paragraph.SetParagraph.{SetParagraph};
 ghost use Rattle.vert_core.specs.declared.paragraph.ParagraphFault.{ParagraphFault};
 ghost use Rattle.vert_core.specs.declared.paragraph.ParagraphFault.TheVariants.{OutOfMemory};
-ghost use Rattle.vert_core.specs.Finished.{finished};
-ghost use Rattle.vert_core.specs.Paragraphs.{unbroken, IsSetParagraph, IsUnset};
+ghost use Rattle.vert_core.specs.Finished.{finished_list};
+ghost use Rattle.vert_core.specs.Paragraphs.{break_fault, IsSetParagraph, IsUnset};
 ghost use Rattle.vert_core.specs.Setting.{setting};
 ghost use Rattle.vert_core.specs.Rows.{penalties_of, with_penalties, greatest_penalties, in_two, two_short_lines, narrow, special, special_line};
 ghost use Rattle.vert_core.specs.Rows.{numbers_in};
@@ -41,10 +41,10 @@ pub fn penalties_between_lines()
 pub fn two_lines()
     ensures items { (list : List Node) → (first last : ℕ) → (params : Params) → (previous : ℤ) →
         vertical_items (in_two list first last params previous) ≡
-        appended (glue_of (interline params previous (line_box (in_two list first last params previous) 0).height)) (pos 0)
+        appended_nodes (glue_of (interline params previous (line_box (in_two list first last params previous) 0).height)) (pos 0)
         (line_box (in_two list first last params previous) 0)
         ++ (penalty_nodes ((params.interline_penalty +ℤ params.club_penalty) +ℤ params.widow_penalty)
-        ++ appended (glue_of (interline params (line_box (in_two list first last params previous) 0).depth
+        ++ appended_nodes (glue_of (interline params (line_box (in_two list first last params previous) 0).depth
         (line_box (in_two list first last params previous) 1).height)) (pos 0)
         (line_box (in_two list first last params previous) 1)) }
     ensures depth { (list : List Node) → (first last : ℕ) → (params : Params) → (previous : ℤ) →
@@ -64,7 +64,7 @@ pub fn two_lines_of_rules()
 /// A special at the end of a paragraph stays there. A paragraph that consists of a special is a line: a box with the width of the line and no height.
 #[tactic(auto, unfolding(crate::specs::Lines::line_box, crate::specs::Lines::boxed_line, pack_core::specs::Boxes::hbox))]
 pub fn line_of_a_special()
-    ensures finished { finished (special ∷ []) narrow.par_fill_skip ≡ special ∷ Penalty (pos 10000) ∷ Glue narrow.par_fill_skip ∷ [] }
+    ensures finished { finished_list (special ∷ []) narrow.par_fill_skip ≡ special ∷ Penalty (pos 10000) ∷ Glue narrow.par_fill_skip ∷ [] }
     ensures items { flat_map numbers_in (vertical_items special_line) ≡ pos 2621440 ∷ pos 0 ∷ pos 0 ∷ [] }
 {}
 
@@ -73,11 +73,11 @@ pub fn line_of_a_special()
 /// that memory was refused.
 pub fn one_setting()
     ensures set { (list : List Node) → (params : Params) → (previous : ℤ) → (set : SetParagraph) →
-        unbroken list params.par_fill_skip ≡ None → IsSetParagraph list params previous set → setting list params previous ≡ Ok set }
+        break_fault list params.par_fill_skip ≡ None → IsSetParagraph list params previous set → setting list params previous ≡ Ok set }
     ensures unset { (list : List Node) → (params : Params) → (previous : ℤ) → (fault : ParagraphFault) → fault ≢ OutOfMemory →
         IsUnset list params previous fault → setting list params previous ≡ Err fault }
     ensures breakable { (list : List Node) → (params : Params) → (previous : ℤ) → (set : SetParagraph) →
-        setting list params previous ≡ Ok set → unbroken list params.par_fill_skip ≡ None }
+        setting list params previous ≡ Ok set → break_fault list params.par_fill_skip ≡ None }
     ensures is_set { (list : List Node) → (params : Params) → (previous : ℤ) → (set : SetParagraph) →
         setting list params previous ≡ Ok set → IsSetParagraph list params previous set }
     ensures is_unset { (list : List Node) → (params : Params) → (previous : ℤ) → (fault : ParagraphFault) →
@@ -88,8 +88,8 @@ pub fn one_setting()
 /// If a line that keeps items is packed to its width and is not overfull, its box has the badness of the line, from which its demerits are computed.
 pub fn boxes_are_as_bad_as_lines()
     ensures { (list : List Node) → (params : Params) → (a : ℕ) → (b : ℕ) → (lines : ℕ) → (packed : Packed) → refusal list ≡ None →
-        kept list (begins_at list a) (position_of list b) ≢ [] →
+        kept_items list (begins_at list a) (position_of list b) ≢ [] →
         (line_fit ((facts_of list).sums a b) (line_size params lines)).overfull ≡ false →
-        hpacked (To (line_size params lines)) (items_of (kept list (begins_at list a) (position_of list b))) ≡ Ok packed →
+        hpacked (To (line_size params lines)) (items_of (kept_items list (begins_at list a) (position_of list b))) ≡ Ok packed →
         packed.badness ≡ (line_fit ((facts_of list).sums a b) (line_size params lines)).badness }
 {}

@@ -8,9 +8,10 @@ ghost use Rattle.node_core.specs.Nodes.{max_nodes};
 ghost use Rattle.node_core.specs.Classes.{shrinks_infinitely};
 ghost use Rattle.pack_core.specs.Boxes.{vbox_numbers, vbox_shell};
 ghost use Rattle.vert_core.specs.Places.{is_some_before_break};
-ghost use Rattle.vert_core.specs.Split.{from_box_or_rule, specials_above, topped, left_of, items_after, top_widths, rest_numbers, split_place};
+ghost use Rattle.vert_core.specs.Split.{from_box_or_rule, specials_above, from_first_box, left_of, items_after, top_widths, rest_numbers};
+ghost use Rattle.vert_core.specs.Split.{split_place};
 ghost use Rattle.vert_core.specs.Split.{refusal, top_width, top_glue, no_limit};
-ghost use Rattle.vert_core.specs.Private.Steps.{glued, rest_list, left_items, IsInside, PlanFits};
+ghost use Rattle.vert_core.specs.Private.Steps.{glued_items, rest_list, left_items, IsInside, PlanFits};
 
 use crate::parts::SplitFault;
 use crate::trials::{is_box_or_rule, precedes_break, split_place};
@@ -106,10 +107,10 @@ fn top_glue(height: Dimen, params: &SplitParams) -> Option<Glue>
 /// no glue, and the vbox is empty.
 fn top_of(left: &[Node], params: &SplitParams) -> Result<Top, SplitFault>
     requires { length left.now ≤ max_nodes }
-    ensures glue { IfOk result (λ top. glued top.glue left.now ≡ topped params.now left.now) }
-    ensures shell { IfOk result (λ top. top.shell ≡ vbox_shell Target.Natural no_limit (topped params.now left.now)) }
+    ensures glue { IfOk result (λ top. glued_items top.glue left.now ≡ from_first_box params.now left.now) }
+    ensures shell { IfOk result (λ top. top.shell ≡ vbox_shell Target.Natural no_limit (from_first_box params.now left.now)) }
     ensures fits { is_ok result
-        ≡ list_all fits (top_widths params.now left.now ++ vbox_numbers Target.Natural no_limit (topped params.now left.now)) }
+        ≡ list_all fits (top_widths params.now left.now ++ vbox_numbers Target.Natural no_limit (from_first_box params.now left.now)) }
     ensures fault { IfErr result (λ e. e ≡ SplitFault.DimensionTooLarge) }
 {
     let [first, ..] = left else {

@@ -3,7 +3,7 @@
 ghost use Rattle.std.specs.Prelude.{◌≡◌, ◌≤◌, ◌<◌, ◌-◌, ◌++◌, IfOk, OnOk, OnErr, length, drop, take};
 ghost use Rattle.std.specs.List.{filter};
 ghost use Rattle.vert_core.specs.Split.{is_special};
-ghost use Rattle.vert_core.specs.Private.Steps.{glued, rest_list, IsInside};
+ghost use Rattle.vert_core.specs.Private.Steps.{glued_items, rest_list, IsInside};
 
 use crate::plan::SplitRest;
 use node_core::{Glue, Node};
@@ -40,7 +40,7 @@ fn gather_specials(nodes: &mut Vec<Node>, count: usize) -> usize
 fn prune_top(nodes: &mut Vec<Node>, count: usize, glue: Option<Glue>)
     requires count_positive { 0 < count }
     requires count_bounded { count ≤ length nodes.old.items }
-    ensures { nodes.new.items ≡ filter is_special (take (count - 1) (drop 1 nodes.old.items)) ++ glued glue (drop count nodes.old.items) }
+    ensures { nodes.new.items ≡ filter is_special (take (count - 1) (drop 1 nodes.old.items)) ++ glued_items glue (drop count nodes.old.items) }
 {
     let specials = gather_specials(nodes, count);
     let top = match glue {

@@ -7,7 +7,7 @@ ghost use Rattle.node_core.specs.Nodes.{max_nodes};
 ghost use Rattle.vert_core.specs.Places.{ends_before_break, is_box_or_rule, is_some_before_break, place_penalty, precedes_break};
 ghost use Rattle.vert_core.specs.Costs.{cost, is_last};
 ghost use Rattle.vert_core.specs.Split.{trial_at, split_place};
-ghost use Rattle.vert_core.specs.Private.Steps.{cheaper, IsOpen};
+ghost use Rattle.vert_core.specs.Private.Steps.{cheaper_trial, IsOpen};
 ghost use Rattle.pack_core.specs.ListTotals.{totals_of};
 
 use crate::sums::{AWFUL, front_badness};
@@ -119,7 +119,7 @@ fn trial_at(
 
 /// The trial to keep of the best one so far and a later one: the later one, unless the earlier one is cheaper.
 fn cheaper(best: Option<Trial>, trial: Trial) -> Trial
-    ensures { result ≡ cheaper best trial }
+    ensures { result ≡ cheaper_trial best trial }
 {
     match best {
         Some(best) if best.cost() < trial.cost() => best,

@@ -12,8 +12,8 @@ abbrev pub token : Ty → Ptr → Fml
 token = ghosts.dealloc_token (record { memory = record { seal = tt } })
 
 -- A handle that is null holds no value, and owns nothing. Every other one is the place of a box of the heap, and owns the box.
-abbrev pub held : (R : RattleType) → Ptr → Option R.Denot → Fml
-held R null_ptr None = ftrue
-held R null_ptr (Some x) = ffalse
-held R (block_ptr b o) None = ffalse
-held R (block_ptr b o) (Some x) = box_owns token R (block_ptr b o) x
+abbrev pub owned_by_handle : (R : RattleType) → Ptr → Option R.Denot → Fml
+owned_by_handle R null_ptr None = ftrue
+owned_by_handle R null_ptr (Some x) = ffalse
+owned_by_handle R (block_ptr b o) None = ffalse
+owned_by_handle R (block_ptr b o) (Some x) = box_owns token R (block_ptr b o) x

@@ -19,10 +19,10 @@ pub struct JobHandle {
 }
 
 impl Model for JobHandle {
-    ghost use Rattle.boxglue_calls.specs.Private.Owned.{held};
+    ghost use Rattle.boxglue_calls.specs.Private.Owned.{owned_by_handle};
     ghost use Rattle.boxglue_calls.specs.contracts.jobs.kept_job.KeptJob.{the_row};
 
-    ghost also_owns = { λ h. held the_row h.at h.value };
+    ghost also_owns = { λ h. owned_by_handle the_row h.at h.value };
 }
 
 // A job holds plain data and blocks of the heap, which any thread may give back.

@@ -9,7 +9,7 @@ ghost use Rattle.boxglue_script.specs.Script.{IsScript};
 ghost use Rattle.boxglue_program.specs.Runs.{commands_of, line_numbers};
 ghost use Rattle.boxglue_program.specs.Texts.{answer_lines};
 ghost use Rattle.boxglue_calls.specs.Jobs.{HasHanded, IsNewJob, KeptState, sent_by};
-ghost use Rattle.boxglue_calls.specs.Numbers.{line_count, line_feeds, number_after, numbered};
+ghost use Rattle.boxglue_calls.specs.Numbers.{line_count, line_feeds, number_after, numbered_lines};
 ghost use Rattle.boxglue_calls.specs.Pieces.{DoesCommands, FinishesKept, HandsAnswers, HandsBytes, RunsLines};
 ghost use Rattle.boxglue_calls.specs.Replies.{NeedsRows, RepliesTo, RepliesToEnd, RowRoom};
 ghost use Rattle.boxglue_calls.specs.Rows.{reply_rows};
@@ -21,13 +21,15 @@ pub fn pieces_are_one_run()
     ensures run { (old middle new : KeptState) (script more : List ℕ) (first : RunsLines old script middle) (second : RunsLines middle more new)
         → RunsTo old.job (commands_of (first.lines ++ second.lines)) (first.replies ++ second.replies) new.job }
     ensures answers { (old middle new : KeptState) (script more : List ℕ) (first : RunsLines old script middle) (second : RunsLines middle more new)
-        → answer_lines (line_numbers (numbered old.lines first.lines)) first.replies
-        ++ answer_lines (line_numbers (numbered middle.lines second.lines)) second.replies
-        ≡ answer_lines (line_numbers (numbered old.lines first.lines ++ numbered middle.lines second.lines)) (first.replies ++ second.replies) }
+        → answer_lines (line_numbers (numbered_lines old.lines first.lines)) first.replies
+        ++ answer_lines (line_numbers (numbered_lines middle.lines second.lines)) second.replies
+        ≡ answer_lines (line_numbers (numbered_lines old.lines first.lines ++ numbered_lines middle.lines second.lines))
+        (first.replies ++ second.replies) }
     ensures rows { (old middle new : KeptState) (script more : List ℕ) (first : RunsLines old script middle) (second : RunsLines middle more new)
-        → reply_rows (line_numbers (numbered old.lines first.lines)) first.replies
-        ++ reply_rows (line_numbers (numbered middle.lines second.lines)) second.replies
-        ≡ reply_rows (line_numbers (numbered old.lines first.lines ++ numbered middle.lines second.lines)) (first.replies ++ second.replies) }
+        → reply_rows (line_numbers (numbered_lines old.lines first.lines)) first.replies
+        ++ reply_rows (line_numbers (numbered_lines middle.lines second.lines)) second.replies
+        ≡ reply_rows (line_numbers (numbered_lines old.lines first.lines ++ numbered_lines middle.lines second.lines))
+        (first.replies ++ second.replies) }
 {}
 
 /// The lines of a text are counted, up to the greatest number of the machine.
@@ -41,10 +43,10 @@ pub fn lines_are_counted()
 pub fn pieces_are_one_script()
     ensures script { (old middle new : KeptState) (script more : List ℕ) (first : RunsLines old script middle) (second : RunsLines middle more new)
         → IsWhole script
-        → length (lines (script ++ more)) < 2 ^ 64 → IsScript (script ++ more) (first.lines ++ numbered (line_count script) second.lines) }
+        → length (lines (script ++ more)) < 2 ^ 64 → IsScript (script ++ more) (first.lines ++ numbered_lines (line_count script) second.lines) }
     ensures numbers { (old middle new : KeptState) (script more : List ℕ) (first : RunsLines old script middle) (second : RunsLines middle more new)
-        → numbered old.lines first.lines ++ numbered middle.lines second.lines
-        ≡ numbered old.lines (first.lines ++ numbered (line_count script) second.lines) }
+        → numbered_lines old.lines first.lines ++ numbered_lines middle.lines second.lines
+        ≡ numbered_lines old.lines (first.lines ++ numbered_lines (line_count script) second.lines) }
     ensures count { (old middle new : KeptState) (script more : List ℕ) (first : RunsLines old script middle) (second : RunsLines middle more new)
         → IsWhole script
         → new.lines ≡ number_after old.lines (line_count (script ++ more)) }

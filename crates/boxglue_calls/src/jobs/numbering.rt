@@ -1,7 +1,7 @@
 //! The numbers of lines, which count on over the pieces of a script.
 
 ghost use Rattle.std.specs.Prelude.{◌≡◌};
-ghost use Rattle.boxglue_calls.specs.Numbers.{is_whole, line_count, line_feeds, number_after, numbered};
+ghost use Rattle.boxglue_calls.specs.Numbers.{is_whole, line_count, line_feeds, number_after, numbered_lines};
 
 use boxglue_program::Line;
 
@@ -14,7 +14,7 @@ pub(crate) fn number_after(before: usize, number: usize) -> usize
 
 /// Gives the lines of a piece their numbers in the whole script.
 pub(crate) fn number_on(before: usize, lines: &mut [Line])
-    ensures { lines.new ≡ numbered before lines.old }
+    ensures { lines.new ≡ numbered_lines before lines.old }
 {
     for line in lines.iter_mut() {
         line.number = number_after(before, line.number);

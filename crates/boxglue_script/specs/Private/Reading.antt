@@ -38,7 +38,7 @@ use Rattle.boxglue_script.specs.Private.Names.{name_of}
 use Rattle.boxglue_script.specs.ParameterNames.{size_name, skip_name, number_name}
 use Rattle.boxglue_script.specs.Private.ParameterNames.{names_first_lines}
 use Rattle.boxglue_script.specs.ScriptLines.{is_space, is_printable, is_passed_over, fields_of}
-use Rattle.boxglue_script.specs.Grammar.{register_count, slot_count, character_count, count_count, first_lines_count, is_name_byte}
+use Rattle.boxglue_script.specs.Grammar.{register_count, slot_count, character_count, counter_count, first_lines_count, is_name_byte}
 
 -- A byte before the end of a line: any but a line feed.
 abbrev pub in_line : ℕ → Bool
@@ -273,16 +273,16 @@ abbrev pub last_amount : List (List ℕ) → Result Amount Cause
 last_amount fields = last_value amount_of fields
 
 -- The command that opens a list of that form and size, whose box goes into that register or to the enclosing list.
-abbrev pub opening : BoxForm → Target → Option ℕ → Command
-opening form target into = Open (record { form = form; target = target; into = into })
+abbrev pub opening_command : BoxForm → Target → Option ℕ → Command
+opening_command form target into = Open (record { form = form; target = target; into = into })
 
 -- The opening of a list with this register as the last field.
 unfoldable pub opening_with_register : BoxForm → Target → List (List ℕ) → Result Command Cause
-opening_with_register form target fields = map_ok (λ register. opening form target (Some register)) (last_number register_count fields)
+opening_with_register form target fields = map_ok (λ register. opening_command form target (Some register)) (last_number register_count fields)
 
 -- The opening of a list by what follows its size: nothing, or `into` and a register.
 unfoldable pub opening_into : BoxForm → Target → List (List ℕ) → Result Command Cause
-opening_into form target [] = Ok (opening form target None)
+opening_into form target [] = Ok (opening_command form target None)
 opening_into form target (word ∷ rest) = if bytes_eq word (codes "into") then opening_with_register form target rest else Err Word
 
 -- The opening of a list by the dimension of its size and what follows that.
@@ -291,7 +291,7 @@ opening_with_size form sized fields = and_then (dimension_first fields) (λ z. o
 
 -- The command of the fields after `hbox`, `vbox` or `vtop`.
 unfoldable pub opening_of : BoxForm → List (List ℕ) → Result Command Cause
-opening_of form [] = Ok (opening form Natural None)
+opening_of form [] = Ok (opening_command form Natural None)
 opening_of form (word ∷ rest) =
     if bytes_eq word (codes "into") then opening_with_register form Natural rest
     else (if bytes_eq word (codes "to") then opening_with_size form To rest
@@ -312,8 +312,8 @@ unfoldable pub append_of : Transfer → List (List ℕ) → Result Command Cause
 append_of taking fields = and_then (number_first register_count fields) (λ register. map_ok (append taking register) (shift_of (rest_of fields)))
 
 -- The command that appends the items of the box of a register, which is of that kind, moved or copied.
-abbrev pub unboxing : Kind → Transfer → ℕ → Command
-unboxing kind taking register = Unbox (record { kind = kind; register = register; taking = taking })
+abbrev pub unboxing_command : Kind → Transfer → ℕ → Command
+unboxing_command kind taking register = Unbox (record { kind = kind; register = register; taking = taking })
 
 -- The command that splits the box of a register to that height, with its front for another one.
 abbrev pub split : (register : ℕ) → (height : ℤ) → (into : ℕ) → Command
@@ -384,12 +384,12 @@ parameter_of [] = Err Missing
 parameter_of (word ∷ rest) = parameter_by (size_name word) (skip_name word) (number_name word) (names_first_lines word) rest
 
 -- The command that sets a count of the pages that follow.
-abbrev pub counting : (count : ℕ) → (value : ℤ) → Command
-counting count value = Count (record { count = count; value = value })
+abbrev pub count_command : (count : ℕ) → (value : ℤ) → Command
+count_command count value = Count (record { count = count; value = value })
 
 -- The command of the fields after `count`: the number of a count, and its value.
 unfoldable pub counting_of : List (List ℕ) → Result Command Cause
-counting_of fields = and_then (number_first count_count fields) (λ count. map_ok (counting count) (last_count (rest_of fields)))
+counting_of fields = and_then (number_first counter_count fields) (λ count. map_ok (count_command count) (last_count (rest_of fields)))
 
 -- The size after the name of a font: none, or `at` and a size.
 unfoldable pub chosen_size_of : List (List ℕ) → Result (Option ℤ) Cause
@@ -434,7 +434,7 @@ command_named names.Kern fields = map_ok Kern (last_dimension fields)
 command_named names.Glue fields = map_ok Glue (glue_of fields)
 command_named names.Penalty fields = map_ok Penalty (last_penalty fields)
 command_named (names.Append taking) fields = append_of taking fields
-command_named (names.Unbox kind taking) fields = map_ok (unboxing kind taking) (last_number register_count fields)
+command_named (names.Unbox kind taking) fields = map_ok (unboxing_command kind taking) (last_number register_count fields)
 command_named names.LastBox fields = map_ok LastBox (last_number register_count fields)
 command_named names.Split fields = split_of fields
 command_named names.Measure fields = map_ok Measure (last_number register_count fields)
@@ -473,8 +473,8 @@ given line =
     else (if bytes_eq (front_field line) (codes "special") then Ok (Special (kept_text line)) else command_of (fields_of line))
 
 -- The command of a line, or the cause why it has none.
-unfoldable pub line_of : List ℕ → Result Command Cause
-line_of line = if list_all is_printable line then given line else Err Byte
+unfoldable pub command_of_line : List ℕ → Result Command Cause
+command_of_line line = if list_all is_printable line then given line else Err Byte
 
 -- The result of reading lines: the lines that give commands, or why the script was not read.
 abbrev pub Found : Type 0
@@ -491,18 +491,20 @@ reads_by number (Err cause) more = Err (BadScript number cause)
 reads_by number (Ok command) more = lines_then (record { number = number; command = command } ∷ []) more
 
 -- The result of reading the lines from that number on.
-abbrev pub reads : ℕ → List (List ℕ) → Found
-reads number [] = Ok []
-reads number (line ∷ rest) = if is_passed_over line then reads (number + 1) rest else reads_by number (line_of line) (reads (number + 1) rest)
+abbrev pub reading_from : ℕ → List (List ℕ) → Found
+reading_from number [] = Ok []
+reading_from number (line ∷ rest) = if is_passed_over line then reading_from (number + 1) rest
+    else reads_by number (command_of_line line) (reading_from (number + 1) rest)
 
 -- Reading continues after a line: `old` are the lines found before it, `new` those found when it is read too.
 abbrev pub ReadsOn : ℕ → List ℕ → List Line → List Line → Type 0
-ReadsOn number line old new = (rest : List (List ℕ)) → lines_then old (reads number (line ∷ rest)) ≡ lines_then new (reads (number + 1) rest)
+ReadsOn number line old new = (rest : List (List ℕ))
+    → lines_then old (reading_from number (line ∷ rest)) ≡ lines_then new (reading_from (number + 1) rest)
 
 -- Reading ends at a line with that fault, whatever comes after the line.
 abbrev pub StopsAtLine : ℕ → List ℕ → List Line → ScriptFault → Type 0
-StopsAtLine number line old fault = (rest : List (List ℕ)) → lines_then old (reads number (line ∷ rest)) ≡ Err fault
+StopsAtLine number line old fault = (rest : List (List ℕ)) → lines_then old (reading_from number (line ∷ rest)) ≡ Err fault
 
 -- A line is counted, and a command is read from it.
 abbrev pub GivesCommand : List ℕ → Type 0
-GivesCommand line = (is_passed_over line ≡ false) × IsOk (line_of line)
+GivesCommand line = (is_passed_over line ≡ false) × IsOk (command_of_line line)

@@ -8,13 +8,13 @@ use Rattle.break_lines.specs.Orders.{NotAfter}
 use Rattle.break_lines.specs.declared.state.BreakState.{BreakState}
 use Rattle.break_lines.specs.Tables.{Entry, compared_numbers, IsTable, IsRow, offer}
 use Rattle.break_lines.specs.Private.Live.{IsGroup}
-use Rattle.break_lines.specs.Private.Parts.{part}
+use Rattle.break_lines.specs.Private.Parts.{problem_without}
 use Rattle.break_lines.specs.Chosen.{AdmitsNone}
 use Rattle.break_lines.specs.declared.cost.Bound.{Bound}
 use Rattle.break_lines.specs.declared.cost.Bound.TheVariants.{Any, AtMost}
 use Rattle.break_core.specs.declared.broken.Pass.{Pass}
 use Rattle.break_lines.specs.Legal.{is_forced}
-use Rattle.break_lines.specs.Costs.{line_fit, line_of, is_loosest}
+use Rattle.break_lines.specs.Costs.{line_fit, admitted_line, is_loosest}
 use Rattle.break_lines.specs.Private.Costs.{loosest_line}
 use Rattle.break_lines.specs.Facts.{Facts}
 use Rattle.break_lines.specs.Steady.{IsSteady}
@@ -33,16 +33,16 @@ deactivates Overfull overfull long = overfull
 deactivates Long overfull long = long
 
 -- Whether no line from place a is tried beyond place l.
-abbrev pub stops : Facts → Params → StopRule → (a l : ℕ) → Bool
-stops facts params ending a l = is_forced (facts.penalty l) || deactivates ending (is_overfull facts params a l) (is_long facts params a l)
+abbrev pub stops_at : Facts → Params → StopRule → (a l : ℕ) → Bool
+stops_at facts params ending a l = is_forced (facts.penalty l) || deactivates ending (is_overfull facts params a l) (is_long facts params a l)
 
 -- Whether a line, which is long or not, is left out.
-abbrev pub leaves : StopRule → (long : Bool) → Bool
-leaves ending long = deactivates ending false long
+abbrev pub leaves_out : StopRule → (long : Bool) → Bool
+leaves_out ending long = deactivates ending false long
 
 -- A pass without the lines that are left out.
-abbrev pub pruned : Facts → Params → Bound → StopRule → Problem
-pruned facts params bound ending = part (problem_of facts params bound) (λ s b. leaves ending (is_long facts params s.place b))
+abbrev pub pruned_problem : Facts → Params → Bound → StopRule → Problem
+pruned_problem facts params bound ending = problem_without (problem_of facts params bound) (λ s b. leaves_out ending (is_long facts params s.place b))
 
 -- Whether a bound refuses overfull lines.
 abbrev pub is_limit : Bound → Bool
@@ -147,7 +147,7 @@ AllWait facts params bound low b groups = (groups ≡ []) ⊎ AreLoosest facts p
 abbrev pub CostLoosest : Problem → Params → Bound → (penalty : ℤ) → (b : ℕ) → List ActiveGroup → Type 0
 CostLoosest p params bound penalty b groups =
     (k : ℕ) (g : ActiveGroup) → slice_get groups k ≡ Some g
-    → (s : BreakState) → s.place ≡ g.place → p.line s b ≡ line_of params bound penalty s.class loosest_line
+    → (s : BreakState) → s.place ≡ g.place → p.line s b ≡ admitted_line params bound penalty s.class loosest_line
 
 -- The entries of a group that waits can be offered for a place.
 pub record CanWait (first_lines : ℕ) (table : List Entry) (place : ℕ) (group : ActiveGroup) : Type 0 where

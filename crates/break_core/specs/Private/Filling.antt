@@ -4,9 +4,9 @@ use Rattle.node_core.specs.declared.params.Params.{Params}
 use Rattle.break_lines.specs.declared.group.ActiveGroup.{ActiveGroup}
 use Rattle.break_lines.specs.declared.state.BreakState.{BreakState}
 use Rattle.break_lines.specs.Problems.{Problem, max_places}
-use Rattle.break_lines.specs.Ways.{since}
+use Rattle.break_lines.specs.Ways.{last_forced_below}
 use Rattle.break_lines.specs.Orders.{NotAfter}
-use Rattle.break_lines.specs.Tables.{Entry, slots, extended, compared_numbers, AreBelow, IsRow}
+use Rattle.break_lines.specs.Tables.{Entry, slots, extended_entry, compared_numbers, AreBelow, IsRow}
 use Rattle.break_lines.specs.declared.state.Fitness.{Fitness}
 use Rattle.break_lines.specs.declared.state.LineCost.{LineCost}
 use Rattle.break_lines.specs.declared.answer.ChosenBreaks.{ChosenBreaks}
@@ -14,7 +14,7 @@ use Rattle.break_lines.specs.Chosen.{AdmitsNone, IsAnswer}
 use Rattle.break_core.specs.declared.broken.Pass.{Pass}
 use Rattle.break_lines.specs.declared.sizes.LineFits.{LineFits}
 use Rattle.break_lines.specs.declared.cost.Bound.{Bound}
-use Rattle.break_lines.specs.Costs.{line_of, line_after}
+use Rattle.break_lines.specs.Costs.{admitted_line, line_after}
 use Rattle.break_lines.specs.SmallCosts.{IsSmallSums}
 use Rattle.break_core.specs.declared.offering.Tried.{Tried}
 use Rattle.break_lines.specs.Sizes.{fit_after}
@@ -30,14 +30,14 @@ IsOf cut table group =
 abbrev pub IsFitOf : Problem → Params → Bound → ActiveGroup → (place : ℕ) → (penalty : ℤ) → LineFits → Type 0
 IsFitOf p params bound group place penalty line =
     (s : BreakState) → s.place ≡ group.place
-    → p.line s place ≡ line_of params bound penalty s.class (fit_after params.first_lines s.lines line)
+    → p.line s place ≡ admitted_line params bound penalty s.class (fit_after params.first_lines s.lines line)
 
 -- The step from one row to another: the entries `from` to `to` were offered by lines of this judgement.
 abbrev pub IsOffering :
     (table : List Entry) → Params → Bound → ActiveGroup → (place : ℕ) → (penalty : ℤ) → LineFits → (from to : ℕ) → (old new : List (Option Entry))
     → Type 0
 IsOffering table params bound group place penalty line from to old new =
-    (p : Problem) → p.cut ≡ params.first_lines → since p place ≤ group.place → IsFitOf p params bound group place penalty line
+    (p : Problem) → p.cut ≡ params.first_lines → last_forced_below p place ≤ group.place → IsFitOf p params bound group place penalty line
     → IsRow p table place from old → IsRow p table place to new
 
 -- The same step for all entries of a group, where the line may be left out.
@@ -45,9 +45,9 @@ abbrev pub IsOfferingUnless :
     (left : Bool) (table : List Entry) → Params → Bound → ActiveGroup → (place : ℕ) → (penalty : ℤ) → LineFits → (old new : List (Option Entry))
     → Type 0
 IsOfferingUnless left table params bound group place penalty line old new =
-    (p : Problem) → p.cut ≡ params.first_lines → since p place ≤ group.place
+    (p : Problem) → p.cut ≡ params.first_lines → last_forced_below p place ≤ group.place
     → ((s : BreakState) → s.place ≡ group.place
-    → p.line s place ≡ (if left then None else line_of params bound penalty s.class (fit_after params.first_lines s.lines line)))
+    → p.line s place ≡ (if left then None else admitted_line params bound penalty s.class (fit_after params.first_lines s.lines line)))
     → IsRow p table place group.start old → IsRow p table place group.end new
 
 -- The entries of a group can be offered by a line that was tried.
@@ -63,7 +63,7 @@ pub record CanOffer (first_lines : ℕ) (row : List (Option Entry)) (table : Lis
 
 -- The offer of an entry for a place by a line, if no lines are counted: the line with the demerits for the class of the line before it.
 abbrev pub offer_from : Params → Entry → (index place : ℕ) → (alone : LineCost) → Entry
-offer_from params e index place alone = extended 0 e index place (line_after params e.end.class alone)
+offer_from params e index place alone = extended_entry 0 e index place (line_after params e.end.class alone)
 
 -- The best one of these offers of the entries `from` to `to`.
 pub record IsBestOffer (table : List Entry) (params : Params) (place : ℕ) (alone : LineCost) (from to : ℕ) (best : Entry) : Type 0 where
@@ -91,7 +91,7 @@ pub record IsBeaten (held : Option Entry) (best : Entry) (line : LineCost) : Typ
 -- The step from one row to another: the entries of a group were offered by such a line, if no lines are counted.
 abbrev pub IsOfferingBest : (table : List Entry) → Params → ActiveGroup → (place : ℕ) → (alone : LineCost) → (old new : List (Option Entry)) → Type 0
 IsOfferingBest table params group place alone old new =
-    (p : Problem) → p.cut ≡ 0 → since p place ≤ group.place
+    (p : Problem) → p.cut ≡ 0 → last_forced_below p place ≤ group.place
     → ((s : BreakState) → s.place ≡ group.place → p.line s place ≡ Some (line_after params s.class alone))
     → IsRow p table place group.start old → IsRow p table place group.end new
 

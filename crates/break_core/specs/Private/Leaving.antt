@@ -2,7 +2,7 @@
 use Rattle.std.specs.Prelude.{◌<◌, ◌<ℤ◌, ◌≤ℤ◌, ℕ, zero, suc, ℤ, pos, Bool, false, ◌&&◌, nat_lt, int_lt, Option, Some, None, if◌then◌else◌}
 use Rattle.node_core.specs.declared.params.Params.{Params}
 use Rattle.break_lines.specs.Problems.{Problem}
-use Rattle.break_lines.specs.Private.Parts.{part}
+use Rattle.break_lines.specs.Private.Parts.{problem_without}
 use Rattle.break_lines.specs.declared.cost.Bound.TheVariants.{Any}
 use Rattle.break_lines.specs.Sizes.{line_size, least_width}
 use Rattle.break_lines.specs.Facts.{Facts}
@@ -53,4 +53,4 @@ pub record MayLeave (facts : Facts) (params : Params) : Type 0 where
 
 -- The last pass without these lines.
 abbrev pub without_long : Facts → Params → Problem
-without_long facts params = part (problem_of facts params Any) (λ s b. is_long facts params s.place b)
+without_long facts params = problem_without (problem_of facts params Any) (λ s b. is_long facts params s.place b)

@@ -2,14 +2,14 @@
 use Rattle.std.specs.Prelude.{◌≡◌, ◌<◌, ◌≤◌, ℕ, List, [], ◌∷◌, length, slice_get, Some, None}
 use Rattle.break_lines.specs.declared.group.ActiveGroup.{ActiveGroup}
 use Rattle.break_lines.specs.Problems.{Problem}
-use Rattle.break_lines.specs.Ways.{since}
+use Rattle.break_lines.specs.Ways.{last_forced_below}
 use Rattle.break_lines.specs.Tables.{Entry, offer}
 
 -- The entries of a group are for one place, from which lines to place b can begin.
 pub record IsGroup (p : Problem) (table : List Entry) (b : ℕ) (g : ActiveGroup) : Type 0 where
   pub rises : g.start ≤ g.end
   pub within : g.end ≤ length table
-  pub since : since p b ≤ g.place
+  pub since : last_forced_below p b ≤ g.place
   pub earlier : g.place < b
   pub entries : (k : ℕ) (e : Entry) → g.start ≤ k → k < g.end → slice_get table k ≡ Some e → e.end.place ≡ g.place
 

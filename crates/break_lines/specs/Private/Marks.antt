@@ -8,7 +8,7 @@ use Rattle.node_core.specs.Classes.{shrinks_infinitely}
 use Rattle.node_core.specs.declared.tree.Order.{Order}
 use Rattle.node_core.specs.declared.tree.Order.TheVariants.{Normal, Fil, Fill, Filll}
 use Rattle.node_core.specs.Nodes.{max_nodes}
-use Rattle.pack_core.specs.Items.{across, stretch_in, shrink_in, is_order}
+use Rattle.pack_core.specs.Items.{item_width, stretch_in, shrink_in, is_order}
 use Rattle.break_lines.specs.Problems.{max_places}
 use Rattle.break_lines.specs.declared.sums.Sums.{Sums}
 use Rattle.break_lines.specs.declared.mark.MeasuredBreak.{MeasuredBreak}
@@ -28,7 +28,7 @@ no_sums = record { width = pos 0; stretch = pos 0; fil = pos 0; fill = pos 0; fi
 abbrev pub amounts_of : Node → Sums
 amounts_of node =
     record {
-      width = across node;
+      width = item_width node;
       stretch = stretch_in Normal node;
       fil = stretch_in Fil node;
       fill = stretch_in Fill node;

@@ -3,11 +3,11 @@ use Rattle.std.specs.Prelude.{◌≡◌, ◌<◌, ◌≤◌, ◌+ℤ◌, ◌<ℤ
 use Rattle.break_lines.specs.declared.state.BreakState.{BreakState}
 use Rattle.break_lines.specs.declared.state.LineCost.{LineCost}
 use Rattle.break_lines.specs.Problems.{Problem, end_after}
-use Rattle.break_lines.specs.Ways.{since}
+use Rattle.break_lines.specs.Ways.{last_forced_below}
 
 -- The problem without the lines that are left out.
-abbrev pub part : Problem → (leaves : BreakState → ℕ → Bool) → Problem
-part p leaves =
+abbrev pub problem_without : Problem → (leaves : BreakState → ℕ → Bool) → Problem
+problem_without p leaves =
     record { places = p.places; forced = p.forced; cut = p.cut; line = λ s b. if leaves s b then None else p.line s b }
 
 -- The line from state s has at most the overhang of line l from state t, and it leads again to a state that is ahead.
@@ -42,4 +42,4 @@ pub record IsDetour (p : Problem) (leaves : BreakState → ℕ → Bool) (Ahead 
 abbrev pub HasDetours : (p : Problem) (leaves : BreakState → ℕ → Bool) (Ahead : BreakState → BreakState → Type 0) → Type 0
 HasDetours p leaves Ahead =
     (s : BreakState) (b : ℕ) (l : LineCost)
-    → s.place < b → since p b ≤ s.place → b ≤ p.places → p.line s b ≡ Some l → leaves s b ≡ true → IsDetour p leaves Ahead s b l
+    → s.place < b → last_forced_below p b ≤ s.place → b ≤ p.places → p.line s b ≡ Some l → leaves s b ≡ true → IsDetour p leaves Ahead s b l

@@ -1,11 +1,11 @@
 -- The rest of `Steps`, which no public contract reaches (own).
 use Rattle.std.specs.Prelude.{◌≡◌, ◌++◌, true, List, map, ℕ, ℤ, Option, Some}
 use Rattle.std.specs.List.{AllByRecursion}
-use Rattle.dvi_ops.specs.Body.{acts, kept}
+use Rattle.dvi_ops.specs.Body.{instruction_acts, bounded_acts}
 use Rattle.dvi_ops.specs.Fonts.{WidthsByName, IsRightAfter, definitions_in, selection_of}
 use Rattle.dvi_ops.specs.Instruction.{FontDef, FontNum, Instruction, Do}
 use Rattle.dvi_ops.specs.Tokens.{bop_place}
-use Rattle.dvi_scan.specs.Drawing.{always}
+use Rattle.dvi_scan.specs.Drawing.{constant_width}
 use Rattle.dvi_scan.specs.Pass.{execute}
 use Rattle.dvi_scan.specs.Reached.{HasWidths, after_bops, has_number}
 use Rattle.dvi_scan.specs.Execution.{BreaksTurn, TakesRoom}
@@ -52,13 +52,13 @@ asked_of walk i = asked_width walk.fonts (code_in i)
 
 -- The pass goes on, and the rest of the walk is unchanged.
 pub record PassesOn (most : ℕ) (i : Instruction) (old new : Walk) : Type 0 where
-  pub goes_on : execute (kept (acts (always (asked_of old i)))) most i (stand_of old) ≡ Some (stand_of new)
+  pub goes_on : execute (bounded_acts (instruction_acts (constant_width (asked_of old i)))) most i (stand_of old) ≡ Some (stand_of new)
   pub known : known_of new ≡ known_of old
   pub fonts : new.fonts ≡ old.fonts
   pub left : places_left new ≡ places_left old
 
 -- The pass does not go on, or memory is refused for it.
 abbrev pub BreaksPass : (most : ℕ) → Instruction → Walk → StepFault → Type 0
-BreaksPass most i walk OutOfMemory = TakesRoom (acts (always (asked_of walk i))) most i (stand_of walk)
-BreaksPass most i walk (Broken cause) = BreaksTurn (acts (always (asked_of walk i))) most i (stand_of walk) cause
+BreaksPass most i walk OutOfMemory = TakesRoom (instruction_acts (constant_width (asked_of walk i))) most i (stand_of walk)
+BreaksPass most i walk (Broken cause) = BreaksTurn (instruction_acts (constant_width (asked_of walk i))) most i (stand_of walk) cause
 BreaksPass most i walk (Refused refusal) = ⊥

@@ -2,7 +2,7 @@
 use Rattle.std.specs.Prelude.{◌≡◌, ◌≤◌, ◌<◌, ◌-◌, ◌||◌, false, List, drop, take, ℕ, ℤ}
 use Rattle.std.specs.Option.{is_some}
 use Rattle.dvi_ops.specs.File.{IsIdle}
-use Rattle.dvi_ops.specs.Fonts.{defined, definitions_in}
+use Rattle.dvi_ops.specs.Fonts.{first_definition_of, definitions_in}
 use Rattle.dvi_ops.specs.Instruction.{Definition, FontDef, Instruction, Do}
 use Rattle.dvi_ops.specs.Table.{Spells}
 use Rattle.dvi_scan.specs.Ends.{StandsAt}
@@ -15,7 +15,7 @@ pub record LooksOne (bytes : List ℕ) (at to : ℕ) (old new : List ℤ) (next 
   pub here : Instruction
   pub spelled : Spells here (take (next - at) (drop at bytes))
   pub idle : IsIdle here
-  pub numbers : (f : ℤ) → has_number new f ≡ (has_number old f || is_some (defined f (definitions_in here)))
+  pub numbers : (f : ℤ) → has_number new f ≡ (has_number old f || is_some (first_definition_of f (definitions_in here)))
 
 -- A definition is there, whose number was not kept before.
 abbrev pub MeetsNumber : List ℕ → (at to : ℕ) → List ℤ → Type 0

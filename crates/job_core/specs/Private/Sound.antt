@@ -41,11 +41,11 @@ pub record IsBoundedFile (fonts : Slots) (w : Writing) : Type 0 where
   pub written : HasWritten fonts before w pages
 
 -- The refusal of a job if its writer does not take a page.
-abbrev pub refusal_for : WriteFault → Refusal
-refusal_for JobOver = refusals.JobOver
-refusal_for TooManyPages = refusals.TooManyPages
-refusal_for TooMuchShipped = refusals.TooMuchShipped
-refusal_for TooMuchSpecial = refusals.TooMuchSpecial
-refusal_for HugePage = refusals.HugePage
-refusal_for OutOfMemory = refusals.OutOfMemory
-refusal_for Device = refusals.Device
+abbrev pub write_refusal : WriteFault → Refusal
+write_refusal JobOver = refusals.JobOver
+write_refusal TooManyPages = refusals.TooManyPages
+write_refusal TooMuchShipped = refusals.TooMuchShipped
+write_refusal TooMuchSpecial = refusals.TooMuchSpecial
+write_refusal HugePage = refusals.HugePage
+write_refusal OutOfMemory = refusals.OutOfMemory
+write_refusal Device = refusals.Device

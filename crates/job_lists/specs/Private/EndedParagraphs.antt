@@ -14,7 +14,7 @@ use Rattle.job_machine.specs.declared.replies.Refusal.{Refusal}
 use Rattle.job_machine.specs.declared.replies.Refusal.TheVariants.{TooDeep, ListTooLong}
 use Rattle.job_machine.specs.declared.OpenList.{OpenList}
 use Rattle.job_machine.specs.State.{innermost, items_in}
-use Rattle.job_machine.specs.Paragraphs.{depth_in, refusal_for, set_after, with_lines}
+use Rattle.job_machine.specs.Paragraphs.{depth_in, paragraph_refusal, set_after, with_lines}
 
 -- A paragraph of these items was set after the lists around it, and its lines are at the end of the innermost of them.
 pub record IsEnded (params : Params) (around : List OpenList) (items : Items) (after : List OpenList) (told : AppendedParagraph) : Type 0 where
@@ -36,6 +36,6 @@ IsRefused params around items lines =
 
 -- The refusal of lines that are not appended. None where memory was refused.
 abbrev pub refusal_of : UnappendedLines → Option Refusal
-refusal_of (unappended.Unset fault) = refusal_for fault
+refusal_of (unappended.Unset fault) = paragraph_refusal fault
 refusal_of unappended.TooDeep = Some TooDeep
 refusal_of unappended.TooLong = Some ListTooLong

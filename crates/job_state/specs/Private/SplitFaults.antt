@@ -6,7 +6,7 @@ use Rattle.job_machine.specs.declared.replies.Refusal.{Refusal}
 use Rattle.job_machine.specs.declared.replies.Refusal.TheVariants.{InfiniteShrink, DimensionTooLarge}
 
 -- The refusal for a fault; None if memory was refused.
-abbrev pub refusal_for : SplitFault → Option Refusal
-refusal_for faults.InfiniteShrink = Some InfiniteShrink
-refusal_for faults.DimensionTooLarge = Some DimensionTooLarge
-refusal_for faults.OutOfMemory = None
+abbrev pub split_refusal : SplitFault → Option Refusal
+split_refusal faults.InfiniteShrink = Some InfiniteShrink
+split_refusal faults.DimensionTooLarge = Some DimensionTooLarge
+split_refusal faults.OutOfMemory = None

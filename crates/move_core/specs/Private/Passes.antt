@@ -18,8 +18,8 @@ use Rattle.move_core.specs.declared.amount_set.AmountSet.{AmountSet}
 use Rattle.move_core.specs.declared.later.Amounts.{Amounts}
 use Rattle.move_core.specs.declared.later.Later.{Later}
 use Rattle.move_core.specs.declared.passes.RegisterPass.{RegisterPass}
-use Rattle.move_core.specs.Registers.{RegisterPair, Known, nothing_known, is_amount, written}
-use Rattle.move_core.specs.Reused.{along, plain_amount, comes_again}
+use Rattle.move_core.specs.Registers.{RegisterPair, Known, nothing_known, is_amount, written_leaf}
+use Rattle.move_core.specs.Reused.{movement_along, plain_amount, comes_again}
 
 -- The values of the code as values of the definitions.
 abbrev pub register_view : MoveRegister → instructions.MoveRegister
@@ -55,10 +55,10 @@ closes_all (i ∷ rest) None = false
 closes_all (i ∷ rest) (Some depth) = closes_all rest (depth_after depth i)
 
 -- What is left when each push with a pop directly after it is removed, repeatedly. `out` has what was kept so far, the last first.
-abbrev pub trimmed : List Instruction → (out : List Instruction) → List Instruction
-trimmed [] out = reverse out
-trimmed (Pop ∷ rest) (Push ∷ out) = trimmed rest out
-trimmed (i ∷ rest) out = trimmed rest (i ∷ out)
+abbrev pub trimmed_instructions : List Instruction → (out : List Instruction) → List Instruction
+trimmed_instructions [] out = reverse out
+trimmed_instructions (Pop ∷ rest) (Push ∷ out) = trimmed_instructions rest out
+trimmed_instructions (i ∷ rest) out = trimmed_instructions rest (i ∷ out)
 
 -- Whether an instruction is a push; and whether it ends an empty group, where `pushed` is whether the instruction before it is a push.
 abbrev pub is_push : Instruction → Bool
@@ -76,18 +76,18 @@ has_empty_group pushed (i ∷ rest) = ends_empty_group pushed i || has_empty_gro
 
 -- Whether a plain movement by that amount comes in the group that is open after that many more pops, before this group ends, and not in an inner
 -- group.
-abbrev pub comes : List Instruction → (pops : ℕ) → Axis → ℤ → Bool
-comes [] pops axis n = false
-comes (Push ∷ rest) pops axis n = comes rest (suc pops) axis n
-comes (Pop ∷ rest) zero axis n = false
-comes (Pop ∷ rest) (suc pops) axis n = comes rest pops axis n
-comes (Do leaf ∷ rest) zero axis n = is_amount (plain_amount (along axis leaf)) n || comes rest zero axis n
-comes (Do leaf ∷ rest) (suc pops) axis n = comes rest (suc pops) axis n
-comes (i ∷ rest) pops axis n = comes rest pops axis n
+abbrev pub amount_comes : List Instruction → (pops : ℕ) → Axis → ℤ → Bool
+amount_comes [] pops axis n = false
+amount_comes (Push ∷ rest) pops axis n = amount_comes rest (suc pops) axis n
+amount_comes (Pop ∷ rest) zero axis n = false
+amount_comes (Pop ∷ rest) (suc pops) axis n = amount_comes rest pops axis n
+amount_comes (Do leaf ∷ rest) zero axis n = is_amount (plain_amount (movement_along axis leaf)) n || amount_comes rest zero axis n
+amount_comes (Do leaf ∷ rest) (suc pops) axis n = amount_comes rest (suc pops) axis n
+amount_comes (i ∷ rest) pops axis n = amount_comes rest pops axis n
 
 -- Whether an instruction is a plain movement whose amount comes again.
 abbrev pub again_in : Instruction → (rest : List Instruction) → Bool
-again_in (Do leaf) rest = comes_again leaf (comes rest 0)
+again_in (Do leaf) rest = comes_again leaf (amount_comes rest 0)
 again_in i rest = false
 
 -- Whether an instruction is a plain movement.
@@ -110,59 +110,60 @@ abbrev pub outside_groups : Groups
 outside_groups = record { known = nothing_known; outer = [] }
 
 -- After the innermost open group; nothing is known where none is open.
-abbrev pub left : (outer : List Known) → Groups
-left [] = outside_groups
-left (known ∷ outer) = record { known = known; outer = outer }
+abbrev pub groups_left : (outer : List Known) → Groups
+groups_left [] = outside_groups
+groups_left (known ∷ outer) = record { known = known; outer = outer }
 
 -- A push saves what is known, and a pop restores it.
-abbrev pub entered : Instruction → Groups → Groups
-entered Push g = record { known = g.known; outer = g.known ∷ g.outer }
-entered Pop g = left g.outer
-entered i g = g
+abbrev pub groups_entered : Instruction → Groups → Groups
+groups_entered Push g = record { known = g.known; outer = g.known ∷ g.outer }
+groups_entered Pop g = groups_left g.outer
+groups_entered i g = g
 
 -- An instruction as it is written.
 abbrev pub op_written : Known → Instruction → (again : Bool) → Instruction
-op_written k (Do leaf) again = Do (written k leaf again).leaf
+op_written k (Do leaf) again = Do (written_leaf k leaf again).leaf
 op_written k i again = i
 
 -- The known values after an instruction.
 abbrev pub amounts_after : Known → Instruction → (again : Bool) → Known
-amounts_after k (Do leaf) again = (written k leaf again).known
+amounts_after k (Do leaf) again = (written_leaf k leaf again).known
 amounts_after k i again = k
 
 -- Instructions written with registers.
-abbrev pub rewritten : List Instruction → Groups → List Instruction
-rewritten [] g = []
-rewritten (i ∷ rest) g =
-    op_written (entered i g).known i (again_in i rest)
-    ∷ rewritten rest (record { known = amounts_after (entered i g).known i (again_in i rest); outer = (entered i g).outer })
+abbrev pub rewritten_instructions : List Instruction → Groups → List Instruction
+rewritten_instructions [] g = []
+rewritten_instructions (i ∷ rest) g =
+    op_written (groups_entered i g).known i (again_in i rest)
+    ∷ rewritten_instructions rest (record
+        { known = amounts_after (groups_entered i g).known i (again_in i rest); outer = (groups_entered i g).outer })
 
 -- Whether a set of amounts contains this one.
 unfoldable pub has_amount : AmountSet → ℤ → Bool
 has_amount s n = list_any (λ (m : ℤ). int_eq m n) (take s.count s.first) || contains int_cmp s.others n
 
 -- Whether the set for a direction contains an amount.
-abbrev pub has : Amounts → Axis → ℤ → Bool
-has amounts Across n = has_amount amounts.across n
-has amounts Downward n = has_amount amounts.down n
+abbrev pub contains_amount : Amounts → Axis → ℤ → Bool
+contains_amount amounts Across n = has_amount amounts.across n
+contains_amount amounts Downward n = has_amount amounts.down n
 
 -- Whether the amounts of the group that is open after that many more pops contain this one.
 abbrev pub held_at : List Amounts → (pops : ℕ) → Axis → ℤ → Bool
 held_at [] pops axis n = false
-held_at (amounts ∷ outer) zero axis n = has amounts axis n
+held_at (amounts ∷ outer) zero axis n = contains_amount amounts axis n
 held_at (amounts ∷ outer) (suc pops) axis n = held_at outer pops axis n
 
 -- The collected amounts are those that come in these instructions.
 abbrev pub Knows : Later → (rest : List Instruction) → Type 0
-Knows m rest = (pops : ℕ) → (axis : Axis) → (n : ℤ) → held_at (m.here ∷ reverse m.outer.items) pops axis n ≡ comes rest pops axis n
+Knows m rest = (pops : ℕ) → (axis : Axis) → (n : ℤ) → held_at (m.here ∷ reverse m.outer.items) pops axis n ≡ amount_comes rest pops axis n
 
 -- The known values in a pass.
 abbrev pub known_groups : RegisterPass → Groups
 known_groups p = record { known = known_view p.known; outer = reverse (map known_view p.outer.items) }
 
 -- The instructions before instruction i, and what a pass will write from there on.
-abbrev pub makes : RegisterPass → List BodyOp → ℕ → List Instruction
-makes p ops i = map body_view (take i ops) ++ rewritten (map body_view (drop i ops)) (known_groups p)
+abbrev pub pass_output : RegisterPass → List BodyOp → ℕ → List Instruction
+pass_output p ops i = map body_view (take i ops) ++ rewritten_instructions (map body_view (drop i ops)) (known_groups p)
 
 -- The remaining flags of a pass are those of the movements from instruction i on.
 abbrev pub HasFlags : RegisterPass → List BodyOp → ℕ → Type 0
@@ -170,5 +171,6 @@ HasFlags p ops i = reverse p.flags.items ≡ flags_of (map body_view (drop i ops
 
 -- A pass makes the same in total after it has processed instruction i.
 abbrev pub RewritesOp : RegisterPass → List BodyOp → ℕ → RegisterPass → List BodyOp → Type 0
-RewritesOp before ops i after written =
-    (length written ≡ length ops) × (HasFlags before ops i → HasFlags after written (i + 1) × (makes after written (i + 1) ≡ makes before ops i))
+RewritesOp before ops i after written_leaf =
+    (length written_leaf ≡ length ops) × (HasFlags before ops i
+        → HasFlags after written_leaf (i + 1) × (pass_output after written_leaf (i + 1) ≡ pass_output before ops i))

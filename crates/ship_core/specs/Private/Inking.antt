@@ -9,7 +9,7 @@ use Rattle.dvi_ops.specs.Runs.{instructions_of}
 use Rattle.page_core.specs.declared.placing.MarkKind.{MarkKind}
 use Rattle.page_core.specs.declared.placing.MarkKind.TheVariants as ink
 use Rattle.ship_core.specs.declared.drawing.Drawing.{Drawing}
-use Rattle.ship_core.specs.Drawing.{ruled, font_after, body_of_picture}
+use Rattle.ship_core.specs.Drawing.{rule_leaf, font_after, body_of_picture}
 use Rattle.page_core.specs.Pictures.{Picture}
 use Rattle.page_core.specs.declared.placing.Point.{Point}
 
@@ -29,17 +29,17 @@ selection None font = Do (FontNum font) ∷ []
 selection (Some current) font = if int_eq font current then [] else Do (FontNum font) ∷ []
 
 -- The instruction for ink of that width.
-abbrev pub inked : Kind → (width : ℤ) → MarkKind → List Instruction
-inked kind width (ink.Rule height) = Do (ruled kind height width) ∷ []
-inked kind width (ink.Glyph slot code) = Do (SetChar (pos code)) ∷ []
+abbrev pub ink_instructions : Kind → (width : ℤ) → MarkKind → List Instruction
+ink_instructions kind width (ink.Rule height) = Do (rule_leaf kind height width) ∷ []
+ink_instructions kind width (ink.Glyph slot code) = Do (SetChar (pos code)) ∷ []
 
 -- The instructions so far, and those for the picture that follows.
-abbrev pub makes : Kind → Drawing → Picture → List Instruction
-makes kind d rest = instructions_of d.ops ++ flat (body_of_picture kind d.h d.v (option_map pos d.font) rest)
+abbrev pub instructions_made : Kind → Drawing → Picture → List Instruction
+instructions_made kind d rest = instructions_of d.ops ++ flat (body_of_picture kind d.h d.v (option_map pos d.font) rest)
 
 -- The font after the picture that follows.
-abbrev pub leaves : Drawing → Picture → Option ℤ
-leaves d rest = font_after (option_map pos d.font) rest
+abbrev pub font_left : Drawing → Picture → Option ℤ
+font_left d rest = font_after (option_map pos d.font) rest
 
 -- The second drawing is the first one after a push, which returned the place: the same place and font, and one instruction more.
 pub record IsOpened (outer inside : Drawing) (at : Point ℤ) : Type 0 where

@@ -8,48 +8,48 @@ use Rattle.node_core.specs.declared.tree.BoxNode.{BoxNode}
 use Rattle.node_core.specs.declared.tree.Node.{Node}
 use Rattle.break_lines.specs.LineItems.{at_break, without_first}
 use Rattle.vert_core.specs.declared.planning.PlannedLine.{PlannedLine}
-use Rattle.vert_core.specs.Interline.{interline, glue_of, appended}
+use Rattle.vert_core.specs.Interline.{interline, glue_of, appended_nodes}
 use Rattle.vert_core.specs.Lines.{BrokenParagraph, line_begin, line_box, depth_before, penalty_after, penalty_nodes}
 
 -- The items that a line keeps before the item at its end.
-abbrev pub front : List Node → (begin : Option ℕ) → (end : ℕ) → List Node
-front list None end = take end list
-front list (Some a) end = without_first (drop (a + 1) (take end list))
+abbrev pub front_items : List Node → (begin : Option ℕ) → (end : ℕ) → List Node
+front_items list None end = take end list
+front_items list (Some a) end = without_first (drop (a + 1) (take end list))
 
 -- The index of the first of them; where there is none, it is that of the item at the end.
 abbrev pub first_index : List Node → (begin : Option ℕ) → (end : ℕ) → ℕ
-first_index list begin end = length (take end list) - length (front list begin end)
+first_index list begin end = length (take end list) - length (front_items list begin end)
 
 -- The penalty between a line and the next one, of `count` lines, and 0 after the last line.
 abbrev pub penalty_between : Params → (count line : ℕ) → ℤ
 penalty_between params count line = if nat_lt (line + 1) count then penalty_after params count line else pos 0
 
 -- A box without its items.
-abbrev pub hollow : BoxNode → BoxNode
-hollow b = record b { list = none }
+abbrev pub hollow_box : BoxNode → BoxNode
+hollow_box b = record b { list = none }
 
 -- A line of a paragraph without its items.
 unfoldable pub planned : BrokenParagraph → ℕ → PlannedLine
 planned p line =
     record {
       glue = glue_of (interline p.params (depth_before p line) (line_box p line).height);
-      box_node = hollow (line_box p line);
+      box_node = hollow_box (line_box p line);
       penalty = penalty_between p.params (length p.places) line;
       begin = first_index p.nodes (line_begin p.places line) (get_or p.places line 0);
       end = get_or p.places line 0;
     }
 
 -- This number of items, and what a line keeps of the item after them.
-abbrev pub line_of : (count : ℕ) → List Node → List Node
-line_of count part = take count part ++ at_break (slice_get part count)
+abbrev pub items_with_break : (count : ℕ) → List Node → List Node
+items_with_break count part = take count part ++ at_break (slice_get part count)
 
 -- The box of a line, which keeps of its items what a line keeps.
 abbrev pub closed_box : PlannedLine → BoxNode
-closed_box line = record line.box_node { list = items_of (line_of (line.end - line.begin) (nodes_of line.box_node.list)) }
+closed_box line = record line.box_node { list = items_of (items_with_break (line.end - line.begin) (nodes_of line.box_node.list)) }
 
 -- The nodes that a line adds to a vertical list.
 unfoldable pub stacked : PlannedLine → List Node
-stacked line = appended line.glue (pos 0) (closed_box line) ++ penalty_nodes line.penalty
+stacked line = appended_nodes line.glue (pos 0) (closed_box line) ++ penalty_nodes line.penalty
 
 -- A line with these items.
 abbrev pub with_part : List Node → PlannedLine → PlannedLine
@@ -60,8 +60,8 @@ abbrev pub part_of : List Node → PlannedLine → List Node
 part_of list line = take (line.end - line.begin + 1) (drop line.begin list)
 
 -- A line with a copy of these items.
-abbrev pub copied : List Node → PlannedLine → PlannedLine
-copied list line = with_part (part_of list line) line
+abbrev pub copied_line : List Node → PlannedLine → PlannedLine
+copied_line list line = with_part (part_of list line) line
 
 -- Where the first of these lines begins; the end of the list if there is none.
 abbrev pub next_begin : List PlannedLine → (end : ℕ) → ℕ
@@ -69,9 +69,9 @@ next_begin [] end = end
 next_begin (line ∷ rest) end = line.begin
 
 -- The lines with the items of a list up to an end, which is cut where each of them begins.
-abbrev pub moved : List Node → (end : ℕ) → List PlannedLine → List PlannedLine
-moved list end [] = []
-moved list end (line ∷ rest) = with_part (drop line.begin (take (next_begin rest end) list)) line ∷ moved list end rest
+abbrev pub moved_lines : List Node → (end : ℕ) → List PlannedLine → List PlannedLine
+moved_lines list end [] = []
+moved_lines list end (line ∷ rest) = with_part (drop line.begin (take (next_begin rest end) list)) line ∷ moved_lines list end rest
 
 -- The items in the box of a line.
 abbrev pub items_in : PlannedLine → List Node

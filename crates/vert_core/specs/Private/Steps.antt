@@ -16,9 +16,9 @@ use Rattle.vert_core.specs.Places.{is_some_before_break}
 use Rattle.vert_core.specs.Split.{trial_at, is_cheaper, is_special}
 
 -- The trial to keep of the best one so far and a later one: the later one, unless the earlier one is cheaper.
-abbrev pub cheaper : Option Trial → Trial → Trial
-cheaper None t = t
-cheaper (Some best) t = if is_cheaper best t then best else t
+abbrev pub cheaper_trial : Option Trial → Trial → Trial
+cheaper_trial None t = t
+cheaper_trial (Some best) t = if is_cheaper best t then best else t
 
 -- The best trial so far, as a list.
 abbrev pub trial_list : Option Trial → List Trial
@@ -35,13 +35,13 @@ pub record IsOpen (items : List Node) (i : ℕ) : Type 0 where
   pub dropped : is_some_before_break (slice_get items i) ≡ false
 
 -- Items below glue, if there is any.
-abbrev pub glued : Option Glue → List Node → List Node
-glued None items = items
-glued (Some glue) items = nodes.Glue glue ∷ items
+abbrev pub glued_items : Option Glue → List Node → List Node
+glued_items None items = items
+glued_items (Some glue) items = nodes.Glue glue ∷ items
 
 -- The items of the rest: the specials among those from `first` on and before `start`, and those from `start` on, below the glue.
 abbrev pub rest_list : SplitRest → List Node → List Node
-rest_list rest items = filter is_special (take (rest.start - rest.first) (drop rest.first items)) ++ glued rest.glue (drop rest.start items)
+rest_list rest items = filter is_special (take (rest.start - rest.first) (drop rest.first items)) ++ glued_items rest.glue (drop rest.start items)
 
 -- The items of the rest, if there is one.
 abbrev pub left_items : Option SplitRest → List Node → List Node

@@ -2,7 +2,7 @@
 use Rattle.std.proofs.Common.{◌++◌, ℕ, List, ap, subst, sym, ◌∙◌}
 use Rattle.dvi_device.specs.Pasts.{Past, KeepsPast}
 use Rattle.job_machine.specs.Machine.{Machine}
-use Rattle.job_core.specs.Jobs.{due}
+use Rattle.job_core.specs.Jobs.{due_bytes}
 use Rattle.boxglue_script.specs.Blocks.{lines_of}
 use Rattle.boxglue_program.proofs.RunLaws.{was_run, was_run_past, same_run_with}
 use Rattle.boxglue_program.proofs.OutcomeLaws.{outcome_at_end}
@@ -23,9 +23,9 @@ returns-clause-ran g c =
     c.in_ok-job.ensures.ok ran.1 c.finish-end.ensures.finished began in
     let first = g.D.Device.past c.args.device in
     let last = g.D.Device.past c.into_device.result in
-    let kept = subst (λ (p : Past). KeepsPast first (due run.last) p) (sym c.into_device.ensures.past)
-    (subst (λ (p : Past). KeepsPast p (due run.last) c.finish-end.new.self.past) c.in_ok-job.ensures.made.began past) in
-    let all = same_run_with c.args.files.now _ _ _ _ _ _ _ _ _ (λ (m : Machine). KeepsPast first (due m) last) (sym c.in_ok-job.ensures.made.failed)
+    let kept = subst (λ (p : Past). KeepsPast first (due_bytes run.last) p) (sym c.into_device.ensures.past)
+    (subst (λ (p : Past). KeepsPast p (due_bytes run.last) c.finish-end.new.self.past) c.in_ok-job.ensures.made.began past) in
+    let all = same_run_with c.args.files.now _ _ _ _ _ _ _ _ _ (λ (m : Machine). KeepsPast first (due_bytes m) last) (sym c.in_ok-job.ensures.made.failed)
     c.into_device.ensures.failed c.into_device.ensures.bytes_written run kept in (
       ran.0,
       c.finish-end.result,

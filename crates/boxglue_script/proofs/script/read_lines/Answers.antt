@@ -6,7 +6,7 @@ use Rattle.boxglue_script.specs.Blocks.{lines_of}
 use Rattle.boxglue_script.proofs.ScriptLaws.{handed_is, read_more, read_whole, right_at_start, right_so_far, right_up_to}
 use Rattle.boxglue_script.proofs.PlainTexts.{ArePrintable, plain_lines}
 use Rattle.boxglue_script.specs.declared.script.Line.{Line}
-use Rattle.boxglue_script.specs.Private.Reading.{Found, lines_then, reads}
+use Rattle.boxglue_script.specs.Private.Reading.{Found, lines_then, reading_from}
 use Rattle.boxglue_script.proofs.script.read_lines.Goals as goal
 
 nothing_found : (found : Found) → lines_then [] found ≡ found
@@ -44,7 +44,7 @@ pub loop-rest-init : goal.loop-rest-init
 loop-rest-init c =
     let none : lines_of c.new-found.result ≡ [] = rw (c.new-found.ensures.full, c.new-found.ensures.last) refl in
     record {
-      reading = ap (λ (found : List Line). lines_then found (reads 1 (lines c.args.text.now))) none ∙ nothing_found (reads 1 (lines c.args.text.now));
+      reading = ap (λ (found : List Line). lines_then found (reading_from 1 (lines c.args.text.now))) none ∙ nothing_found (reading_from 1 (lines c.args.text.now));
       right = right_at_start c.args.text.now;
       counted = omega arith;
       printable = λ plain. plain_lines c.args.text.now (sym c.is_plain-plain.ensures ∙ plain);

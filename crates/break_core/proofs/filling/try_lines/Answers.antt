@@ -5,11 +5,11 @@ use Rattle.std.proofs.lemmas.Bool.{cases_Bool, cond-true, cond-false}
 use Rattle.std.proofs.lemmas.Int.{ints}
 use Rattle.std.proofs.lemmas.List.{length-replicate, take-set-le}
 use Rattle.std.proofs.lemmas.Option.{slice_get_read}
-use Rattle.break_lines.specs.Sizes.{least_width, line_fits}
+use Rattle.break_lines.specs.Sizes.{least_width, fits_of_sums}
 use Rattle.break_core.specs.declared.active_list.Live.{Live}
 use Rattle.break_core.specs.Trials.{is_overfull}
 use Rattle.break_core.specs.Private.Leaving.{is_long, is_more, kept_over}
-use Rattle.break_core.specs.Private.Active.{deactivates, stops, pruned, groups_of, AreOver, HaveBest, IsNext, IsActive, AreLoosest, CostLoosest, CanAllWait, IsOfferingWaiting}
+use Rattle.break_core.specs.Private.Active.{deactivates, stops_at, pruned_problem, groups_of, AreOver, HaveBest, IsNext, IsActive, AreLoosest, CostLoosest, CanAllWait, IsOfferingWaiting}
 use Rattle.break_lines.specs.Tables.{slots, IsRow}
 use Rattle.break_lines.proofs.Rows.{row_empty}
 use Rattle.break_lines.proofs.Entries.{get-set_same, get-set_other}
@@ -75,7 +75,7 @@ offer_line-judged-requires g c =
         within = next.group.within;
         earlier = next.group.earlier;
         places = c.requires.places;
-        entries = group_of (pruned f rules_now.params.now rules_now.bound rules_now.ending) table c.args.place live.group c.requires.filled.is_table next.group;
+        entries = group_of (pruned_problem f rules_now.params.now rules_now.bound rules_now.ending) table c.args.place live.group c.requires.filled.is_table next.group;
         penalty = omega (arith, ints, c.place-at.ensures.penalty_bounded);
         small = c.try_line-sums.ensures.sums_bounded;
       };
@@ -116,13 +116,13 @@ loop-index-preserved g c =
     let params = rules_now.params.now in
     let ending = rules_now.ending in
     let bound = rules_now.bound in
-    let p = pruned f params bound ending in
-    let stop = stops f params ending in
+    let p = pruned_problem f params bound ending in
+    let stop = stops_at f params ending in
     let groups = groups_of lives in
     let group = live.group in
     let h = g.M.Meter.facts c.loop-index.meter in
     let sums = c.try_line-sums.result in
-    let line = line_fits params sums in
+    let line = fits_of_sums params sums in
     let width = to_z w64 (of_z w64 c.least_width-width.result) in
     let exact : to_z w64 (of_z w64 c.least_width-width.result) ≡ c.least_width-width.result = omega (arith, ints) in
     let is_width : to_z w64 (of_z w64 c.least_width-width.result) ≡ least_width c.try_line-sums.result = exact ∙ c.least_width-width.ensures in
@@ -223,8 +223,8 @@ loop-index-preserved g c =
     place = c.index-live.result.now.group.place
 
     next :
-        IsNext (pruned (g.M.Meter.facts c.args.meter.now) c.args.rules.now.params.now c.args.rules.now.bound c.args.rules.now.ending)
-        (stops (g.M.Meter.facts c.args.meter.now) c.args.rules.now.params.now c.args.rules.now.ending) c.args.table.now c.args.place
+        IsNext (pruned_problem (g.M.Meter.facts c.args.meter.now) c.args.rules.now.params.now c.args.rules.now.bound c.args.rules.now.ending)
+        (stops_at (g.M.Meter.facts c.args.meter.now) c.args.rules.now.params.now c.args.rules.now.ending) c.args.table.now c.args.place
         c.loop-index.invariant.at c.loop-index.invariant.low c.index-live.result.now.group
     next =
         let inv = c.loop-index.invariant in
@@ -257,7 +257,7 @@ pub loop-index-init : goal.loop-index-init
 loop-index-init g c =
     let f = g.M.Meter.facts c.args.meter.now in
     let rules_now = c.args.rules.now in
-    let p = pruned f rules_now.params.now rules_now.bound rules_now.ending in
+    let p = pruned_problem f rules_now.params.now rules_now.bound rules_now.ending in
     record {
       wide = ap length c.requires.empty ∙ length-replicate (slots rules_now.params.now.first_lines) None;
       facts = refl;
@@ -287,8 +287,8 @@ offer_waiting-requires g c =
     let f = g.M.Meter.facts c.args.meter.now in
     let rules_now = c.args.rules.now in
     let params = rules_now.params.now in
-    let p = pruned f params rules_now.bound rules_now.ending in
-    let stop = stops f params rules_now.ending in
+    let p = pruned_problem f params rules_now.bound rules_now.ending in
+    let stop = stops_at f params rules_now.ending in
     let table = c.args.table.now in
     let now = c.loop-index.lives.items in
     let last : c.loop-index.index ≡ c.loop-index.end = omega (arith, c.loop-index-test.false, inv.index_bounded) in
@@ -322,8 +322,8 @@ returns-clause-row g c =
     let params = rules_now.params.now in
     let bound = rules_now.bound in
     let ending = rules_now.ending in
-    let p = pruned f params bound ending in
-    let stop = stops f params ending in
+    let p = pruned_problem f params bound ending in
+    let stop = stops_at f params ending in
     let table = c.args.table.now in
     let place = c.args.place in
     let now = c.loop-index.lives.items in
@@ -355,7 +355,7 @@ returns-clause-live g c = λ free.
     let last : c.loop-index.index ≡ c.loop-index.end = omega (arith, c.loop-index-test.false, inv.index_bounded) in
     let left = are_left f params bound ending table place inv.at inv.low c.loop-index.index c.loop-index.end
     c.args.lives.now.items now last inv.count inv.rest inv.waits c.requires.over c.requires.best inv.live in
-    subst (λ xs. IsActive (pruned f params bound ending) (stops f params ending) table (place + 1) place 0 0 (groups_of xs)) (sym c.leave_out.ensures)
+    subst (λ xs. IsActive (pruned_problem f params bound ending) (stops_at f params ending) table (place + 1) place 0 0 (groups_of xs)) (sym c.leave_out.ensures)
     (front_left f params bound ending table place inv.at inv.low (take c.loop-index.kept now) (drop c.loop-index.end now) c.requires.may c.requires.last
     free left inv.front)
 

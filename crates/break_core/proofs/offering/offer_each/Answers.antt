@@ -2,9 +2,9 @@ use Rattle.std.proofs.Common.{◌≡◌, ◌∙◌, ◌≤◌, to_z, of_z, w32, 
 use Rattle.std.specs.Prelude.{nat_lt, if◌then◌else◌}
 use Rattle.std.proofs.lemmas.Int.{ints}
 use Rattle.std.proofs.lemmas.Option.{slice_get_read}
-use Rattle.break_lines.specs.Ways.{since}
+use Rattle.break_lines.specs.Ways.{last_forced_below}
 use Rattle.break_lines.specs.Tables.{slots}
-use Rattle.break_lines.specs.Costs.{line_of, after_class}
+use Rattle.break_lines.specs.Costs.{admitted_line, after_class}
 use Rattle.break_lines.proofs.Parts.{alone_is}
 use Rattle.break_lines.specs.Sizes.{fit_after}
 use Rattle.break_core.specs.Private.Filling.{IsOffering}
@@ -45,12 +45,12 @@ loop-index-preserved c =
     let line = c.after-offered.ensures.value
     ∙ ap (λ s. after_class rules.params.now s.class (if nat_lt s.lines rules.params.now.first_lines then costs.first else costs.rest)) c.end-end.ensures.end
     ∙ alone_is rules.params.now rules.bound p c.args.line.now costs.first costs.rest e.end.lines e.end.class c.alone-costs.ensures.first c.alone-costs.ensures.later_lines
-    ∙ ap (λ x. line_of rules.params.now rules.bound x e.end.class (fit_after rules.params.now.first_lines e.end.lines c.args.line.now)) penalty in
+    ∙ ap (λ x. admitted_line rules.params.now rules.bound x e.end.class (fit_after rules.params.now.first_lines e.end.lines c.args.line.now)) penalty in
     record {
       low = omega (arith, c.loop-index.invariant.low);
       wide = c.offer.ensures.wide ∙ ap slots c.get-cut.ensures.value;
       row = λ p cut late line_fit is.
-          c.offer.ensures.row p table (cut ∙ sym c.get-cut.ensures.value) stands (subst (λ x. since p c.args.tried.now.place ≤ x) (sym place) late) (line_fit e.end place ∙ sym line)
+          c.offer.ensures.row p table (cut ∙ sym c.get-cut.ensures.value) stands (subst (λ x. last_forced_below p c.args.tried.now.place ≤ x) (sym place) late) (line_fit e.end place ∙ sym line)
           (c.loop-index.invariant.row p cut late line_fit is);
     }
 

@@ -1,6 +1,6 @@
 use Rattle.std.proofs.Common.{◌∙◌, length, refl, ap, sym}
 use Rattle.std.proofs.lemmas.Option.{same_Some, slice_get_read}
-use Rattle.break_lines.specs.Tables.{extended}
+use Rattle.break_lines.specs.Tables.{extended_entry}
 use Rattle.break_lines.specs.Costs.{line_after}
 use Rattle.break_core.specs.Private.Filling.{offer_from}
 use Rattle.break_core.proofs.offering.offer_from.Goals as goal
@@ -24,5 +24,5 @@ returns c = λ e at.
     let x = c.index-table-index.result in
     let stands = slice_get_read table (length table) c.args.index x refl c.requires.index_bounded c.index-table-index.is in
     c.extended.ensures
-    ∙ ap (extended 0 x c.args.index c.args.place) (c.line_after-line.ensures.value ∙ ap (λ s. line_after params s.class c.args.alone.now) c.end.ensures.end)
+    ∙ ap (extended_entry 0 x c.args.index c.args.place) (c.line_after-line.ensures.value ∙ ap (λ s. line_after params s.class c.args.alone.now) c.end.ensures.end)
     ∙ ap (λ y. offer_from params y c.args.index c.args.place c.args.alone.now) (same_Some x e (sym stands ∙ at))

@@ -2,7 +2,7 @@ use Rattle.std.proofs.Common.{◌≡◌, ◌∙◌, to_z, of_z, w32, ap, sym, su
 use Rattle.std.proofs.lemmas.Int.{ints}
 use Rattle.break_lines.specs.Tables.{slots}
 use Rattle.break_lines.specs.Costs.{line_alone, is_loosest}
-use Rattle.break_lines.specs.Sizes.{line_fits}
+use Rattle.break_lines.specs.Sizes.{fits_of_sums}
 use Rattle.break_core.specs.Private.Filling.{IsOf}
 use Rattle.break_core.proofs.ActiveNodes.{best_line, none_line, overfull_once}
 use Rattle.break_core.proofs.Endings.{left_out}
@@ -40,7 +40,7 @@ offer_best-requires-clause-best c = c.requires.best
 pub returns-then-left-clause-row : goal.returns-then-left-clause-row
 returns-then-left-clause-row c =
     left_out c.args.left c.args.table.now c.args.rules.now.params.now c.args.rules.now.bound c.args.live.now.group c.args.tried.place c.args.tried.penalty
-    (line_fits c.args.rules.now.params.now c.args.tried.sums) c.args.row.now.items c.if-left.true c.requires.can.rises c.requires.can.entries
+    (fits_of_sums c.args.rules.now.params.now c.args.tried.sums) c.args.row.now.items c.if-left.true c.requires.can.rises c.requires.can.entries
 
 pub returns-then-left-clause-wide : goal.returns-then-left-clause-wide
 returns-then-left-clause-wide c = c.requires.can.wide

@@ -1,7 +1,7 @@
 use Rattle.std.proofs.Common.{◌+◌, sym, subst}
 use Rattle.std.specs.Prelude.{IfOk}
 use Rattle.break_lines.specs.Tables.{IsTable}
-use Rattle.break_core.specs.Private.Active.{pruned, MayEnd}
+use Rattle.break_core.specs.Private.Active.{pruned_problem, MayEnd}
 use Rattle.break_core.proofs.Added.{within_pass}
 use Rattle.break_core.proofs.Admitting.{Found, all_found}
 use Rattle.break_core.proofs.passes.chosen_in.Goals as goal
@@ -17,7 +17,7 @@ returns-clause-found g c =
     let params = c.args.params.now in
     let bound = c.bound_of.result in
     let ending = c.ending_in.result in
-    let p = pruned f params bound ending in
+    let p = pruned_problem f params bound ending in
     let may : MayEnd ending f params bound = subst (MayEnd ending f params) (sym c.bound_of.ensures) c.ending_in.ensures.may in
     let table : IsTable p (c.places-places.result + 1) c.deref.result.now =
     subst (IsTable p (c.places-places.result + 1)) (sym c.deref.ensures.value)

@@ -1,5 +1,5 @@
 use Rattle.std.proofs.Common.{◌≡◌, ◌∙◌, ◌+◌, Some, None, ap, sym, subst}
-use Rattle.break_lines.specs.Tables.{extended, offer, IsRow}
+use Rattle.break_lines.specs.Tables.{extended_entry, offer, IsRow}
 use Rattle.break_lines.proofs.Reached.{offer_is}
 use Rattle.break_lines.proofs.Rows.{row_none, row_step}
 use Rattle.break_lines.proofs.row.offer.Goals as goal
@@ -16,6 +16,6 @@ returns-clause-row c = λ p table cut stands late line is.
     let put = c.put.ensures.put in
     let offers : offer p e c.args.index c.args.place ≡ Some o =
     offer_is p e c.args.index c.args.place (Some c.in-Some.line) late (line ∙ c.in-Some.is)
-    ∙ ap Some (ap (λ n. extended n e c.args.index c.args.place c.in-Some.line) cut ∙ sym c.extended.ensures) in
+    ∙ ap Some (ap (λ n. extended_entry n e c.args.index c.args.place c.in-Some.line) cut ∙ sym c.extended.ensures) in
     subst (IsRow p table c.args.place (c.args.index + 1)) (sym put.is)
     (row_step p table c.args.place c.args.index e o put.kept put.held c.args.row.now.items stands offers put.stood put.is_kept is)

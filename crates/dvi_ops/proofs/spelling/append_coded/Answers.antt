@@ -2,13 +2,13 @@
 use Rattle.std.proofs.Common.{◌≡◌, ◌≤◌, ◌+◌, ◌-◌, ◌++◌, ◌∷◌, [], ◌∙◌, ℕ, ℤ, List, length, take, drop, ap, take_all, append_assoc}
 use Rattle.std.proofs.lemmas.Int.{to_z-of_z}
 use Rattle.std.specs.Int.{w32}
-use Rattle.dvi_ops.specs.Spelling.{operand, coded}
+use Rattle.dvi_ops.specs.Spelling.{operand, code_and_number}
 use Rattle.dvi_ops.proofs.Operands.{last_bytes}
 use Rattle.dvi_ops.proofs.spelling.append_coded.Goals as goal
 
 all_digits :
     (base size : ℕ) (value : ℤ) (before middle after digits : List ℕ) (index : ℕ) → middle ≡ before ++ (base + size) ∷ [] → after ≡ middle ++ take index digits
-    → length digits ≤ index → digits ≡ operand size value → after ≡ before ++ coded base size value
+    → length digits ≤ index → digits ≡ operand size value → after ≡ before ++ code_and_number base size value
 all_digits base size value before middle after digits index first second past is =
     second
     ∙ (ap (λ (ns : List ℕ). middle ++ ns) (take_all index digits past ∙ is)

@@ -26,8 +26,8 @@ returns-in_err-walk-clause-refused c =
     handed_on (IsRefused c.args.files.now c.args.bytes.now) c.from_residual-in_err-walk.result fault c.from_residual-in_err-walk.ensures.1
     (refused c.args.files.now c.args.bytes.now fault c.in_err-walk.ensures.bad)
 
-pub kept-requires : goal.kept-requires
-kept-requires c = let (ahead, selected, has) = c.in_ok-walk.ensures.ok in has.starts.preamble.units
+pub opened_file-requires : goal.opened_file-requires
+opened_file-requires c = let (ahead, selected, has) = c.in_ok-walk.ensures.ok in has.starts.preamble.units
 
 pub returns-in_err-finish-clause-bad : goal.returns-in_err-finish-clause-bad
 returns-in_err-finish-clause-bad c =
@@ -55,7 +55,7 @@ returns-clause-ok c =
     let front = c.in_ok-ending.field-0 in
     let ending = front.ending in
     let (ahead, selected, has) = c.in_ok-walk.ensures.ok in
-    subst (λ (dvi : Opened). IsReadFrom c.args.files.now c.args.bytes.now dvi) (sym c.kept.ensures.dvi)
+    subst (λ (dvi : Opened). IsReadFrom c.args.files.now c.args.bytes.now dvi) (sym c.opened_file.ensures.dvi)
     (read_kept c.args.files.now c.args.bytes.now ending.post ending.after ending.last (postamble ending.stop) front.chain.items front.from ahead
     (so_far selected c.in_ok-walk.walk) (map marked_page c.in_ok-walk.walk.done.items) (map marked_page c.finish.new.walk.done.items) c.finish.new.walk.known has c.in_ok-finish.ensures.ended
     c.in_ok-finish.ensures.closed (ap (λ pages. map marked_page pages) c.in_ok-finish.ensures.done))
@@ -65,17 +65,17 @@ returns-clause-widths c =
     let ending = c.in_ok-ending.field-0.ending in
     let walk = c.in_ok-walk.walk in
     let new = c.finish.new.walk in
-    kept_widths (stand_of walk) (places_left walk) (map marked_page walk.done.items) (map marked_page new.done.items) (units_of ending.stop.units) new.known c.kept.result.dvi c.in_ok-finish.ensures.ended
-    (ap (λ pages. map marked_page pages) c.in_ok-finish.ensures.done) c.kept.ensures.dvi (file_widths c.args.files.now) c.args.bytes.now ending.after (ending.last - 5) (known_of walk) walk.fonts c.kept.result.fonts
-    c.in_ok-walk.ensures.widths c.in_ok-finish.ensures.closed (c.kept.ensures.fonts ∙ c.in_ok-finish.ensures.fonts)
+    kept_widths (stand_of walk) (places_left walk) (map marked_page walk.done.items) (map marked_page new.done.items) (units_of ending.stop.units) new.known c.opened_file.result.dvi c.in_ok-finish.ensures.ended
+    (ap (λ pages. map marked_page pages) c.in_ok-finish.ensures.done) c.opened_file.ensures.dvi (file_widths c.args.files.now) c.args.bytes.now ending.after (ending.last - 5) (known_of walk) walk.fonts c.opened_file.result.fonts
+    c.in_ok-walk.ensures.widths c.in_ok-finish.ensures.closed (c.opened_file.ensures.fonts ∙ c.in_ok-finish.ensures.fonts)
 
 pub returns-clause-specials : goal.returns-clause-specials
 returns-clause-specials c =
     let ending = c.in_ok-ending.field-0.ending in
     let walk = c.in_ok-walk.walk in
     let new = c.finish.new.walk in
-    kept_places (stand_of walk) (places_left walk) (map marked_page walk.done.items) (map marked_page new.done.items) (units_of ending.stop.units) new.known c.kept.result.dvi c.in_ok-finish.ensures.ended
-    (ap (λ pages. map marked_page pages) c.in_ok-finish.ensures.done) c.kept.ensures.dvi c.args.bytes.now c.in_ok-walk.specials.items c.kept.result.specials.items (λ k. (c.type_inv.bytes k).fits) c.in_ok-walk.ensures.specials c.kept.ensures.specials
+    kept_places (stand_of walk) (places_left walk) (map marked_page walk.done.items) (map marked_page new.done.items) (units_of ending.stop.units) new.known c.opened_file.result.dvi c.in_ok-finish.ensures.ended
+    (ap (λ pages. map marked_page pages) c.in_ok-finish.ensures.done) c.opened_file.ensures.dvi c.args.bytes.now c.in_ok-walk.specials.items c.opened_file.result.specials.items (λ k. (c.type_inv.bytes k).fits) c.in_ok-walk.ensures.specials c.opened_file.ensures.specials
 
 pub returns-clause-room : goal.returns-clause-room
 returns-clause-room c =
@@ -89,6 +89,6 @@ returns-clause-room c =
     let stop = postamble ending.stop in
     let bytes = c.args.bytes.now in
     let within = post_within c.args.files.now bytes ending.post ending.after ending.last stop front.chain.items has.starts.chained.framed in
-    kept_room (stand_of walk) (places_left walk) pages (map marked_page new.done.items) (units_of ending.stop.units) new.known c.kept.result.dvi ended
-    (ap (λ pages. map marked_page pages) c.in_ok-finish.ensures.done) c.kept.ensures.dvi bytes
+    kept_room (stand_of walk) (places_left walk) pages (map marked_page new.done.items) (units_of ending.stop.units) new.known c.opened_file.result.dvi ended
+    (ap (λ pages. map marked_page pages) c.in_ok-finish.ensures.done) c.opened_file.ensures.dvi bytes
     (reached_room (file_widths c.args.files.now) ahead bytes stop front.chain.items ending.post (so_far selected walk) pages within has.reached ended.between)

@@ -1,7 +1,7 @@
 -- All instructions before post are right, or the rule that one breaks is broken.
 use Rattle.std.proofs.Common.{refl}
 use Rattle.dvi_scan.proofs.ErrLemmas.{handed_on}
-use Rattle.dvi_scan.specs.Passed.{framing}
+use Rattle.dvi_scan.specs.Passed.{file_framing}
 use Rattle.dvi_ops.specs.View.{postamble}
 use Rattle.dvi_read.specs.Opening.{InThePages, IsDviFault, LookingAhead}
 use Rattle.dvi_read.proofs.OpenLemmas.{starts_reached, strays}

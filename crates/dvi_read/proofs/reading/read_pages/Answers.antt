@@ -13,7 +13,7 @@ use Rattle.dvi_read.specs.Walks.{IsWalked}
 use Rattle.dvi_read.specs.declared.fault.DviFault.TheVariants.{OutOfMemory}
 use Rattle.tfm_core.specs.FileWidths.{file_widths}
 use Rattle.dvi_read.proofs.reading.read_pages.Goals as goal
-use Rattle.dvi_scan.specs.Passed.{framing}
+use Rattle.dvi_scan.specs.Passed.{file_framing}
 
 pub returns-in_err-ahead-clause-bad : goal.returns-in_err-ahead-clause-bad
 returns-in_err-ahead-clause-bad c =
@@ -32,7 +32,7 @@ returns-clause-ok c =
     let stop = postamble ending.stop in
     let ahead = c.in_ok-ahead.ahead.keys in
     IfOk-weaker c.walk_pages.result (λ found. IsWalked (file_widths c.args.files.now) ahead c.args.bytes.now stop c.args.chain.items ending.post found.0)
-    (λ found. HoldsPages c.args.files.now c.args.bytes.now (framing ending.post ending.after ending.last stop c.args.chain.items) c.args.from found.0)
+    (λ found. HoldsPages c.args.files.now c.args.bytes.now (file_framing ending.post ending.after ending.last stop c.args.chain.items) c.args.from found.0)
     (λ found walked. (ahead, walked.selected, record { starts = c.requires.starts; looked = c.in_ok-ahead.ensures.ok; reached = walked.reached })) c.walk_pages.ensures.ok
 
 pub returns-clause-widths : goal.returns-clause-widths

@@ -2,10 +2,10 @@
 use Rattle.std.proofs.Common.{rules, ◌≡◌, [], ◌++◌, true, IfSome, List, Option, Some, Err, ℤ, map, ap, refl, sym, subst, ◌∙◌, to_z, of_z, w32}
 use Rattle.std.proofs.lemmas.Int.{ints}
 use Rattle.scaled_core.specs.Mark.{Mark}
-use Rattle.dvi_ops.specs.Body.{acts, kept}
+use Rattle.dvi_ops.specs.Body.{instruction_acts, bounded_acts}
 use Rattle.dvi_ops.specs.Instruction.{Do, Instruction, SetChar}
 use Rattle.dvi_ops.specs.View.{view}
-use Rattle.dvi_scan.specs.Drawing.{always}
+use Rattle.dvi_scan.specs.Drawing.{constant_width}
 use Rattle.dvi_scan.specs.Execution.{TurnsPage, inside_of}
 use Rattle.dvi_scan.specs.Pass.{execute}
 use Rattle.dvi_read.specs.PageMarks.{read_width}
@@ -22,7 +22,7 @@ unreachable-requires c =
     let ready = c.requires.ready in
     let (pages, marks, after, goes) = c.requires.goes_on in
     never_broken c.args.most fonts i page ready pages marks after fault c.take.new.self goes (no_memory fault (c.in_default-take.ensures.room.taken ready.room))
-    (subst (λ (w : Option ℤ). TurnsPage {A = Unit {0}} (acts (always w)) c.args.most i [] page c.take.new.self (Err fault)) c.width_asked-width.ensures (c.in_default-take.ensures.turns []))
+    (subst (λ (w : Option ℤ). TurnsPage {A = Unit {0}} (instruction_acts (constant_width w)) c.args.most i [] page c.take.new.self (Err fault)) c.width_asked-width.ensures (c.in_default-take.ensures.turns []))
 
 pub returns-clause-draws : goal.returns-clause-draws
 returns-clause-draws c = λ pages marks after e.
@@ -30,7 +30,7 @@ returns-clause-draws c = λ pages marks after e.
     let page = c.args.page.now in
     let mid = c.take.new.self in
     let i = view c.args.op.now in
-    let turn = subst (λ (w : Option ℤ). execute (kept (acts (always w))) c.args.most i (inside_of [] page) ≡ Some (inside_of [] mid)) c.width_asked-width.ensures (c.in-Ok.ensures.turns []) in
+    let turn = subst (λ (w : Option ℤ). execute (bounded_acts (instruction_acts (constant_width w))) c.args.most i (inside_of [] page) ≡ Some (inside_of [] mid)) c.width_asked-width.ensures (c.in-Ok.ensures.turns []) in
     let few = few_marks c.args.most fonts i page c.requires.ready mid turn in
     let (made, none) =
     popped mid.marks.items c.pop.new.self.items c.pop.result c.pop.ensures.items few (λ e. sym mid.marks.ok.0 ∙ none_held c.pop.result mid.marks.len c.pop.ensures.variant.1 e) in
@@ -41,7 +41,7 @@ returns-clause-counts c =
     let page = c.args.page.now in
     let mid = c.take.new.self in
     let i = view c.args.op.now in
-    let turn = subst (λ (w : Option ℤ). execute (kept (acts (always w))) c.args.most i (inside_of [] page) ≡ Some (inside_of [] mid)) c.width_asked-width.ensures (c.in-Ok.ensures.turns []) in
+    let turn = subst (λ (w : Option ℤ). execute (bounded_acts (instruction_acts (constant_width w))) c.args.most i (inside_of [] page) ≡ Some (inside_of [] mid)) c.width_asked-width.ensures (c.in-Ok.ensures.turns []) in
     counts_after c.args.most c.args.fonts.now i page c.requires.ready mid turn
 
 pub returns-clause-ready : goal.returns-clause-ready
@@ -52,7 +52,7 @@ returns-clause-ready c =
     let i = view c.args.op.now in
     let ready = c.requires.ready in
     let room = c.in-Ok.ensures.room in
-    let turn = subst (λ (w : Option ℤ). execute (kept (acts (always w))) c.args.most i (inside_of [] page) ≡ Some (inside_of [] mid)) c.width_asked-width.ensures (c.in-Ok.ensures.turns []) in
+    let turn = subst (λ (w : Option ℤ). execute (bounded_acts (instruction_acts (constant_width w))) c.args.most i (inside_of [] page) ≡ Some (inside_of [] mid)) c.width_asked-width.ensures (c.in-Ok.ensures.turns []) in
     let few = few_marks c.args.most fonts i page ready mid turn in
     let (made, none) =
     popped mid.marks.items c.pop.new.self.items c.pop.result c.pop.ensures.items few (λ e. sym mid.marks.ok.0 ∙ none_held c.pop.result mid.marks.len c.pop.ensures.variant.1 e) in
@@ -68,7 +68,7 @@ returns-in-Some-clause-draws c = λ pages marks after e.
     let same : c.in-Some.code ≡ to_z w32 (of_z w32 c.in-Some.code) = search (rules, ints) in
     let is : i ≡ Do (SetChar (to_z w32 (of_z w32 c.in-Some.code))) = set ∙ ap (λ (z : ℤ). Do (SetChar z)) same in
     c.set_character.ensures.draws c.args.most pages marks after
-    (subst (λ (i : Instruction). execute (kept (acts (read_width fonts))) c.args.most i (standing true pages marks page) ≡ Some after) is e)
+    (subst (λ (i : Instruction). execute (bounded_acts (instruction_acts (read_width fonts))) c.args.most i (standing true pages marks page) ≡ Some after) is e)
 
 pub returns-in-Some-clause-fonts : goal.returns-in-Some-clause-fonts
 returns-in-Some-clause-fonts c = (c.args.fonts.now.current, refl)

@@ -2,7 +2,7 @@ use Rattle.std.proofs.Common.{arith, subst, ◌≡◌, ℕ, Option}
 use Rattle.std.specs.Prelude.{IfNone, IfSome}
 use Rattle.std.specs.BTreeSet.{IsUnchanged}
 use Rattle.dvi_ops.specs.Fonts.{definitions}
-use Rattle.dvi_ops.specs.Tokens.{says}
+use Rattle.dvi_ops.specs.Tokens.{token_instructions}
 use Rattle.dvi_scan.specs.Ahead.{NothingIdle}
 use Rattle.dvi_scan.specs.Private.Ahead.{LooksOne}
 use Rattle.dvi_scan.proofs.AheadLemmas.{idle_more, looked_there, nothing_at_bound, same_numbers}
@@ -14,7 +14,7 @@ returns-in-None-clause-ok c =
     let none =
     subst (λ (o : Option ℕ). IfNone o (NothingIdle c.args.bytes.now c.loop-at.at c.args.to × IsUnchanged c.loop-at.numbers c.look_one.new.numbers)) c.in-None.is c.in_ok-next.ensures.none in
     looked_there c.args.bytes.now c.args.from c.loop-at.at c.args.to tokens c.look_one.new.numbers.keys low high idle
-    (same_numbers c.loop-at.numbers.keys c.look_one.new.numbers.keys (definitions (says tokens)) none.1 has) none.0
+    (same_numbers c.loop-at.numbers.keys c.look_one.new.numbers.keys (definitions (token_instructions tokens)) none.1 has) none.0
 
 pub loop-at-preserved : goal.loop-at-preserved
 loop-at-preserved c =

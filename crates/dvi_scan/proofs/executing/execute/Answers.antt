@@ -1,9 +1,9 @@
 use Rattle.std.proofs.Common.{◌≡◌, rules, map, refl, subst, sym, Ok, Result}
-use Rattle.dvi_ops.specs.Body.{acts}
+use Rattle.dvi_ops.specs.Body.{instruction_acts}
 use Rattle.dvi_ops.specs.Instruction.{Eop}
 use Rattle.dvi_ops.specs.View.{view}
 use Rattle.dvi_ops.specs.declared.op.Op.TheVariants as ops
-use Rattle.dvi_scan.specs.Drawing.{always}
+use Rattle.dvi_scan.specs.Drawing.{constant_width}
 use Rattle.dvi_scan.specs.Pass.{Between}
 use Rattle.dvi_scan.specs.Execution.{Executes, inside_of}
 use Rattle.dvi_scan.specs.View.{marked_page}
@@ -14,7 +14,7 @@ use Rattle.dvi_scan.proofs.executing.execute.Goals as goal
 
 pub returns-in_err-end-in-Eop-clause-turns : goal.returns-in_err-end-in-Eop-clause-turns
 returns-in_err-end-in-Eop-clause-turns c =
-    let does = acts (always c.args.width) in
+    let does = instruction_acts (constant_width c.args.width) in
     let pages = map marked_page c.args.done.now.items in
     let ended = map marked_page c.end.new.done.items in
     let now = inside_of ended c.end.new.self in
@@ -25,20 +25,20 @@ returns-in_err-end-in-Eop-clause-turns c =
 
 pub returns-in_ok-end-in-Eop-clause-turns : goal.returns-in_ok-end-in-Eop-clause-turns
 returns-in_ok-end-in-Eop-clause-turns c =
-    let does = acts (always c.args.width) in
+    let does = instruction_acts (constant_width c.args.width) in
     let pages = map marked_page c.args.done.now.items in
     at_turn does c.args.most c.args.op.now ops.Eop c.args.stand.now (stands.Inside c.in-Inside.page) pages (Between (map marked_page c.end.new.done.items)) (Ok tt) c.in-Eop.is c.in-Inside.is
     (c.in_ok-end-in-Eop.ensures.turns does c.args.most)
 
 pub returns-in-Between-clause-turns : goal.returns-in-Between-clause-turns
 returns-in-Between-clause-turns c =
-    let does = acts (always c.args.width) in
+    let does = instruction_acts (constant_width c.args.width) in
     let pages = map marked_page c.args.done.now.items in
     at_turn does c.args.most c.args.op.now c.args.op.now c.args.stand.now stands.Between pages _ c.begin.result refl c.in-Between.is (c.begin.ensures.turns does c.args.most pages)
 
 pub returns-in_default : goal.returns-in_default
 returns-in_default c =
-    let does = acts (always c.args.width) in
+    let does = instruction_acts (constant_width c.args.width) in
     let pages = map marked_page c.args.done.now.items in
     let i = view c.args.op.now in
     record {

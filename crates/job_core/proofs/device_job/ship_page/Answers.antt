@@ -57,7 +57,7 @@ returns-in-Err-clause-keeps g c =
     let page = page_with c.counts.result.now c.offsets.result b in
     let is = sym c.held.ensures ∙ ap option_copied c.in-Some.is in
     let same = page_is (before_shipping kept) c.counts.result.now c.offsets.result b c.counts.ensures c.offsets.ensures in
-    subst (λ (x : Refusal). KeepsTo (view_of kept w) (Ship c.args.register) (Err x) (view_of kept c.page.new.self)) (sym c.refusal_for.ensures)
+    subst (λ (x : Refusal). KeepsTo (view_of kept w) (Ship c.args.register) (Err x) (view_of kept c.page.new.self)) (sym c.write_refusal.ensures)
     (unshipped_for kept w c.args.register b page is same c.page.new.self c.in-Err.fault c.in-Err.ensures.refused c.in-Err.ensures.same
     (λ lost. c.page.ensures.failed (c.in-Err.is ∙ ap (λ (f : WriteFault). Err f) lost)) (λ lost. c.page.ensures.over (c.in-Err.is ∙ ap (λ (f : WriteFault). Err f) lost))
     (λ lost. c.page.ensures.so_far (c.in-Err.is ∙ ap (λ (f : WriteFault). Err f) lost)) c.requires.running c.page.ensures.goes_on
@@ -65,7 +65,7 @@ returns-in-Err-clause-keeps g c =
     (λ lost. rw c.fonts.ensures at (c.page.ensures.past (c.in-Err.is ∙ ap (λ (f : WriteFault). Err f) lost))))
 
 pub returns-in-Err-clause-same : goal.returns-in-Err-clause-same
-returns-in-Err-clause-same g c = λ other. ap (λ (w : Writing). view_of c.args.kept.now w) (c.in-Err.ensures.same (is_other c.in-Err.fault (λ lost. other (c.refusal_for.ensures ∙ lost))))
+returns-in-Err-clause-same g c = λ other. ap (λ (w : Writing). view_of c.args.kept.now w) (c.in-Err.ensures.same (is_other c.in-Err.fault (λ lost. other (c.write_refusal.ensures ∙ lost))))
 
 pub returns-in-Err-clause-part : goal.returns-in-Err-clause-part
 returns-in-Err-clause-part g c =
@@ -75,6 +75,6 @@ returns-in-Err-clause-part g c =
     let is = sym c.held.ensures ∙ ap option_copied c.in-Some.is in
     let same = page_is (before_shipping kept) c.counts.result.now c.offsets.result b c.counts.ensures c.offsets.ensures in
     λ replied.
-    let lost = is_lost c.in-Err.fault (Err c.refusal_for.result) (ap (λ (x : Refusal). Err x) c.refusal_for.ensures) replied in
+    let lost = is_lost c.in-Err.fault (Err c.write_refusal.result) (ap (λ (x : Refusal). Err x) c.write_refusal.ensures) replied in
     part_of kept c.args.writer.now c.args.register b page is same c.page.new.self c.requires.running
     (rw c.fonts.ensures at (c.page.ensures.part (c.in-Err.is ∙ ap (λ (f : WriteFault). Err f) lost)))

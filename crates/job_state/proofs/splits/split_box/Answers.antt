@@ -15,4 +15,4 @@ returns-in-Ok-clause-ok c =
 pub returns-in-Err-clause-growth : goal.returns-in-Err-clause-growth
 returns-in-Err-clause-growth c =
     λ none.
-    left_by c.args.params.now c.args.height (nodes_of c.args.box_node.list) c.in-Err.unsplit.fault c.in-Err.ensures.fault c.in-Err.ensures.growth (sym c.refusal_for.ensures ∙ none)
+    left_by c.args.params.now c.args.height (nodes_of c.args.box_node.list) c.in-Err.unsplit.fault c.in-Err.ensures.fault c.in-Err.ensures.growth (sym c.split_refusal.ensures ∙ none)

@@ -3,7 +3,7 @@ use Rattle.std.specs.List.{AllByRecursion}
 use Rattle.dvi_ops.specs.Instruction.{Axis}
 use Rattle.dvi_ops.specs.Layout.{IsWritable, bytes_of}
 use Rattle.dvi_ops.specs.View.{body_view}
-use Rattle.move_core.specs.SamePage.{HasNoHollow, MeansTheSame, NestsNoDeeper, PassesThroughNoOther, SetsAhead, UsesStored, still, unset}
+use Rattle.move_core.specs.SamePage.{HasNoHollow, MeansTheSame, NestsNoDeeper, PassesThroughNoOther, SetsAhead, UsesStored, leaves_in_order, unset_registers}
 use Rattle.move_core.proofs.SameBody.{are_bodies, are_lists, gives_reused, if_ok, reused_ahead, reused_fits, reused_full, reused_length, reused_meaning, reused_nests, reused_order, reused_places, reused_uses}
 use Rattle.move_core.proofs.page.reuse.Goals as goal
 
@@ -34,13 +34,13 @@ returns-clause-full c =
 pub returns-clause-held : goal.returns-clause-held
 returns-clause-held c =
     if_ok _ _ c.with_registers.result
-    (λ written writes. are_bodies (λ f g. (axis : Axis) → UsesStored axis unset g) (map body_view c.args.ops.items) (map body_view c.in_ok-trimmed.trimmed.items) (map body_view written.items) (λ f plain axis. reused_uses axis f plain) c.requires c.in_ok-trimmed.ensures writes)
+    (λ written writes. are_bodies (λ f g. (axis : Axis) → UsesStored axis unset_registers g) (map body_view c.args.ops.items) (map body_view c.in_ok-trimmed.trimmed.items) (map body_view written.items) (λ f plain axis. reused_uses axis f plain) c.requires c.in_ok-trimmed.ensures writes)
     c.with_registers.ensures
 
 pub returns-clause-ahead : goal.returns-clause-ahead
 returns-clause-ahead c =
     if_ok _ _ c.with_registers.result
-    (λ written writes. are_bodies (λ f g. (axis : Axis) → SetsAhead axis unset g) (map body_view c.args.ops.items) (map body_view c.in_ok-trimmed.trimmed.items) (map body_view written.items) (λ f plain axis. reused_ahead axis f plain) c.requires c.in_ok-trimmed.ensures writes)
+    (λ written writes. are_bodies (λ f g. (axis : Axis) → SetsAhead axis unset_registers g) (map body_view c.args.ops.items) (map body_view c.in_ok-trimmed.trimmed.items) (map body_view written.items) (λ f plain axis. reused_ahead axis f plain) c.requires c.in_ok-trimmed.ensures writes)
     c.with_registers.ensures
 
 pub returns-clause-bytes : goal.returns-clause-bytes
@@ -52,7 +52,7 @@ returns-clause-bytes c =
 pub returns-clause-order : goal.returns-clause-order
 returns-clause-order c =
     if_ok _ _ c.with_registers.result
-    (λ written writes. are_lists (λ is js. still js ≡ still is) (map body_view c.args.ops.items) (map body_view c.in_ok-trimmed.trimmed.items) (map body_view written.items) reused_order c.requires c.in_ok-trimmed.ensures writes)
+    (λ written writes. are_lists (λ is js. leaves_in_order js ≡ leaves_in_order is) (map body_view c.args.ops.items) (map body_view c.in_ok-trimmed.trimmed.items) (map body_view written.items) reused_order c.requires c.in_ok-trimmed.ensures writes)
     c.with_registers.ensures
 
 pub returns-clause-writable : goal.returns-clause-writable

@@ -5,7 +5,7 @@ use Rattle.std.proofs.lemmas.Int.{ints}
 use Rattle.scaled_core.specs.Dimensions.{dimension_of}
 use Rattle.node_core.specs.declared.tree.Kind.TheVariants.{Vertical}
 use Rattle.pack_core.specs.Items.{downward, breadth}
-use Rattle.pack_core.specs.Totals.{total, greatest}
+use Rattle.pack_core.specs.Totals.{total, greatest_of}
 use Rattle.pack_core.specs.Glue.{stretch_totals, shrink_totals}
 use Rattle.pack_core.specs.Orders.{order_amounts}
 use Rattle.pack_core.specs.ListTotals.{ListTotals}
@@ -21,7 +21,7 @@ returns c = λ nodes is w e.
     c.at_most-depth.ensures.value ∙ ap (λ (d : ℤ). int_min d c.args.limit) (c.pending_depth.ensures ∙ ap (λ (t : ListTotals). t.pending_depth) is ∙ totals-pending Vertical nodes) in
     let natural : c.height_above.result ≡ dimension_of (total downward nodes -ℤ c.at_most-depth.result) =
     c.height_above.ensures ∙ ap (λ (z : ℤ). dimension_of (z -ℤ c.at_most-depth.result)) (ap (λ (t : ListTotals). t.advance) is ∙ totals-advance Vertical nodes) in
-    let width : c.try_new.result ≡ dimension_of (greatest breadth nodes) = dimension-same _ _ c.try_new.result c.try_new.ensures.value (omega (arith, ints, w)) in
+    let width : c.try_new.result ≡ dimension_of (greatest_of breadth nodes) = dimension-same _ _ c.try_new.result c.try_new.ensures.value (omega (arith, ints, w)) in
     let stretch : c.stretch.result ≡ order_amounts (stretch_totals nodes) = c.stretch.ensures.value ∙ ap (λ (t : ListTotals). t.stretch) is ∙ totals-stretch Vertical nodes in
     let shrink : c.shrink.result ≡ order_amounts (shrink_totals nodes) = c.shrink.ensures.value ∙ ap (λ (t : ListTotals). t.shrink) is ∙ totals-shrink Vertical nodes in
     vbox-given c.args.target c.args.limit nodes c.in_ok-natural.natural c.in_ok-width.width c.in_ok-height.height c.at_most-depth.result c.in_ok-set.set deep
@@ -48,7 +48,7 @@ returns-in_err-height c = λ nodes is w e.
 
 pub returns-in_err-width : goal.returns-in_err-width
 returns-in_err-width c = λ nodes is w e.
-    let width : c.try_new.result ≡ dimension_of (greatest breadth nodes) = dimension-same _ _ c.try_new.result c.try_new.ensures.value (omega (arith, ints, w)) in
+    let width : c.try_new.result ≡ dimension_of (greatest_of breadth nodes) = dimension-same _ _ c.try_new.result c.try_new.ensures.value (omega (arith, ints, w)) in
     c.from_residual-in_err-width.ensures ∙ vbox-unfit-width c.args.target c.args.limit nodes (cc (width, c.in_err-width.was))
 
 pub returns-in_err-set : goal.returns-in_err-set

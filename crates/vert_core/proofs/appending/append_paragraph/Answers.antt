@@ -4,7 +4,7 @@ use Rattle.node_core.specs.declared.limits.TheConstants.{MAX_DEPTH}
 use Rattle.node_core.specs.declared.tree.Node.{Node}
 use Rattle.node_core.specs.Nodes.{items_of, nodes_of}
 use Rattle.node_core.proofs.NodeLemmas.{items_of-nodes_of}
-use Rattle.vert_core.specs.Finished.{finished}
+use Rattle.vert_core.specs.Finished.{finished_list}
 use Rattle.vert_core.specs.Paragraphs.{set_empty, IsUnset, IsUnsetList}
 use Rattle.vert_core.specs.Setting.{list_setting, setting}
 use Rattle.vert_core.proofs.AppendedLines.{some_setting, empty_setting, appended_so, unappended_so, err_so}
@@ -42,9 +42,9 @@ returns-clause-ok c =
     let nodes : c.into_vec-nodes.result.items ≡ list = c.into_vec-nodes.ensures ∙ ap nodes_of c.replace.ensures.value in
     let items : c.into_vec-items.result.items ≡ nodes_of c.args.around.now = c.into_vec-items.ensures ∙ ap nodes_of c.replace-2.ensures.value in
     appended_so c.append_items-told.result
-    (list_setting (finished c.into_vec-nodes.result.items params.par_fill_skip) params previous) (setting list params previous)
+    (list_setting (finished_list c.into_vec-nodes.result.items params.par_fill_skip) params previous) (setting list params previous)
     c.into_vec-items.result.items (nodes_of c.args.around.now) c.append_items-told.new.around.items (nodes_of c.from_vec-2.result)
-    (ap (λ (l : List Node). list_setting (finished l params.par_fill_skip) params previous) nodes ∙ some_setting list params previous some)
+    (ap (λ (l : List Node). list_setting (finished_list l params.par_fill_skip) params previous) nodes ∙ some_setting list params previous some)
     items (sym c.from_vec-2.ensures.nodes) c.append_items-told.ensures.ok
 
 pub returns-clause-refused : goal.returns-clause-refused
@@ -56,13 +56,13 @@ returns-clause-refused c =
     let nodes : c.into_vec-nodes.result.items ≡ list = c.into_vec-nodes.ensures ∙ ap nodes_of c.replace.ensures.value in
     let items : c.into_vec-items.result.items ≡ nodes_of c.args.around.now = c.into_vec-items.ensures ∙ ap nodes_of c.replace-2.ensures.value in
     unappended_so c.append_items-told.result
-    (list_setting (finished c.into_vec-nodes.result.items params.par_fill_skip) params previous) (setting list params previous)
-    (IsUnsetList (finished c.into_vec-nodes.result.items params.par_fill_skip) params previous) (IsUnset list params previous)
+    (list_setting (finished_list c.into_vec-nodes.result.items params.par_fill_skip) params previous) (setting list params previous)
+    (IsUnsetList (finished_list c.into_vec-nodes.result.items params.par_fill_skip) params previous) (IsUnset list params previous)
     c.into_vec-items.result.items (nodes_of c.args.around.now)
-    (ap (λ (l : List Node). list_setting (finished l params.par_fill_skip) params previous) nodes ∙ some_setting list params previous some)
+    (ap (λ (l : List Node). list_setting (finished_list l params.par_fill_skip) params previous) nodes ∙ some_setting list params previous some)
     items
     (λ fault is. unset_some list params previous fault some
-    (subst (λ (l : List Node). IsUnsetList (finished l params.par_fill_skip) params previous fault) nodes is))
+    (subst (λ (l : List Node). IsUnsetList (finished_list l params.par_fill_skip) params previous fault) nodes is))
     c.append_items-told.ensures.refused
 
 pub returns-clause-err : goal.returns-clause-err

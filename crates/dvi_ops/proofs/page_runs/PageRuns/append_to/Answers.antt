@@ -1,5 +1,5 @@
 use Rattle.std.proofs.Common.{◌≡◌, ◌+◌, ◌++◌, ◌∷◌, ◌<◌, ◌-◌, ◌∙◌, length, map, drop, ap, arith}
-use Rattle.dvi_ops.specs.Runs.{characters, instructions_of, woven}
+use Rattle.dvi_ops.specs.Runs.{characters, instructions_of, woven_instructions}
 use Rattle.dvi_ops.specs.Spelling.{spelling}
 use Rattle.dvi_ops.specs.View.{body_view}
 use Rattle.dvi_ops.proofs.Runs.{woven_split, bytes_further, spelled_further}

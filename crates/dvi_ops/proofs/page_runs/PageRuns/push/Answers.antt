@@ -2,7 +2,7 @@ use Rattle.std.proofs.Common.{◌≡◌, ◌+◌, ◌++◌, ◌∙◌, [], ◌�
 use Rattle.std.proofs.lemmas.List.{map-append, length-map}
 use Rattle.dvi_ops.specs.Instruction.{Instruction}
 use Rattle.dvi_ops.specs.Private.Rising.{IsRising}
-use Rattle.dvi_ops.specs.Runs.{instructions_of, woven}
+use Rattle.dvi_ops.specs.Runs.{instructions_of, woven_instructions}
 use Rattle.dvi_ops.specs.View.{body_view}
 use Rattle.dvi_ops.specs.declared.body_op.BodyOp.{BodyOp}
 use Rattle.dvi_ops.proofs.Runs.{rising_end, woven-op}
@@ -35,6 +35,6 @@ returns c =
     let ops : map body_view c.push_reserved-2.new.self.items ≡ map body_view runs.ops.items ++ body_view c.args.op ∷ [] =
     ap (map body_view) (c.push_reserved-2.ensures.items ∙ ap (λ (os : List BodyOp). os ++ c.args.op ∷ []) c.make_room-2.ensures.items)
     ∙ map-append body_view runs.ops.items (c.args.op ∷ []) in
-    ap₂ (λ (ns : List ℕ) (is : List Instruction). woven 0 runs.codes.items ns is) places ops
+    ap₂ (λ (ns : List ℕ) (is : List Instruction). woven_instructions 0 runs.codes.items ns is) places ops
     ∙ woven-op 0 runs.codes.items runs.places.items (map body_view runs.ops.items) (body_view c.args.op) (length runs.codes.items) (omega arith)
     (runs.paired ∙ sym (length-map runs.ops.items body_view)) runs.rising

@@ -1,5 +1,5 @@
 use Rattle.std.proofs.Common.{◌≡◌, ◌+◌, ◌∙◌, ℕ, List, length, map, ap, arith}
-use Rattle.dvi_ops.specs.Runs.{instructions_of, woven}
+use Rattle.dvi_ops.specs.Runs.{instructions_of, woven_instructions}
 use Rattle.dvi_ops.specs.View.{body_view}
 use Rattle.dvi_ops.proofs.Runs.{no_fewer, rising_further, woven-character}
 use Rattle.dvi_ops.proofs.page_runs.PageRuns.push_character.Goals as goal
@@ -17,5 +17,5 @@ pub returns : goal.returns
 unfolding instructions_of
 returns c =
     let runs = c.args.self.now in
-    ap (λ (codes : List ℕ). woven 0 codes runs.places.items (map body_view runs.ops.items)) c.in_ok-append_byte.ensures.ok
+    ap (λ (codes : List ℕ). woven_instructions 0 codes runs.places.items (map body_view runs.ops.items)) c.in_ok-append_byte.ensures.ok
     ∙ woven-character 0 runs.codes.items runs.places.items (map body_view runs.ops.items) c.args.code (length runs.codes.items) (omega arith) runs.rising

@@ -1,6 +1,6 @@
 use Rattle.std.proofs.Common.{◌≡◌, ◌+◌, ◌++◌, ◌∷◌, [], ◌∙◌, ℕ, List, length, map, ap, arith}
 use Rattle.std.proofs.lemmas.List.{length-append}
-use Rattle.dvi_ops.specs.Runs.{instructions_of, woven}
+use Rattle.dvi_ops.specs.Runs.{instructions_of, woven_instructions}
 use Rattle.dvi_ops.specs.View.{body_view}
 use Rattle.dvi_ops.proofs.Runs.{rising_further, woven-character}
 use Rattle.dvi_ops.proofs.page_runs.PageRuns.push_in_room.Goals as goal
@@ -18,5 +18,5 @@ pub returns-clause-pushed : goal.returns-clause-pushed
 unfolding instructions_of
 returns-clause-pushed c was =
     let runs = c.args.self.now in
-    ap (λ (codes : List ℕ). woven 0 codes runs.places.items (map body_view runs.ops.items)) c.push_reserved.ensures.items
+    ap (λ (codes : List ℕ). woven_instructions 0 codes runs.places.items (map body_view runs.ops.items)) c.push_reserved.ensures.items
     ∙ woven-character 0 runs.codes.items runs.places.items (map body_view runs.ops.items) c.args.code (length runs.codes.items) (omega arith) runs.rising

@@ -1,6 +1,6 @@
 -- A page begins or ends, or the mark of an instruction comes next.
 use Rattle.std.proofs.Common.{rules, ◌≡◌, false, true, ap, refl}
-use Rattle.dvi_ops.specs.Body.{acts, kept}
+use Rattle.dvi_ops.specs.Body.{instruction_acts, bounded_acts}
 use Rattle.dvi_ops.specs.View.{view}
 use Rattle.dvi_read.specs.PageMarks.{read_width}
 use Rattle.dvi_read.proofs.SightLemmas.{began, draws_on, drew, ended, no_eop, read_first}
@@ -11,7 +11,7 @@ returns-then-not-self-clause-next c = λ seen a.
     let s = c.args.self.now in
     let outside : s.inside ≡ false = search rules in
     let fact : c.begin.result ≡ true = search rules in
-    began (view c.args.op.now) s seen a c.begin.new.page outside (c.begin.ensures.yes fact (kept (acts (read_width s.fonts))) s.most a.pages) c.begin.ensures.none c.begin.ensures.places (c.begin.ensures.font fact)
+    began (view c.args.op.now) s seen a c.begin.new.page outside (c.begin.ensures.yes fact (bounded_acts (instruction_acts (read_width s.fonts))) s.most a.pages) c.begin.ensures.none c.begin.ensures.places (c.begin.ensures.font fact)
 
 pub returns-in-Eop-clause-next : goal.returns-in-Eop-clause-next
 returns-in-Eop-clause-next c = λ seen a.

@@ -1,7 +1,7 @@
 use Rattle.std.proofs.Common.{rules, ◌≡◌, List, Some, map, reverse, ap}
 use Rattle.std.proofs.lemmas.Result.{err_from_is_err_and}
 use Rattle.dvi_scan.specs.Pass.{Inside}
-use Rattle.dvi_scan.specs.View.{mark_of, placed, stated}
+use Rattle.dvi_scan.specs.View.{mark_of, spot_position, standing_state}
 use Rattle.dvi_scan.specs.declared.page.Mark.{Mark}
 use Rattle.dvi_scan.proofs.TurnLemmas.{no_room}
 use Rattle.dvi_scan.proofs.executing.OpenPage.mark_and_go.Goals as goal
@@ -14,4 +14,4 @@ returns-in_err-push-clause-turns c = λ pages to e.
     let p = err_from_is_err_and c.from_residual-in_err-push.result c.from_residual-in_err-push.ensures.1 in
     rw (p.1, p.2)
     (no_room c.args.place c.in_ok-place.place c.args.mark c.in-Some.mark to pages page (record page { marks = c.push.new.self }) there c.in-Some.is e
-    (ap (λ (marks : List Mark). Inside pages page.counts (map mark_of marks) (reverse (map placed page.stack.items)) (stated page.state)) same))
+    (ap (λ (marks : List Mark). Inside pages page.counts (map mark_of marks) (reverse (map spot_position page.stack.items)) (standing_state page.state)) same))

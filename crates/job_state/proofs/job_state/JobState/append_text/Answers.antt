@@ -10,7 +10,7 @@ use Rattle.job_machine.specs.FontSlots.{text_items_in, text_shaped}
 use Rattle.job_machine.specs.State.{innermost, items_in}
 use Rattle.job_machine.specs.Checks.{character_checks, length_checks, room_checks, first_refusal}
 use Rattle.job_machine.specs.Answers.{answer_of}
-use Rattle.job_machine.specs.Effects.{with_nodes, after}
+use Rattle.job_machine.specs.Effects.{with_nodes, state_after_command}
 use Rattle.job_lists.specs.EmptiedNest.{refilled_nest}
 use Rattle.job_machine.specs.Machine.{reply_by, state_by}
 use Rattle.job_machine.proofs.States.{first_refused}
@@ -30,7 +30,7 @@ returns-in-Err-clause-reply c =
 pub returns-in-Err-clause-state : goal.returns-in-Err-clause-state
 returns-in-Err-clause-state c =
     let s = before_shipping c.args.self.now in
-    sym (ap (λ found. state_by found s (after s (Text c.args.text.now)))
+    sym (ap (λ found. state_by found s (state_after_command s (Text c.args.text.now)))
     (first_refused s.over (character_checks s) (length_checks s (text_shaped s.fonts s.current c.args.text.now).items) JobOver c.in-Err.refusal refl c.in-Err.ensures.err))
 
 pub returns-clause-state : goal.returns-clause-state

@@ -4,7 +4,7 @@ use Rattle.job_machine.specs.declared.OpenList.{OpenList}
 use Rattle.job_state.specs.contracts.job_state.JobState as a_kept
 use Rattle.job_machine.specs.declared.command.Command.TheVariants.{End}
 use Rattle.job_machine.specs.Checks.{checks, first_refusal}
-use Rattle.job_machine.specs.Effects.{after}
+use Rattle.job_machine.specs.Effects.{state_after_command}
 use Rattle.job_machine.specs.Machine.{state_by}
 use Rattle.job_lists.proofs.Nests.{put_back, end_refused, on_err}
 use Rattle.job_state.proofs.EndedParagraphs.{end_state}
@@ -22,7 +22,7 @@ returns-in-Some-refusal_of-clause-state c =
     let s = before_shipping c.args.self.now in
     let found = ap (λ (t : JobStateView). first_refusal (checks (before_shipping t) End)) (sym c.self.view_is) ∙ (refused ∙ c.in-Some-refusal_of.is) in
     ap (λ (lists : List OpenList). before_shipping (a_kept.the_view (record (c.self.inside) { nest = lists }))) back
-    ∙ (ap before_shipping c.self.view_is ∙ sym (ap (λ check. state_by check s (after s End)) found))
+    ∙ (ap before_shipping c.self.view_is ∙ sym (ap (λ check. state_by check s (state_after_command s End)) found))
 
 pub returns-in_err-put_closed_box-clause-err : goal.returns-in_err-put_closed_box-clause-err
 returns-in_err-put_closed_box-clause-err c =

@@ -3,7 +3,7 @@ use Rattle.dvi_ops.specs.Instruction.{Push}
 use Rattle.dvi_ops.specs.View.{body_view}
 use Rattle.dvi_ops.specs.declared.body_op.BodyOp.{BodyOp}
 use Rattle.move_core.specs.declared.later.Amounts.{Amounts}
-use Rattle.move_core.specs.Private.Passes.{has}
+use Rattle.move_core.specs.Private.Passes.{contains_amount}
 use Rattle.move_core.proofs.Laters.{HasNone, KnowsAt, knows_pop, knows_push}
 use Rattle.move_core.proofs.later.Later.meet.Goals as goal
 
@@ -12,7 +12,7 @@ returns-in_ok-push-in-Pop-clause-knows c rest knows =
     let self = c.args.self.now in
     let fresh = c.replace-after.new.dest in
     let outer = c.push.new.self.items in
-    let none : HasNone fresh = λ axis n. ap (λ (a : Amounts). has a axis n) c.replace-after.ensures.after ∙ c.new.ensures axis n in
+    let none : HasNone fresh = λ axis n. ap (λ (a : Amounts). contains_amount a axis n) c.replace-after.ensures.after ∙ c.new.ensures axis n in
     let pushed : outer ≡ self.outer.items ++ (self.here ∷ []) = cc (c.in_ok-push-in-Pop.ensures.items, c.replace-after.ensures.value) in
     subst (λ (op : BodyOp). KnowsAt fresh outer (body_view op ∷ rest)) (sym c.in-Pop.is) (knows_pop self.here fresh self.outer.items outer rest none pushed knows)
 

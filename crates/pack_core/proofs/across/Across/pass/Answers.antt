@@ -1,18 +1,18 @@
 use Rattle.std.proofs.Common.{◌+◌, ◌*◌, ◌^◌, ap, arith}
 use Rattle.std.proofs.lemmas.Int.{ints, clamps}
-use Rattle.pack_core.specs.Items.{across, above, below, stretch_in, shrink_in}
+use Rattle.pack_core.specs.Items.{item_width, height_above_baseline, depth_below_baseline, stretch_in, shrink_in}
 use Rattle.pack_core.proofs.Passing.{no_stretch, no_shrink, plus-nothing, within-more}
 use Rattle.pack_core.proofs.across.Across.pass.Goals as goal
 
 -- A character.
 pub returns-in-Glyph-clause-width : goal.returns-in-Glyph-clause-width
-returns-in-Glyph-clause-width c = omega (arith, ints, ap across c.in-Glyph.is)
+returns-in-Glyph-clause-width c = omega (arith, ints, ap item_width c.in-Glyph.is)
 
 pub returns-in-Glyph-clause-height : goal.returns-in-Glyph-clause-height
-returns-in-Glyph-clause-height c = omega (arith, ints, clamps, ap above c.in-Glyph.is)
+returns-in-Glyph-clause-height c = omega (arith, ints, clamps, ap height_above_baseline c.in-Glyph.is)
 
 pub returns-in-Glyph-clause-depth : goal.returns-in-Glyph-clause-depth
-returns-in-Glyph-clause-depth c = omega (arith, ints, clamps, ap below c.in-Glyph.is)
+returns-in-Glyph-clause-depth c = omega (arith, ints, clamps, ap depth_below_baseline c.in-Glyph.is)
 
 pub returns-in-Glyph-clause-stretch : goal.returns-in-Glyph-clause-stretch
 returns-in-Glyph-clause-stretch c = plus-nothing c.args.self.now.stretch (λ order. stretch_in order c.args.node.now) (λ order. ap (stretch_in order) c.in-Glyph.is)
@@ -33,7 +33,7 @@ returns-in-Glyph-clause-bound c = λ n small. record {
 
 -- Glue.
 pub returns-in-Glue-clause-width : goal.returns-in-Glue-clause-width
-returns-in-Glue-clause-width c = omega (arith, ints, ap across c.in-Glue.is)
+returns-in-Glue-clause-width c = omega (arith, ints, ap item_width c.in-Glue.is)
 
 pub returns-in-Glue-clause-bound : goal.returns-in-Glue-clause-bound
 returns-in-Glue-clause-bound c = λ n small. record {
@@ -48,7 +48,7 @@ returns-in-Glue-clause-bound c = λ n small. record {
 
 -- A kern.
 pub returns-in-FontKern-clause-width : goal.returns-in-FontKern-clause-width
-returns-in-FontKern-clause-width c = omega (arith, ints, ap across c.in-FontKern.is)
+returns-in-FontKern-clause-width c = omega (arith, ints, ap item_width c.in-FontKern.is)
 
 pub returns-in-FontKern-clause-stretch : goal.returns-in-FontKern-clause-stretch
 returns-in-FontKern-clause-stretch c = plus-nothing c.args.self.now.stretch (λ order. stretch_in order c.args.node.now) (λ order. ap (stretch_in order) c.in-FontKern.is)
@@ -68,7 +68,7 @@ returns-in-FontKern-clause-bound c = λ n small. record {
 }
 
 pub returns-in-Kern-clause-width : goal.returns-in-Kern-clause-width
-returns-in-Kern-clause-width c = omega (arith, ints, ap across c.in-Kern.is)
+returns-in-Kern-clause-width c = omega (arith, ints, ap item_width c.in-Kern.is)
 
 pub returns-in-Kern-clause-stretch : goal.returns-in-Kern-clause-stretch
 returns-in-Kern-clause-stretch c = plus-nothing c.args.self.now.stretch (λ order. stretch_in order c.args.node.now) (λ order. ap (stretch_in order) c.in-Kern.is)

@@ -3,7 +3,7 @@ use Rattle.std.specs.Prelude.{pos, ◌-ℤ◌}
 use Rattle.std.specs.Option.{option_map}
 use Rattle.dvi_ops.specs.Runs.{instructions_of}
 use Rattle.dvi_ops.specs.Instruction.{Across, Downward}
-use Rattle.ship_core.specs.Private.Inking.{movement, inked}
+use Rattle.ship_core.specs.Private.Inking.{movement, ink_instructions}
 use Rattle.ship_core.specs.declared.drawing.Drawing.{Drawing}
 use Rattle.ship_core.proofs.Drawings.{drawn_mark, selected_ops, unselected_ops, chosen, left_by, left_font}
 use Rattle.ship_core.proofs.drawing.Drawing.draw_mark.Goals as goal
@@ -30,8 +30,8 @@ returns-clause-ops c rest =
           unselected_ops _ moved current w.in_default.field-0 mark.ink w.in_default.is
           (ap (λ (d : Drawing). instructions_of d.ops) w.self-is ∙ c.in_ok-move_to.ensures.ops)
     ] in
-    let inky : instructions_of c.append_ink.new.ops ≡ (moved ++ chosen current mark.ink) ++ inked c.args.kind mark.width mark.ink =
-    c.in_ok-append_ink.ensures ∙ ap (λ is. is ++ inked c.args.kind mark.width mark.ink) chose in
+    let inky : instructions_of c.append_ink.new.ops ≡ (moved ++ chosen current mark.ink) ++ ink_instructions c.args.kind mark.width mark.ink =
+    c.in_ok-append_ink.ensures ∙ ap (λ is. is ++ ink_instructions c.args.kind mark.width mark.ink) chose in
     drawn_mark c.args.kind (instructions_of self.ops) _ self.h self.v current (option_map pos joined.font) mark.h mark.v mark.width mark.end joined.v mark.ink rest inky c.requires font v
 
 pub returns-clause-font : goal.returns-clause-font

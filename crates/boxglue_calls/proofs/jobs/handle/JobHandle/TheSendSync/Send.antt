@@ -8,13 +8,13 @@ use denote.Builtin.{RawPtr}
 use denote.RawPtr.{Ptr, block_ptr, null_ptr}
 use denote.Param.Send.{IsSend, owning_send, part_keyless, sendable}
 use Rattle.std.proofs.Crossing.{frees}
-use Rattle.boxglue_calls.specs.Private.Owned.{held}
+use Rattle.boxglue_calls.specs.Private.Owned.{owned_by_handle}
 use Rattle.boxglue_calls.specs.contracts.jobs.kept_job.KeptJob.{the_row as K}
 use Rattle.boxglue_calls.proofs.Crossing.{kept as job}
 use Rattle.boxglue_calls.specs.contracts.jobs.handle.JobHandle.{the_row, the_type}
 
 -- what a handle holds says the same to every thread
-held_keyless : (p : Ptr) (x : Option K.Denot) → Keyless (held K p x)
+held_keyless : (p : Ptr) (x : Option K.Denot) → Keyless (owned_by_handle K p x)
 held_keyless null_ptr None = tt
 held_keyless null_ptr (Some x) = tt
 held_keyless (block_ptr b o) None = tt
