@@ -6,7 +6,7 @@ use Rattle.dvi_ops.specs.Instruction.{Postamble, Instruction, Push, Eop, Pre, Po
 use Rattle.dvi_ops.specs.Table.{Spells, signed}
 use Rattle.dvi_ops.specs.Forest.{flat}
 use Rattle.dvi_ops.specs.Tokens.{Token, IsSpelled, token_instructions, token_bytes, places, pointers}
-use Rattle.dvi_ops.specs.File.{FilePart, Idle, Defines, Shows, instructions, MarkedPage, pages_of, push_depth_of, IsIdle, AreUnits, Frame, IsFile}
+use Rattle.dvi_ops.specs.File.{FilePart, Idle, Defines, Shows, instructions, MarkedPage, pages_of, max_pushes, push_depth_of, IsIdle, AreUnits, Frame, IsFile}
 use Rattle.dvi_ops.specs.Fonts.{WidthsByName, FontsAreRight, definitions, selections, font, widths_of}
 use Rattle.dvi_ops.specs.Body.{instruction_acts, bounded_acts}
 use Rattle.dvi_ops.proofs.FrontLaws.{one_reading}
@@ -206,7 +206,7 @@ pub record Facts (metrics : WidthsByName) (front : List Token) (stop : Postamble
   pub count : stop.pages ≡ length pages % 65536
   pub fonts : FontsAreRight [] (token_instructions front ++ token_instructions tail)
   pub closing : AllByRecursion (λ f. IsSome (font metrics (definitions (token_instructions tail)) f)) (selections (token_instructions front))
-  pub depth : AllByRecursion (λ part. push_depth_of part ≤ min 1024 stop.stack_depth) parts
+  pub depth : AllByRecursion (λ part. push_depth_of part ≤ min max_pushes stop.stack_depth) parts
   pub shows : pages_of (bounded_acts (instruction_acts (widths_of metrics (definitions (token_instructions tail))))) parts ≡ Some pages
 
 pub facts_of : (metrics : WidthsByName) (bytes : List ℕ) (pages : List MarkedPage) (f : IsFile metrics bytes pages) → Facts metrics f.frame.front f.frame.stop f.frame.tail pages

@@ -11,7 +11,7 @@ use Rattle.scaled_core.specs.Mark.{Mark}
 use Rattle.dvi_ops.specs.Forest.{flat}
 use Rattle.dvi_ops.specs.Tokens.{Token, token_instructions, token_bytes, places, pointers}
 use Rattle.dvi_ops.specs.Fonts.{WidthsByName, AgreesWith, definitions, selections, first_definition_of, FontsAreRight, known_after, widths_in}
-use Rattle.dvi_ops.specs.File.{FilePart, Defines, Shows, instructions, MarkedPage, page_then, pages_of, push_depth_of}
+use Rattle.dvi_ops.specs.File.{FilePart, Defines, Shows, instructions, MarkedPage, page_then, pages_of, max_pushes, push_depth_of}
 use Rattle.dvi_ops.specs.Layout.{bytes_of, preamble, define, Sheet, WriterKnowledge, after_preamble, sheet_from, knowledge_after, Table, table_widths, IsWritable, IsTabled, IsGood}
 use Rattle.scaled_core.proofs.EachOf.{all_append, all_weaker, all_map}
 use Rattle.dvi_ops.proofs.Appends.{pointers-page, pointers-append, definitions-append, selections-append, instructions-append, places-append, length-places, known_after-append, fonts_append, pages_joined, pointers-flat}
@@ -109,7 +109,7 @@ pub record Knows (metrics : WidthsByName) (table : Table) (s : WriterKnowledge) 
   pub last : IsPlaceUpTo s.size s.last
   pub chain : pointers is ++ s.last ∷ [] ≡ negsuc 0 ∷ map pos (places 0 (map wrote is))
   pub depth : AllByRecursion (λ part. push_depth_of part ≤ s.depth) parts
-  pub shallow : s.depth ≤ 1024
+  pub shallow : s.depth ≤ max_pushes
   pub fonts : FontsAreRight [] is
   pub known : known_after [] is ≡ s.known
   pub tabled : AllByRecursion (IsTabled table) s.known

@@ -7,7 +7,7 @@ use Rattle.dvi_ops.specs.Spelling.{operand, signed_size, code_size, char_spellin
 use Rattle.dvi_ops.specs.Forest.{Empty, Then, Group}
 use Rattle.dvi_ops.specs.Tokens.{Token, token_bytes, pointers}
 use Rattle.dvi_ops.specs.Fonts.{WidthsByName}
-use Rattle.dvi_ops.specs.File.{FilePart, Idle, Defines, Shows, instructions, MarkedPage, push_depth_of, IsFile}
+use Rattle.dvi_ops.specs.File.{FilePart, Idle, Defines, Shows, instructions, MarkedPage, max_pushes, push_depth_of, IsFile}
 use Rattle.dvi_ops.specs.Layout.{scaled_points, preamble, IsWritable}
 use Rattle.dvi_ops.specs.Examples.{self_naming_file, stray_pop_file, short_file, miscounted_file, undefined_font_file, shallow_file, one_rule_file}
 use Rattle.dvi_ops.proofs.KnownFiles.{nested_body, zeros, all_fit, small, large, small_tabled, large_tabled}
@@ -157,6 +157,6 @@ shallow_is_none metrics pages f =
     let found = facts_of_written (nested (pos 1)) (nested_stop 0) nested_tail 116 5 metrics pages (nested_fits 1 (lit< tt)) (nested_stop_fits 0 (lit< tt)) nested_tail_fits refl (lit< tt) (lit≤ tt) f in
     let parts : List FilePart = Defines small ∷ Defines large ∷ Shows zeros (negsuc 0) nested_body ∷ [] in
     let same : parts ≡ found.parts = one_parts parts found.parts (tails found.front_is) in
-    let depth = subst (AllByRecursion (λ part. push_depth_of part ≤ min 1024 0)) (sym same) found.depth in
+    let depth = subst (AllByRecursion (λ part. push_depth_of part ≤ min max_pushes 0)) (sym same) found.depth in
     let one : 1 ≤ 0 = depth.1.1.0 in
     omega arith

@@ -9,7 +9,7 @@ use Rattle.dvi_ops.specs.Table.{Spells}
 use Rattle.dvi_ops.specs.Spelling.{operand, spelling, NumberFits, NumbersFit}
 use Rattle.dvi_ops.specs.Tokens.{IsSpelled, token_instructions, pointers}
 use Rattle.dvi_ops.specs.Fonts.{WidthsByName, definitions, selections, first_definition_of, FontsAreRight, font, widths_in, width_in, widths_of}
-use Rattle.dvi_ops.specs.File.{FilePart, instructions, MarkedPage, push_depth_of, IsIdle, Frame, IsFile}
+use Rattle.dvi_ops.specs.File.{FilePart, instructions, MarkedPage, max_pushes, push_depth_of, IsIdle, Frame, IsFile}
 use Rattle.dvi_ops.specs.Layout.{bytes_of, preamble, define, Sheet, WriterKnowledge, after_preamble, sheet_from, knowledge_after, sheets_from, after_all, front_of, whole_of, stop_of, ending_of, padding_after, Table, table_widths, IsWritable, IsTabled, IsGood, AreGood, IsClosing}
 use Rattle.scaled_core.proofs.EachOf.{all_weaker, all_both, all_map}
 use Rattle.dvi_ops.proofs.Appends.{fonts_append}
@@ -148,7 +148,7 @@ module _ (metrics : WidthsByName) (table : Table) (s : WriterKnowledge) (is : Li
             subst (λ (is : List Instruction). AllByRecursion (λ f. IsSome (font metrics (definitions (token_instructions (map wrote (define closing)))) f)) (selections is)) (sym (says-wrote is))
             (all_weaker (λ f. IsSome (first_definition_of f s.known) × IsSome (widths_in metrics (table f))) (λ f. IsSome (font metrics (definitions (token_instructions (map wrote (define closing)))) f)) (selections is) measured
             (all_both (λ f. IsSome (first_definition_of f s.known)) (λ f. IsSome (widths_in metrics (table f))) (selections is) t.chosen t.measured));
-        depth = all_weaker (λ part. push_depth_of part ≤ s.depth) (λ part. push_depth_of part ≤ min 1024 s.depth) parts (λ part shallow. (let most = t.shallow in omega arith)) t.depth;
+        depth = all_weaker (λ part. push_depth_of part ≤ s.depth) (λ part. push_depth_of part ≤ min max_pushes s.depth) parts (λ part shallow. (let most = t.shallow in omega arith)) t.depth;
         shows =
             same_pages (widths_of metrics (definitions (token_instructions (map wrote (define closing))))) (table_widths metrics table) parts
             (all_weaker (λ f. IsSome (first_definition_of f s.known)) (SameWidths (widths_of metrics (definitions (token_instructions (map wrote (define closing))))) (table_widths metrics table)) (selections (flat_map instructions parts)) same_widths

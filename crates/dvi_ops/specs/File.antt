@@ -39,6 +39,10 @@ pages_of does (Idle ∷ rest) = pages_of does rest
 pages_of does (Defines d ∷ rest) = pages_of does rest
 pages_of does (Shows counts pointer body ∷ rest) = page_then counts (meaning does body start) (pages_of does rest)
 
+-- The greatest number of pushes that may be open at once on a page, whatever post allows (own).
+abbrev pub max_pushes : ℕ
+max_pushes = 1024
+
 -- The greatest number of pushes that are open at once in a part.
 abbrev pub push_depth_of : FilePart → ℕ
 push_depth_of Idle = 0
@@ -91,7 +95,7 @@ pub record IsFile (metrics : WidthsByName) (bytes : List ℕ) (pages : List Mark
   -- A selected font is defined in the postamble too (DVItype, 19), and its metric file is known.
   pub closing : AllByRecursion (λ f. IsSome (font metrics (definitions (token_instructions frame.tail)) f))
       (selections (token_instructions frame.front))
-  -- No more pushes are open than post allows (DVItype, 19), and no more than 1024 (own).
-  pub depth : AllByRecursion (λ part. push_depth_of part ≤ min 1024 frame.stop.stack_depth) parts
+  -- No more pushes are open than post allows (DVItype, 19), and no more than `max_pushes`.
+  pub depth : AllByRecursion (λ part. push_depth_of part ≤ min max_pushes frame.stop.stack_depth) parts
   -- The pages, with h and v in signed 32 bits.
   pub shows : pages_of (bounded_acts (instruction_acts (widths_of metrics (definitions (token_instructions frame.tail))))) parts ≡ Some pages

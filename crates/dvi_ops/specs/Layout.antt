@@ -8,7 +8,7 @@ use Rattle.dvi_ops.specs.Body.{DviState, Widths, instruction_acts, bounded_acts,
 use Rattle.scaled_core.specs.Mark.{Mark}
 use Rattle.dvi_ops.specs.Forest.{Forest, flat, meaning, nests}
 use Rattle.dvi_ops.specs.Fonts.{WidthsByName, IsFontSize, definitions, selections, first_definition_of, known_after, widths_in, width_in}
-use Rattle.dvi_ops.specs.File.{MarkedPage}
+use Rattle.dvi_ops.specs.File.{MarkedPage, max_pushes}
 
 -- The bytes of instructions, each by its written spelling.
 abbrev pub bytes_of : List Instruction → List ℕ
@@ -119,7 +119,7 @@ pub record IsGood (metrics : WidthsByName) (table : Table) (known : List Definit
   pub plain : definitions (flat p.body) ≡ []
   pub chosen : AllByRecursion (λ f. IsSome (first_definition_of f (known_after known (define p.fresh)))) (selections (flat p.body))
   pub measured : AllByRecursion (λ f. IsSome (widths_in metrics (table f))) (selections (flat p.body))
-  pub shallow : nests p.body ≤ 1024
+  pub shallow : nests p.body ≤ max_pushes
   pub last : DviState
   pub shows : meaning (bounded_acts (instruction_acts (table_widths metrics table))) p.body start ≡ Some (marks, last)
 

@@ -4,13 +4,21 @@ ghost use Rattle.std.specs.Prelude.{◌≡◌, ◌++◌, ◌<◌, ◌≤◌, ◌
 ghost use Rattle.dvi_ops.specs.Examples.{one_rule_file, one_rule_pages, two_page_file, two_pages, fonts_in_nested_boxes_file};
 ghost use Rattle.dvi_ops.specs.Examples.{fonts_in_nested_boxes_pages, self_naming_file, stray_pop_file, short_file, miscounted_file};
 ghost use Rattle.dvi_ops.specs.Examples.{undefined_font_file, shallow_file, GivesTiny};
-ghost use Rattle.dvi_ops.specs.File.{IsFile, MarkedPage};
+ghost use Rattle.dvi_ops.specs.File.{IsFile, MarkedPage, max_pushes};
 ghost use Rattle.dvi_ops.specs.Fonts.{WidthsByName};
 ghost use Rattle.dvi_ops.specs.Instruction.{Definition};
 ghost use Rattle.dvi_ops.specs.Layout.{AreGood, IsClosing, IsGood, Sheet, Table, WriterKnowledge, knowledge_after, after_all, after_preamble};
 ghost use Rattle.dvi_ops.specs.Layout.{bytes_of};
 ghost use Rattle.dvi_ops.specs.Layout.{front_of, padding_after, sheet_from, whole_of};
 ghost use Rattle.dvi_ops.specs.Spelling.{NumberFits};
+
+/// The greatest number of pushes that may be open at once on a page, whatever post allows (own).
+pub const MAX_PUSHES: usize = 1024;
+
+/// The limit of open pushes is the one of the definitions.
+pub fn limit_of_pushes()
+    ensures { MAX_PUSHES ≡ max_pushes }
+{}
 
 /// Bytes are a file of at most one list of pages.
 pub fn one_file()

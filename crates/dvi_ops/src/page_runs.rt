@@ -1,6 +1,6 @@
 //! The body of a page with its characters apart from its other instructions.
 
-ghost use Rattle.std.specs.Prelude.{◌≡◌, ◌<◌, ◌++◌, [], ◌∷◌, true, false, pos, length, map, vec_len, vec_capacity, IfOk, OnOk};
+ghost use Rattle.std.specs.Prelude.{◌≡◌, ◌<◌, ◌++◌, [], ◌∷◌, true, false, pos, length, map, vec_len, vec_capacity, IfOk, OnErr, OnOk};
 ghost use Rattle.dvi_ops.specs.Private.Rising.{IsRising, IsRising-prop};
 
 use crate::body_op::BodyOp;
@@ -67,9 +67,10 @@ impl<'a> PageRuns<'a> {
         Ok(runs)
     }
 
-    /// Appends an instruction.
+    /// Appends an instruction. If memory is refused, the body is as it was before the call.
     fn append(&mut self, op: BodyOp<'a>) -> Result<(), AllocError>
-        ensures { OnOk result (instructions_of self.new ≡ instructions_of self.old ++ body_view op.entry ∷ []) }
+        ensures ok { OnOk result (instructions_of self.new ≡ instructions_of self.old ++ body_view op.entry ∷ []) }
+        ensures err { OnErr result (instructions_of self.new ≡ instructions_of self.old) }
     {
         match op {
             BodyOp::SetChar(code @ 0..=255) => self.push_character(code as u8),
@@ -77,11 +78,12 @@ impl<'a> PageRuns<'a> {
         }
     }
 
-    /// Appends a character.
+    /// Appends a character. If memory is refused, the body is as it was before the call.
     #[tactic(auto, unfolding(crate::specs::Runs::instructions_of))]
     #[inline(always)]
     pub fn push_character(&mut self, code: u8) -> Result<(), AllocError>
-        ensures { OnOk result (instructions_of self.new ≡ instructions_of self.old ++ Do (SetChar (pos code)) ∷ []) }
+        ensures ok { OnOk result (instructions_of self.new ≡ instructions_of self.old ++ Do (SetChar (pos code)) ∷ []) }
+        ensures err { OnErr result (instructions_of self.new ≡ instructions_of self.old) }
     {
         append_byte(&mut self.codes, code)?;
         Ok(())
@@ -101,11 +103,13 @@ impl<'a> PageRuns<'a> {
         true
     }
 
-    /// Appends an instruction that is no character. A character may be appended too, but takes more memory than by `push_character`.
+    /// Appends an instruction that is no character. A character may be appended too, but takes more memory than by `push_character`. If memory is
+    /// refused, the body is as it was before the call.
     #[tactic(auto, unfolding(crate::specs::Runs::instructions_of))]
     #[inline(always)]
     pub fn push(&mut self, op: BodyOp<'a>) -> Result<(), AllocError>
-        ensures { OnOk result (instructions_of self.new ≡ instructions_of self.old ++ body_view op.entry ∷ []) }
+        ensures ok { OnOk result (instructions_of self.new ≡ instructions_of self.old ++ body_view op.entry ∷ []) }
+        ensures err { OnErr result (instructions_of self.new ≡ instructions_of self.old) }
     {
         make_room(&mut self.places)?;
         make_room(&mut self.ops)?;

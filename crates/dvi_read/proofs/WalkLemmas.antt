@@ -19,7 +19,6 @@ use Rattle.dvi_ops.specs.File.{MarkedPage}
 use Rattle.dvi_ops.specs.Fonts.{WidthsByName, IsFontSize, definitions, widths_in, selection_of, widths_of}
 use Rattle.dvi_ops.specs.Instruction.{Definition, FontNum, Instruction, Do, Push, Pop, Eop, Postamble}
 use Rattle.dvi_ops.specs.Tokens.{token_instructions}
-use Rattle.scaled_core.proofs.EachOf.{all_append, all_weaker}
 use Rattle.dvi_scan.specs.Pass.{PassStateView, Between, Inside}
 use Rattle.dvi_scan.specs.Passed.{file_framing, IsPassed}
 use Rattle.dvi_scan.specs.Reached.{AreNumbersOf, HasWidths, IsReached, IsRightAt, Left, ReadSoFar, all_left, before_pages, has_number}
@@ -28,14 +27,14 @@ use Rattle.dvi_scan.specs.View.{marked_page}
 use Rattle.dvi_scan.specs.declared.page.Page.{Page}
 use Rattle.dvi_scan.specs.declared.executing.PassState.{PassState}
 use Rattle.dvi_scan.specs.declared.executing.PassState.TheVariants as stands
-use Rattle.dvi_scan.proofs.ReachedLemmas.{next_right, reached_next}
+use Rattle.dvi_scan.proofs.ReachedLemmas.{next_right}
 use Rattle.dvi_scan.proofs.TurnLemmas.{broken_turn}
-use Rattle.dvi_read.specs.ReadFonts.{IsCurrent, FontIsRead}
+use Rattle.dvi_read.specs.ReadFonts.{IsCurrent}
 use Rattle.dvi_read.specs.Faults.{fault_in}
 use Rattle.dvi_read.specs.Steps.{BreaksStep, StopsStep, known_of, places_left, so_far, stand_of}
 use Rattle.dvi_read.specs.Stops.{page_bytes, BreaksPages, BreaksRest, BreaksRule, IsPagesFault, IsUnended, IsWalkFault, LacksWidths}
 use Rattle.dvi_read.specs.Walks.{IsWalked}
-use Rattle.dvi_read.specs.Private.Walks.{IsBegun, Reads, StopsReading}
+use Rattle.dvi_read.specs.Private.Walks.{IsBegun, StopsReading}
 use Rattle.dvi_read.specs.declared.fault.DviFault.{DviFault}
 use Rattle.dvi_read.specs.declared.fault.DviFault.TheVariants as faults
 use Rattle.dvi_read.specs.declared.fault.StepFault.{StepFault}
@@ -75,26 +74,6 @@ taken files ahead bytes most at post s i (Refused refusals.DimensionTooLarge) st
 pub taken_fault : (files : List NamedBytes) (ahead : List ℤ) (bytes : List ℕ) (stop : Postamble) (at post : ℕ) (walk : Walk) (i : Instruction) (fault : StepFault) → StandsAt bytes at post i
     → StopsStep files ahead (min 1024 stop.stack_depth) at i walk fault → StopsReading files (page_bytes ahead bytes (min 1024 stop.stack_depth) post) at walk (fault_in at fault)
 taken_fault files ahead bytes stop at post walk i fault stands b selected read = taken files ahead bytes (min 1024 stop.stack_depth) at post (so_far selected walk) i fault stands (b selected read)
-
--- One more instruction.
-pub walked_more : (metrics : WidthsByName) (ahead : List ℤ) (bytes : List ℕ) (stop : Postamble) (chain : List ℕ) (at post next : ℕ) (old new : Walk) → post ≤ length bytes
-    → IsWalked metrics ahead bytes stop chain at old → Reads metrics (page_bytes ahead bytes (min 1024 stop.stack_depth) post) at old new next → IsWalked metrics ahead bytes stop chain next new
-walked_more metrics ahead bytes stop chain at post next old new high walked reads =
-    let steps = reads.steps in
-    let forward = reads.forward in
-    let within = reads.within in
-    let selected : List ℤ = walked.selected ++ selection_of reads.here in
-    let right : IsRightAt metrics ahead stop at (so_far walked.selected old) reads.here (so_far selected new) =
-    record { goes_on = steps.goes_on; bop = steps.bop; fonts = steps.right; known_is = steps.known_is; selected_is = refl; closing = steps.widths; named = steps.named } in
-    record {
-      selected = selected;
-      reached = reached_next metrics ahead bytes stop chain at next (so_far walked.selected old) (so_far selected new) reads.here (omega arith) (omega arith) walked.reached reads.spelled right;
-      read =
-          all_append (λ f. FontIsRead f new.fonts) walked.selected (selection_of reads.here)
-          (all_weaker (λ f. FontIsRead f old.fonts) (λ f. FontIsRead f new.fonts) walked.selected steps.kept walked.read) steps.read;
-      sound = steps.sound;
-      current = steps.current;
-    }
 
 -- The known definitions have sizes.
 pub known_sizes : (metrics : WidthsByName) (ahead : List ℤ) (bytes : List ℕ) (stop : Postamble) (chain : List ℕ) (at : ℕ) (s : ReadSoFar) → IsReached metrics ahead bytes stop chain at s

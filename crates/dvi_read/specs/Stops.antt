@@ -9,7 +9,7 @@ use Rattle.dvi_scan.specs.declared.fault.BadDvi.{BadDvi}
 use Rattle.dvi_scan.specs.declared.fault.DviCause.{DviCause}
 use Rattle.dvi_scan.specs.declared.fault.DviCause.TheVariants.{Opcode, Truncated, Pointer, Font}
 use Rattle.dvi_ops.specs.Body.{instruction_acts, bounded_acts}
-use Rattle.dvi_ops.specs.File.{MarkedPage}
+use Rattle.dvi_ops.specs.File.{MarkedPage, max_pushes}
 use Rattle.dvi_ops.specs.Fonts.{WidthsByName, IsRightAfter, first_definition_of, widths_of}
 use Rattle.dvi_ops.specs.Instruction.{Definition, FontDef, FontNum, Instruction, Do, Postamble}
 use Rattle.dvi_ops.specs.Tokens.{bop_place}
@@ -119,7 +119,7 @@ pub record StopsAt (files : List NamedBytes) (part : PageBytes) (stop : Postambl
 -- The same for a fault at some place.
 abbrev pub IsWalkFault : List NamedBytes → (ahead : List ℤ) → (bytes : List ℕ) → Postamble → (chain : List ℕ) → (post : ℕ) → DviFault → Type 0
 IsWalkFault files ahead bytes stop chain post fault =
-    (at : ℕ) × StopsAt files (page_bytes ahead bytes (min 1024 stop.stack_depth) post) stop chain at fault
+    (at : ℕ) × StopsAt files (page_bytes ahead bytes (min max_pushes stop.stack_depth) post) stop chain at fault
 
 -- At the place of post no page is open, no place of the chain is still to come, and none was missed.
 pub record PagesHaveEnded (p : PassStateView) (left : Left) (pages : List MarkedPage) : Type 0 where

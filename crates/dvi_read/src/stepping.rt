@@ -2,6 +2,7 @@
 
 ghost use Rattle.std.specs.Prelude.{◌≡◌, false, min, reverse, true, IfErr, None, OnOk, Some};
 ghost use Rattle.std.specs.List.{AllByRecursion};
+ghost use Rattle.dvi_ops.specs.File.{max_pushes};
 ghost use Rattle.dvi_ops.specs.Fonts.{IsFontSize};
 ghost use Rattle.dvi_ops.specs.View.{view};
 ghost use Rattle.dvi_scan.specs.Reached.{after_bop};
@@ -14,12 +15,10 @@ use crate::fault::StepFault;
 use crate::read_fonts::width_asked;
 use crate::selecting::select;
 use crate::walk::{Source, Walk};
+use dvi_ops::dvi_file::MAX_PUSHES;
 use dvi_ops::{BodyOp, Op};
 use dvi_scan::{DviCause, FileEnd, FontNumber, define, execute};
 use std::alloc::Global;
-
-/// The greatest number of pushes that may be open at once, whatever post allows (own).
-const MAX_PUSHES: usize = 1024;
 
 /// Removes the place of a bop from the places that are still to come, and returns whether it was among them. Earlier places are missed. The places
 /// have the last one first. A bop that is not in the chain is refused at its own place; a missed place is refused only at post, since no bop is at it
@@ -89,7 +88,7 @@ fn pass_on<'a>(
 
 /// The greatest number of pushes that may be open at once: the depth in post, but at most `MAX_PUSHES`.
 pub(crate) fn max_pushes(ending: &FileEnd) -> usize
-    ensures { result ≡ min 1024 ending.now.stop.stack_depth }
+    ensures { result ≡ min max_pushes ending.now.stop.stack_depth }
 {
     MAX_PUSHES.min(usize::from(ending.stop.stack_depth))
 }
@@ -108,9 +107,9 @@ pub fn step<'a>(
     requires sound { AreSound (file_widths source.now.files.now) (known_of walk.old) walk.old.fonts }
     requires current { IsCurrent walk.old.fonts walk.old.stand }
     ensures ok { OnOk result (IsWalkStep (file_widths source.now.files.now) source.now.ahead.now.keys
-        (min 1024 source.now.ending.now.stop.stack_depth) at (view op.now) walk.old walk.new) }
+        (min max_pushes source.now.ending.now.stop.stack_depth) at (view op.now) walk.old walk.new) }
     // The rule that a fault names is broken.
-    ensures bad { IfErr result (StopsStep source.now.files.now source.now.ahead.now.keys (min 1024 source.now.ending.now.stop.stack_depth) at
+    ensures bad { IfErr result (StopsStep source.now.files.now source.now.ahead.now.keys (min max_pushes source.now.ending.now.stop.stack_depth) at
         (view op.now) walk.old) }
 {
     pass_on(alloc, max_pushes(source.ending), op, walk)?;

@@ -4,6 +4,7 @@ ghost use Rattle.std.specs.Prelude.{◌≡◌, ◌++◌, ◌+◌, ◌≤◌, ◌
 ghost use Rattle.std.specs.Prelude.{Some, ℕ, ℤ};
 ghost use Rattle.std.specs.List.{AllByRecursion};
 ghost use Rattle.dvi_ops.specs.Body.{place_after};
+ghost use Rattle.dvi_ops.specs.File.{max_pushes};
 ghost use Rattle.dvi_ops.specs.Fonts.{IsFontSize, WidthsByName};
 ghost use Rattle.dvi_ops.specs.Instruction.{Across, By, Postamble};
 ghost use Rattle.dvi_ops.specs.View.{postamble, view};
@@ -53,11 +54,11 @@ fn read_step<'a>(
     requires sound { AreSound (file_widths source.now.files.now) (known_of walk.old) walk.old.fonts }
     requires current { IsCurrent walk.old.fonts walk.old.stand }
     ensures ok { IfOk result (Reads (file_widths source.now.files.now)
-        (page_bytes source.now.ahead.now.keys source.now.bytes.now (min 1024 (postamble source.now.ending.now.stop).stack_depth)
+        (page_bytes source.now.ahead.now.keys source.now.bytes.now (min max_pushes (postamble source.now.ending.now.stop).stack_depth)
         source.now.ending.now.post)
         at walk.old walk.new) }
     ensures bad { IfErr result (StopsReading source.now.files.now
-        (page_bytes source.now.ahead.now.keys source.now.bytes.now (min 1024 (postamble source.now.ending.now.stop).stack_depth)
+        (page_bytes source.now.ahead.now.keys source.now.bytes.now (min max_pushes (postamble source.now.ending.now.stop).stack_depth)
         source.now.ending.now.post)
         at walk.old) }
     ensures specials { HasPlaces source.now.bytes.now specials.old.items (stand_of walk.old)

@@ -7,7 +7,7 @@ use Rattle.std.specs.List.{AllByRecursion, flat_map}
 use Rattle.dvi_ops.specs.Instruction.{Definition, Instruction, Postamble, Pre, Post}
 use Rattle.dvi_ops.specs.Table.{Spells, signed}
 use Rattle.dvi_ops.specs.Tokens.{Token, IsSpelled, token_instructions, token_bytes, places, pointers}
-use Rattle.dvi_ops.specs.File.{AreUnits, Frame, IsFile, MarkedPage, instructions}
+use Rattle.dvi_ops.specs.File.{AreUnits, Frame, IsFile, MarkedPage, instructions, max_pushes}
 use Rattle.dvi_ops.specs.Fonts.{WidthsByName, FontsAreRight, first_definition_of, definitions, widths_in, selections, width_in, widths_of}
 use Rattle.scaled_core.proofs.EachOf.{all_both, all_weaker}
 use Rattle.dvi_ops.proofs.Appends.{fonts_front, length-places, length-pages}
@@ -178,7 +178,7 @@ module _ (bytes : List ℕ) (post after last : ℕ) (stop : Postamble) (chain : 
   pub passed_file : (metrics : WidthsByName) (pages : List MarkedPage) → stop.pages ≡ length chain % 65536 → IsPassed metrics bytes (file_framing post after last stop chain) pages → IsFile metrics bytes pages
   unfolding frame_of
   passed_file metrics pages count p =
-      let (parts, whole, shows, deep) = passed_parts (drawing_by metrics p.front) (min 1024 stop.stack_depth) p.body pages p.passed in
+      let (parts, whole, shows, deep) = passed_parts (drawing_by metrics p.front) (min max_pushes stop.stack_depth) p.body pages p.passed in
       let frame = frame_of p.front p.tail p.front_spelled p.tail_spelled p.front_whole p.tail_whole in
       let front_is : token_instructions p.front ≡ Pre 2 stop.units p.comment ∷ flat_map instructions parts = p.front_is ∙ ap (λ is. Pre 2 stop.units p.comment ∷ is) whole in
       let bops : reverse (places 0 p.front) ≡ chain = ap (λ (ns : List ℕ). reverse ns) p.bops ∙ reverse-reverse chain in
@@ -218,7 +218,7 @@ module _ (bytes : List ℕ) (post after last : ℕ) (stop : Postamble) (chain : 
       let shows = same_pages (widths_of metrics (definitions (token_instructions g.front))) (widths_of metrics (definitions (token_instructions g.tail))) f.parts
       (subst (λ (is : List Instruction). AllByRecursion (SameWidths (widths_of metrics (definitions (token_instructions g.front))) (widths_of metrics (definitions (token_instructions g.tail)))) (selections is)) f.front_is
       (front_and_tail metrics (token_instructions g.front) (token_instructions g.tail) f.fonts named)) ∙ f.shows in
-      let passed = passes-parts (drawing_by metrics g.front) (min 1024 g.stop.stack_depth) f.parts [] pages shows f.depth in
+      let passed = passes-parts (drawing_by metrics g.front) (min max_pushes g.stop.stack_depth) f.parts [] pages shows f.depth in
       record {
         front = g.front;
         tail = g.tail;
@@ -230,7 +230,7 @@ module _ (bytes : List ℕ) (post after last : ℕ) (stop : Postamble) (chain : 
         body = flat_map instructions f.parts;
         front_is = f.front_is ∙ ap (λ (s : Postamble). Pre 2 s.units f.comment ∷ flat_map instructions f.parts) (sym stops);
         units = subst (λ (s : Postamble). AreUnits s.units) (sym stops) f.units;
-        passed = subst (λ (s : Postamble). passes (drawing_by metrics g.front) (min 1024 s.stack_depth) (flat_map instructions f.parts) (Between []) ≡ Some (Between pages)) (sym stops) passed;
+        passed = subst (λ (s : Postamble). passes (drawing_by metrics g.front) (min max_pushes s.stack_depth) (flat_map instructions f.parts) (Between []) ≡ Some (Between pages)) (sym stops) passed;
         bops = sym (ap (λ (ns : List ℕ). reverse ns) chains ∙ reverse-reverse (places 0 g.front));
         tail_is = f.tail_is;
         fonts = f.fonts;

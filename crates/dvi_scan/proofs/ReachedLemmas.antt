@@ -8,7 +8,7 @@ use Rattle.dvi_ops.specs.Table.{Spells}
 use Rattle.dvi_ops.specs.Body.{Acts, instruction_acts, bounded_acts}
 use Rattle.dvi_ops.specs.Tokens.{Token, IsSpelled, token_instructions, token_bytes, bop_place, places}
 use Rattle.dvi_ops.specs.Fonts.{WidthsByName, FontsAreRight, IsRightAfter, first_definition_of, definitions_in, definitions, widths_in, known_after, selection_of, selections, widths_of}
-use Rattle.dvi_ops.specs.File.{MarkedPage, AreUnits}
+use Rattle.dvi_ops.specs.File.{MarkedPage, AreUnits, max_pushes}
 use Rattle.scaled_core.proofs.EachOf.{all_append, all_front, all_back, all_weaker}
 use Rattle.dvi_ops.proofs.Appends.{says-append, written-append, places-append, fonts_append, fonts_front, fonts_back, definitions-append, selections-append}
 use Rattle.dvi_ops.proofs.Frames.{begins, not_empty, one_list}
@@ -52,10 +52,10 @@ none_now v w metrics f e = absurd cc
 module _ (metrics : WidthsByName) (ahead : List ℤ) (bytes : List ℕ) (stop : Postamble) (chain : List ℕ) where
   -- More definitions do not change what was passed.
   pub passed_more : (at : ℕ) (s : ReadSoFar) (r : IsReached metrics ahead bytes stop chain at s) (ds : List Definition)
-      → (passes (bounded_acts (instruction_acts (widths_of metrics (s.known ++ ds)))) (min 1024 stop.stack_depth) r.body (Between []) ≡ Some s.pass) × SameNow (widths_of metrics s.known) (widths_of metrics (s.known ++ ds)) s.pass
+      → (passes (bounded_acts (instruction_acts (widths_of metrics (s.known ++ ds)))) (min max_pushes stop.stack_depth) r.body (Between []) ≡ Some s.pass) × SameNow (widths_of metrics s.known) (widths_of metrics (s.known ++ ds)) s.pass
   passed_more at s r ds =
       let body : selections r.body ≡ s.selected = sym (ap (λ (is : List Instruction). selections is) r.front_is) ∙ r.selected_is in
-      same_passes (widths_of metrics s.known) (widths_of metrics (s.known ++ ds)) (min 1024 stop.stack_depth) r.body (Between []) s.pass (none_now s.known (s.known ++ ds) metrics)
+      same_passes (widths_of metrics s.known) (widths_of metrics (s.known ++ ds)) (min max_pushes stop.stack_depth) r.body (Between []) s.pass (none_now s.known (s.known ++ ds) metrics)
       (all_same_widths metrics s.known ds (selections r.body) (subst (AllByRecursion (HasWidths metrics s.known)) (sym body) r.closing)) r.passed
 
   -- One more instruction.
@@ -72,10 +72,10 @@ module _ (metrics : WidthsByName) (ahead : List ℤ) (bytes : List ℕ) (stop : 
       let (before, now) = passed_more at s r (definitions_in i) in
       let known : s.known ++ definitions_in i ≡ t.known = sym right.known_is in
       let selected : s.selected ++ selection_of i ≡ t.selected = sym right.selected_is in
-      let turned : execute (bounded_acts (instruction_acts (widths_of metrics (s.known ++ definitions_in i)))) (min 1024 stop.stack_depth) i s.pass ≡ Some t.pass =
-      sym (same_turn (widths_of metrics s.known) (widths_of metrics (s.known ++ definitions_in i)) (min 1024 stop.stack_depth) i s.pass now) ∙ right.goes_on in
-      let goes_on : passes (bounded_acts (instruction_acts (widths_of metrics (s.known ++ definitions_in i)))) (min 1024 stop.stack_depth) (r.body ++ i ∷ []) (Between []) ≡ Some t.pass =
-      passes-append (bounded_acts (instruction_acts (widths_of metrics (s.known ++ definitions_in i)))) (min 1024 stop.stack_depth) r.body (i ∷ []) (Between []) s.pass before ∙ ap (then_pass (λ p. Some p)) turned in
+      let turned : execute (bounded_acts (instruction_acts (widths_of metrics (s.known ++ definitions_in i)))) (min max_pushes stop.stack_depth) i s.pass ≡ Some t.pass =
+      sym (same_turn (widths_of metrics s.known) (widths_of metrics (s.known ++ definitions_in i)) (min max_pushes stop.stack_depth) i s.pass now) ∙ right.goes_on in
+      let goes_on : passes (bounded_acts (instruction_acts (widths_of metrics (s.known ++ definitions_in i)))) (min max_pushes stop.stack_depth) (r.body ++ i ∷ []) (Between []) ≡ Some t.pass =
+      passes-append (bounded_acts (instruction_acts (widths_of metrics (s.known ++ definitions_in i)))) (min max_pushes stop.stack_depth) r.body (i ∷ []) (Between []) s.pass before ∙ ap (then_pass (λ p. Some p)) turned in
       let closing : AllByRecursion (HasWidths metrics (s.known ++ definitions_in i)) (s.selected ++ selection_of i) =
       all_append (HasWidths metrics (s.known ++ definitions_in i)) s.selected (selection_of i) (all_more_widths metrics s.known (definitions_in i) s.selected r.closing)
       (all_more_widths metrics s.known (definitions_in i) (selection_of i) right.closing) in
@@ -90,7 +90,7 @@ module _ (metrics : WidthsByName) (ahead : List ℤ) (bytes : List ℕ) (stop : 
         front_is = says_more ∙ ap (λ (is : List Instruction). is ++ i ∷ []) r.front_is;
         known_is = ap (λ (is : List Instruction). definitions is) says_more ∙ (definitions_more (token_instructions r.before) i ∙ (ap (λ (ds : List Definition). ds ++ definitions_in i) r.known_is ∙ known));
         selected_is = ap (λ (is : List Instruction). selections is) says_more ∙ (selections_more (token_instructions r.before) i ∙ (ap (λ (fs : List ℤ). fs ++ selection_of i) r.selected_is ∙ selected));
-        passed = subst (λ (ds : List Definition). passes (bounded_acts (instruction_acts (widths_of metrics ds))) (min 1024 stop.stack_depth) (r.body ++ i ∷ []) (Between []) ≡ Some t.pass) known goes_on;
+        passed = subst (λ (ds : List Definition). passes (bounded_acts (instruction_acts (widths_of metrics ds))) (min max_pushes stop.stack_depth) (r.body ++ i ∷ []) (Between []) ≡ Some t.pass) known goes_on;
         bops = ap (λ (ns : List ℕ). after_bops ns (all_left chain)) bops_are ∙ (after_bops-append (places 0 r.before) (bop_place at i) (all_left chain) s.left r.bops ∙ right.bop);
         fonts = subst (λ (is : List Instruction). FontsAreRight [] is) (sym says_more) (fonts_append [] (token_instructions r.before) (i ∷ []) r.fonts (first, tt));
         closing = subst (λ (ds : List Definition). AllByRecursion (HasWidths metrics ds) t.selected) known closed;
@@ -148,7 +148,7 @@ module _ (metrics : WidthsByName) (bytes : List ℕ) (post after last : ℕ) (st
     pub whole : token_bytes more ≡ take (post - at) (drop at bytes)
     pub body : f.body ≡ r.body ++ token_instructions more
     pub known : definitions (token_instructions f.front) ≡ s.known ++ definitions (token_instructions more)
-    pub passed : passes (bounded_acts (instruction_acts (widths_of metrics (s.known ++ definitions (token_instructions more))))) (min 1024 stop.stack_depth) (token_instructions more) s.pass ≡ Some (Between pages)
+    pub passed : passes (bounded_acts (instruction_acts (widths_of metrics (s.known ++ definitions (token_instructions more))))) (min max_pushes stop.stack_depth) (token_instructions more) s.pass ≡ Some (Between pages)
     pub now : SameNow (widths_of metrics s.known) (widths_of metrics (s.known ++ definitions (token_instructions more))) s.pass
     pub bops : s.left ≡ record { missed = false; places = places at more }
 
@@ -169,7 +169,7 @@ module _ (metrics : WidthsByName) (bytes : List ℕ) (post after last : ℕ) (st
       let known : definitions (token_instructions f.front) ≡ s.known ++ definitions (token_instructions more) =
       ap (λ (is : List Instruction). definitions is) fronts ∙ (definitions-append (token_instructions r.before) (token_instructions more) ∙ ap (λ (ds : List Definition). ds ++ definitions (token_instructions more)) r.known_is) in
       let (before, now) = passed_more metrics ahead bytes stop chain at s r (definitions (token_instructions more)) in
-      let all_passed = subst (λ (ds : List Definition). passes (bounded_acts (instruction_acts (widths_of metrics ds))) (min 1024 stop.stack_depth) f.body (Between []) ≡ Some (Between pages)) known f.passed in
+      let all_passed = subst (λ (ds : List Definition). passes (bounded_acts (instruction_acts (widths_of metrics ds))) (min max_pushes stop.stack_depth) f.body (Between []) ≡ Some (Between pages)) known f.passed in
       let still : Some s.left ≡ Some (record { missed = false; places = places at more }) =
       sym r.bops ∙ (ap (λ (ns : List ℕ). after_bops (places 0 r.before) (record { missed = false; places = ns })) all_places ∙ bops_met (places 0 r.before) (places at more)) in
       record {
@@ -179,8 +179,8 @@ module _ (metrics : WidthsByName) (bytes : List ℕ) (post after last : ℕ) (st
         whole = whole;
         body = body;
         known = known;
-        passed = sym (passes-append (bounded_acts (instruction_acts (widths_of metrics (s.known ++ definitions (token_instructions more))))) (min 1024 stop.stack_depth) r.body (token_instructions more) (Between []) s.pass before)
-            ∙ (ap (λ (is : List Instruction). passes (bounded_acts (instruction_acts (widths_of metrics (s.known ++ definitions (token_instructions more))))) (min 1024 stop.stack_depth) is (Between [])) (sym body) ∙ all_passed);
+        passed = sym (passes-append (bounded_acts (instruction_acts (widths_of metrics (s.known ++ definitions (token_instructions more))))) (min max_pushes stop.stack_depth) r.body (token_instructions more) (Between []) s.pass before)
+            ∙ (ap (λ (is : List Instruction). passes (bounded_acts (instruction_acts (widths_of metrics (s.known ++ definitions (token_instructions more))))) (min max_pushes stop.stack_depth) is (Between [])) (sym body) ∙ all_passed);
         now = now;
         bops = cc;
       }
@@ -194,7 +194,7 @@ module _ (metrics : WidthsByName) (bytes : List ℕ) (post after last : ℕ) (st
   next_right below = by_first rest.more rest.front rest.spelled rest.whole rest.known rest.passed rest.now rest.bops
     where
       by_first : (more : List Token) → f.front ≡ r.before ++ more → AllByRecursion IsSpelled more → token_bytes more ≡ take (post - at) (drop at bytes) → definitions (token_instructions f.front) ≡ s.known ++ definitions (token_instructions more)
-          → passes (bounded_acts (instruction_acts (widths_of metrics (s.known ++ definitions (token_instructions more))))) (min 1024 stop.stack_depth) (token_instructions more) s.pass ≡ Some (Between pages)
+          → passes (bounded_acts (instruction_acts (widths_of metrics (s.known ++ definitions (token_instructions more))))) (min max_pushes stop.stack_depth) (token_instructions more) s.pass ≡ Some (Between pages)
           → SameNow (widths_of metrics s.known) (widths_of metrics (s.known ++ definitions (token_instructions more))) s.pass → s.left ≡ record { missed = false; places = places at more }
           → HasRight metrics ahead bytes stop at post s
       by_first [] front spelled whole known passed now bops =
@@ -208,8 +208,8 @@ module _ (metrics : WidthsByName) (bytes : List ℕ) (post after last : ℕ) (st
           sym (take-take (length t.bytes) (post - at) (drop at bytes) (omega arith)) ∙ (ap (λ (x : List ℕ). take (length t.bytes) x) (sym whole) ∙ take_at t.bytes (token_bytes more) (length t.bytes) refl) in
           let span : at + length t.bytes - at ≡ length t.bytes = omega arith in
           let all_known : List Definition = s.known ++ definitions (t.says ∷ token_instructions more) in
-          let (q, turned) = first_turn (bounded_acts (instruction_acts (widths_of metrics all_known))) (min 1024 stop.stack_depth) t.says (token_instructions more) s.pass (Between pages) passed in
-          let goes_on = same_turn (widths_of metrics s.known) (widths_of metrics all_known) (min 1024 stop.stack_depth) t.says s.pass now ∙ turned in
+          let (q, turned) = first_turn (bounded_acts (instruction_acts (widths_of metrics all_known))) (min max_pushes stop.stack_depth) t.says (token_instructions more) s.pass (Between pages) passed in
+          let goes_on = same_turn (widths_of metrics s.known) (widths_of metrics all_known) (min max_pushes stop.stack_depth) t.says s.pass now ∙ turned in
           let fronts : token_instructions f.front ≡ token_instructions r.before ++ (t.says ∷ token_instructions more) = ap (λ (ts : List Token). token_instructions ts) front ∙ says-append r.before (t ∷ more) in
           let fonts = fonts_back [] (token_instructions r.before) (t.says ∷ token_instructions more) (subst (λ (is : List Instruction). FontsAreRight [] is) fronts (fonts_front [] (token_instructions f.front) (token_instructions f.tail) f.fonts)) in
           let all_selected : selections (token_instructions f.front) ≡ selections (token_instructions r.before) ++ (selection_of t.says ++ selections (token_instructions more)) =
@@ -257,7 +257,7 @@ module _ (metrics : WidthsByName) (bytes : List ℕ) (post after last : ℕ) (st
   end_right same = by_first rest.more rest.spelled rest.whole rest.passed rest.bops
     where
       by_first : (more : List Token) → AllByRecursion IsSpelled more → token_bytes more ≡ take (post - at) (drop at bytes)
-          → passes (bounded_acts (instruction_acts (widths_of metrics (s.known ++ definitions (token_instructions more))))) (min 1024 stop.stack_depth) (token_instructions more) s.pass ≡ Some (Between pages) → s.left ≡ record { missed = false; places = places at more }
+          → passes (bounded_acts (instruction_acts (widths_of metrics (s.known ++ definitions (token_instructions more))))) (min max_pushes stop.stack_depth) (token_instructions more) s.pass ≡ Some (Between pages) → s.left ≡ record { missed = false; places = places at more }
           → (s.pass ≡ Between pages) × (s.left ≡ all_left [])
       by_first [] spelled whole passed bops = let e : s.pass ≡ Between pages = cc in (e, bops)
       by_first (t ∷ more) (here, spelled) whole passed bops =
@@ -287,7 +287,7 @@ reached_end metrics bytes post after last stop chain pages ahead s tail units nu
       front_is = r.front_is;
       units = units;
       passed =
-          subst (λ (ds : List Definition). passes (bounded_acts (instruction_acts (widths_of metrics ds))) (min 1024 stop.stack_depth) r.body (Between []) ≡ Some (Between pages)) (sym r.known_is)
+          subst (λ (ds : List Definition). passes (bounded_acts (instruction_acts (widths_of metrics ds))) (min max_pushes stop.stack_depth) r.body (Between []) ≡ Some (Between pages)) (sym r.known_is)
           (r.passed ∙ ap (λ (p : PassStateView). Some p) pass_is);
       bops = sym (append-nil (places 0 r.before)) ∙ (none_missed (places 0 r.before) (all_left chain) [] bops).1;
       tail_is = t.idle;

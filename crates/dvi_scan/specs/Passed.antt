@@ -6,7 +6,7 @@ use Rattle.dvi_ops.specs.Table.{Spells}
 use Rattle.dvi_ops.specs.Body.{Acts, instruction_acts, bounded_acts}
 use Rattle.dvi_ops.specs.Tokens.{Token, IsSpelled, token_instructions, token_bytes, places}
 use Rattle.dvi_ops.specs.Fonts.{WidthsByName, FontsAreRight, definitions, selections, widths_of}
-use Rattle.dvi_ops.specs.File.{MarkedPage, IsIdle, AreUnits}
+use Rattle.dvi_ops.specs.File.{MarkedPage, IsIdle, AreUnits, max_pushes}
 use Rattle.dvi_scan.specs.Ends.{HasPostamble}
 use Rattle.dvi_scan.specs.Chain.{Links}
 use Rattle.dvi_scan.specs.Pass.{Between, passes}
@@ -49,7 +49,7 @@ pub record IsPassed (metrics : WidthsByName) (bytes : List ℕ) (parts : Framing
   pub body : List Instruction
   pub front_is : token_instructions front ≡ Pre 2 parts.stop.units comment ∷ body
   pub units : AreUnits parts.stop.units
-  pub passed : passes (drawing_by metrics front) (min 1024 parts.stop.stack_depth) body (Between []) ≡ Some (Between pages)
+  pub passed : passes (drawing_by metrics front) (min max_pushes parts.stop.stack_depth) body (Between []) ≡ Some (Between pages)
   -- The places of the bops are those of the chain.
   pub bops : places 0 front ≡ reverse parts.chain
   -- After post there are only nops and font definitions, and all definitions are right. Each selected font has widths, and its number is defined

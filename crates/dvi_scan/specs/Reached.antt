@@ -5,7 +5,7 @@ use Rattle.std.specs.List.{AllByRecursion, list_any}
 use Rattle.std.specs.Option.{is_some}
 use Rattle.std.specs.Ordering.{int_eq}
 use Rattle.dvi_ops.specs.Instruction.{Definition, Postamble, Instruction, Pre}
-use Rattle.dvi_ops.specs.File.{IsIdle}
+use Rattle.dvi_ops.specs.File.{IsIdle, max_pushes}
 use Rattle.dvi_ops.specs.Table.{Spells}
 use Rattle.dvi_ops.specs.Body.{instruction_acts, bounded_acts}
 use Rattle.dvi_ops.specs.Tokens.{Token, IsSpelled, token_instructions, token_bytes, bop_place, places}
@@ -79,7 +79,7 @@ pub record IsReached (metrics : WidthsByName) (ahead : List ℤ) (bytes : List �
   pub front_is : token_instructions before ≡ Pre 2 stop.units comment ∷ body
   pub known_is : definitions (token_instructions before) ≡ s.known
   pub selected_is : selections (token_instructions before) ≡ s.selected
-  pub passed : passes (bounded_acts (instruction_acts (widths_of metrics s.known))) (min 1024 stop.stack_depth) body (Between []) ≡ Some s.pass
+  pub passed : passes (bounded_acts (instruction_acts (widths_of metrics s.known))) (min max_pushes stop.stack_depth) body (Between []) ≡ Some s.pass
   pub bops : after_bops (places 0 before) (all_left chain) ≡ Some s.left
   pub fonts : FontsAreRight [] (token_instructions before)
   pub closing : AllByRecursion (HasWidths metrics s.known) s.selected
@@ -89,7 +89,7 @@ pub record IsReached (metrics : WidthsByName) (ahead : List ℤ) (bytes : List �
 -- right; a selected font has widths, and its number is defined after post.
 pub record IsRightAt (metrics : WidthsByName) (ahead : List ℤ) (stop : Postamble) (at : ℕ) (old : ReadSoFar) (i : Instruction)
     (new : ReadSoFar) : Type 0 where
-  pub goes_on : execute (bounded_acts (instruction_acts (widths_of metrics old.known))) (min 1024 stop.stack_depth) i old.pass ≡ Some new.pass
+  pub goes_on : execute (bounded_acts (instruction_acts (widths_of metrics old.known))) (min max_pushes stop.stack_depth) i old.pass ≡ Some new.pass
   pub bop : after_bops (bop_place at i) old.left ≡ Some new.left
   pub fonts : IsRightAfter old.known i
   pub known_is : new.known ≡ old.known ++ definitions_in i

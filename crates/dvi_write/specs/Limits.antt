@@ -1,7 +1,7 @@
 -- The limits of a file (own; the limits of a job).
-use Rattle.std.specs.Prelude.{◌≡◌, ◌+◌, ◌*◌, ◌≤◌, length, Option, Some, None, if◌then◌else◌, nat_le, nat_lt}
-use Rattle.node_core.specs.Nodes.{box_count, box_text}
-use Rattle.page_core.specs.Marks.{ShippedPage, is_huge}
+use Rattle.std.specs.Prelude.{◌≡◌, ◌+◌, ◌*◌, ◌≤◌, length, Option}
+use Rattle.page_core.specs.Limits.{first_refusal, page_limits}
+use Rattle.page_core.specs.Marks.{ShippedPage}
 use Rattle.dvi_write.specs.declared.fault.WriteFault.{WriteFault}
 use Rattle.dvi_write.specs.declared.fault.WriteFault.TheVariants.{TooManyPages, TooMuchShipped, TooMuchSpecial, HugePage}
 use Rattle.node_core.specs.declared.limits.TheConstants.{MAX_PAGES, MAX_SHIPPED_NODES, MAX_SHIPPED_TEXT, MAX_DEPTH}
@@ -10,12 +10,7 @@ use Rattle.dvi_write.specs.SoFar.{ProgressView}
 
 -- Why a page is not written, however much memory there is: the first of these that holds.
 abbrev pub limit_of : ProgressView → ShippedPage → Option WriteFault
-limit_of s page =
-    if nat_le MAX_PAGES s.pages then Some TooManyPages
-    else if nat_lt MAX_SHIPPED_NODES (s.load.nodes + box_count page.box_node) then Some TooMuchShipped
-    else if nat_lt MAX_SHIPPED_TEXT (s.load.text + box_text page.box_node) then Some TooMuchSpecial
-    else if is_huge page then Some HugePage
-    else None
+limit_of s page = first_refusal (page_limits TooManyPages TooMuchShipped TooMuchSpecial HugePage s.pages s.load page)
 
 -- The writer's numbers are within the limits, so that every place in the file is below 2^31 (the invariant of the writer).
 pub record HasRoom (s : ProgressView) : Type 0 where

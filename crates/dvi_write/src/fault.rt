@@ -11,13 +11,13 @@ pub enum WriteFault {
     /// The file is finished, or its device has failed.
     #[error("the file is over")]
     JobOver,
-    /// The file has the greatest number of pages, 65,535.
+    /// The file has `MAX_PAGES` pages, as many as there may be.
     #[error("there are too many pages")]
     TooManyPages,
-    /// The boxes of all pages would have more than 16,777,216 nodes in total.
+    /// The boxes of all pages would have more than `MAX_SHIPPED_NODES` nodes in total.
     #[error("too much is shipped")]
     TooMuchShipped,
-    /// The special texts of all pages would have more than 1,048,576 bytes in total.
+    /// The special texts of all pages would have more than `MAX_SHIPPED_TEXT` bytes in total.
     #[error("too much special text is shipped")]
     TooMuchSpecial,
     /// A place or a size on the page is more than 2^30 - 1 sp or less than -(2^30 - 1) sp.

@@ -24,8 +24,8 @@ use Rattle.dvi_write.specs.Shippable.{IsShippable}
 use Rattle.page_core.specs.Pages.{page_with}
 use Rattle.dvi_write.specs.Writing.{Writing, HasWritten, EndsWith, GoesOn, refusal_of}
 use Rattle.job_machine.specs.State.{State, held_in, shipped_with}
-use Rattle.job_machine.specs.Checks.{checks, first_refusal}
-use Rattle.job_machine.specs.NextPages.{offsets_of, page_in, shipped_pages, is_huge_in}
+use Rattle.job_machine.specs.Checks.{checks, first_refusal, page_checks}
+use Rattle.job_machine.specs.NextPages.{offsets_of, page_in, shipped_pages}
 use Rattle.job_machine.specs.Effects.{state_after_command, new_pages}
 use Rattle.job_machine.specs.Machine.{Machine, reply_by, state_by}
 use Rattle.job_state.specs.JobStateView.{JobStateView, state_of, before_shipping}
@@ -110,9 +110,7 @@ module _ (kept : JobStateView) (w : Writing) (r : ℕ) (b : BoxNode) (page : Shi
 
   checked : first_refusal (checks s (Ship r)) ≡ option_map write_refusal (refusal_of w page)
   checked =
-      ap (λ held. first_refusal ((w.over, JobOver) ∷ (is_none held, VoidBox) ∷ (nat_le MAX_PAGES w.so_far.pages, TooManyPages)
-      ∷ (nat_lt MAX_SHIPPED_NODES (shipped_with w.so_far.load held).nodes, TooMuchShipped) ∷ (nat_lt MAX_SHIPPED_TEXT (shipped_with w.so_far.load held).text, TooMuchSpecial)
-      ∷ (is_huge_in s held, HugePage) ∷ [])) is
+      ap (λ held. first_refusal ((w.over, JobOver) ∷ (is_none held, VoidBox) ∷ page_checks s held)) is
       ∙ (by_tests w.over (nat_le MAX_PAGES w.so_far.pages) (nat_lt MAX_SHIPPED_NODES (w.so_far.load.nodes + box_count b)) (nat_lt MAX_SHIPPED_TEXT (w.so_far.load.text + box_text b))
       (is_huge (page_in (before_shipping kept) b))
       ∙ ap (λ (p : ShippedPage). option_map write_refusal (refusal_of w p)) (sym same))

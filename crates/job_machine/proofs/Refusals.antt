@@ -30,7 +30,7 @@ use Rattle.vert_core.specs.declared.paragraph.ParagraphFault.{ParagraphFault}
 use Rattle.vert_core.specs.declared.paragraph.ParagraphFault.TheVariants as faults
 use Rattle.job_machine.specs.OpenLists.{packed_list}
 use Rattle.job_machine.specs.Paragraphs.{set_after, set_checks}
-use Rattle.job_machine.specs.Checks.{box_checks, held_checks, home_checks, packed_checks, purpose_checks, close_checks, items_checks, split_checks, checks, first_refusal, refusal_in}
+use Rattle.job_machine.specs.Checks.{box_checks, held_checks, home_checks, packed_checks, purpose_checks, close_checks, items_checks, split_checks, page_checks, checks, first_refusal, refusal_in}
 use Rattle.job_machine.specs.Answers.{answer_of}
 use Rattle.job_machine.specs.Machine.{Machine, reply_by, reply_to, step}
 use Rattle.job_machine.specs.Runs.{early_checks, finish_checks, Finishes, Finished, Refuses, WantsMemory, LostDevice, MayRunOutOfMemory, StepsTo, Replies, LacksMemory, LosesDevice, Run}
@@ -73,6 +73,10 @@ chosen_by_box params (Some l) b = (tt, (tt, tt))
 chosen_by_held : (params : Params) (l : Option OpenList) (held : Option BoxNode) → AreChosen (held_checks params l held)
 chosen_by_held params l None = tt
 chosen_by_held params l (Some b) = chosen_by_box params l b
+
+chosen_by_page : (s : State) (held : Option BoxNode) → AreChosen (page_checks s held)
+chosen_by_page s None = tt
+chosen_by_page s (Some b) = (tt, (tt, (tt, (tt, tt))))
 
 chosen_by_home : (params : Params) (around : List OpenList) (into : Option ℕ) (b : BoxNode) → AreChosen (home_checks params around into b)
 chosen_by_home params around None b = chosen_by_box params (innermost around) b
@@ -126,7 +130,7 @@ all_chosen s (Void r) = (tt, tt)
 all_chosen s (Set parameter) = (tt, tt)
 all_chosen s (Count counting) = (tt, tt)
 all_chosen s (Special text) = (tt, (tt, (tt, (tt, tt))))
-all_chosen s (Ship r) = (tt, (tt, (tt, (tt, (tt, (tt, tt))))))
+all_chosen s (Ship r) = (tt, (tt, chosen_by_page s (held_in s.registers r)))
 
 -- A reply that refuses comes from a check that holds.
 refused_by : (refused : Option Refusal) (answer : Answer) (r : Refusal) → Err r ≡ reply_by refused answer → refused ≡ Some r

@@ -1,18 +1,17 @@
 -- What holds after every run of the machine: the font files do not change, and the state counts the pages.
 use Rattle.std.proofs.Common.{◌≡◌, ℕ, ◌+◌, Bool, true, false, List, [], ◌∷◌, ◌++◌, length, length-append, Option, Some, None, refl, ap, sym, ◌∙◌, subst, arith}
-use Rattle.std.specs.Prelude.{is_none, nat_le, nat_lt}
-use Rattle.node_core.specs.declared.limits.TheConstants.{MAX_PAGES, MAX_SHIPPED_NODES, MAX_SHIPPED_TEXT}
+use Rattle.std.specs.Prelude.{is_none}
 use Rattle.node_core.specs.declared.tree.BoxNode.{BoxNode}
 use Rattle.tfm_core.specs.NamedBytes.{NamedBytes}
 use Rattle.page_core.specs.Marks.{ShippedPage}
 use Rattle.job_machine.specs.declared.command.Command.{Command}
 use Rattle.job_machine.specs.declared.command.Command.TheVariants.{LoadFont, UseFont, Open, Paragraph, End, Text, Character, Rule, Kern, Glue, Penalty, Append, Unbox, LastBox, Split, Measure, Void, Set, Count, Special, Ship}
 use Rattle.job_machine.specs.declared.replies.Refusal.{Refusal}
-use Rattle.job_machine.specs.declared.replies.Refusal.TheVariants.{JobOver, VoidBox, TooManyPages, TooMuchShipped, TooMuchSpecial, HugePage}
+use Rattle.job_machine.specs.declared.replies.Refusal.TheVariants.{JobOver, VoidBox}
 use Rattle.job_machine.specs.Reply.{Reply}
-use Rattle.job_machine.specs.State.{State, held_in, shipped_with}
-use Rattle.job_machine.specs.NextPages.{is_huge_in, shipped_pages}
-use Rattle.job_machine.specs.Checks.{checks, first_refusal}
+use Rattle.job_machine.specs.State.{State, held_in}
+use Rattle.job_machine.specs.NextPages.{shipped_pages}
+use Rattle.job_machine.specs.Checks.{checks, first_refusal, page_checks}
 use Rattle.job_machine.specs.Effects.{state_after_command, new_pages}
 use Rattle.job_machine.specs.Machine.{Machine, state_by}
 use Rattle.job_machine.specs.Runs.{StepsTo, Replies, LacksMemory, LosesDevice, Run}
@@ -28,9 +27,7 @@ second_fails false false p q rest none = refl
 pub box_is_held : (s : State) (r : ℕ) → first_refusal (checks s (Ship r)) ≡ None → is_none (held_in s.registers r) ≡ false
 box_is_held s r none =
     second_fails s.over (is_none (held_in s.registers r)) JobOver VoidBox
-    ((nat_le MAX_PAGES s.pages, TooManyPages) ∷ (nat_lt MAX_SHIPPED_NODES (shipped_with s.shipped (held_in s.registers r)).nodes, TooMuchShipped)
-    ∷ (nat_lt MAX_SHIPPED_TEXT (shipped_with s.shipped (held_in s.registers r)).text, TooMuchSpecial) ∷ (is_huge_in s (held_in s.registers r), HugePage) ∷ [])
-    none
+    (page_checks s (held_in s.registers r)) none
 
 -- A command counts the pages that it adds.
 after-pages : (s : State) (command : Command) → first_refusal (checks s command) ≡ None → (state_after_command s command).pages ≡ s.pages + length (new_pages s command)

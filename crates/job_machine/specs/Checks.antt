@@ -1,6 +1,6 @@
 -- When a command is refused, and with which refusal: one row for each command (own; after TeX: The Program, parts 16, 32, 33 and 47).
 use Rattle.std.specs.List.{list_all, list_any}
-use Rattle.std.specs.Prelude.{◌+◌, ◌==◌, ◌++◌, ◌∷◌, ◌&&◌, ◌||◌, [], ℕ, ℤ, pos, Bool, true, false, not, nat_le, nat_lt, if◌then◌else◌, List, length}
+use Rattle.std.specs.Prelude.{◌+◌, ◌==◌, ◌++◌, ◌∷◌, ◌&&◌, ◌||◌, [], ℕ, ℤ, pos, Bool, true, false, not, nat_le, nat_lt, List, length}
 use Rattle.std.specs.Prelude.{Option, Some, None, is_none, is_some, Result, Ok, Err, is_ok}
 use Rattle.node_core.specs.declared.tree.Node.{Node}
 use Rattle.node_core.specs.declared.tree.Kind.{Kind}
@@ -22,24 +22,20 @@ use Rattle.job_machine.specs.declared.replies.Refusal.{Refusal}
 use Rattle.job_machine.specs.declared.replies.Refusal.TheVariants.{DimensionTooLarge, NoFont, SlotTaken, NoOpenList, WrongMode, WrongKind}
 use Rattle.job_machine.specs.declared.replies.Refusal.TheVariants.{ListTooLong, TooDeep, InfiniteShrink, HugePage, TooManyPages, TooMuchShipped}
 use Rattle.job_machine.specs.declared.replies.Refusal.TheVariants.{TooMuchSpecial, JobOver, VoidBox}
-use Rattle.node_core.specs.declared.limits.TheConstants.{MAX_OPEN_LISTS, MAX_ITEMS, MAX_DEPTH, MAX_PAGES, MAX_SHIPPED_NODES, MAX_SPECIAL_TEXT}
-use Rattle.node_core.specs.declared.limits.TheConstants.{MAX_SHIPPED_TEXT}
+use Rattle.node_core.specs.declared.limits.TheConstants.{MAX_OPEN_LISTS, MAX_ITEMS, MAX_DEPTH, MAX_SPECIAL_TEXT}
 use Rattle.pack_core.specs.declared.pack.Packed as packs
+pub use Rattle.page_core.specs.Limits.{first_refusal}
+use Rattle.page_core.specs.Limits.{page_limits}
 use Rattle.scaled_core.specs.Dimensions.{fits}
 use Rattle.node_core.specs.Classes.{shrinks_infinitely}
 use Rattle.vert_core.specs.Split.{split_numbers}
 use Rattle.tfm_core.specs.Fonts.{SizedFont}
 use Rattle.tfm_core.specs.Slots.{font_in}
 use Rattle.job_machine.specs.FontSlots.{current_font, CharacterItems, text_shaped, character_shaped}
-use Rattle.job_machine.specs.State.{State, innermost, outer, items_in, open_count, held_in, shipped_with, font_for}
-use Rattle.job_machine.specs.NextPages.{is_huge_in}
+use Rattle.job_machine.specs.State.{State, innermost, outer, items_in, open_count, held_in, font_for}
+use Rattle.job_machine.specs.NextPages.{page_in}
 use Rattle.job_machine.specs.OpenLists.{kind_in, is_vertical, glue_in, box_items, packed_list}
 use Rattle.job_machine.specs.Paragraphs.{paragraph_checks}
-
--- The first refusal whose condition holds. The order of the checks is part of the contract: scripts see which refusal comes first.
-abbrev pub first_refusal : List (Bool × Refusal) → Option Refusal
-first_refusal [] = None
-first_refusal ((holds, refusal) ∷ rest) = if holds then Some refusal else first_refusal rest
 
 -- The refusal of items that do not fit into a list that has this number of items already.
 abbrev pub room_checks : (count : ℕ) → List Node → List (Bool × Refusal)
@@ -162,7 +158,12 @@ abbrev pub is_misplaced : Kind → rules.Rule → Bool
 is_misplaced Horizontal rule = is_running rule.width
 is_misplaced Vertical rule = is_running rule.height || is_running rule.depth
 
--- The refusals of each command in their order, each with its condition.
+-- The refusals of the page of the box of a register. A void register is refused before these.
+abbrev pub page_checks : State → (held : Option BoxNode) → List (Bool × Refusal)
+page_checks m None = []
+page_checks m (Some b) = page_limits TooManyPages TooMuchShipped TooMuchSpecial HugePage m.pages m.shipped (page_in m b)
+
+-- The refusals of each command, each with its condition. Their order is part of the contract: scripts see which refusal comes first.
 abbrev pub own_checks : State → Command → List (Bool × Refusal)
 own_checks m (LoadFont load) = (is_some (font_in m.fonts load.slot), SlotTaken) ∷ refusal_in (font_for m load)
 own_checks m (UseFont slot) = (is_none (font_in m.fonts slot), NoFont) ∷ []
@@ -187,11 +188,7 @@ own_checks m (Set parameter) = []
 own_checks m (Count counting) = []
 own_checks m (Special text) =
     (length m.nest == 0, NoOpenList) ∷ (nat_lt MAX_SPECIAL_TEXT (length text), TooMuchSpecial) ∷ (nat_le MAX_ITEMS (open_count m), ListTooLong) ∷ []
-own_checks m (Ship r) =
-    (is_none (held_in m.registers r), VoidBox) ∷ (nat_le MAX_PAGES m.pages, TooManyPages)
-    ∷ (nat_lt MAX_SHIPPED_NODES (shipped_with m.shipped (held_in m.registers r)).nodes, TooMuchShipped)
-    ∷ (nat_lt MAX_SHIPPED_TEXT (shipped_with m.shipped (held_in m.registers r)).text, TooMuchSpecial)
-    ∷ (is_huge_in m (held_in m.registers r), HugePage) ∷ []
+own_checks m (Ship r) = (is_none (held_in m.registers r), VoidBox) ∷ page_checks m (held_in m.registers r)
 
 -- All refusals of a command in their order. That the job is over comes first for each command.
 abbrev pub checks : State → Command → List (Bool × Refusal)

@@ -1,8 +1,8 @@
 -- The page that `ship` makes of a box (TeX: The Program, part 32, §617, §638 and §640).
-use Rattle.std.specs.Prelude.{◌∷◌, [], Bool, false, List, Option, Some, None}
+use Rattle.std.specs.Prelude.{◌∷◌, [], List, Option, Some, None}
 use Rattle.node_core.specs.declared.tree.BoxNode.{BoxNode}
 use Rattle.node_core.specs.declared.params.Params.{Params}
-use Rattle.page_core.specs.Marks.{ShippedPage, is_huge}
+use Rattle.page_core.specs.Marks.{ShippedPage}
 use Rattle.page_core.specs.declared.offsets.Offsets.{Offsets}
 use Rattle.page_core.specs.Pages.{page_with}
 use Rattle.job_machine.specs.State.{State}
@@ -19,8 +19,3 @@ page_in m b = page_with m.counts (offsets_of m.params) b
 abbrev pub shipped_pages : State → Option BoxNode → List ShippedPage
 shipped_pages m None = []
 shipped_pages m (Some b) = page_in m b ∷ []
-
--- Whether the page of the box of a register is huge. A void register is refused before that.
-abbrev pub is_huge_in : State → Option BoxNode → Bool
-is_huge_in m None = false
-is_huge_in m (Some b) = is_huge (page_in m b)

@@ -2,7 +2,6 @@
 use Rattle.std.specs.Prelude.{ℤ}
 use Rattle.node_core.specs.declared.tree.Glue.{Glue}
 use Rattle.node_core.specs.declared.params.Params.{Params}
-use Rattle.node_core.specs.declared.params.SplitParams.{SplitParams}
 use Rattle.job_machine.specs.declared.parameter.SizeParameter.{SizeParameter}
 use Rattle.job_machine.specs.declared.parameter.SizeParameter.TheVariants.{BoxMaxDepth, LineSkipLimit, SplitMaxDepth, Hsize, FirstSize, Hoffset}
 use Rattle.job_machine.specs.declared.parameter.SizeParameter.TheVariants.{Voffset}

@@ -1,6 +1,7 @@
 //! The limits of a job. Each number is written only here: code and definitions use these constants.
 
 ghost use Rattle.std.specs.Prelude.{◌≡◌};
+ghost use Rattle.node_core.specs.Nodes.{max_nodes};
 
 /// The number of box registers.
 pub const REGISTERS: usize = 32_768;
@@ -13,6 +14,9 @@ pub const MAX_OPEN_LISTS: usize = 64;
 
 /// The greatest number of items in an open list.
 pub const MAX_ITEMS: usize = 65_536;
+
+/// The greatest number of nodes in a list.
+pub const MAX_NODES: usize = 131_072;
 
 /// The greatest depth to which boxes nest, including the outermost box.
 pub const MAX_DEPTH: u64 = 200;
@@ -35,6 +39,7 @@ pub fn limits_of_a_job()
     ensures counts { COUNTS ≡ 10 }
     ensures open_lists { MAX_OPEN_LISTS ≡ 64 }
     ensures items { MAX_ITEMS ≡ 65536 }
+    ensures nodes { MAX_NODES ≡ max_nodes }
     ensures depth { MAX_DEPTH ≡ 200 }
     ensures pages { MAX_PAGES ≡ 65535 }
     ensures shipped_nodes { MAX_SHIPPED_NODES ≡ 16777216 }

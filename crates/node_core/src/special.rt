@@ -6,7 +6,7 @@ ghost use Rattle.node_core.specs.declared.limits.TheConstants.{MAX_SPECIAL_TEXT}
 use std::alloc::{AllocError, Global};
 use std::marker::Model;
 
-/// The text of a special: at most 65,535 bytes, which are also its value in contracts (TeX: The Program, part 53; the limit is own).
+/// The text of a special: at most `MAX_SPECIAL_TEXT` bytes, which are also its value in contracts (TeX: The Program, part 53; the limit is own).
 #[derive(Debug, Drop)]
 pub struct SpecialText {
     bytes: Vec<u8>,
@@ -24,7 +24,7 @@ impl Model for SpecialText {
 }
 
 impl SpecialText {
-    /// The text with these bytes, at most 65,535. Does not allocate.
+    /// The text with these bytes, at most `MAX_SPECIAL_TEXT`. Does not allocate.
     pub fn from_vec(bytes: Vec<u8>) -> SpecialText
         requires text_bounded { length bytes.items ≤ MAX_SPECIAL_TEXT }
         ensures { result ≡ bytes.items }

@@ -189,7 +189,7 @@ impl Deref for HeapBox {
     }
 }
 
-/// A list of at most 131,072 nodes, in order.
+/// A list of at most `MAX_NODES` nodes, in order.
 #[cycle(tree)]
 #[derive(Debug, Drop)]
 pub struct NodeList {
@@ -234,7 +234,7 @@ impl NodeList {
         }
     }
 
-    /// The list of these nodes, at most 131,072. Does not allocate.
+    /// The list of these nodes, at most `MAX_NODES`. Does not allocate.
     #[tactic(auto, using(crate::proofs::NodeLemmas::nodes))]
     pub fn from_vec(nodes: Vec<Node>) -> NodeList
         requires list_bounded { length nodes.items ≤ max_nodes }
@@ -246,8 +246,8 @@ impl NodeList {
         NodeList { nodes, plain }
     }
 
-    /// The list of these nodes, at most 131,072. `is_plain` says that it is known that none of them is a box or a special: then the measures of the
-    /// list need no walk. Does not allocate.
+    /// The list of these nodes, at most `MAX_NODES`. `is_plain` says that it is known that none of them is a box or a special: then the measures of
+    /// the list need no walk. Does not allocate.
     #[tactic(auto, using(crate::proofs::NodeLemmas::nodes))]
     pub fn with_plainness(nodes: Vec<Node>, is_plain: bool) -> NodeList
         requires list_bounded { length nodes.items ≤ max_nodes }
@@ -296,8 +296,8 @@ impl NodeList {
         self.nodes.is_empty()
     }
 
-    /// Appends a node to a list of fewer than 131,072 nodes. If memory is refused, the error returns the node, and the list is as it was before the
-    /// call.
+    /// Appends a node to a list of fewer than `MAX_NODES` nodes. If memory is refused, the error returns the node, and the list is as it was before
+    /// the call.
     #[tactic(auto, using(crate::proofs::NodeLemmas::nodes))]
     pub fn push(&mut self, node: Node) -> Result<(), AllocFailed<Node>>
         requires list_bounded { length (nodes_of self.old) < max_nodes }
@@ -310,7 +310,8 @@ impl NodeList {
         self.nodes.push(node)
     }
 
-    /// Appends a box to a list of fewer than 131,072 nodes. If memory is refused, the error is the box, and the list is as it was before the call.
+    /// Appends a box to a list of fewer than `MAX_NODES` nodes. If memory is refused, the error is the box, and the list is as it was before the
+    /// call.
     #[tactic(auto, using(crate::proofs::NodeLemmas::nodes))]
     pub fn push_box(&mut self, shift: Dimen, box_node: BoxNode) -> Result<(), BoxNode>
         requires list_bounded { length (nodes_of self.old) < max_nodes }
@@ -322,7 +323,7 @@ impl NodeList {
         push_box(&mut self.nodes, shift, box_node)
     }
 
-    /// Appends nodes in order; the list then has at most 131,072. If memory is refused, the list is as it was before the call, and the nodes are
+    /// Appends nodes in order; the list then has at most `MAX_NODES`. If memory is refused, the list is as it was before the call, and the nodes are
     /// dropped.
     #[tactic(auto, using(crate::proofs::NodeLemmas::nodes))]
     pub fn extend(&mut self, mut nodes: Vec<Node>) -> Result<(), AllocError>
@@ -335,8 +336,8 @@ impl NodeList {
         self.nodes.append(&mut nodes)
     }
 
-    /// Moves the nodes of another list to the end of this one, in order; together they are at most 131,072. If memory is refused, both lists are as
-    /// they were before the call.
+    /// Moves the nodes of another list to the end of this one, in order; together they are at most `MAX_NODES`. If memory is refused, both lists are
+    /// as they were before the call.
     #[tactic(auto, using(crate::proofs::NodeLemmas::nodes))]
     pub fn append(&mut self, other: &mut NodeList) -> Result<(), AllocError>
         requires list_bounded { length (nodes_of self.old) + length (nodes_of other.old) ≤ max_nodes }

@@ -49,7 +49,7 @@ impl Cursor {
         }
     }
 
-    /// Passes an item of a list of this kind and setting; at most 131,072 items are passed.
+    /// Passes an item of a list of this kind and setting; at most `MAX_NODES` items are passed.
     #[tactic(auto, using(crate::proofs::Walks::walks))]
     #[inline(always)]
     pub fn pass(&mut self, kind: Kind, setting: &Setting, node: &Node)
@@ -64,7 +64,7 @@ impl Cursor {
     }
 
     /// Passes an item that advances by `distance` scaled points and has no share in the setting of the list, which holds for every item that is not
-    /// glue; at most 131,072 items are passed.
+    /// glue; at most `MAX_NODES` items are passed.
     pub fn move_on(&mut self, distance: i64)
         requires items_bounded { self.old.passed < max_nodes }
         requires distance_bounded { Within (2 ^ 31) distance }

@@ -1,8 +1,7 @@
 -- The greatest number of pushes that are open at once in a body is the depth of its groups.
 use Rattle.std.proofs.Common.{◌≡◌, ℕ, ◌+◌, ◌-◌, ◌<◌, ◌≤◌, max, List, [], ◌∷◌, ◌++◌, length, map, take, drop, get_or, append_assoc, refl, ap, sym, ◌∙◌, add-one, drop-cons, arith}
-use Rattle.std.specs.Prelude.{pos}
 use Rattle.std.proofs.lemmas.List.{append-nil, drop_all}
-use Rattle.dvi_ops.specs.Instruction.{SetChar, Instruction, Do, Push, Pop, Bop, Eop, Pre, Post, PostPost}
+use Rattle.dvi_ops.specs.Instruction.{Instruction, Do, Push, Pop, Bop, Eop, Pre, Post, PostPost}
 use Rattle.dvi_ops.specs.Forest.{Forest, Empty, Then, Group, flat, nests}
 use Rattle.dvi_ops.specs.Runs.{characters, woven_instructions}
 use Rattle.dvi_ops.specs.View.{body_view}

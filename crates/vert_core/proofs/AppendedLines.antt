@@ -1,8 +1,7 @@
 -- Planned lines at the end of a list.
-use Rattle.std.proofs.Common.{◌≡◌, ◌∙◌, ℕ, ◌+◌, ◌<◌, ◌≤◌, min, List, [], ◌∷◌, length, map, flat_map, refl, ap, sym, subst, arith, Result, Ok, Err, IfOk, IfErr, OnErr, Some}
+use Rattle.std.proofs.Common.{◌≡◌, ◌∙◌, ℕ, ◌<◌, min, List, [], ◌∷◌, length, map, flat_map, refl, ap, sym, subst, arith, Result, Ok, Err, IfOk, IfErr, OnErr, Some}
 use Rattle.std.specs.Prelude.{ℤ}
 use Rattle.node_core.specs.declared.params.Params.{Params}
-use Rattle.node_core.specs.declared.tree.Glue.{Glue}
 use Rattle.node_core.specs.declared.tree.Node.{Node}
 use Rattle.node_core.specs.Items.{items_depth}
 use Rattle.node_core.specs.Nodes.{items_of, nodes_of}

@@ -1,8 +1,7 @@
 -- Lines that get their items, one by one from the last one on.
-use Rattle.std.proofs.Common.{◌≡◌, ◌∙◌, ℕ, ◌+◌, ◌-◌, ◌<◌, ◌≤◌, Result, Ok, Err, IsOk, is_ok, if◌then◌else◌, List, [], ◌∷◌, ◌++◌, append_assoc, append-nil, length, length-append, length-take, length-drop, take, drop, map, reverse, flat_map, refl, ap, sym, subst, arith}
-use Rattle.std.proofs.lemmas.List.{reverse-append, map-append, take_at, take-append-drop, drop_at}
+use Rattle.std.proofs.Common.{◌≡◌, ◌∙◌, ℕ, ◌+◌, ◌-◌, ◌<◌, ◌≤◌, Result, Ok, Err, IsOk, is_ok, if◌then◌else◌, List, [], ◌∷◌, ◌++◌, append_assoc, append-nil, length, length-append, length-take, take, drop, map, reverse, flat_map, refl, ap, sym, subst, arith}
+use Rattle.std.proofs.lemmas.List.{reverse-append, map-append, take_at, take-append-drop}
 use Rattle.node_core.specs.declared.tree.Node.{Node}
-use Rattle.node_core.specs.Nodes.{items_of, nodes_of}
 use Rattle.node_core.proofs.NodeLemmas.{nodes_of-items_of}
 use Rattle.vert_core.specs.declared.planning.PlannedLine.{PlannedLine}
 use Rattle.vert_core.specs.Private.Planned.{with_part, next_begin, moved_lines, items_in, AreInOrder}

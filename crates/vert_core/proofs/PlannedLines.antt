@@ -1,6 +1,6 @@
 -- Planned lines, and what they add to a vertical list once they have their items.
-use Rattle.std.proofs.Common.{◌≡◌, ◌∙◌, ◌⊎◌, inl, inr, ℕ, zero, suc, ◌+◌, ◌-◌, ◌<◌, ◌≤◌, min, Bool, true, false, cond, List, [], ◌∷◌, ◌++◌, append-nil, length, length-append, length-take, length-drop, take, drop, map, flat_map, get_or, refl, ap, sym, subst, arith, Option, Some, None}
-use Rattle.std.specs.Prelude.{ℤ, pos, slice_get, nat_lt, if◌then◌else◌}
+use Rattle.std.proofs.Common.{◌≡◌, ◌∙◌, ◌⊎◌, inl, inr, ℕ, zero, suc, ◌+◌, ◌-◌, ◌<◌, ◌≤◌, min, Bool, true, false, cond, List, [], ◌∷◌, ◌++◌, length, length-append, length-take, length-drop, take, drop, map, flat_map, get_or, refl, ap, sym, arith, Option, Some, None}
+use Rattle.std.specs.Prelude.{ℤ, pos, slice_get, nat_lt}
 use Rattle.std.proofs.lemmas.Bool.{cases_Bool, cond-true, cond-false}
 use Rattle.std.proofs.lemmas.List.{map-append, take_all, take-take, drop-drop, drop-take, drop_all}
 use Rattle.std.proofs.lemmas.List.Concat.{flat_map-append}
@@ -9,7 +9,7 @@ use Rattle.node_core.specs.declared.tree.BoxNode.{BoxNode}
 use Rattle.node_core.specs.declared.tree.Glue.{Glue}
 use Rattle.node_core.specs.declared.tree.Node.{Node}
 use Rattle.node_core.specs.Items.{Items, none}
-use Rattle.node_core.specs.Nodes.{items_of, nodes_of}
+use Rattle.node_core.specs.Nodes.{items_of}
 use Rattle.node_core.proofs.NodeLemmas.{nodes_of-items_of}
 use Rattle.pack_core.specs.Boxes.{hbox, packed_of}
 use Rattle.break_lines.specs.Legal.{is_dropped, up_to}
@@ -18,10 +18,9 @@ use Rattle.break_lines.specs.Sizes.{line_size}
 use Rattle.vert_core.specs.declared.measuring.MeasuredLine.{MeasuredLine}
 use Rattle.vert_core.specs.declared.planning.PlannedLine.{PlannedLine}
 use Rattle.vert_core.specs.Interline.{interline, glue_of, appended_nodes}
-use Rattle.vert_core.specs.Lines.{BrokenParagraph, line_begin, line_items, boxed_line, line_box, depth_before, penalty_after, penalty_nodes, after_line, line_brings, brought_by}
-use Rattle.vert_core.specs.Private.Planned.{front_items, first_index, penalty_between, hollow_box, planned, items_with_break, closed_box, stacked, with_part, part_of, copied_line, next_begin, moved_lines, AreInOrder}
+use Rattle.vert_core.specs.Lines.{BrokenParagraph, line_begin, line_items, boxed_line, line_box, depth_before, penalty_after, penalty_nodes, after_line, brought_by}
+use Rattle.vert_core.specs.Private.Planned.{front_items, first_index, penalty_between, hollow_box, planned, items_with_break, closed_box, stacked, with_part, part_of, copied_line, moved_lines, AreInOrder}
 use Rattle.vert_core.proofs.KeptItems.{length-without_first}
-use Rattle.vert_core.proofs.Measured.{measured_height}
 
 -- The items before the end of a line are some of those up to the end.
 pub short_front : (list : List Node) (begin : Option ℕ) (end : ℕ) → length (front_items list begin end) ≤ length (take end list)

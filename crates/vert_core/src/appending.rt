@@ -45,13 +45,13 @@ pub enum UnappendedLines {
     /// Boxes would nest more than 200 deep.
     #[error("boxes nest too deep")]
     TooDeep,
-    /// The list would have more than 65,536 items.
+    /// The list would have more than `MAX_ITEMS` items.
     #[error("a list is too long")]
     TooLong,
 }
 
-/// Appends the lines of a finished list of at most 131,072 nodes, whose items go into the lines. Where they are not appended, both lists are as they
-/// were before.
+/// Appends the lines of a finished list of at most `MAX_NODES` nodes, whose items go into the lines. Where they are not appended, both lists are as
+/// they were before.
 fn append_finished(
     alloc: Global,
     nodes: &mut Vec<Node>,
@@ -97,7 +97,8 @@ fn append_finished(
     }
 }
 
-/// Appends the lines of a list of at most 131,070 items, which go into the lines. Where they are not appended, both lists are as they were before.
+/// Appends the lines of a list of at most `MAX_NODES` less two items, which go into the lines. Where they are not appended, both lists are as they
+/// were before.
 fn append_items(
     alloc: Global,
     nodes: &mut Vec<Node>,
@@ -127,11 +128,11 @@ fn append_items(
     }
 }
 
-/// Sets a paragraph of at most 131,070 items after a previous depth, and appends its lines to a list of at most 65,536 items. Its items go into its
-/// lines, so its list is then empty. Where the lines are not appended, both lists are as they were before the call.
+/// Sets a paragraph of at most `MAX_NODES` less two items after a previous depth, and appends its lines to a list of at most `MAX_ITEMS` items. Its
+/// items go into its lines, so its list is then empty. Where the lines are not appended, both lists are as they were before the call.
 ///
-/// The fault is `Unset` with the fault of `set_paragraph` where it is not set, else `TooDeep` where boxes of its lines nest more than 200 deep, else
-/// `TooLong` where the other list would have more than 65,536 items, else `Unset` for refused memory.
+/// The fault is `Unset` with the fault of `set_paragraph` where it is not set, else `TooDeep` where boxes of its lines nest more than `MAX_DEPTH`
+/// deep, else `TooLong` where the other list would have more than `MAX_ITEMS` items, else `Unset` for refused memory.
 pub fn append_paragraph(
     alloc: Global,
     list: &mut NodeList,

@@ -49,7 +49,7 @@ pub enum ParagraphFault {
     /// Some glue shrinks in an infinite order.
     #[error("glue of a paragraph shrinks without end")]
     InfiniteShrink,
-    /// There are more than 8,192 legal places.
+    /// There are more than `max_places` legal places.
     #[error("a paragraph has too many places for breaks")]
     TooManyBreaks,
     /// A number of the box of a line does not fit, or the glue before it does not.
@@ -127,8 +127,8 @@ pub(crate) fn unfinished_fault(nodes: &[Node], params: &Params) -> ParagraphFaul
     }
 }
 
-/// The breaks of a finished list of at most 131,072 nodes, which are those of `breaks` in break_core, and the number of lines that were tried, which
-/// is small.
+/// The breaks of a finished list of at most `MAX_NODES` nodes, which are those of `breaks` in break_core, and the number of lines that were tried,
+/// which is small.
 fn counted_breaks(
     alloc: Global,
     nodes: &[Node],
@@ -156,7 +156,7 @@ pub(crate) struct PlannedParagraph {
     pub(crate) plain: bool,
 }
 
-/// Breaks a finished list of at most 131,072 nodes, and plans its lines.
+/// Breaks a finished list of at most `MAX_NODES` nodes, and plans its lines.
 pub(crate) fn plan_finished(
     alloc: Global,
     nodes: &[Node],
@@ -209,7 +209,7 @@ pub(crate) fn stack_planned(
     Ok(())
 }
 
-/// Sets a finished list of at most 131,072 nodes, whose items go into the lines. Where it is not set, it is as it was before.
+/// Sets a finished list of at most `MAX_NODES` nodes, whose items go into the lines. Where it is not set, it is as it was before.
 fn set_finished(
     alloc: Global,
     nodes: &mut Vec<Node>,
@@ -244,7 +244,7 @@ fn set_finished(
     Ok(CountedParagraph { set, trials })
 }
 
-/// Sets a list of at most 131,070 items, which go into the lines. Where it is not set, it is as it was before.
+/// Sets a list of at most `MAX_NODES` less two items, which go into the lines. Where it is not set, it is as it was before.
 fn set_items(
     alloc: Global,
     nodes: &mut Vec<Node>,
@@ -272,11 +272,11 @@ fn set_items(
     }
 }
 
-/// Sets a paragraph of at most 131,070 items after a previous depth. Its items go into its lines, so its list is then empty. Where it is not set, its
-/// list is as it was before the call.
+/// Sets a paragraph of at most `MAX_NODES` less two items after a previous depth. Its items go into its lines, so its list is then empty. Where it is
+/// not set, its list is as it was before the call.
 ///
 /// The fault is `InfiniteShrink` exactly when glue of the finished list shrinks in an infinite order, and `TooManyBreaks` exactly when there is no
-/// such glue but more than 8,192 legal places; refused memory hides neither. Otherwise it is `DimensionTooLarge` if a line does not fit, which
+/// such glue but more than `max_places` legal places; refused memory hides neither. Otherwise it is `DimensionTooLarge` if a line does not fit, which
 /// refused memory hides only where the breaks were not found for it, or `OutOfMemory`. For a paragraph with items at least one line is tried, and at
 /// most as many lines as there are places after each place up to the place where trying stops.
 pub fn set_paragraph(

@@ -110,8 +110,8 @@ fn copied_lines(
     })
 }
 
-/// The items that the lines of a paragraph add to a vertical list with this previous depth. `nodes` is the finished list of at most 131,072 nodes,
-/// and the breaks are its breaks, or other places in order.
+/// The items that the lines of a paragraph add to a vertical list with this previous depth. `nodes` is the finished list of at most `MAX_NODES`
+/// nodes, and the breaks are its breaks, or other places in order.
 ///
 /// The fault is `DimensionTooLarge` exactly if a number of the box of a line does not fit, or the glue before it does not; refused memory never hides
 /// it. Otherwise it is `OutOfMemory`. Without lines nothing is allocated.

@@ -1,5 +1,5 @@
 -- The lines of a paragraph before and after their items are in them (own).
-use Rattle.std.specs.Prelude.{◌+◌, ◌-◌, ◌++◌, ◌<◌, ◌≤◌, ℕ, ℤ, pos, nat_lt, if◌then◌else◌, List, [], ◌∷◌, length, map, take, drop, get_or, slice_get}
+use Rattle.std.specs.Prelude.{◌+◌, ◌-◌, ◌++◌, ◌<◌, ◌≤◌, ℕ, ℤ, pos, nat_lt, if◌then◌else◌, List, [], ◌∷◌, length, take, drop, get_or, slice_get}
 use Rattle.std.specs.Prelude.{Option, Some, None}
 use Rattle.node_core.specs.Items.{none}
 use Rattle.node_core.specs.Nodes.{IsPlain, items_of, nodes_of}

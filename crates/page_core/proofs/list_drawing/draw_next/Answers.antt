@@ -1,6 +1,5 @@
-use Rattle.std.proofs.Common.{◌≡◌, ◌∙◌, ap}
+use Rattle.std.proofs.Common.{◌∙◌, ap}
 use Rattle.std.specs.Option.{option_map}
-use Rattle.node_core.specs.declared.tree.Kind.{Kind}
 use Rattle.node_core.specs.declared.tree.Node.TheVariants as nodes
 use Rattle.pack_core.specs.Cursors.{one_more, place_at}
 use Rattle.page_core.specs.Private.Placing.{level_with, point_in}

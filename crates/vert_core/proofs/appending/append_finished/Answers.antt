@@ -1,8 +1,7 @@
-use Rattle.std.proofs.Common.{◌≡◌, ◌∙◌, ◌+◌, ◌<◌, ◌≤◌, ◌++◌, List, length, ap, sym, subst, rules, arith, refl}
+use Rattle.std.proofs.Common.{◌≡◌, ◌∙◌, ◌+◌, ◌++◌, List, length, ap, sym, subst, rules, arith, refl}
 use Rattle.node_core.specs.declared.limits.TheConstants.{MAX_DEPTH, MAX_ITEMS}
 use Rattle.node_core.specs.declared.tree.Node.{Node}
-use Rattle.node_core.specs.Items.{items_depth}
-use Rattle.node_core.specs.Nodes.{IsPlain, items_of}
+use Rattle.node_core.specs.Nodes.{IsPlain}
 use Rattle.node_core.proofs.NodeLemmas.{nodes_of-items_of}
 use Rattle.vert_core.specs.Lines.{vertical_items}
 use Rattle.vert_core.specs.Paragraphs.{with_breaks, IsUnsetList}

@@ -1,4 +1,4 @@
-use Rattle.std.proofs.Common.{◌≡◌, ◌∙◌, ◌<◌, List, [], append-nil, length, ap, sym, subst, rules, arith, refl}
+use Rattle.std.proofs.Common.{◌≡◌, ◌∙◌, ◌<◌, List, append-nil, length, ap, sym, subst, rules, arith, refl}
 use Rattle.std.proofs.lemmas.List.{nil_from_length}
 use Rattle.node_core.specs.declared.limits.TheConstants.{MAX_DEPTH}
 use Rattle.node_core.specs.declared.tree.Node.{Node}

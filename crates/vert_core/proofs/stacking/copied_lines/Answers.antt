@@ -1,4 +1,4 @@
-use Rattle.std.proofs.Common.{◌≡◌, ◌∙◌, ◌++◌, [], List, length, reverse, flat_map, ap, sym, arith}
+use Rattle.std.proofs.Common.{◌∙◌, ◌++◌, List, length, reverse, flat_map, ap, sym, arith}
 use Rattle.node_core.specs.declared.tree.Node.{Node}
 use Rattle.vert_core.specs.declared.planning.PlannedLine.{PlannedLine}
 use Rattle.vert_core.specs.Lines.{BrokenParagraph, broken_list}

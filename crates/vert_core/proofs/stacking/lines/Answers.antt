@@ -1,4 +1,4 @@
-use Rattle.std.proofs.Common.{◌≡◌, ◌∙◌, length, vec_len, sym, rules}
+use Rattle.std.proofs.Common.{◌≡◌, ◌∙◌, vec_len, sym, rules}
 use Rattle.vert_core.proofs.PlannedOrder.{no_items, no_depth, no_large_line}
 use Rattle.vert_core.proofs.stacking.lines.Goals as goal
 

@@ -25,9 +25,9 @@ invariant_of-self-2 c =
           subst (λ (ns : List ℕ). IsRising 0 ns (length runs.codes.items)) (sym places) (rising_end 0 runs.places.items (length runs.codes.items) runs.rising);
     }
 
-pub returns : goal.returns
+pub returns-clause-ok : goal.returns-clause-ok
 unfolding instructions_of
-returns c =
+returns-clause-ok c =
     let runs = c.args.self.now in
     let place : c.len.result ≡ length runs.codes.items = omega (arith, c.len.ensures) in
     let places : c.push_reserved.new.self.items ≡ runs.places.items ++ length runs.codes.items ∷ [] =

@@ -13,9 +13,9 @@ invariant_of-self c =
           (no_fewer c.append_byte.result runs.codes.items c.append_byte.new.out.items c.args.code c.append_byte.ensures.ok c.append_byte.ensures.err);
     }
 
-pub returns : goal.returns
+pub returns-clause-ok : goal.returns-clause-ok
 unfolding instructions_of
-returns c =
+returns-clause-ok c =
     let runs = c.args.self.now in
     ap (λ (codes : List ℕ). woven_instructions 0 codes runs.places.items (map body_view runs.ops.items)) c.in_ok-append_byte.ensures.ok
     ∙ woven-character 0 runs.codes.items runs.places.items (map body_view runs.ops.items) c.args.code (length runs.codes.items) (omega arith) runs.rising

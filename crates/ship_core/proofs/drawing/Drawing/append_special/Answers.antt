@@ -14,6 +14,6 @@ returns-clause-ops c kind rest =
     let text = c.args.text.now in
     let moved = (instructions_of self.ops ++ movement Across (at.h -ℤ self.h)) ++ movement Downward (at.v -ℤ self.v) in
     let ops : instructions_of c.push.new.self ≡ moved ++ Do (Xxx text) ∷ [] =
-    c.in_ok-push.ensures ∙ ap (λ (is : List Instruction). is ++ Do (Xxx text) ∷ []) c.in_ok-move_to.ensures.ops in
+    c.in_ok-push.ensures.ok ∙ ap (λ (is : List Instruction). is ++ Do (Xxx text) ∷ []) c.in_ok-move_to.ensures.ops in
     noted_mark kind (instructions_of self.ops) (instructions_of c.push.new.self) self.h self.v (option_map pos self.font) (option_map pos c.move_to.new.self.font) at.h at.v text
     c.move_to.new.self.h c.move_to.new.self.v rest ops c.in_ok-move_to.ensures.h c.in_ok-move_to.ensures.v (ap (option_map pos) c.in_ok-move_to.ensures.font)
