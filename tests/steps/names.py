@@ -6,14 +6,22 @@ import os
 import re
 from functools import partial
 
-TITLE = "the names of code in documents and in each crate's README.md are in the sources, as the clauses that PROVED.md and these name; no comment writes the test attribute, no code has floating-point numbers; the job knows no crate of DVI; no export has a premise; no line of code is above 150 columns"
+from steps.reached import DECLARED
+
+TITLE = "the names of code in documents and in each crate's README.md are in the sources, as the clauses that PROVED.md and these name; no comment writes the test attribute, no code has floating-point numbers; the job knows no crate of DVI; no export has a premise; no line of code is above 150 columns; no definition and no function is named by a bare participle"
 TRIES = False
 DOCUMENTS = ("docs/PROVED.md", "docs/ARCHITECTURE.md", "docs/EVIDENCE.md", "docs/DECISIONS.md", "docs/LIBRARY.md", "CHANGELOG.md", "bench/trials/README.md", "crates/*/README.md")
 SOURCES = ("crates/*/src/**/*.rt", "crates/*/specs/**/*.antt", "crates/*/proofs/**/*.antt", "crates/rows_scripts/stdin", "tests/steps/*.py", "bindings/python/boxglue/*.py", "bindings/rust/*/src/*.rs", "include/*.h", "crates.txt")
 # These crates know pages, and no crate of DVI.
 BEFORE_DVI = ("page_core", "job_machine", "job_lists", "job_state")
 WORD = re.compile(r"[A-Za-z_][A-Za-z_0-9]*")
+FUNCTION = re.compile(r"\s*(?:pub(?:\(crate\))? )?(?:(?:const|unsafe|extern \"C\") )*fn (\w+)")
 MOST_COLUMNS = 150
+# A participle tells not what a thing is. Those that are also an infinitive, as read, set and cut, are left out, since a function may be called so.
+IRREGULAR = "broken built chosen drawn found given held hidden kept left lost made met said seen sent shown sought spoken struck taken thrown told woven written".split()
+PARTICIPLE = re.compile(rf"[A-Z]?[a-z]*[^e]ed|{'|'.join(f'[{it[0].upper()}{it[0]}]{it[1:]}' for it in IRREGULAR)}")
+# Adjectives of numbers: which of two is meant. TeX says `scaled`.
+NUMBER_WORDS = ("rounded", "scaled", "signed")
 # `rt ci` knows a crate with tests by this attribute, wherever it is.
 IN_COMMENT = re.compile(r"(?m)//.*#\s*\[[^]]*\btest\b")
 
@@ -91,6 +99,16 @@ def long_lines(root):
     return f"lines above {MOST_COLUMNS} columns: {', '.join(wrong)}" if wrong else None
 
 
+def participles(root):
+    """Definitions and functions that a single word names, and this is a participle. Fields of records, cases of data and labels of clauses are none of both."""
+    found = []
+    for path in sorted(glob.glob(f"{root}/crates/*/specs/**/*.antt", recursive=True) + glob.glob(f"{root}/crates/*/src/**/*.rt", recursive=True)):
+        lines = read(path).split("\n")
+        names = [it[1] for it in map(DECLARED.match, lines) if it] if path.endswith(".antt") else [it[1] for it in map(FUNCTION.match, lines) if it]
+        found += [f"{os.path.relpath(path, root)}: {it}" for it in names if PARTICIPLE.fullmatch(it) and it not in NUMBER_WORDS]
+    return f"bare participles: {', '.join(found)}" if found else None
+
+
 @functools.lru_cache(None)
 def contracts(root, crate):
     """The names of clauses of each function of a crate, or of all crates together."""
@@ -139,3 +157,4 @@ def cases(_programs, root):
     yield "exports_without_premises", partial(premises_of_exports, root)
     yield "job_before_dvi", partial(job_before_dvi, root)
     yield "long_lines", partial(long_lines, root)
+    yield "participles", partial(participles, root)

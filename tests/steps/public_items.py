@@ -16,7 +16,8 @@ OPENING = "{(["
 
 @dataclass
 class Item:
-    """An item of a source: its kind, its name, whether `pub` stands before it, its text without body, its clauses, and the items in it."""
+    """An item of a source: its kind, its name, whether `pub` stands before it, its text without body, its clauses, the items in it, and the places of its clauses with
+    their labels; those of another item are its own."""
     kind: str
     name: str
     is_public: bool
@@ -24,6 +25,7 @@ class Item:
     text: str = ""
     clauses: list = field(default_factory=list)
     inner: list = field(default_factory=list)
+    places: list = field(default_factory=list)
 
 
 def attributes(text, at):
@@ -38,12 +40,13 @@ def attributes(text, at):
 
 def function(text, at, name):
     """A function from after its name: its signature, its clauses, and the place after it."""
-    head, clauses, start = [], [], at
+    head, clauses, places, start = [], [], [], at
     while text[at] not in "{;":
         if match := CLAUSE.match(text, at):
             head.append(text[start:at])
             end = end_of_group(text, match.end())
             clauses.append(text[match.end():end])
+            places.append((at, end))
             start = at = end
         elif text[at] in OPENING:
             at = end_of_group(text, at)
@@ -52,7 +55,7 @@ def function(text, at, name):
             # A word is left whole.
             at = re.compile(r"\w*").match(text, at).end() if text[at - 1:at].isidentifier() else at
     head.append(text[start:at])
-    return Item("fn", name, False, "".join(head), "", clauses), end_of_group(text, at) if text[at] == "{" else at + 1
+    return Item("fn", name, False, "".join(head), "", clauses, places=places), end_of_group(text, at) if text[at] == "{" else at + 1
 
 
 def end_of_item(text, at):
@@ -87,7 +90,7 @@ def items(text, at=0, end=None):
                 while text[body] != ";":
                     body = end_of_group(text, body) if text[body] in OPENING else body + 1
                 at = body + 1
-            item.text = text[start:at]
+            item.text, item.places = text[start:at], [(start, at)]
         item.is_public = "pub" in modifiers[0].split()
         if not is_test:
             found.append(item)

@@ -29,7 +29,7 @@ impl<'a, W> Waiting<'a, W> {
 }
 
 /// What a caller is told of a call that would have had to wait: that it was interrupted, after a moment. So it makes the call again.
-fn interrupted(rt: &HostRuntime) -> Error {
+fn interruption(rt: &HostRuntime) -> Error {
     sleep(rt, Duration::from_millis(PAUSE));
     Error::from(ErrorKind::Interrupted)
 }
@@ -39,7 +39,7 @@ impl<R: Read> Read for Waiting<'_, R> {
 
     fn read(&mut self, buf: &mut [u8]) -> Result<usize> {
         match self.stream.read(buf) {
-            Err(fault) if fault.kind() == ErrorKind::WouldBlock => Err(interrupted(self.rt)),
+            Err(fault) if fault.kind() == ErrorKind::WouldBlock => Err(interruption(self.rt)),
             read => read,
         }
     }
@@ -48,7 +48,7 @@ impl<R: Read> Read for Waiting<'_, R> {
 impl<W: Write> Write for Waiting<'_, W> {
     fn write(&mut self, piece: &[u8]) -> Result<usize> {
         match self.stream.write(piece) {
-            Err(fault) if fault.kind() == ErrorKind::WouldBlock => Err(interrupted(self.rt)),
+            Err(fault) if fault.kind() == ErrorKind::WouldBlock => Err(interruption(self.rt)),
             written => written,
         }
     }

@@ -28,7 +28,7 @@ use Rattle.dvi_read.specs.declared.fault.DviFault.TheVariants.{OutOfMemory}
 use Rattle.tfm_core.specs.FileWidths.{file_widths}
 use Rattle.tfm_core.specs.NamedBytes.{NamedBytes}
 use Rattle.boxglue_program.specs.Faults.{fault_line}
-use Rattle.boxglue_program.specs.FontLines.{KnownFontLines, check_sum_text, font_line, named, sizes, spaced, units_line, word_byte}
+use Rattle.boxglue_program.specs.FontLines.{KnownFontLines, check_sum_text, font_line, number_and_name, sizes, space_and_number, units_line, word_byte}
 use Rattle.boxglue_program.specs.Fonts.{AreFontsPrinted, BreaksFonts, DefinesFonts, RefusesFonts}
 use Rattle.boxglue_program.specs.declared.output.Output.{Output}
 
@@ -133,5 +133,5 @@ printed_refusal bytes fault (Err e) broken other text accepted = tt
 
 -- The known lines, computed by the definitions.
 pub known_font_lines : KnownFontLines
-unfolding units_line font_line named sizes spaced word_byte check_sum_text digits
+unfolding units_line font_line number_and_name sizes space_and_number word_byte check_sum_text digits
 known_font_lines = (refl, refl, refl, refl)

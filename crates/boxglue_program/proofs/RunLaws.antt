@@ -10,7 +10,7 @@ use Rattle.dvi_device.specs.Written.{written_then, IsFrontOf}
 use Rattle.dvi_device.specs.Beginnings.{Beginning}
 use Rattle.dvi_device.specs.Pasts.{Past, Differs, KeepsPast, no_past}
 use Rattle.dvi_device.specs.Seen.{DeviceView, device_view}
-use Rattle.dvi_device.specs.Resumed.{Resumed, written_by, began_by, past_by, GoesOnAs, PassesOn}
+use Rattle.dvi_device.specs.Resumed.{RestState, written_by, began_by, past_by, GoesOnAs, PassesOn}
 use Rattle.dvi_device.proofs.PastLaws.{no_difference}
 use Rattle.dvi_write.specs.Layout.{unfinished_file, whole}
 use Rattle.job_core.specs.Shown.{GivesFiles, FilesPages}
@@ -211,12 +211,12 @@ script_completes text files n k start_failed at_first sent before start bytes_wr
     }
 
 -- A device for the rest of a file as contracts see it.
-abbrev pub rest_view : {D : Type 0} → (D → Option (List ℕ)) → (D → ℕ) → Resumed D → DeviceView (Resumed D)
+abbrev pub rest_view : {D : Type 0} → (D → Option (List ℕ)) → (D → ℕ) → RestState D → DeviceView (RestState D)
 rest_view bytes_written failed = device_view (written_by bytes_written) (λ r. failed r.device + r.failures) (past_by bytes_written failed)
 
 -- A run over a new device for the rest of a file, around a device that reports and counts so: that device, the one around it before and after the run, and the
 -- inner device that was returned.
-module _ {D : Type 0} (bytes_written : D → Option (List ℕ)) (failed : D → ℕ) (past : D → Past) (device : D) (sent : List ℕ) (start rest : Resumed D) (inner : D)
+module _ {D : Type 0} (bytes_written : D → Option (List ℕ)) (failed : D → ℕ) (past : D → Past) (device : D) (sent : List ℕ) (start rest : RestState D) (inner : D)
     (new : start ≡ record { device = device; start = device; sent = sent; met = 0; failures = 0 })
     (began : began_by bytes_written failed rest ≡ began_by bytes_written failed start) (same : inner ≡ rest.device)
     (passes : PassesOn rest.sent (bytes_written rest.start) (bytes_written inner) (written_by bytes_written rest)) where
@@ -225,7 +225,7 @@ module _ {D : Type 0} (bytes_written : D → Option (List ℕ)) (failed : D → 
 
   -- The inner device is as it was if the one around it is.
   untouched : rest_view bytes_written failed rest ≡ rest_view bytes_written failed start → seen inner ≡ seen device
-  untouched back = ap seen (same ∙ ap (λ (v : DeviceView (Resumed D)). v.itself.device) back ∙ ap (λ (r : Resumed D). r.device) new)
+  untouched back = ap seen (same ∙ ap (λ (v : DeviceView (RestState D)). v.itself.device) back ∙ ap (λ (r : RestState D). r.device) new)
 
   began_so : began_by bytes_written failed rest ≡ beginning sent (bytes_written device) (failed device)
   began_so = began ∙ ap (began_by bytes_written failed) new
@@ -237,7 +237,7 @@ module _ {D : Type 0} (bytes_written : D → Option (List ℕ)) (failed : D → 
   -- A new device around another one has failed as often as that one.
   first_count : failed start.device + start.failures ≡ failed device
   first_count =
-      let none : failed start.device + start.failures ≡ failed device + 0 = ap (λ (r : Resumed D). failed r.device + r.failures) new in
+      let none : failed start.device + start.failures ≡ failed device + 0 = ap (λ (r : RestState D). failed r.device + r.failures) new in
       omega (arith, none)
 
   -- Later it has failed as often as that one and by itself.
@@ -247,7 +247,7 @@ module _ {D : Type 0} (bytes_written : D → Option (List ℕ)) (failed : D → 
   -- Its own failures, if all bytes of the run are these.
   own_failures : (bytes : List ℕ) → KeepsPast (past_by bytes_written failed start) bytes (past_by bytes_written failed rest) → (rest.failures ≡ 0) ⊎ ((rest.failures ≡ 1) × Differs sent bytes)
   own_failures bytes keeps =
-      by_case (subst (λ (r : Resumed D). (rest.failures ≡ r.failures) ⊎ ((rest.failures ≡ r.failures + 1) × Differs (drop r.met r.sent) bytes)) new keeps.own)
+      by_case (subst (λ (r : RestState D). (rest.failures ≡ r.failures) ⊎ ((rest.failures ≡ r.failures + 1) × Differs (drop r.met r.sent) bytes)) new keeps.own)
     where
       by_case : (rest.failures ≡ 0) ⊎ ((rest.failures ≡ 0 + 1) × Differs (drop 0 sent) bytes) → (rest.failures ≡ 0) ⊎ ((rest.failures ≡ 1) × Differs sent bytes)
       by_case (inl none) = inl none

@@ -33,24 +33,24 @@ unfoldable pub check_sum_text : ℤ → List ℕ
 check_sum_text sum = flat_map hexadecimal_byte (to_be_bytes w32 (cast_unsigned w32 sum))
 
 -- A number after a space.
-unfoldable pub spaced : ℤ → List ℕ
-spaced number = codes " " ++ signed_decimal number
+unfoldable pub space_and_number : ℤ → List ℕ
+space_and_number number = codes " " ++ signed_decimal number
 
 -- The number of a font and its name.
-unfoldable pub named : Definition → List ℕ
-named font = codes "font" ++ (spaced font.number ++ (codes " " ++ word font.name))
+unfoldable pub number_and_name : Definition → List ℕ
+number_and_name font = codes "font" ++ (space_and_number font.number ++ (codes " " ++ word font.name))
 
 -- Its size and its design size, in DVI units, and its check sum.
 unfoldable pub sizes : Definition → List ℕ
-sizes font = spaced font.size ++ (spaced font.design_size ++ (codes " " ++ check_sum_text font.check_sum))
+sizes font = space_and_number font.size ++ (space_and_number font.design_size ++ (codes " " ++ check_sum_text font.check_sum))
 
 -- The line of a font: its number, name, size, design size and check sum, and its area, if that is not empty.
 unfoldable pub font_line : Definition → List ℕ
-font_line font = named font ++ (sizes font ++ (area_word font.area ++ codes "\n"))
+font_line font = number_and_name font ++ (sizes font ++ (area_word font.area ++ codes "\n"))
 
 -- The line of the units.
 unfoldable pub units_line : Units → List ℕ
-units_line units = codes "units" ++ (spaced units.num ++ (spaced units.den ++ (spaced units.mag ++ codes "\n")))
+units_line units = codes "units" ++ (space_and_number units.num ++ (space_and_number units.den ++ (space_and_number units.mag ++ codes "\n")))
 
 -- The line of the units, and those of the fonts.
 abbrev pub fonts_lines : Units → List Definition → List ℕ

@@ -2,8 +2,8 @@
 
 ghost use Rattle.std.specs.Prelude.{◌≡◌, ◌++◌, map, OnOk};
 ghost use Rattle.std.specs.List.{flat_map};
-ghost use Rattle.boxglue_program.specs.FontLines.{area_word, check_sum_text, font_line, fonts_lines, hexadecimal_byte, is_plain, named, sizes};
-ghost use Rattle.boxglue_program.specs.FontLines.{spaced, units_line, word, word_byte};
+ghost use Rattle.boxglue_program.specs.FontLines.{area_word, check_sum_text, font_line, fonts_lines, hexadecimal_byte, is_plain, number_and_name};
+ghost use Rattle.boxglue_program.specs.FontLines.{sizes, space_and_number, units_line, word, word_byte};
 ghost use Rattle.dvi_ops.specs.View.{definition, units as units_of};
 
 use crate::{push_signed, push_text};
@@ -78,18 +78,18 @@ fn push_check_sum(sum: i32, out: &mut Vec<u8>) -> Result<(), AllocError>
 }
 
 /// Appends a space and a number.
-#[tactic(auto, unfolding(crate::specs::FontLines::spaced))]
+#[tactic(auto, unfolding(crate::specs::FontLines::space_and_number))]
 fn push_spaced(number: i32, out: &mut Vec<u8>) -> Result<(), AllocError>
-    ensures { OnOk result (out.new.items ≡ out.old.items ++ spaced number) }
+    ensures { OnOk result (out.new.items ≡ out.old.items ++ space_and_number number) }
 {
     push_text(" ", out)?;
     push_signed(i64::from(number), out)
 }
 
 /// Appends the number of a font and its name.
-#[tactic(auto, unfolding(crate::specs::FontLines::named))]
+#[tactic(auto, unfolding(crate::specs::FontLines::number_and_name))]
 fn push_name(font: &FontDefinition<'_>, out: &mut Vec<u8>) -> Result<(), AllocError>
-    ensures { OnOk result (out.new.items ≡ out.old.items ++ named (definition font.now)) }
+    ensures { OnOk result (out.new.items ≡ out.old.items ++ number_and_name (definition font.now)) }
 {
     push_text("font", out)?;
     push_spaced(font.number, out)?;

@@ -19,7 +19,7 @@ use Rattle.boxglue_script.specs.Private.Names.{name_of}
 use Rattle.boxglue_script.specs.ParameterNames.{first_lines_text, size_name, skip_name, number_name}
 use Rattle.boxglue_script.specs.Private.ParameterNames.{names_first_lines}
 use Rattle.boxglue_script.specs.Grammar.{register_count, slot_count, character_count, counter_count, first_lines_count, IsNumberAmong, IsCount, IsDimension, form_text, IsTarget, taking_text, unboxing_text, SaysParameter, SaysCommand}
-use Rattle.boxglue_script.specs.Private.Reading.{rest_of, some_or, count_of, last_count, count_command, counting_of, number_first, dimension_first, map_ok, no_field_left, last_number, last_dimension, right_and, font_of, rule_of, last_penalty, opening_command, opening_with_register, opening_into, opening_with_size, opening_of, append, shift_of, append_of, unboxing_command, split, split_into, split_height, split_to, split_of, glue_of, parameter_by, parameter_of, command_named, named_by, command_of, last_value, value_first}
+use Rattle.boxglue_script.specs.Private.Reading.{rest_of, some_or, count_of, last_count, count_command, counting_of, number_first, dimension_first, map_ok, no_field_left, last_number, last_dimension, right_and, font_of, rule_of, last_penalty, opening_command, opening_with_register, opening_into, opening_with_size, opening_of, append, shift_of, append_of, unboxing_command, split_command, split_into, split_height, split_to, split_of, glue_of, parameter_by, parameter_of, command_named, named_by, command_of, last_value, value_first}
 use Rattle.boxglue_script.proofs.FieldLaws.{same_bytes}
 use Rattle.boxglue_script.proofs.CountNumbers.{writes_count}
 use Rattle.boxglue_script.proofs.NameLaws.{name_text, name_written}
@@ -89,16 +89,16 @@ says_append taking rest command h =
     along _ _ _ m.2 (r.0, rest_of rest, ap (λ (xs : List (List ℕ)). taking_text taking ∷ xs) r.1, r.2, shift_read (rest_of rest) m.0 m.1)
 
 split_into_by : (r : ℕ) (z : ℤ) (w : List ℕ) (rest : List (List ℕ)) (command : Command) (b : Bool) → bytes_eq w (codes "into") ≡ b → split_into r z (w ∷ rest) ≡ Ok command
-    → (q : ℕ) × (split r z q ≡ command) × (f : List ℕ) × (w ∷ rest ≡ codes "into" ∷ f ∷ []) × IsNumberAmong register_count f q
+    → (q : ℕ) × (split_command r z q ≡ command) × (f : List ℕ) × (w ∷ rest ≡ codes "into" ∷ f ∷ []) × IsNumberAmong register_count f q
 unfolding split_into
 split_into_by r z w rest command true e h =
-    let m = made (split r z) (last_number register_count rest) command (rw e at h) in
+    let m = made (split_command r z) (last_number register_count rest) command (rw e at h) in
     let last = number_last register_count rest m.0 m.1 in
     (m.0, m.2, last.0, two_fields w (codes "into") rest last.0 (same_bytes w (codes "into") e) last.1, last.2)
 split_into_by r z w rest command false e h = let s : Err Word ≡ Ok command = rw e at h in absurd (cc)
 
 split_into_read : (r : ℕ) (z : ℤ) (rest : List (List ℕ)) (command : Command) → split_into r z rest ≡ Ok command
-    → (q : ℕ) × (split r z q ≡ command) × (f : List ℕ) × (rest ≡ codes "into" ∷ f ∷ []) × IsNumberAmong register_count f q
+    → (q : ℕ) × (split_command r z q ≡ command) × (f : List ℕ) × (rest ≡ codes "into" ∷ f ∷ []) × IsNumberAmong register_count f q
 unfolding split_into
 split_into_read r z [] command h = absurd (cc)
 split_into_read r z (w ∷ rest) command h = split_into_by r z w rest command (bytes_eq w (codes "into")) refl h

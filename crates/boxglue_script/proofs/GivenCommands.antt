@@ -13,7 +13,7 @@ use Rattle.job_machine.specs.declared.command.Command.TheVariants.{LoadFont, Use
 use Rattle.boxglue_script.specs.declared.name.Name.TheVariants as names
 use Rattle.boxglue_script.specs.declared.amounts.Amount.{Amount}
 use Rattle.boxglue_script.specs.Grammar.{register_count, slot_count, character_count, counter_count, first_lines_count, IsCountNumber, IsCount, IsNumberAmong, IsRegister, IsChosenSize, IsTarget, IsDestination, IsShift, IsDimension, IsAmount, IsGluePart, IsGlue, SaysParameter, SaysCommand}
-use Rattle.boxglue_script.specs.Private.Reading.{count_command, counting_of, size_of_font_first, name_first, map_ok, last_number, chosen_size_of, font_of, rule_of, amount, last_amount, opening_command, opening_with_register, opening_into, opening_with_size, opening_of, append, shift_of, append_of, unboxing_command, split, split_into, split_height, split_to, split_of, no_amount, glue, last_shrink_of, shrink_of, parts_of, glue_of, parameter_of, command_named, command_of, last_value, value_first}
+use Rattle.boxglue_script.specs.Private.Reading.{count_command, counting_of, size_of_font_first, name_first, map_ok, last_number, chosen_size_of, font_of, rule_of, amount, last_amount, opening_command, opening_with_register, opening_into, opening_with_size, opening_of, append, shift_of, append_of, unboxing_command, split_command, split_into, split_height, split_to, split_of, no_amount, glue, last_shrink_of, shrink_of, parts_of, glue_of, parameter_of, command_named, command_of, last_value, value_first}
 use Rattle.boxglue_script.proofs.AmountLaws.{amount_given}
 use Rattle.boxglue_script.proofs.FieldLaws.{number_written, penalty_written, dimension_read, size_given, font_named, size_of_font_is}
 use Rattle.boxglue_script.proofs.CountNumbers.{count_written}
@@ -59,9 +59,9 @@ unfolding append_of value_first
 append_given taking r n fields z h is = rw (number_written register_count r n h, shift_given fields z is) refl
 
 split_given : (r : List ℕ) (n : ℕ) (d : List ℕ) (z : ℤ) (q : List ℕ) (m : ℕ) → IsRegister r n → IsDimension d z → IsRegister q m
-    → split_of (r ∷ codes "to" ∷ d ∷ codes "into" ∷ q ∷ []) ≡ Ok (split n z m)
+    → split_of (r ∷ codes "to" ∷ d ∷ codes "into" ∷ q ∷ []) ≡ Ok (split_command n z m)
 unfolding split_of split_to split_height split_into value_first
-split_given r n d z q m h is at = rw (number_written register_count r n h, dimension_read d z is) (number_alone register_count (split n z) q m at)
+split_given r n d z q m h is at = rw (number_written register_count r n h, dimension_read d z is) (number_alone register_count (split_command n z) q m at)
 
 counting_given : (i : List ℕ) (count : ℕ) (n : List ℕ) (value : ℤ) → IsCountNumber i count → IsCount n value → counting_of (i ∷ n ∷ []) ≡ Ok (count_command count value)
 unfolding counting_of value_first last_value

@@ -11,7 +11,7 @@ use Rattle.boxglue_script.specs.Causes.{IsCause}
 use Rattle.boxglue_script.specs.Script.{SaysLine, SayFrom}
 use Rattle.boxglue_script.specs.SaidLines.{Says, SayEach, SayOne, IsWhole, lines_said, has_no_bad}
 use Rattle.boxglue_script.specs.declared.script.ScriptFault.TheVariants.{BadScript}
-use Rattle.boxglue_script.specs.Private.Reading.{command_of_line, Found, lines_then, reading_from, GivesCommand, ReadsOn, StopsAtLine}
+use Rattle.boxglue_script.specs.Private.Reading.{command_of_line, LinesOrFault, lines_then, reading_from, GivesCommand, ReadsOn, StopsAtLine}
 use Rattle.boxglue_script.proofs.LineLemmas.{lines_joined}
 use Rattle.boxglue_script.proofs.ScriptLaws.{line_said, line_read, line_fault}
 use Rattle.boxglue_script.proofs.OneCause.{one_line_cause, not_said}
@@ -125,10 +125,10 @@ pub on_any_err : {A E : Type 0} {P : Type 0} (r : Result A E) → P → OnErr r 
 on_any_err (Ok x) p = tt
 on_any_err (Err e) p = p
 
-abbrev read_lines : List Line → Found
+abbrev read_lines : List Line → LinesOrFault
 read_lines all = Ok all
 
-then_more : (old : List Line) (line : Line) (more : Found) → lines_then old (lines_then (line ∷ []) more) ≡ lines_then (old ++ line ∷ []) more
+then_more : (old : List Line) (line : Line) (more : LinesOrFault) → lines_then old (lines_then (line ∷ []) more) ≡ lines_then (old ++ line ∷ []) more
 then_more old line (Err fault) = refl
 then_more old line (Ok found) = ap (λ (all : List Line). read_lines all) (sym (append_assoc old (line ∷ []) found))
 

@@ -16,7 +16,7 @@ use Rattle.boxglue_script.specs.Private.Names.{box_name, register_name, item_nam
 use Rattle.boxglue_script.specs.Grammar.{SaysCommand}
 use Rattle.boxglue_script.specs.Causes.{IsPrintable, IsFieldCause, IsCause}
 use Rattle.boxglue_script.specs.Script.{IsPassedOver, Gives, SaysLine, SayFrom, IsScript, IsRightLine, IsFirstBad, Explains, IsOneFault, IsRightSoFar}
-use Rattle.boxglue_script.specs.Private.Reading.{front_field, after_field, command_of, kept_text, given, command_of_line, Found, lines_then, reads_by, reading_from, GivesCommand, ReadsOn}
+use Rattle.boxglue_script.specs.Private.Reading.{front_field, after_field, command_of, kept_text, command_of_printable, command_of_line, LinesOrFault, lines_then, reads_by, reading_from, GivesCommand, ReadsOn}
 use Rattle.boxglue_script.proofs.GivenCommands.{complete}
 use Rattle.boxglue_script.proofs.CommandLaws.{sound}
 use Rattle.boxglue_script.proofs.FieldLaws.{same_bytes, bytes_same}
@@ -31,8 +31,8 @@ gives line (Special text) h = absurd h
 gives line command h = h
 
 -- The command of a line whose first field is neither `text` nor `special`, or is one of them.
-given_in : (line : List ℕ) (command : Command) (b c : Bool) → bytes_eq (front_field line) (codes "text") ≡ b → bytes_eq (front_field line) (codes "special") ≡ c → given line ≡ Ok command → Gives line command
-unfolding given
+given_in : (line : List ℕ) (command : Command) (b c : Bool) → bytes_eq (front_field line) (codes "text") ≡ b → bytes_eq (front_field line) (codes "special") ≡ c → command_of_printable line ≡ Ok command → Gives line command
+unfolding command_of_printable
 given_in line command true c e f h =
     let s : Ok (Text (kept_text line)) ≡ Ok command = rw e at h in
     let is : Text (kept_text line) ≡ command = cc in
@@ -53,8 +53,8 @@ no_special : (more : List (List ℕ)) → command_of (codes "special" ∷ more) 
 unfolding command_of name_of box_name register_name item_name
 no_special more = refl
 
-fields_by : (line : List ℕ) (command : Command) (b c : Bool) → bytes_eq (front_field line) (codes "text") ≡ b → bytes_eq (front_field line) (codes "special") ≡ c → SaysCommand (fields_of line) command → given line ≡ Ok command
-unfolding given
+fields_by : (line : List ℕ) (command : Command) (b c : Bool) → bytes_eq (front_field line) (codes "text") ≡ b → bytes_eq (front_field line) (codes "special") ≡ c → SaysCommand (fields_of line) command → command_of_printable line ≡ Ok command
+unfolding command_of_printable
 fields_by line command true c e f h =
     let first = first_is 116 (codes "ext") line (same_bytes (front_field line) (codes "text") e) in
     let other : Err Word ≡ Ok command = sym (no_text (fields_of (after_field line))) ∙ ap command_of (sym first) ∙ complete (fields_of line) command h in
@@ -66,8 +66,8 @@ fields_by line command false true e f h =
 fields_by line command false false e f h = rw (e, f) (complete (fields_of line) command h)
 
 -- The command that a line gives is read.
-given_read : (line : List ℕ) (command : Command) → Gives line command → given line ≡ Ok command
-unfolding given
+given_read : (line : List ℕ) (command : Command) → Gives line command → command_of_printable line ≡ Ok command
+unfolding command_of_printable
 given_read line (Text text) h = let read = text_read line text h in rw (read.front, read.kept) refl
 given_read line (Special text) h = let read = special_read line text h in rw (read.front, read.kept) refl
 given_read line command h = fields_by line command _ _ refl refl h
@@ -93,8 +93,8 @@ no_text_line line text e f said = ⊎_elim
     (λ (is : IsSpecialLine line text). let same : true ≡ false = sym (rw (special_read line text is).front (bytes_same (codes "special"))) ∙ f in cc)
     said
 
-given_fault : (line : List ℕ) (cause : Cause) (b c : Bool) → bytes_eq (front_field line) (codes "text") ≡ b → bytes_eq (front_field line) (codes "special") ≡ c → given line ≡ Err cause → ((text : List ℕ) → HasText line text → ⊥) × IsFieldCause cause (fields_of line)
-unfolding given
+given_fault : (line : List ℕ) (cause : Cause) (b c : Bool) → bytes_eq (front_field line) (codes "text") ≡ b → bytes_eq (front_field line) (codes "special") ≡ c → command_of_printable line ≡ Err cause → ((text : List ℕ) → HasText line text → ⊥) × IsFieldCause cause (fields_of line)
+unfolding command_of_printable
 given_fault line cause true c e f h = let s : Ok (Text (kept_text line)) ≡ Err cause = rw e at h in absurd (cc)
 given_fault line cause false true e f h = let s : Ok (Special (kept_text line)) ≡ Err cause = rw (e, f) at h in absurd (cc)
 given_fault line cause false false e f h = (λ text said. no_text_line line text e f said, cause_holds (fields_of line) cause (rw (e, f) at h))
@@ -106,15 +106,15 @@ line_fault line cause true e h =
     inr (e, fault.0, fault.1)
 line_fault line cause false e h = let s : Err Byte ≡ Err cause = rw e at h in inl (cc, e)
 
-abbrev read_lines : List Line → Found
+abbrev read_lines : List Line → LinesOrFault
 read_lines found = Ok found
 
 -- What is found, followed by more.
-after_one : (line : Line) (more : Found) (found : List Line) → lines_then (line ∷ []) more ≡ Ok found → (rest : List Line) × (more ≡ Ok rest) × (found ≡ line ∷ rest)
+after_one : (line : Line) (more : LinesOrFault) (found : List Line) → lines_then (line ∷ []) more ≡ Ok found → (rest : List Line) × (more ≡ Ok rest) × (found ≡ line ∷ rest)
 after_one line (Err fault) found h = absurd (cc)
 after_one line (Ok rest) found h = (rest, refl, cc)
 
-read_by : (number : ℕ) (line : List ℕ) (r : Result Command Cause) (more : Found) (found : List Line) → command_of_line line ≡ r → reads_by number r more ≡ Ok found → (command : Command) × (rest : List Line) × (command_of_line line ≡ Ok command) × (more ≡ Ok rest) × (found ≡ record { number = number; command = command } ∷ rest)
+read_by : (number : ℕ) (line : List ℕ) (r : Result Command Cause) (more : LinesOrFault) (found : List Line) → command_of_line line ≡ r → reads_by number r more ≡ Ok found → (command : Command) × (rest : List Line) × (command_of_line line ≡ Ok command) × (more ≡ Ok rest) × (found ≡ record { number = number; command = command } ∷ rest)
 read_by number line (Err cause) more found e h = absurd (cc)
 read_by number line (Ok command) more found e h =
     let rest = after_one (record { number = number; command = command }) more found h in
@@ -179,7 +179,7 @@ first_bad_here number line rest cause counted h = record {
   holds = line_fault line cause _ refl h;
 }
 
-fault_after : (line : Line) (more : Found) (fault : ScriptFault) → lines_then (line ∷ []) more ≡ Err fault → more ≡ Err fault
+fault_after : (line : Line) (more : LinesOrFault) (fault : ScriptFault) → lines_then (line ∷ []) more ≡ Err fault → more ≡ Err fault
 fault_after line (Err other) fault h = cc
 fault_after line (Ok rest) fault h = absurd (cc)
 
@@ -245,7 +245,7 @@ read_whole number text [] found empty h = sym h ∙ ap (λ (xs : List Line). rea
 read_whole number text (byte ∷ rest) found empty h = absurd (omega arith)
 
 -- Reading goes on only after a line that is right.
-found_more : (old : List Line) (more : Found) (found : List Line) → lines_then old more ≡ Ok found → (rest : List Line) × (more ≡ Ok rest)
+found_more : (old : List Line) (more : LinesOrFault) (found : List Line) → lines_then old more ≡ Ok found → (rest : List Line) × (more ≡ Ok rest)
 found_more old (Err fault) found h = absurd (cc)
 found_more old (Ok rest) found h = (rest, refl)
 

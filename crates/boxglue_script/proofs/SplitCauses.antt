@@ -10,7 +10,7 @@ use Rattle.boxglue_script.specs.declared.cause.Cause.TheVariants.{Word, Missing,
 use Rattle.boxglue_script.specs.declared.name.Name.TheVariants as names
 use Rattle.boxglue_script.specs.Grammar.{register_count}
 use Rattle.boxglue_script.specs.Causes.{IsWord, IsFieldCause}
-use Rattle.boxglue_script.specs.Private.Reading.{number_of, last_number, map_ok, split, split_into, split_height, split_to, split_of, command_named, command_of, last_value, value_first}
+use Rattle.boxglue_script.specs.Private.Reading.{number_of, last_number, map_ok, split_command, split_into, split_height, split_to, split_of, command_named, command_of, last_value, value_first}
 use Rattle.boxglue_script.proofs.FieldLaws.{same_bytes}
 use Rattle.boxglue_script.proofs.NameLaws.{named}
 use Rattle.boxglue_script.proofs.CauseForms.{missing, has_bad_elsewhere, as_cause, not_made, zero_text, zero_names, zero_dimension, to_is_word, into_is_word, letter, letter_no_number, letter_no_dimension, no_number_cause, no_dimension_cause, number_cause}
@@ -79,11 +79,11 @@ module _ (r : List ℕ) (n : ℕ) (is : number_of register_count r ≡ Some n) w
     no_into w rest e = after_height d z (w ∷ rest) reads ∙ (rw e refl)
 
     -- The last register.
-    after_into : (rest : List (List ℕ)) → command_of (vsplit ∷ r ∷ to ∷ d ∷ into ∷ rest) ≡ map_ok (split n z) (last_number register_count rest)
+    after_into : (rest : List (List ℕ)) → command_of (vsplit ∷ r ∷ to ∷ d ∷ into ∷ rest) ≡ map_ok (split_command n z) (last_number register_count rest)
     unfolding split_into
     after_into rest = after_height d z (into ∷ rest) reads
 
-    whole : command_of (vsplit ∷ r ∷ to ∷ d ∷ into ∷ zero_text ∷ []) ≡ Ok (split n z 0)
+    whole : command_of (vsplit ∷ r ∷ to ∷ d ∷ into ∷ zero_text ∷ []) ≡ Ok (split_command n z 0)
     unfolding last_value value_first
     whole = after_into (zero_text ∷ []) ∙ (rw (zero_names register_count (omega arith)) refl)
 
@@ -93,21 +93,21 @@ module _ (r : List ℕ) (n : ℕ) (is : number_of register_count r ≡ Some n) w
         let P : List ℕ → Type 0 = λ x. IsFieldCause cause (vsplit ∷ r ∷ to ∷ d ∷ x ∷ rest) in
         let Q : List ℕ → Type 0 = λ x. command_of (vsplit ∷ r ∷ to ∷ d ∷ x ∷ rest) ≡ Err cause in
         subst P (sym same)
-        (number_cause register_count (omega arith) (vsplit ∷ r ∷ to ∷ d ∷ into ∷ []) (split n z) after_into rest cause
-        (not_made (split n z) (last_number register_count rest) cause (sym (after_into rest) ∙ subst Q same h)))
+        (number_cause register_count (omega arith) (vsplit ∷ r ∷ to ∷ d ∷ into ∷ []) (split_command n z) after_into rest cause
+        (not_made (split_command n z) (last_number register_count rest) cause (sym (after_into rest) ∙ subst Q same h)))
     by_into w rest false cause f h =
         as_cause _ Word cause (let no = no_into w rest f in cc)
-        (has_bad_elsewhere IsWord (vsplit ∷ r ∷ to ∷ d ∷ []) w rest into (zero_text ∷ []) (split n z 0) into_is_word whole
+        (has_bad_elsewhere IsWord (vsplit ∷ r ∷ to ∷ d ∷ []) w rest into (zero_text ∷ []) (split_command n z 0) into_is_word whole
         (λ later. (Word, no_into w later f)) (λ later. (Word, no_into letter later refl)))
 
     into_cause : (rest : List (List ℕ)) (cause : Cause) → command_of (vsplit ∷ r ∷ to ∷ d ∷ rest) ≡ Err cause → IsFieldCause cause (vsplit ∷ r ∷ to ∷ d ∷ rest)
     into_cause [] cause h =
         as_cause _ Missing cause (let lacks = into_lacks in cc)
-        (missing (vsplit ∷ r ∷ to ∷ d ∷ []) (into ∷ zero_text ∷ []) (split n z 0) (Missing, into_lacks) whole)
+        (missing (vsplit ∷ r ∷ to ∷ d ∷ []) (into ∷ zero_text ∷ []) (split_command n z 0) (Missing, into_lacks) whole)
     into_cause (w ∷ rest) cause h = by_into w rest (bytes_eq w into) cause refl h
 
   abbrev zero_split : Command
-  zero_split = split n (pos 0) 0
+  zero_split = split_command n (pos 0) 0
 
   zero_whole : command_of (vsplit ∷ r ∷ to ∷ codes "0sp" ∷ into ∷ zero_text ∷ []) ≡ Ok zero_split
   zero_whole = whole (codes "0sp") (pos 0) zero_dimension
@@ -143,18 +143,18 @@ module _ (r : List ℕ) (n : ℕ) (is : number_of register_count r ≡ Some n) w
   to_cause (w ∷ rest) cause h = by_to w rest (bytes_eq w to) cause refl h
 
 -- 0 for the registers and the height.
-zero_read : command_of (vsplit ∷ zero_text ∷ to ∷ codes "0sp" ∷ into ∷ zero_text ∷ []) ≡ Ok (split 0 (pos 0) 0)
+zero_read : command_of (vsplit ∷ zero_text ∷ to ∷ codes "0sp" ∷ into ∷ zero_text ∷ []) ≡ Ok (split_command 0 (pos 0) 0)
 zero_read = zero_whole zero_text 0 (zero_names register_count (omega arith))
 
 by_register : (r : List ℕ) (rest : List (List ℕ)) (o : Option ℕ) (cause : Cause) → number_of register_count r ≡ o → command_of (vsplit ∷ r ∷ rest) ≡ Err cause → IsFieldCause cause (vsplit ∷ r ∷ rest)
 by_register r rest None cause e h =
     let same : Number ≡ cause = let no = no_register r rest e in cc in
-    no_number_cause register_count (vsplit ∷ []) r rest (to ∷ codes "0sp" ∷ into ∷ zero_text ∷ []) (split 0 (pos 0) 0) cause (rw e (ap (λ (c : Cause). Err c) same)) zero_read
+    no_number_cause register_count (vsplit ∷ []) r rest (to ∷ codes "0sp" ∷ into ∷ zero_text ∷ []) (split_command 0 (pos 0) 0) cause (rw e (ap (λ (c : Cause). Err c) same)) zero_read
     (λ later. (Number, no_register r later e)) (λ later. (Number, no_register letter later (letter_no_number register_count)))
 by_register r rest (Some n) cause e h = to_cause r n e rest cause h
 
 pub split_cause : (rest : List (List ℕ)) (cause : Cause) → command_of (vsplit ∷ rest) ≡ Err cause → IsFieldCause cause (vsplit ∷ rest)
 split_cause [] cause h =
     as_cause _ Missing cause (let lacks = register_lacks in cc)
-    (missing (vsplit ∷ []) (zero_text ∷ to ∷ codes "0sp" ∷ into ∷ zero_text ∷ []) (split 0 (pos 0) 0) (Missing, register_lacks) zero_read)
+    (missing (vsplit ∷ []) (zero_text ∷ to ∷ codes "0sp" ∷ into ∷ zero_text ∷ []) (split_command 0 (pos 0) 0) (Missing, register_lacks) zero_read)
 split_cause (r ∷ rest) cause h = by_register r rest (number_of register_count r) cause refl h

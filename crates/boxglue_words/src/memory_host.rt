@@ -101,14 +101,14 @@ impl MemoryFiles {
     }
 
     /// The path of the file that was created last; empty if there is none.
-    pub fn created(&self) -> &[u8]
+    pub fn created_path(&self) -> &[u8]
         ensures { result.now ≡ self.now.created }
     {
         &self.created
     }
 
     /// The bytes that the created file took.
-    pub fn written(&self) -> &[u8]
+    pub fn written_bytes(&self) -> &[u8]
         ensures { result.now ≡ self.now.written }
     {
         &self.written

@@ -6,7 +6,7 @@ use Rattle.dvi_device.specs.Pasts.{Past}
 
 -- The state of such a device: the inner device, and its state at the start; the bytes that were sent before; how many of them were met; and the
 -- number of its own failures.
-pub record Resumed (D : Type 0) : Type 0 where
+pub record RestState (D : Type 0) : Type 0 where
   pub device : D
   pub start : D
   pub sent : List ℕ
@@ -20,15 +20,15 @@ written_since front (Some before) None = None
 written_since front None now = None
 
 -- The part of `sent` that was met, and then what the inner device took since.
-abbrev pub written_by : {D : Type 0} → (D → Option (List ℕ)) → Resumed D → Option (List ℕ)
+abbrev pub written_by : {D : Type 0} → (D → Option (List ℕ)) → RestState D → Option (List ℕ)
 written_by bytes_written r = written_since (take r.met r.sent) (bytes_written r.start) (bytes_written r.device)
 
 -- The bytes that were sent before, what the inner device reported then, and the number of its failures.
-abbrev pub began_by : {D : Type 0} → (D → Option (List ℕ)) → (D → ℕ) → Resumed D → Beginning
+abbrev pub began_by : {D : Type 0} → (D → Option (List ℕ)) → (D → ℕ) → RestState D → Beginning
 began_by bytes_written failed r = record { sent = r.sent; bytes_written = bytes_written r.start; failed = failed r.start }
 
 -- The past of such a device.
-abbrev pub past_by : {D : Type 0} → (D → Option (List ℕ)) → (D → ℕ) → Resumed D → Past
+abbrev pub past_by : {D : Type 0} → (D → Option (List ℕ)) → (D → ℕ) → RestState D → Past
 past_by bytes_written failed r = record { made = began_by bytes_written failed r; left = drop r.met r.sent; differing = r.failures }
 
 -- The bytes are a beginning of `sent` and nothing was sent on; or they begin with `sent`, and the inner device got those after it.

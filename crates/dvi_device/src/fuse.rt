@@ -18,9 +18,9 @@ pub struct Fuse {
 
 impl Model for Fuse {
     ghost use Rattle.std.specs.Prelude.{◌≤◌, vec_capacity};
-    ghost use Rattle.dvi_device.specs.Fused.{Fused};
+    ghost use Rattle.dvi_device.specs.Fused.{FuseState};
 
-    ghost Value = { Fused };
+    ghost Value = { FuseState };
 
     ghost view = { λ fuse.
         record { bytes = fuse.bytes.items; capacity = vec_capacity fuse.bytes; most = fuse.most; left = fuse.left; failures = fuse.failures } };

@@ -19,10 +19,10 @@ pub struct Rest<D: Device> {
 
 impl<D: Device> Model for Rest<D> {
     ghost use Rattle.std.specs.Prelude.{◌<◌, ◌+◌, ◌^◌};
-    ghost use Rattle.dvi_device.specs.Resumed.{Resumed};
+    ghost use Rattle.dvi_device.specs.Resumed.{RestState};
     ghost use Rattle.dvi_device.specs.Private.Resumed.{IsResumed};
 
-    ghost Value = { Resumed D };
+    ghost Value = { RestState D };
 
     ghost view = { λ r. record { device = r.device; start = r.start.seen; sent = r.sent.items; met = r.met; failures = r.failures } };
 

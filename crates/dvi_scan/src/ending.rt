@@ -31,7 +31,7 @@ pub struct FileEnd {
 }
 
 /// The number of bytes before the bytes 223 at the end.
-fn untrailed(bytes: &[u8]) -> usize
+fn size_before_padding(bytes: &[u8]) -> usize
     ensures high { result ≤ length bytes.now }
     ensures after { (k : ℕ) → result ≤ k → k < length bytes.now → slice_index bytes.now k ≡ 223 }
     ensures last { 0 < result → slice_index bytes.now (result - 1) ≢ 223 }
@@ -44,11 +44,11 @@ fn untrailed(bytes: &[u8]) -> usize
 }
 
 /// The place of the last byte before the bytes 223 at the end; None where there are too few bytes of either kind.
-fn trailed(bytes: &[u8]) -> Option<usize>
+fn end_before_padding(bytes: &[u8]) -> Option<usize>
     ensures is_trailed { IfSome result (IsTrailed bytes.now) }
     ensures none { result ≡ None → (e : ℕ) → IsTrailed bytes.now e → ⊥ }
 {
-    let end = untrailed(bytes);
+    let end = size_before_padding(bytes);
     if end < POST_POST_SIZE || bytes.len() - end < LEAST_PADDING {
         return None;
     }
@@ -125,7 +125,7 @@ pub fn find_postamble(bytes: &[u8]) -> Result<FileEnd, BadDvi>
     // The rule that a fault names is broken at its place, and the earlier rules hold.
     ensures bad { IfErr result (IsEndFault bytes.now) }
 {
-    let Some(last) = trailed(bytes) else {
+    let Some(last) = end_before_padding(bytes) else {
         return Err(BadDvi {
             place: bytes.len(),
             cause: DviCause::Trailer,

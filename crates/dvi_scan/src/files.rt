@@ -27,6 +27,6 @@ pub fn file_is_passed()
 pub fn selected_fonts_have_one_definition()
     ensures { (metrics : WidthsByName) (bytes : List ℕ) (pages : List MarkedPage) (f : IsFile metrics bytes pages)
         → AllByRecursion (λ n. first_definition_of n (definitions (token_instructions f.frame.front))
-            ≡ first_definition_of n (definitions (token_instructions f.frame.tail)))
+        ≡ first_definition_of n (definitions (token_instructions f.frame.tail)))
         (selections (token_instructions f.frame.front)) }
 {}

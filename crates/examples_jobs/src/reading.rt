@@ -17,7 +17,7 @@ fn first_page(alloc: Global, dvi: &Dvi) -> Result<Bitmap, DviFault> {
 }
 
 /// The listing of a DVI file, and its first page in plain PBM.
-pub fn shown(
+pub fn listing_and_picture(
     alloc: Global,
     bytes: &[u8],
     files: &[FontFile],

@@ -4,7 +4,7 @@ use job_core::{Command, Device, FontFile, Fuse, Job, Rest, finish_rest};
 use std::alloc::Global;
 
 /// Runs commands again on a device that took the bytes `sent` of their file before it failed. Returns whether the end succeeded, and the device.
-fn resumed<D: Device>(
+fn resume<D: Device>(
     alloc: Global,
     commands: &[Command],
     files: &[FontFile],
@@ -27,7 +27,7 @@ fn resumed<D: Device>(
 }
 
 /// Runs commands on a device that takes at most 512 bytes a call and fails at one call, and again if it failed.
-pub fn completed(alloc: Global, commands: &[Command], fails_at: u64) -> Option<(bool, Fuse)> {
+pub fn complete_file(alloc: Global, commands: &[Command], fails_at: u64) -> Option<(bool, Fuse)> {
     let mut job = Job::new(alloc, Fuse::new(alloc, 512, fails_at), &[]).ok()?;
     let mut replies = Vec::new(alloc);
     job.run(commands, &mut replies).ok()?;
@@ -36,5 +36,5 @@ pub fn completed(alloc: Global, commands: &[Command], fails_at: u64) -> Option<(
     }
     let device = job.into_device();
     let sent = Vec::from_slice(alloc, device.bytes()).ok()?; // a beginning of the file
-    Some(resumed(alloc, commands, &[], device, sent))
+    Some(resume(alloc, commands, &[], device, sent))
 }

@@ -1,10 +1,10 @@
 //! Each example is run and its output printed.
 
 use crate::pages::one_rule_page;
-use crate::paragraphs::counted;
+use crate::paragraphs::count_breaks;
 use crate::printing::{print_breaks, print_listing, print_page};
-use crate::reading::shown;
-use crate::resuming::completed;
+use crate::reading::listing_and_picture;
+use crate::resuming::complete_file;
 use crate::texts::{text_commands, text_page};
 use crate::values::{box_of_a_rule, one_rule, tiny, tiny_name, two_rules};
 use crate::writing::same_pages;
@@ -36,7 +36,7 @@ pub fn run_text_page<W: Write>(alloc: Global, output: &mut W) -> Result<()> {
 
 /// Makes the page with one rule on a device that fails at this call.
 fn complete<W: Write>(alloc: Global, output: &mut W, fails_at: u64) -> Result<()> {
-    let done = completed(alloc, &one_rule(), fails_at);
+    let done = complete_file(alloc, &one_rule(), fails_at);
     let (is_whole, device) = done.context("memory was refused")?;
     let length = device.bytes().len();
     writeln!(output, "{fails_at}: {is_whole}, {length} bytes")?;
@@ -72,7 +72,7 @@ pub fn run_same_pages<W: Write>(alloc: Global, output: &mut W) -> Result<()> {
 /// Lists and paints a page with one rule.
 pub fn run_shown<W: Write>(alloc: Global, output: &mut W) -> Result<()> {
     let memory = rule_pages(alloc, &[[0; 10]])?;
-    let (listing, picture) = shown(alloc, memory.bytes(), &[])?;
+    let (listing, picture) = listing_and_picture(alloc, memory.bytes(), &[])?;
     print_listing(output, &listing, &picture)?;
     Ok(())
 }
@@ -81,7 +81,7 @@ pub fn run_shown<W: Write>(alloc: Global, output: &mut W) -> Result<()> {
 pub fn run_counted<W: Write>(alloc: Global, output: &mut W) -> Result<()> {
     let params = Params::first();
     let nodes = two_rules(alloc, &params)?;
-    let done = counted(alloc, &nodes, &params);
+    let done = count_breaks(alloc, &nodes, &params);
     let (breaks, tried) = done.context("the list was not broken")?;
     print_breaks(output, &breaks, tried)?;
     Ok(())

@@ -4,7 +4,7 @@ use boxglue_program::{FontFile, Memory, RunFault, run_script};
 use std::alloc::Global;
 
 /// The answers of a script, and the device in memory that took its file.
-pub fn answered(
+pub fn answers_of(
     alloc: Global,
     text: &[u8],
     files: &[FontFile],

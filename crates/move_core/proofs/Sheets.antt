@@ -11,7 +11,7 @@ use Rattle.dvi_ops.specs.Layout.{Sheet, Table, IsGood, define, table_widths}
 use Rattle.dvi_ops.specs.Plain.{NamesNoRegister}
 use Rattle.dvi_ops.proofs.Ranges.{meaning-kept, kept-meaning}
 use Rattle.move_core.specs.Reused.{reused}
-use Rattle.move_core.specs.SamePage.{Shown, shown_meaning, leaves_in_order}
+use Rattle.move_core.specs.SamePage.{ShownPage, shown_meaning, leaves_in_order}
 use Rattle.move_core.proofs.SameBody.{plain_forest, reused_meaning, reused_places, reused_nests, reused_order, reused_fits}
 
 selections-still : (is : List Instruction) → selections is ≡ flat_map (λ leaf. selection_of (Do leaf)) (leaves_in_order is)
@@ -41,7 +41,7 @@ shown_back : (m : Meaning) (marks : List Mark) (s : DviState) → shown_meaning 
 shown_back None marks s e = absurd cc
 shown_back (Some (others, t)) marks s e =
     let same : record { marks = others; h = t.place.h; v = t.place.v; font = t.font } ≡ record { marks = marks; h = s.place.h; v = s.place.v; font = s.font } = cc in
-    (t, ap (λ (x : Shown). Some (x.marks, t)) same)
+    (t, ap (λ (x : ShownPage). Some (x.marks, t)) same)
 
 -- A body that shows marks from a place in signed 32 bits, with h and v in that range all the way, and its reused body.
 pub reused_kept : (widths : Widths) (f : Forest) (s : DviState) (marks : List Mark) (last : DviState) → AllByRecursion NamesNoRegister (flat f) →

@@ -6,11 +6,11 @@ use Rattle.dvi_ops.specs.Forest.{Forest, Empty, Then, Group, nests}
 use Rattle.dvi_ops.specs.Plain.{NamesNoRegister}
 use Rattle.move_core.specs.Registers.{RegisterPair, Known, WrittenOp, written_leaf, other_register, set_in, choice, is_amount}
 use Rattle.move_core.specs.Reused.{movement_along, plain_amount, has_move, comes_again, reused_from}
-use Rattle.move_core.specs.SamePage.{is_hollow, HasNoHollow, Stored, stored_after, NamesNoStored, UsesStored, then_meaning, goes_later, GoesNoLater, SetsAhead}
+use Rattle.move_core.specs.SamePage.{is_hollow, HasNoHollow, StoredValues, stored_after, NamesNoStored, UsesStored, then_meaning, goes_later, GoesNoLater, SetsAhead}
 use Rattle.move_core.proofs.Meanings.{IsPlain}
 
 -- The known values of a direction are the values that its registers were set to.
-abbrev pub stored_of : RegisterPair → Stored
+abbrev pub stored_of : RegisterPair → StoredValues
 stored_of k = record { first = k.first; second = k.second }
 
 abbrev pub known_in : Axis → Known → RegisterPair
@@ -118,7 +118,7 @@ later_same axis k (Then leaf rest) n (here, plain) =
     let out = written_leaf k leaf (comes_again leaf (has_move rest)) in
     let fit = fits axis k leaf (has_move rest) here in
     ap₂ (λ (far : Option ℤ) (later : Bool). is_amount far n || later) fit.far
-    (ap (λ (s : Stored). goes_later axis s n (reused_from out.known rest)) (sym fit.keeps) ∙ later_same axis out.known rest n plain)
+    (ap (λ (s : StoredValues). goes_later axis s n (reused_from out.known rest)) (sym fit.keeps) ∙ later_same axis out.known rest n plain)
 later_same axis k (Group inner rest) n (within, plain) = later_same axis k rest n plain
 
 -- No operand is an amount that was set and is still held.
@@ -127,10 +127,10 @@ uses_stored axis k Empty plain = tt
 uses_stored axis k (Then leaf rest) (here, plain) =
     let out = written_leaf k leaf (comes_again leaf (has_move rest)) in
     let fit = fits axis k leaf (has_move rest) here in
-    (fit.uses, subst (λ (s : Stored). UsesStored axis s (reused_from out.known rest)) fit.keeps (uses_stored axis out.known rest plain))
+    (fit.uses, subst (λ (s : StoredValues). UsesStored axis s (reused_from out.known rest)) fit.keeps (uses_stored axis out.known rest plain))
 uses_stored axis k (Group inner rest) (within, plain) = (uses_stored axis k inner within, uses_stored axis k rest plain)
 
-no_later : (axis : Axis) (s : Stored) (step : Option Movement) (later : ℤ → Bool) (rest : Forest) → IsLast later step →
+no_later : (axis : Axis) (s : StoredValues) (step : Option Movement) (later : ℤ → Bool) (rest : Forest) → IsLast later step →
     ((n : ℤ) → goes_later axis s n rest ≡ later n) → GoesNoLater axis s step rest
 unfolding IsLast
 no_later axis s None later rest last same = tt
@@ -138,7 +138,7 @@ no_later axis s (Some (By n)) later rest last same = same n ∙ last
 no_later axis s (Some (Set register n)) later rest last same = tt
 no_later axis s (Some (Again register)) later rest last same = tt
 
-no_later_from : (axis : Axis) (s : Stored) (step : Option Movement) (rest : Forest) → GoesNoLater axis (stored_after s step) step rest → GoesNoLater axis s step rest
+no_later_from : (axis : Axis) (s : StoredValues) (step : Option Movement) (rest : Forest) → GoesNoLater axis (stored_after s step) step rest → GoesNoLater axis s step rest
 no_later_from axis s None rest h = tt
 no_later_from axis s (Some (By n)) rest h = h
 no_later_from axis s (Some (Set register n)) rest h = tt
@@ -152,9 +152,9 @@ sets_ahead axis k (Then leaf rest) (here, plain) =
     let fit = fits axis k leaf (has_move rest) here in
     let after = reused_from out.known rest in (
       no_later_from axis (stored_of (known_in axis k)) (movement_along axis out.leaf) after
-          (subst (λ (s : Stored). GoesNoLater axis s (movement_along axis out.leaf) after) fit.keeps
+          (subst (λ (s : StoredValues). GoesNoLater axis s (movement_along axis out.leaf) after) fit.keeps
           (no_later axis (stored_of (known_in axis out.known)) (movement_along axis out.leaf) (has_move rest axis) after fit.last (λ n. later_same axis out.known rest n plain))),
-      subst (λ (s : Stored). SetsAhead axis s after) fit.keeps (sets_ahead axis out.known rest plain),
+      subst (λ (s : StoredValues). SetsAhead axis s after) fit.keeps (sets_ahead axis out.known rest plain),
     )
 sets_ahead axis k (Group inner rest) (within, plain) = (sets_ahead axis k inner within, sets_ahead axis k rest plain)
 

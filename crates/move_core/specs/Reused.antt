@@ -31,7 +31,7 @@ abbrev pub reused_from : Known → Forest → Forest
 reused_from k Empty = Empty
 reused_from k (Then leaf rest) =
     Then (written_leaf k leaf (comes_again leaf (has_move rest))).leaf
-        (reused_from (written_leaf k leaf (comes_again leaf (has_move rest))).known rest)
+    (reused_from (written_leaf k leaf (comes_again leaf (has_move rest))).known rest)
 reused_from k (Group inner rest) = Group (reused_from k inner) (reused_from k rest)
 
 -- A group before a body, if the group is not empty.

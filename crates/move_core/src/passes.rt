@@ -16,7 +16,7 @@ use std::alloc::{AllocError, Global};
 fn append_trimmed<'a>(out: &mut Vec<BodyOp<'a>>, op: BodyOp<'a>) -> Result<(), AllocError>
     ensures { OnOk result ((rest : List Instruction) →
         trimmed_instructions rest (reverse (map body_view out.new.items))
-            ≡ trimmed_instructions (body_view op.entry ∷ rest) (reverse (map body_view out.old.items))) }
+        ≡ trimmed_instructions (body_view op.entry ∷ rest) (reverse (map body_view out.old.items))) }
 {
     if matches!(op, BodyOp::Pop) && matches!(out.last(), Some(BodyOp::Push)) {
         out.pop();

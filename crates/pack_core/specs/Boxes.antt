@@ -74,7 +74,7 @@ hbox_badness target nodes = setting_badness (hbox_excess target nodes) nodes
 abbrev pub hbox_numbers : Target → List Node → List ℤ
 hbox_numbers target nodes =
     total item_width nodes ∷ hbox_width target nodes ∷ greatest_of height_above_baseline nodes ∷ greatest_of depth_below_baseline nodes
-        ∷ glue_totals nodes
+    ∷ glue_totals nodes
 
 -- The result of packing a horizontal list, without the list.
 abbrev pub hbox_packing : Target → List Node → Packing

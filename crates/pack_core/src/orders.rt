@@ -39,7 +39,7 @@ pub fn no_amounts() -> OrderAmounts
 }
 
 /// The sum of an amount and a dimension.
-fn increased(amount: i128, by: Dimen) -> i128
+fn add_dimen(amount: i128, by: Dimen) -> i128
     requires { Within (2 ^ 100) amount }
     ensures value { result ≡ amount +ℤ by }
     ensures part { Fits by }
@@ -56,10 +56,10 @@ impl OrderAmounts {
         ensures bound { (n : ℕ) → AreWithin n self.old → AreWithin (n + 2 ^ 31) self.new }
     {
         match order {
-            Order::Normal => self.normal = increased(self.normal, amount),
-            Order::Fil => self.fil = increased(self.fil, amount),
-            Order::Fill => self.fill = increased(self.fill, amount),
-            Order::Filll => self.filll = increased(self.filll, amount),
+            Order::Normal => self.normal = add_dimen(self.normal, amount),
+            Order::Fil => self.fil = add_dimen(self.fil, amount),
+            Order::Fill => self.fill = add_dimen(self.fill, amount),
+            Order::Filll => self.filll = add_dimen(self.filll, amount),
         }
     }
 }

@@ -4,7 +4,7 @@ use Rattle.std.specs.List.{flat_map, range_with_len}
 use Rattle.std.proofs.Math.Nat.{suc-mul}
 use Rattle.std.proofs.lemmas.List.{append-nil, append_assoc}
 use Rattle.raster_core.specs.Words.{in_rows}
-use Rattle.raster_core.specs.Pictures.{PixelGrid, drawn, is_black}
+use Rattle.raster_core.specs.Pictures.{PixelGrid, grid_of, is_black}
 use Rattle.raster_core.specs.PlainText.{digit_text, ends_line, header_text, pbm, row_text, rows_text}
 use Rattle.raster_core.proofs.DrawnPixels.{drawn_pixel}
 
@@ -49,12 +49,12 @@ same_rows_text w h f g same =
     (λ x a. ap (λ d. digit_text d (ends_line w x)) (same x y (omega arith) (omega arith))))
 
 -- The text of a drawn picture.
-pub pbm_drawn : (w h : ℕ) (f : ℕ → ℕ → Bool) → header_text w h ++ rows_text w h f ≡ pbm (drawn w h f)
-unfolding drawn
+pub pbm_drawn : (w h : ℕ) (f : ℕ → ℕ → Bool) → header_text w h ++ rows_text w h f ≡ pbm (grid_of w h f)
+unfolding grid_of
 pbm_drawn w h f =
-    ap (λ l. header_text w h ++ l) (same_rows_text w h f (is_black (drawn w h f)) (λ x y a b. sym (drawn_pixel w h f x y a b)))
+    ap (λ l. header_text w h ++ l) (same_rows_text w h f (is_black (grid_of w h f)) (λ x y a b. sym (drawn_pixel w h f x y a b)))
 
-pub text_is : (w h : ℕ) (words mask seen : List ℕ) (stride : ℕ) (p : PixelGrid) → seen ≡ words → stride ≡ length mask → drawn w h (in_rows words (length mask)) ≡ p
+pub text_is : (w h : ℕ) (words mask seen : List ℕ) (stride : ℕ) (p : PixelGrid) → seen ≡ words → stride ≡ length mask → grid_of w h (in_rows words (length mask)) ≡ p
     → header_text w h ++ rows_text w h (in_rows seen stride) ≡ pbm p
 text_is w h words mask seen stride p a b c =
     ap (λ l. header_text w h ++ rows_text w h (in_rows l stride)) a

@@ -9,8 +9,8 @@ pub record PixelGrid : Type 0 where
   pub rows : List (List Bool)
 
 -- The picture of this size in which exactly these pixels, by column and row, are black (own).
-unfoldable pub drawn : (width height : ℕ) → (black : ℕ → ℕ → Bool) → PixelGrid
-drawn width height black =
+unfoldable pub grid_of : (width height : ℕ) → (black : ℕ → ℕ → Bool) → PixelGrid
+grid_of width height black =
     record { width = width; height = height; rows = map (λ y. map (λ x. black x y) (range_with_len 0 width)) (range_with_len 0 height) }
 
 -- Whether the pixel of column x and row y is black; outside of the picture no pixel is (own).
@@ -19,11 +19,11 @@ is_black p x y = slice_index_or (slice_index_or p.rows y []) x false
 
 -- The picture without a black pixel (own).
 abbrev pub white : (width height : ℕ) → PixelGrid
-white width height = drawn width height (λ x y. false)
+white width height = grid_of width height (λ x y. false)
 
 -- A picture after these pixels were made black, as far as they are within it (own).
 abbrev pub painted_picture : (black : ℕ → ℕ → Bool) → PixelGrid → PixelGrid
-painted_picture black p = drawn p.width p.height (λ x y. is_black p x y || black x y)
+painted_picture black p = grid_of p.width p.height (λ x y. is_black p x y || black x y)
 
 -- Whether a bitmap may have this number of columns or rows (own).
 abbrev pub is_size : ℕ → Bool

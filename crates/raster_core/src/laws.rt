@@ -2,15 +2,15 @@
 
 ghost use Rattle.std.specs.Prelude.{◌≡◌, ◌+◌, ◌*◌, ◌<◌, ◌≤◌, ◌||◌, ℕ, Bool, false, pos};
 ghost use Rattle.raster_core.specs.Pixels.{Scale, pixels};
-ghost use Rattle.raster_core.specs.Pictures.{PixelGrid, drawn, is_black, painted_picture};
+ghost use Rattle.raster_core.specs.Pictures.{PixelGrid, grid_of, is_black, painted_picture};
 
 /// A drawn picture has its size. A pixel inside it is black exactly where it should be, and none outside is.
 pub fn drawn_pixels()
-    ensures width { (w h : ℕ) (black : ℕ → ℕ → Bool) → (drawn w h black).width ≡ w }
-    ensures height { (w h : ℕ) (black : ℕ → ℕ → Bool) → (drawn w h black).height ≡ h }
-    ensures inside { (w h : ℕ) (black : ℕ → ℕ → Bool) (x y : ℕ) → x < w → y < h → is_black (drawn w h black) x y ≡ black x y }
-    ensures right { (w h : ℕ) (black : ℕ → ℕ → Bool) (x y : ℕ) → w ≤ x → is_black (drawn w h black) x y ≡ false }
-    ensures below { (w h : ℕ) (black : ℕ → ℕ → Bool) (x y : ℕ) → h ≤ y → is_black (drawn w h black) x y ≡ false }
+    ensures width { (w h : ℕ) (black : ℕ → ℕ → Bool) → (grid_of w h black).width ≡ w }
+    ensures height { (w h : ℕ) (black : ℕ → ℕ → Bool) → (grid_of w h black).height ≡ h }
+    ensures inside { (w h : ℕ) (black : ℕ → ℕ → Bool) (x y : ℕ) → x < w → y < h → is_black (grid_of w h black) x y ≡ black x y }
+    ensures right { (w h : ℕ) (black : ℕ → ℕ → Bool) (x y : ℕ) → w ≤ x → is_black (grid_of w h black) x y ≡ false }
+    ensures below { (w h : ℕ) (black : ℕ → ℕ → Bool) (x y : ℕ) → h ≤ y → is_black (grid_of w h black) x y ≡ false }
 {}
 
 /// The length of a rule in pixels is the least number of pixels that is not shorter.

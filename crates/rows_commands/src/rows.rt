@@ -118,9 +118,9 @@ fn command_lines_over_a_host_in_memory(rt: HostRuntime) {
         assert_eq!(rt; ran.output.as_slice(), row.output.as_bytes());
         assert_eq!(rt; ran.status, row.status);
         assert_eq!(rt; ran.files.is_created(), !row.file.is_empty());
-        assert_eq!(rt; ran.files.written(), file.as_slice());
+        assert_eq!(rt; ran.files.written_bytes(), file.as_slice());
         if ran.files.is_created() {
-            assert_eq!(rt; ran.files.created(), b"out.dvi".as_slice());
+            assert_eq!(rt; ran.files.created_path(), b"out.dvi".as_slice());
         }
     }
 }
@@ -158,6 +158,6 @@ fn an_input_that_fails(rt: HostRuntime) {
         );
         assert_eq!(rt; ran.output.as_slice(), output.as_bytes());
         assert_eq!(rt; ran.status, 1);
-        assert_eq!(rt; ran.files.written(), file.as_slice());
+        assert_eq!(rt; ran.files.written_bytes(), file.as_slice());
     }
 }

@@ -124,10 +124,10 @@ impl<'a> Case<'a> {
         output: &mut W,
     ) -> Result<()> {
         let mut run = script.on_fuse(alloc, kind)?;
-        self.print(alloc, &run.written(alloc)?, output)?;
+        self.print(alloc, &run.outcome_text(alloc)?, output)?;
         for rerun in reruns {
             run = script.run_again(alloc, run, rerun)?;
-            self.print(alloc, &run.written(alloc)?, output)?;
+            self.print(alloc, &run.outcome_text(alloc)?, output)?;
         }
         Ok(())
     }
@@ -143,7 +143,7 @@ impl<'a> Case<'a> {
         output: &mut W,
     ) -> Result<()> {
         let whole = script.on_fuse(alloc, &FuseKind { most, at: 0 })?;
-        self.print(alloc, &whole.written(alloc)?, output)?;
+        self.print(alloc, &whole.outcome_text(alloc)?, output)?;
         for at in 1..=calls {
             print_call(alloc, script, &FuseKind { most, at }, whole.bytes(), output)?;
         }

@@ -34,7 +34,7 @@ impl FuseRun {
     }
 
     /// The answers, the bytes in hexadecimal digits, sixteen a line, and the count of failures.
-    pub fn written(&self, alloc: Global) -> Result<Written> {
+    pub fn outcome_text(&self, alloc: Global) -> Result<Written> {
         let mut text = self.answers.clone()?;
         for line in self.bytes().chunks(16) {
             writeln!(text, "{}", hex::encode(alloc, line)?)?;

@@ -3,7 +3,7 @@
 
 use crate::costs::legal_places;
 use crate::items::{Amounts, Item, Setting, node, params_of};
-use crate::lists::{Problem, expected, fallen, numbers_of, push_number};
+use crate::lists::{Problem, expected_pass, fallen, numbers_of, push_number};
 use crate::paragraphs::expect_same;
 use crate::random::{Random, random_items};
 use break_core::{Breaks, Fitness, Pass, breaks};
@@ -45,7 +45,7 @@ fn expect_chosen(rt: &impl Abort, alloc: Global, items: &[Item], setting: &Setti
     let params = params_of(rt, setting);
     let found = breaks(alloc, &nodes, &params).expect(rt, "not refused");
     expect_same(rt, alloc, &nodes, &params, &found);
-    let (pass, numbers) = expected(rt, alloc, items, setting);
+    let (pass, numbers) = expected_pass(rt, alloc, items, setting);
     let named = match found.pass {
         Pass::First => 1,
         Pass::Second => 2,
@@ -82,7 +82,7 @@ fn elastic(width: i64, stretch: i64) -> Amounts {
 }
 
 /// The items of a finished list: rules of these widths, with glue between them.
-fn ruled(rt: &impl Abort, alloc: Global, widths: &[i64], between: &[Amounts]) -> Vec<Item> {
+fn rules_between(rt: &impl Abort, alloc: Global, widths: &[i64], between: &[Amounts]) -> Vec<Item> {
     let mut items = Vec::new(alloc);
     for (index, width) in widths.iter().enumerate() {
         if let Some(glue) = between.get(index.wrapping_sub(1)) {
@@ -144,13 +144,13 @@ fn lists_that_are_not_chosen(rt: HostRuntime) {
         elastic(5, 15),
         elastic(5, 15),
     ];
-    let items = ruled(&rt, alloc, &[10, 10, 10, 25, 30], &between);
+    let items = rules_between(&rt, alloc, &[10, 10, 10, 25, 30], &between);
     expect_chosen(&rt, alloc, &items, &setting);
     expect_cost(&rt, alloc, &items, &setting, 2 + 8, 32_300);
     expect_cost(&rt, alloc, &items, &setting, 4 + 8, 100_020_200);
     // A tie: places 3 and the end are chosen, and 1 and the end have the same cost.
     setting.pretolerance = 100;
-    let items = ruled(&rt, alloc, &[40, 5, 10], &[elastic(-5, 0), elastic(0, 0)]);
+    let items = rules_between(&rt, alloc, &[40, 5, 10], &[elastic(-5, 0), elastic(0, 0)]);
     expect_chosen(&rt, alloc, &items, &setting);
     expect_cost(&rt, alloc, &items, &setting, 1, 200);
     expect_cost(&rt, alloc, &items, &setting, 2, 200);
@@ -170,7 +170,7 @@ fn first_lines(rt: HostRuntime) {
     };
     // Three lines, the first one 20pt wide.
     let between = [elastic(0, 0), elastic(0, 0)];
-    let items = ruled(&rt, alloc, &[20, 40, 10], &between);
+    let items = rules_between(&rt, alloc, &[20, 40, 10], &between);
     expect_chosen(&rt, alloc, &items, &setting);
     expect_cost(&rt, alloc, &items, &setting, 1 + 2, 300);
     // Ties: lists of two and of three lines have cost 0, and the one with fewer counted lines is chosen.
@@ -182,7 +182,7 @@ fn first_lines(rt: HostRuntime) {
         fil: 1,
         shrink: 0,
     };
-    let items = ruled(
+    let items = rules_between(
         &rt,
         alloc,
         &[10, 10, 10, 10, 10, 10],

@@ -98,7 +98,7 @@ pub(crate) fn line_amounts(items: &[Item], from: Option<usize>, to: usize) -> Am
 }
 
 /// How a stretched line is set, by its badness, which is 0 if it has stretch of order fil.
-fn stretched(badness: i64) -> Line {
+fn stretched_line(badness: i64) -> Line {
     let class = if badness > 99 {
         0
     } else if badness > 12 {
@@ -128,13 +128,13 @@ pub(crate) fn fit_line(sums: &Amounts, size: i64) -> Line {
     let shortfall = size.saturating_sub(sums.width);
     if shortfall > 0 {
         if sums.fil != 0 {
-            return stretched(0);
+            return stretched_line(0);
         }
         let badness = badness(
             shortfall.saturating_mul(POINT),
             sums.stretch.saturating_mul(POINT),
         );
-        return stretched(i64::from(badness));
+        return stretched_line(i64::from(badness));
     }
     let excess = sums.width.saturating_sub(size);
     if excess > sums.shrink {

@@ -2,7 +2,7 @@
 
 use crate::four_methods::FourMethods;
 use crate::items::points;
-use crate::paragraphs::{finished, glue, narrow, rule};
+use crate::paragraphs::{finished_nodes, glue, narrow, rule};
 use break_core::{ListMeter, Meter, Pass, active_breaks};
 use node_core::{IntParameter, Node, NodeList, Params};
 use scaled_core::Dimen;
@@ -48,7 +48,7 @@ fn expect_counts(
     four: u128,
 ) {
     let params = very_narrow(rt);
-    let nodes = finished(rt, words(rt, alloc, kerned), &params);
+    let nodes = finished_nodes(rt, words(rt, alloc, kerned), &params);
     assert!(rt; nodes.len() <= 131_072);
     let mut meter = ListMeter::new(alloc, &nodes).expect(rt, "not refused");
     let found = active_breaks(alloc, &mut meter, &params);
@@ -107,7 +107,7 @@ fn many_words(rt: HostRuntime) {
 /// Asserts the number of lines that are tried from the start and from each place of a list, and whether the list is steady.
 fn expect_trials(rt: &impl Abort, alloc: Global, items: Vec<Node>, steady: bool, trials: &[u64]) {
     let params = narrow(rt);
-    let nodes = finished(rt, items, &params);
+    let nodes = finished_nodes(rt, items, &params);
     assert!(rt; nodes.len() <= 131_072);
     let mut meter = ListMeter::new(alloc, &nodes).expect(rt, "not refused");
     assert!(rt; meter.steady() == steady);
@@ -179,7 +179,7 @@ fn last_pass_over_many_words(rt: HostRuntime) {
     // those to a place only the longest one is tried, but for the end. So there are 3 trials from each place of 1 to 8,185, then 2, then 1 from each
     // of the next five, and 19 from the start.
     let params = narrow(&rt);
-    let nodes = finished(&rt, rigid_words(&rt, rt.alloc(), 8_192), &params);
+    let nodes = finished_nodes(&rt, rigid_words(&rt, rt.alloc(), 8_192), &params);
     assert!(rt; nodes.len() <= 131_072);
     let mut meter = ListMeter::new(rt.alloc(), &nodes).expect(&rt, "not refused");
     let found = active_breaks(rt.alloc(), &mut meter, &params);
@@ -195,7 +195,7 @@ fn last_pass_by_four_methods(rt: HostRuntime) {
     // Of 500 words there are 3 trials from each of 493 places, then 2, then 1 from each of five, and 19 from the start. A meter with four methods
     // does not tell that long lines may be left out or that the list is even, so in the last pass all 125,250 pairs of places are tried.
     let params = narrow(&rt);
-    let nodes = finished(&rt, rigid_words(&rt, rt.alloc(), 500), &params);
+    let nodes = finished_nodes(&rt, rigid_words(&rt, rt.alloc(), 500), &params);
     assert!(rt; nodes.len() <= 131_072);
     let mut meter = ListMeter::new(rt.alloc(), &nodes).expect(&rt, "not refused");
     let found = active_breaks(rt.alloc(), &mut meter, &params);

@@ -117,7 +117,7 @@ fn is_before(numbers: &[i64], others: &[i64]) -> bool {
 }
 
 /// The numbers of the chosen list of a pass, if the pass admits a list.
-fn chosen(
+fn chosen_numbers(
     rt: &impl Abort,
     alloc: Global,
     problem: &Problem,
@@ -143,7 +143,7 @@ fn chosen(
 }
 
 /// The number of the pass that decides, and the numbers of the chosen list.
-pub(crate) fn expected(
+pub(crate) fn expected_pass(
     rt: &impl Abort,
     alloc: Global,
     items: &[Item],
@@ -154,12 +154,12 @@ pub(crate) fn expected(
         legal: legal_places(rt, alloc, items),
         setting,
     };
-    if let Some(numbers) = chosen(rt, alloc, &problem, Some(setting.pretolerance)) {
+    if let Some(numbers) = chosen_numbers(rt, alloc, &problem, Some(setting.pretolerance)) {
         return (1, numbers);
     }
-    if let Some(numbers) = chosen(rt, alloc, &problem, Some(setting.tolerance)) {
+    if let Some(numbers) = chosen_numbers(rt, alloc, &problem, Some(setting.tolerance)) {
         return (2, numbers);
     }
-    let last = chosen(rt, alloc, &problem, None);
+    let last = chosen_numbers(rt, alloc, &problem, None);
     (3, last.expect(rt, "the last pass admits each list"))
 }

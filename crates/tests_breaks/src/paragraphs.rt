@@ -40,7 +40,7 @@ pub(crate) fn narrow(rt: &impl Abort) -> Params {
 }
 
 /// The finished list of a paragraph with these items.
-pub(crate) fn finished(rt: &impl Abort, mut items: Vec<Node>, params: &Params) -> Vec<Node> {
+pub(crate) fn finished_nodes(rt: &impl Abort, mut items: Vec<Node>, params: &Params) -> Vec<Node> {
     items
         .push(Node::Penalty(10_000))
         .ok()
@@ -166,10 +166,10 @@ fn lists_that_are_refused(rt: HostRuntime) {
         alloc,
         [rule(&rt, 10), shrinking(&rt, 1), shrinking(&rt, -1)],
     );
-    let nodes = finished(&rt, forever.expect(&rt, "there is memory"), &params);
+    let nodes = finished_nodes(&rt, forever.expect(&rt, "there is memory"), &params);
     expect_fault(&rt, alloc, &nodes, BreakFault::InfiniteShrink);
     let nowhere = Vec::from_array(alloc, [rule(&rt, 10), shrinking(&rt, 0)]);
-    let nodes = finished(&rt, nowhere.expect(&rt, "there is memory"), &params);
+    let nodes = finished_nodes(&rt, nowhere.expect(&rt, "there is memory"), &params);
     let expected = Expected {
         places: &[4],
         pass: Pass::First,
@@ -177,7 +177,7 @@ fn lists_that_are_refused(rt: HostRuntime) {
         demerits: 100,
     };
     expect_breaks(&rt, alloc, &nodes, &params, &expected);
-    let nodes = finished(&rt, penalties(&rt, alloc, 8_192, -10_000), &params);
+    let nodes = finished_nodes(&rt, penalties(&rt, alloc, 8_192, -10_000), &params);
     expect_fault(&rt, alloc, &nodes, BreakFault::TooManyBreaks);
 }
 
@@ -185,7 +185,7 @@ fn lists_that_are_refused(rt: HostRuntime) {
 fn the_most_places(rt: HostRuntime) {
     let alloc = rt.alloc();
     let params = narrow(&rt);
-    let nodes = finished(&rt, penalties(&rt, alloc, 8_191, -10_000), &params);
+    let nodes = finished_nodes(&rt, penalties(&rt, alloc, 8_191, -10_000), &params);
     assert!(&rt; nodes.len() <= 131_072);
     let found = breaks(alloc, &nodes, &params).expect(&rt, "not refused");
     // Two passes stop after the line to the first place, which neither of them admits. The third pass tries one line from the start and from each
@@ -210,7 +210,7 @@ fn a_tie_by_class_alone(rt: HostRuntime) {
         rule(&rt, 40),
     ];
     let items = Vec::from_array(alloc, items).expect(&rt, "there is memory");
-    let nodes = finished(&rt, items, &params);
+    let nodes = finished_nodes(&rt, items, &params);
     let expected = Expected {
         places: &[1, 7],
         pass: Pass::First,
@@ -390,7 +390,7 @@ fn paragraphs_of_rules(rt: HostRuntime) {
             let pushed = items.push(node(&rt, rt.alloc(), item));
             pushed.ok().expect(&rt, "there is memory");
         }
-        let nodes = finished(&rt, items, &params);
+        let nodes = finished_nodes(&rt, items, &params);
         expect_breaks(&rt, rt.alloc(), &nodes, &params, &row.expected);
     }
 }
@@ -401,7 +401,7 @@ fn a_font_kern_before_glue(rt: HostRuntime) {
     let params = narrow(&rt);
     let kern = Node::FontKern(points(&rt, 5));
     let items = Vec::from_array(alloc, [rule(&rt, 35), kern, glue(&rt, 0, 0), rule(&rt, 40)]);
-    let nodes = finished(&rt, items.expect(&rt, "there is memory"), &params);
+    let nodes = finished_nodes(&rt, items.expect(&rt, "there is memory"), &params);
     let expected = Expected {
         places: &[2, 6],
         pass: Pass::First,

@@ -39,7 +39,7 @@ fn a_file_without_its_font_is_refused(rt: HostRuntime) {
 }
 
 /// Paints a page of the file at these pixels an inch, this wide and one pixel high: the status, and how many bytes the bitmap has.
-fn painted(rt: &HostRuntime, page: u32, dpi: u32, width: u32) -> (u32, usize) {
+fn paint_page(rt: &HostRuntime, page: u32, dpi: u32, width: u32) -> (u32, usize) {
     let mut text = [0u8; 512];
     let mut size = 0;
     let status = paint(
@@ -58,12 +58,12 @@ fn painted(rt: &HostRuntime, page: u32, dpi: u32, width: u32) -> (u32, usize) {
 
 #[test]
 fn a_page_is_painted(rt: HostRuntime) {
-    assert_eq!(rt; painted(&rt, 1, 72, 3), (ACCEPTED, 11));
-    assert_eq!(rt; painted(&rt, 2, 72, 3), (NO_SUCH_PAGE, 0));
-    assert_eq!(rt; painted(&rt, 0, 72, 3), (OUT_OF_RANGE, 0));
-    assert_eq!(rt; painted(&rt, 1, 0, 3), (OUT_OF_RANGE, 0));
-    assert_eq!(rt; painted(&rt, 1, 10_001, 3), (OUT_OF_RANGE, 0));
-    assert_eq!(rt; painted(&rt, 1, 72, 10_001), (OUT_OF_RANGE, 0));
+    assert_eq!(rt; paint_page(&rt, 1, 72, 3), (ACCEPTED, 11));
+    assert_eq!(rt; paint_page(&rt, 2, 72, 3), (NO_SUCH_PAGE, 0));
+    assert_eq!(rt; paint_page(&rt, 0, 72, 3), (OUT_OF_RANGE, 0));
+    assert_eq!(rt; paint_page(&rt, 1, 0, 3), (OUT_OF_RANGE, 0));
+    assert_eq!(rt; paint_page(&rt, 1, 10_001, 3), (OUT_OF_RANGE, 0));
+    assert_eq!(rt; paint_page(&rt, 1, 72, 10_001), (OUT_OF_RANGE, 0));
 }
 
 #[test]

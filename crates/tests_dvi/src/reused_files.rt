@@ -63,7 +63,7 @@ fn body_of(alloc: Global, seed: &mut u64) -> Result<Vec<BodyOp<'static>>, Fail> 
 }
 
 /// The listing of a file of one page with this body, which has no fonts and no specials, and the size of the file in bytes.
-fn listed(
+fn listing_of(
     rt: &impl Abort,
     alloc: Global,
     ops: &[BodyOp<'static>],
@@ -90,11 +90,11 @@ fn reused_bodies_show_the_same(rt: HostRuntime) -> Result<(), Fail> {
     let mut seed = 20_261_124;
     for _ in 0..200 {
         let body = body_of(alloc, &mut seed)?;
-        let (marks, size) = listed(&rt, alloc, &body)?;
+        let (marks, size) = listing_of(&rt, alloc, &body)?;
         if !is_plain_body(&body) {
             panic!(rt; "a group is not closed");
         }
-        let (reused_marks, reused_size) = listed(&rt, alloc, &reuse(body)?)?;
+        let (reused_marks, reused_size) = listing_of(&rt, alloc, &reuse(body)?)?;
         assert_eq!(rt; reused_marks.as_slice(), marks.as_slice());
         assert!(rt; reused_size < size);
     }

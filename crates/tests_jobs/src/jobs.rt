@@ -93,7 +93,7 @@ fn a_device_takes_one_byte_a_call_and_may_fail(rt: HostRuntime) {
 }
 
 /// The same job again over the rest of its file, on the device that took the first of its bytes: its end, and the device.
-fn resumed(
+fn run_again(
     alloc: Global,
     device: Fuse,
     sent: &[u8],
@@ -119,7 +119,7 @@ fn a_job_is_resumed_after_each_failure(rt: HostRuntime) {
     for fails_at in [1, 2, 15, 16, 73, 74, 75, 115, 116] {
         let (_, _, device) = end_and_device(alloc, fails_at).expect(&rt, "it runs");
         let sent = Vec::from_slice(alloc, device.bytes()).expect(&rt, "there is memory");
-        let (page, end, device) = resumed(alloc, device, &sent).expect(&rt, "it runs again");
+        let (page, end, device) = run_again(alloc, device, &sent).expect(&rt, "it runs again");
         assert_eq!(rt; page, Ok(Answer::Shipped(1)));
         assert_eq!(rt; end, Ok(summary));
         assert_eq!(rt; device.bytes(), ONE_RULE_PAGE.as_slice());
@@ -132,7 +132,7 @@ fn a_job_is_not_resumed_after_other_bytes(rt: HostRuntime) {
     let (_, _, device) = end_and_device(alloc, 74).expect(&rt, "it runs");
     let mut sent = Vec::from_slice(alloc, device.bytes()).expect(&rt, "there is memory");
     *sent.get_mut(72).expect(&rt, "73 bytes were sent") = 1;
-    let (page, end, device) = resumed(alloc, device, &sent).expect(&rt, "it runs again");
+    let (page, end, device) = run_again(alloc, device, &sent).expect(&rt, "it runs again");
     assert_eq!(rt; page, Err(Refusal::Device));
     assert_eq!(rt; end, Err(Refusal::JobOver));
     assert_eq!(rt; device.bytes().len(), 73);

@@ -35,7 +35,7 @@ fn box_of_a_rule(alloc: Global) -> Result<BoxNode, Fail>
 }
 
 /// The bytes in memory after this many pages of that box, and after the end of the file if it is ended.
-fn written(
+fn write_pages(
     alloc: Global,
     pages: usize,
     offsets: Offsets,
@@ -66,11 +66,11 @@ fn offsets(right: u8, down: u8) -> Offsets {
 #[test]
 fn two_pages_point_back(rt: HostRuntime) -> Result<(), Fail> {
     let alloc = rt.alloc();
-    let (one, _) = written(alloc, 1, offsets(0, 0), false)?;
+    let (one, _) = write_pages(alloc, 1, offsets(0, 0), false)?;
     assert_eq!(rt; one.bytes().len(), 74);
-    let (two, _) = written(alloc, 2, offsets(0, 0), false)?;
+    let (two, _) = write_pages(alloc, 2, offsets(0, 0), false)?;
     assert_eq!(rt; two.bytes().len(), 133);
-    let (whole, file) = written(alloc, 2, offsets(0, 0), true)?;
+    let (whole, file) = write_pages(alloc, 2, offsets(0, 0), true)?;
     let bytes = whole.bytes();
     assert_eq!(rt;
         file,
@@ -91,7 +91,7 @@ fn two_pages_point_back(rt: HostRuntime) -> Result<(), Fail> {
 #[test]
 fn no_pages_and_a_page_after_the_end(rt: HostRuntime) -> Result<(), Fail> {
     let alloc = rt.alloc();
-    let (nothing, file) = written(alloc, 0, offsets(0, 0), true)?;
+    let (nothing, file) = write_pages(alloc, 0, offsets(0, 0), true)?;
     assert!(rt; nothing.bytes().is_empty());
     assert_eq!(rt; file, Some(WrittenFile { pages: 0, bytes: 0 }));
     let box_node = box_of_a_rule(alloc)?;

@@ -29,7 +29,7 @@ impl Read for Endless<'_> {
 }
 
 /// How a session with this limit stops, the bytes of its file, and its answers.
-fn stopped<R: Read + Drop>(
+fn run_until<R: Read + Drop>(
     alloc: Global,
     limit: usize,
     mut reader: R,
@@ -49,7 +49,7 @@ fn stopped<R: Read + Drop>(
 #[test]
 fn a_session_over_its_limit(rt: HostRuntime) {
     let alloc = rt.alloc();
-    let (outcome, size, _) = stopped(alloc, 40, PAGE);
+    let (outcome, size, _) = run_until(alloc, 40, PAGE);
     assert_eq!(rt; (outcome, size), (Ok(true), 116));
     for (limit, most, answers) in [
         // One reading brings too much: nothing is run.
@@ -61,12 +61,12 @@ fn a_session_over_its_limit(rt: HostRuntime) {
         // Seven readings bring one line, and the next one is over the limit.
         (21, 3, b"1: ok\n".as_slice()),
     ] {
-        let (outcome, size, found) = stopped(alloc, limit, Endless { text: PAGE, most });
+        let (outcome, size, found) = run_until(alloc, limit, Endless { text: PAGE, most });
         assert_eq!(rt; (outcome, size), (Err(SessionFault::Unreadable), 0));
         assert_eq!(rt; found.as_slice(), answers);
     }
     // The page is shipped, and no reading of the others brings an end.
-    let (outcome, size, _) = stopped(
+    let (outcome, size, _) = run_until(
         alloc,
         100,
         Endless {

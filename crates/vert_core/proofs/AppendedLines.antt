@@ -17,7 +17,7 @@ use Rattle.vert_core.specs.Appended.{IsAppended, IsUnappended}
 use Rattle.vert_core.specs.Finished.{finished_list}
 use Rattle.vert_core.specs.Lines.{vertical_items}
 use Rattle.vert_core.specs.Paragraphs.{set_empty, with_breaks, IsSet}
-use Rattle.vert_core.specs.Private.Planned.{copied_line, stacked}
+use Rattle.vert_core.specs.Private.Planned.{copied_line, stacked_nodes}
 use Rattle.vert_core.specs.Private.PlannedParagraphs.{IsPlanned}
 use Rattle.vert_core.specs.Setting.{list_setting, setting}
 use Rattle.vert_core.proofs.Settings.{list_set}
@@ -54,7 +54,7 @@ module _ (list : List Node) (params : Params) (previous : ℤ) (planned : Planne
       } in
       list_set list params previous (set_of list params previous planned) is.free set
 
-  pub planned_items : flat_map stacked (map (copied_line list) planned.plan.lines.items) ≡ vertical_items (with_breaks list params previous planned.breaks)
+  pub planned_items : flat_map stacked_nodes (map (copied_line list) planned.plan.lines.items) ≡ vertical_items (with_breaks list params previous planned.breaks)
   planned_items =
       copied_items (with_breaks list params previous planned.breaks) (length planned.breaks.lines.items) planned.plan.lines.items
       (sym (count_places planned.breaks.lines.items)) is.lines
@@ -71,12 +71,12 @@ module _ (list : List Node) (params : Params) (previous : ℤ) (planned : Planne
 
   pub planned_levels :
       (xs : List Node) (ys : List PlannedLine) (n : ℕ) → xs ≡ list → ys ≡ planned.plan.lines.items
-      → n ≡ min (items_depth (items_of (flat_map stacked (map (copied_line xs) ys)))) 18446744073709551615
+      → n ≡ min (items_depth (items_of (flat_map stacked_nodes (map (copied_line xs) ys)))) 18446744073709551615
       → n ≡ min (items_depth (items_of (vertical_items (with_breaks list params previous planned.breaks)))) 18446744073709551615
   planned_levels xs ys n list_is lines_is levels =
       levels
-      ∙ (ap (λ (zs : List Node). min (items_depth (items_of (flat_map stacked (map (copied_line zs) ys)))) 18446744073709551615) list_is
-      ∙ (ap (λ (zs : List PlannedLine). min (items_depth (items_of (flat_map stacked (map (copied_line list) zs)))) 18446744073709551615) lines_is
+      ∙ (ap (λ (zs : List Node). min (items_depth (items_of (flat_map stacked_nodes (map (copied_line zs) ys)))) 18446744073709551615) list_is
+      ∙ (ap (λ (zs : List PlannedLine). min (items_depth (items_of (flat_map stacked_nodes (map (copied_line list) zs)))) 18446744073709551615) lines_is
       ∙ ap (λ (zs : List Node). min (items_depth (items_of zs)) 18446744073709551615) planned_items))
 
 pub some_setting : (list : List Node) (params : Params) (previous : ℤ) → 0 < length list → list_setting (finished_list list params.par_fill_skip) params previous ≡ setting list params previous

@@ -14,7 +14,7 @@ use Rattle.break_lines.specs.LineItems.{at_break}
 use Rattle.vert_core.specs.declared.planning.PlannedLine.{PlannedLine}
 use Rattle.vert_core.specs.Interline.{appended_nodes}
 use Rattle.vert_core.specs.Lines.{penalty_nodes}
-use Rattle.vert_core.specs.Private.Planned.{items_with_break, stacked, copied_line}
+use Rattle.vert_core.specs.Private.Planned.{items_with_break, stacked_nodes, copied_line}
 use Rattle.vert_core.proofs.PlannedLines.{stacked_copy}
 
 -- The depth of two lists together.
@@ -55,7 +55,7 @@ depth_appended (Some glue) b = omega arith
 -- The depth of what a line adds, by its items before its end.
 line_depth :
     (list : List Node) (line : PlannedLine)
-    → items_depth (items_of (stacked (copied_line list line))) ≡ items_depth (items_of (take (line.end - line.begin) (drop line.begin list))) + 1
+    → items_depth (items_of (stacked_nodes (copied_line list line))) ≡ items_depth (items_of (take (line.end - line.begin) (drop line.begin list))) + 1
 line_depth list line =
     let c = line.end - line.begin in
     let ys = drop line.begin list in
@@ -73,19 +73,19 @@ line_depth list line =
 -- With one more line.
 pub levels_more :
     (list : List Node) (lines : List PlannedLine) (i : ℕ) (line : PlannedLine) → i < length lines → line ≡ get_or lines i line
-    → items_depth (items_of (flat_map stacked (map (copied_line list) (take (i + 1) lines))))
-    ≡ max (items_depth (items_of (flat_map stacked (map (copied_line list) (take i lines))))) (items_depth (items_of (take (line.end - line.begin) (drop line.begin list))) + 1)
+    → items_depth (items_of (flat_map stacked_nodes (map (copied_line list) (take (i + 1) lines))))
+    ≡ max (items_depth (items_of (flat_map stacked_nodes (map (copied_line list) (take i lines))))) (items_depth (items_of (take (line.end - line.begin) (drop line.begin list))) + 1)
 levels_more list lines i line below is =
     let front = take i lines in
     let all : take (i + 1) lines ≡ front ++ line ∷ [] = take_more lines i line below ∙ ap (λ x. front ++ x ∷ []) (sym is) in
-    let split : flat_map stacked (map (copied_line list) (take (i + 1) lines)) ≡ flat_map stacked (map (copied_line list) front) ++ stacked (copied_line list line) =
-    ap (λ (xs : List PlannedLine). flat_map stacked (map (copied_line list) xs)) all
-    ∙ (ap (flat_map stacked) (map-append (copied_line list) front (line ∷ []))
-    ∙ (flat_map-append stacked (map (copied_line list) front) (copied_line list line ∷ [])
-    ∙ ap (λ xs. flat_map stacked (map (copied_line list) front) ++ xs) (append-nil (stacked (copied_line list line))))) in
+    let split : flat_map stacked_nodes (map (copied_line list) (take (i + 1) lines)) ≡ flat_map stacked_nodes (map (copied_line list) front) ++ stacked_nodes (copied_line list line) =
+    ap (λ (xs : List PlannedLine). flat_map stacked_nodes (map (copied_line list) xs)) all
+    ∙ (ap (flat_map stacked_nodes) (map-append (copied_line list) front (line ∷ []))
+    ∙ (flat_map-append stacked_nodes (map (copied_line list) front) (copied_line list line ∷ [])
+    ∙ ap (λ xs. flat_map stacked_nodes (map (copied_line list) front) ++ xs) (append-nil (stacked_nodes (copied_line list line))))) in
     omega (
       arith,
       ap (λ (xs : List Node). items_depth (items_of xs)) split,
-      depth_joined (flat_map stacked (map (copied_line list) front)) (stacked (copied_line list line)),
+      depth_joined (flat_map stacked_nodes (map (copied_line list) front)) (stacked_nodes (copied_line list line)),
       line_depth list line,
     )

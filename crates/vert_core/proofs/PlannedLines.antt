@@ -19,7 +19,7 @@ use Rattle.vert_core.specs.declared.measuring.MeasuredLine.{MeasuredLine}
 use Rattle.vert_core.specs.declared.planning.PlannedLine.{PlannedLine}
 use Rattle.vert_core.specs.Interline.{interline, glue_of, appended_nodes}
 use Rattle.vert_core.specs.Lines.{BrokenParagraph, line_begin, line_items, boxed_line, line_box, depth_before, penalty_after, penalty_nodes, after_line, brought_by}
-use Rattle.vert_core.specs.Private.Planned.{front_items, first_index, penalty_between, hollow_box, planned, items_with_break, closed_box, stacked, with_part, part_of, copied_line, moved_lines, AreInOrder}
+use Rattle.vert_core.specs.Private.Planned.{front_items, first_index, penalty_between, hollow_box, plan_of_line, items_with_break, closed_box, stacked_nodes, with_part, part_of, copied_line, moved_lines, AreInOrder}
 use Rattle.vert_core.proofs.KeptItems.{length-without_first}
 
 -- The items before the end of a line are some of those up to the end.
@@ -117,22 +117,22 @@ line_kept list begin end =
 -- What a line adds, by what it keeps.
 stacked_part :
     (line : PlannedLine) (part xs : List Node) → items_with_break (line.end - line.begin) part ≡ xs
-    → stacked (with_part part line) ≡ appended_nodes line.glue (pos 0) (record line.box_node { list = items_of xs }) ++ penalty_nodes line.penalty
-unfolding stacked
+    → stacked_nodes (with_part part line) ≡ appended_nodes line.glue (pos 0) (record line.box_node { list = items_of xs }) ++ penalty_nodes line.penalty
+unfolding stacked_nodes
 stacked_part line part xs is =
     ap (λ ys. appended_nodes line.glue (pos 0) (record line.box_node { list = items_of (items_with_break (line.end - line.begin) ys) }) ++ penalty_nodes line.penalty) (nodes_of-items_of part)
     ∙ ap (λ ys. appended_nodes line.glue (pos 0) (record line.box_node { list = items_of ys }) ++ penalty_nodes line.penalty) is
 
 pub stacked_copy :
     (list : List Node) (line : PlannedLine)
-    → stacked (copied_line list line) ≡ appended_nodes line.glue (pos 0) (record line.box_node { list = items_of (items_with_break (line.end - line.begin) (drop line.begin list)) }) ++ penalty_nodes line.penalty
+    → stacked_nodes (copied_line list line) ≡ appended_nodes line.glue (pos 0) (record line.box_node { list = items_of (items_with_break (line.end - line.begin) (drop line.begin list)) }) ++ penalty_nodes line.penalty
 stacked_copy list line =
     stacked_part line (part_of list line) (items_with_break (line.end - line.begin) (drop line.begin list))
     (line_of_take (drop line.begin list) (line.end - line.begin + 1) (line.end - line.begin) (omega arith))
 
 stacked_move :
     (list : List Node) (line : PlannedLine) (next : ℕ) → line.begin ≤ line.end → (line.end < next) ⊎ (next ≡ length list)
-    → stacked (with_part (drop line.begin (take next list)) line) ≡ stacked (copied_line list line)
+    → stacked_nodes (with_part (drop line.begin (take next list)) line) ≡ stacked_nodes (copied_line list line)
 stacked_move list line next within (inl later) =
     let b = line.begin in
     let count : b + (next - b) ≡ next = omega (arith, within, later) in
@@ -148,21 +148,21 @@ stacked_move list line next within (inr last) =
 -- Whether the items are moved or copied, the lines add the same.
 pub moved_copied :
     (list : List Node) (bound : ℕ) (lines : List PlannedLine) → AreInOrder bound lines
-    → flat_map stacked (moved_lines list (length list) lines) ≡ flat_map stacked (map (copied_line list) lines)
+    → flat_map stacked_nodes (moved_lines list (length list) lines) ≡ flat_map stacked_nodes (map (copied_line list) lines)
 moved_copied list bound [] order = refl
 moved_copied list bound (line ∷ []) order =
     ap (λ xs. xs ++ []) (stacked_move list line (length list) order.0 (inr refl))
 moved_copied list bound (line ∷ next ∷ rest) order =
-    ap (λ xs. xs ++ flat_map stacked (moved_lines list (length list) (next ∷ rest))) (stacked_move list line next.begin order.0 (inl order.1))
-    ∙ ap (λ xs. stacked (copied_line list line) ++ xs) (moved_copied list bound (next ∷ rest) order.2)
+    ap (λ xs. xs ++ flat_map stacked_nodes (moved_lines list (length list) (next ∷ rest))) (stacked_move list line next.begin order.0 (inl order.1))
+    ∙ ap (λ xs. stacked_nodes (copied_line list line) ++ xs) (moved_copied list bound (next ∷ rest) order.2)
 
 length_appended : (glue : Option Glue) (a b : BoxNode) → length (appended_nodes glue (pos 0) a) ≡ length (appended_nodes glue (pos 0) b)
 length_appended None a b = refl
 length_appended (Some glue) a b = refl
 
 -- The number of items that a line adds does not depend on its own items.
-length_copied : (list : List Node) (line : PlannedLine) → length (stacked (copied_line list line)) ≡ length (stacked line)
-unfolding stacked
+length_copied : (list : List Node) (line : PlannedLine) → length (stacked_nodes (copied_line list line)) ≡ length (stacked_nodes line)
+unfolding stacked_nodes
 length_copied list line =
     omega (
       arith,
@@ -171,27 +171,27 @@ length_copied list line =
       length_appended line.glue (closed_box (copied_line list line)) (closed_box line),
     )
 
-pub count_copied : (list : List Node) (lines : List PlannedLine) → length (flat_map stacked (map (copied_line list) lines)) ≡ length (flat_map stacked lines)
+pub count_copied : (list : List Node) (lines : List PlannedLine) → length (flat_map stacked_nodes (map (copied_line list) lines)) ≡ length (flat_map stacked_nodes lines)
 count_copied list [] = refl
 count_copied list (line ∷ rest) =
     omega (
       arith,
-      length-append (stacked (copied_line list line)) (flat_map stacked (map (copied_line list) rest)),
-      length-append (stacked line) (flat_map stacked rest),
+      length-append (stacked_nodes (copied_line list line)) (flat_map stacked_nodes (map (copied_line list) rest)),
+      length-append (stacked_nodes line) (flat_map stacked_nodes rest),
       length_copied list line,
       count_copied list rest,
     )
 
 -- One more line counts its items.
 pub count_more :
-    (lines new : List PlannedLine) (line : PlannedLine) → new ≡ lines ++ line ∷ [] → length (flat_map stacked new) ≡ length (flat_map stacked lines) + length (stacked line)
+    (lines new : List PlannedLine) (line : PlannedLine) → new ≡ lines ++ line ∷ [] → length (flat_map stacked_nodes new) ≡ length (flat_map stacked_nodes lines) + length (stacked_nodes line)
 count_more lines new line is =
     omega (
       arith,
-      ap (λ xs. length (flat_map stacked xs)) is,
-      ap length (flat_map-append stacked lines (line ∷ [])),
-      length-append (flat_map stacked lines) (stacked line ++ []),
-      length-append (stacked line) [],
+      ap (λ xs. length (flat_map stacked_nodes xs)) is,
+      ap length (flat_map-append stacked_nodes lines (line ∷ [])),
+      length-append (flat_map stacked_nodes lines) (stacked_nodes line ++ []),
+      length-append (stacked_nodes line) [],
     )
 
 pub map_more : {A : Type 0} (f : ℕ → A) (n : ℕ) → map f (up_to (n + 1)) ≡ map f (up_to n) ++ f n ∷ []
@@ -206,8 +206,8 @@ pub planned_one :
     → m.glue ≡ glue_of (interline p.params depth m.shell.height)
     → m.begin ≡ first_index p.nodes (line_begin p.places line) (get_or p.places line 0)
     → x ≡ record { glue = m.glue; box_node = (packed_of none m.shell).box_node; penalty = penalty_between p.params (length p.places) line; begin = m.begin; end = get_or p.places line 0 }
-    → x ≡ planned p line
-unfolding planned line_box packed_of
+    → x ≡ plan_of_line p line
+unfolding plan_of_line line_box packed_of
 planned_one p line depth m x before packed glue begin is =
     let b = boxed_line (line_size p.params line) (line_items p line) in
     let height : m.shell.height ≡ b.height = ap (λ (b : BoxNode). b.height) packed in
@@ -233,10 +233,10 @@ penalty_after_line params count line = cases (nat_lt (line + 1) count)
 -- With its items a planned line adds what the line brings.
 planned_stacked :
     (p : BrokenParagraph) (line : ℕ)
-    → appended_nodes (planned p line).glue (pos 0) (record (planned p line).box_node { list = items_of (items_with_break ((planned p line).end - (planned p line).begin) (drop (planned p line).begin p.nodes)) })
-    ++ penalty_nodes (planned p line).penalty
+    → appended_nodes (plan_of_line p line).glue (pos 0) (record (plan_of_line p line).box_node { list = items_of (items_with_break ((plan_of_line p line).end - (plan_of_line p line).begin) (drop (plan_of_line p line).begin p.nodes)) })
+    ++ penalty_nodes (plan_of_line p line).penalty
     ≡ brought_by p line
-unfolding planned brought_by line_box
+unfolding plan_of_line brought_by line_box
 planned_stacked p line =
     let end = get_or p.places line 0 in
     let begin = line_begin p.places line in
@@ -248,11 +248,11 @@ planned_stacked p line =
     ap (λ (xs : Items). appended_nodes glue (pos 0) (record (hollow_box b) { list = xs }) ++ penalty_nodes penalty) items
     ∙ ap (λ xs. appended_nodes glue (pos 0) b ++ xs) (penalty_after_line p.params (length p.places) line)
 
-line_stacked : (p : BrokenParagraph) (line : ℕ) → stacked (copied_line p.nodes (planned p line)) ≡ brought_by p line
-line_stacked p line = stacked_copy p.nodes (planned p line) ∙ planned_stacked p line
+line_stacked : (p : BrokenParagraph) (line : ℕ) → stacked_nodes (copied_line p.nodes (plan_of_line p line)) ≡ brought_by p line
+line_stacked p line = stacked_copy p.nodes (plan_of_line p line) ∙ planned_stacked p line
 
-pub stacked_all : (p : BrokenParagraph) (lines : List ℕ) → flat_map stacked (map (copied_line p.nodes) (map (planned p) lines)) ≡ flat_map (brought_by p) lines
+pub stacked_all : (p : BrokenParagraph) (lines : List ℕ) → flat_map stacked_nodes (map (copied_line p.nodes) (map (plan_of_line p) lines)) ≡ flat_map (brought_by p) lines
 stacked_all p [] = refl
 stacked_all p (line ∷ rest) =
-    ap (λ xs. xs ++ flat_map stacked (map (copied_line p.nodes) (map (planned p) rest))) (line_stacked p line)
+    ap (λ xs. xs ++ flat_map stacked_nodes (map (copied_line p.nodes) (map (plan_of_line p) rest))) (line_stacked p line)
     ∙ ap (λ xs. brought_by p line ++ xs) (stacked_all p rest)

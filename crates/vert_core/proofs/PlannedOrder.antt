@@ -18,7 +18,7 @@ use Rattle.break_lines.proofs.Places.{place_at, rising_places}
 use Rattle.vert_core.specs.declared.planning.PlannedLine.{PlannedLine}
 use Rattle.vert_core.specs.Lines.{BrokenParagraph, line_places, broken_list, line_begin, brought_by, vertical_items, last_depth, lines_fit}
 use Rattle.vert_core.specs.Paragraphs.{with_breaks}
-use Rattle.vert_core.specs.Private.Planned.{first_index, planned, stacked, copied_line, moved_lines, AreInOrder}
+use Rattle.vert_core.specs.Private.Planned.{first_index, plan_of_line, stacked_nodes, copied_line, moved_lines, AreInOrder}
 use Rattle.vert_core.proofs.Stacks.{count_places}
 use Rattle.vert_core.proofs.Filled.{order_more, order_weak}
 use Rattle.vert_core.proofs.PlannedLines.{index_within, index_after, moved_copied, count_copied, stacked_all}
@@ -109,24 +109,24 @@ rising_reverse list ends falls last = record { within = within; rise = rise }
           fall list ends falls last j (omega (arith, below, count)),
         )
 
-begin_within : (p : BrokenParagraph) (n : ℕ) → (planned p n).begin ≤ (planned p n).end
-unfolding planned
+begin_within : (p : BrokenParagraph) (n : ℕ) → (plan_of_line p n).begin ≤ (plan_of_line p n).end
+unfolding plan_of_line
 begin_within p n = index_within p.nodes (line_begin p.places n) (get_or p.places n 0)
 
-end_within : (p : BrokenParagraph) (n : ℕ) → (planned p n).end < get_or p.places n 0 + 1
-unfolding planned
+end_within : (p : BrokenParagraph) (n : ℕ) → (plan_of_line p n).end < get_or p.places n 0 + 1
+unfolding plan_of_line
 end_within p n = omega arith
 
 begins_after :
     (p : BrokenParagraph) (m : ℕ) → get_or p.places m 0 < get_or p.places (suc m) 0 → get_or p.places m 0 < length p.nodes → m < length p.places
-    → get_or p.places m 0 + 1 ≤ (planned p (suc m)).begin
-unfolding planned
+    → get_or p.places m 0 + 1 ≤ (plan_of_line p (suc m)).begin
+unfolding plan_of_line
 begins_after p m earlier within here =
     subst (λ (begin : Option ℕ). get_or p.places m 0 + 1 ≤ first_index p.nodes begin (get_or p.places (suc m) 0)) (sym (slice_get-get_or p.places m 0 here))
     (index_after p.nodes (get_or p.places m 0) (get_or p.places (suc m) 0) earlier within)
 
 -- The order of planned lines whose places rise, by the bound of the last one.
-ordered_before : (p : BrokenParagraph) → AreRising p.places (length p.nodes) → (n : ℕ) → n < length p.places → AreInOrder (planned p n).begin (map (planned p) (up_to n))
+ordered_before : (p : BrokenParagraph) → AreRising p.places (length p.nodes) → (n : ℕ) → n < length p.places → AreInOrder (plan_of_line p n).begin (map (plan_of_line p) (up_to n))
 ordered_before p rising zero below = tt
 ordered_before p rising (suc m) below =
     let one : m + 1 ≡ suc m = omega arith in
@@ -134,26 +134,26 @@ ordered_before p rising (suc m) below =
     let bound = get_or p.places m 0 + 1 in
     let earlier : get_or p.places m 0 < get_or p.places (suc m) 0 = omega (arith, rising.rise m (omega (arith, below)), ap (λ i. get_or p.places i 0) one) in
     let within : get_or p.places m 0 < length p.nodes = omega (arith, earlier, rising.within (suc m) below) in
-    let order : AreInOrder bound (map (planned p) (up_to (suc m))) =
-    subst (AreInOrder bound) (sym (map-append (planned p) (up_to m) (m ∷ [])))
-    (order_more bound (map (planned p) (up_to m)) (planned p m) (begin_within p m) (end_within p m) (ordered_before p rising m here)) in
-    order_weak bound (planned p (suc m)).begin (map (planned p) (up_to (suc m))) (begins_after p m earlier within here) order
+    let order : AreInOrder bound (map (plan_of_line p) (up_to (suc m))) =
+    subst (AreInOrder bound) (sym (map-append (plan_of_line p) (up_to m) (m ∷ [])))
+    (order_more bound (map (plan_of_line p) (up_to m)) (plan_of_line p m) (begin_within p m) (end_within p m) (ordered_before p rising m here)) in
+    order_weak bound (plan_of_line p (suc m)).begin (map (plan_of_line p) (up_to (suc m))) (begins_after p m earlier within here) order
 
-ordered_to : (p : BrokenParagraph) → AreRising p.places (length p.nodes) → (n : ℕ) → n < length p.places → AreInOrder (get_or p.places n 0 + 1) (map (planned p) (up_to (suc n)))
+ordered_to : (p : BrokenParagraph) → AreRising p.places (length p.nodes) → (n : ℕ) → n < length p.places → AreInOrder (get_or p.places n 0 + 1) (map (plan_of_line p) (up_to (suc n)))
 ordered_to p rising n below =
-    subst (AreInOrder (get_or p.places n 0 + 1)) (sym (map-append (planned p) (up_to n) (n ∷ [])))
-    (order_more (get_or p.places n 0 + 1) (map (planned p) (up_to n)) (planned p n) (begin_within p n) (end_within p n) (ordered_before p rising n below))
+    subst (AreInOrder (get_or p.places n 0 + 1)) (sym (map-append (plan_of_line p) (up_to n) (n ∷ [])))
+    (order_more (get_or p.places n 0 + 1) (map (plan_of_line p) (up_to n)) (plan_of_line p n) (begin_within p n) (end_within p n) (ordered_before p rising n below))
 
-ordered : (p : BrokenParagraph) (n : ℕ) → AreRising p.places (length p.nodes) → n ≡ length p.places → AreInOrder (length p.nodes + 1) (map (planned p) (up_to n))
+ordered : (p : BrokenParagraph) (n : ℕ) → AreRising p.places (length p.nodes) → n ≡ length p.places → AreInOrder (length p.nodes + 1) (map (plan_of_line p) (up_to n))
 ordered p zero rising is = tt
 ordered p (suc n) rising is =
-    order_weak (get_or p.places n 0 + 1) (length p.nodes + 1) (map (planned p) (up_to (suc n))) (omega (arith, rising.within n (omega (arith, is))))
+    order_weak (get_or p.places n 0 + 1) (length p.nodes + 1) (map (plan_of_line p) (up_to (suc n))) (omega (arith, rising.within n (omega (arith, is))))
     (ordered_to p rising n (omega (arith, is)))
 
 -- The planned lines of a broken list are in order.
 pub broken_in_order :
     (list : List Node) (params : Params) (previous : ℤ) (breaks : Breaks) → IsBroken (facts_of list) params breaks
-    → AreInOrder (length list + 1) (map (planned (with_breaks list params previous breaks)) (up_to (length breaks.lines.items)))
+    → AreInOrder (length list + 1) (map (plan_of_line (with_breaks list params previous breaks)) (up_to (length breaks.lines.items)))
 broken_in_order list params previous breaks broken =
     let ends = ends_of broken.path in
     let is_list = broken.chosen.is_list in
@@ -166,24 +166,24 @@ broken_in_order list params previous breaks broken =
 
 -- Once they have copies of the items, planned lines add the vertical items.
 pub copied_items :
-    (p : BrokenParagraph) (n : ℕ) (lines : List PlannedLine) → n ≡ length p.places → lines ≡ map (planned p) (up_to n)
-    → flat_map stacked (map (copied_line p.nodes) lines) ≡ vertical_items p
+    (p : BrokenParagraph) (n : ℕ) (lines : List PlannedLine) → n ≡ length p.places → lines ≡ map (plan_of_line p) (up_to n)
+    → flat_map stacked_nodes (map (copied_line p.nodes) lines) ≡ vertical_items p
 unfolding vertical_items
 copied_items p n lines count is =
-    ap (λ xs. flat_map stacked (map (copied_line p.nodes) xs)) is ∙ (stacked_all p (up_to n) ∙ ap (λ n. flat_map (brought_by p) (up_to n)) count)
+    ap (λ xs. flat_map stacked_nodes (map (copied_line p.nodes) xs)) is ∙ (stacked_all p (up_to n) ∙ ap (λ n. flat_map (brought_by p) (up_to n)) count)
 
 -- So they do with the items themselves.
 pub moved_items :
     (list : List Node) (params : Params) (previous : ℤ) (breaks : Breaks) (lines : List PlannedLine)
-    → lines ≡ map (planned (with_breaks list params previous breaks)) (up_to (length breaks.lines.items)) → AreInOrder (length list + 1) lines
-    → flat_map stacked (moved_lines list (length list) lines) ≡ vertical_items (with_breaks list params previous breaks)
+    → lines ≡ map (plan_of_line (with_breaks list params previous breaks)) (up_to (length breaks.lines.items)) → AreInOrder (length list + 1) lines
+    → flat_map stacked_nodes (moved_lines list (length list) lines) ≡ vertical_items (with_breaks list params previous breaks)
 moved_items list params previous breaks lines is order =
     moved_copied list (length list + 1) lines order
     ∙ copied_items (with_breaks list params previous breaks) (length breaks.lines.items) lines (sym (count_places breaks.lines.items)) is
 
 pub moved_count :
-    (list : List Node) (lines : List PlannedLine) (count : ℕ) → AreInOrder (length list + 1) lines → count ≡ length (flat_map stacked lines)
-    → count ≡ length (flat_map stacked (moved_lines list (length list) lines))
+    (list : List Node) (lines : List PlannedLine) (count : ℕ) → AreInOrder (length list + 1) lines → count ≡ length (flat_map stacked_nodes lines)
+    → count ≡ length (flat_map stacked_nodes (moved_lines list (length list) lines))
 moved_count list lines count order is = omega (arith, is, count_copied list lines, ap length (moved_copied list (length list + 1) lines order))
 
 -- A paragraph without lines.

@@ -87,7 +87,7 @@ pub fn split_list(list: NodeList, height: Dimen, params: &SplitParams) -> Result
 }
 
 /// A copy of the nodes. The error is that memory was refused, which is needed only if there are nodes.
-fn copied(alloc: Global, nodes: &[Node]) -> Result<Vec<Node>, AllocError>
+fn copy_nodes(alloc: Global, nodes: &[Node]) -> Result<Vec<Node>, AllocError>
     ensures ok { IfOk result (λ copy. copy.items ≡ nodes.now) }
     ensures growth { OnErr result (nodes.now ≢ []) }
 {
@@ -106,7 +106,7 @@ fn split_copy(alloc: Global, nodes: &[Node], plan: &Plan) -> Result<Split, Alloc
     ensures rest_part { IfOk result (λ s. s.rest ≡ packed_left plan.now.rest nodes.now) }
     ensures growth { OnErr result (nodes.now ≢ []) }
 {
-    match carry_out(copied(alloc, nodes)?, plan) {
+    match carry_out(copy_nodes(alloc, nodes)?, plan) {
         Ok(parts) => Ok(parts),
         Err(_) => Err(AllocError),
     }

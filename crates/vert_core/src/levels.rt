@@ -3,7 +3,7 @@
 ghost use Rattle.std.specs.Prelude.{◌≡◌, ◌-◌, true, drop, flat_map, map, min, take};
 ghost use Rattle.node_core.specs.Items.{items_depth};
 ghost use Rattle.node_core.specs.Nodes.{IsPlain, items_of};
-ghost use Rattle.vert_core.specs.Private.Planned.{copied_line, stacked};
+ghost use Rattle.vert_core.specs.Private.Planned.{copied_line, stacked_nodes};
 
 use crate::filling::rest_of;
 use crate::planning::PlannedLine;
@@ -42,7 +42,7 @@ fn items_before_end<'a>(nodes: &'a [Node], line: &PlannedLine) -> &'a [Node]
 /// of the list is a box or a special.
 pub(crate) fn levels_of_lines(nodes: &[Node], lines: &[PlannedLine], plain: bool) -> u64
     requires { plain ≡ true → IsPlain nodes.now }
-    ensures { result ≡ min (items_depth (items_of (flat_map stacked (map (copied_line nodes.now) lines.now)))) u64.MAX }
+    ensures { result ≡ min (items_depth (items_of (flat_map stacked_nodes (map (copied_line nodes.now) lines.now)))) u64.MAX }
 {
     let mut deepest: u64 = 0;
     for line in lines {

@@ -10,7 +10,7 @@ ghost use Rattle.break_core.specs.Trials.{passes_run};
 ghost use Rattle.vert_core.specs.declared.paragraph.ParagraphFault.TheVariants.{OutOfMemory};
 ghost use Rattle.vert_core.specs.Finished.{finished_list};
 ghost use Rattle.vert_core.specs.Paragraphs.{set_empty, break_fault, unset_by, unstacked_by, IsSet, IsSetParagraph, IsUnsetList, IsUnset};
-ghost use Rattle.vert_core.specs.Private.Planned.{AreInOrder, moved_lines, stacked};
+ghost use Rattle.vert_core.specs.Private.Planned.{AreInOrder, moved_lines, stacked_nodes};
 ghost use Rattle.vert_core.specs.Private.PlannedParagraphs.{IsPlanned};
 ghost use Rattle.vert_core.specs.Tried.{TrialsAreBounded, AreFewTrials};
 
@@ -195,10 +195,10 @@ pub(crate) fn stack_planned(
 ) -> Result<(), AllocError>
     requires list_bounded { length nodes.old.items ≤ max_nodes }
     requires in_order { AreInOrder (length nodes.old.items + 1) plan.lines.items }
-    requires count { plan.count ≡ length (flat_map stacked (moved_lines nodes.old.items (length nodes.old.items) plan.lines.items)) }
+    requires count { plan.count ≡ length (flat_map stacked_nodes (moved_lines nodes.old.items (length nodes.old.items) plan.lines.items)) }
     requires plain { plain ≡ true → IsPlain nodes.old.items }
     ensures ok { OnOk result
-        (around.new.items ≡ around.old.items ++ flat_map stacked (moved_lines nodes.old.items (length nodes.old.items) plan.lines.items)) }
+        (around.new.items ≡ around.old.items ++ flat_map stacked_nodes (moved_lines nodes.old.items (length nodes.old.items) plan.lines.items)) }
     ensures emptied { OnOk result (nodes.new.items ≡ []) }
     ensures err { OnErr result (nodes.new.items ≡ nodes.old.items) }
     ensures same { OnErr result (around.new.items ≡ around.old.items) }

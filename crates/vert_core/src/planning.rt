@@ -7,7 +7,7 @@ ghost use Rattle.pack_core.specs.Boxes.{packed_of};
 ghost use Rattle.break_lines.specs.Legal.{up_to};
 ghost use Rattle.vert_core.specs.Lines.{line_places, last_depth, lines_fit};
 ghost use Rattle.vert_core.specs.Private.Measuring.{paragraph_of};
-ghost use Rattle.vert_core.specs.Private.Planned.{penalty_between, planned, stacked};
+ghost use Rattle.vert_core.specs.Private.Planned.{penalty_between, plan_of_line, stacked_nodes};
 
 use crate::line_boxes::LinesFault;
 use crate::measuring::{BrokenList, MeasuredLine, line_end, lines_fit, measure_line};
@@ -74,9 +74,9 @@ fn planned_line(
 }
 
 /// The number of items that a line adds to the vertical list.
-#[tactic(auto, unfolding(crate::specs::Private::Planned::stacked))]
+#[tactic(auto, unfolding(crate::specs::Private::Planned::stacked_nodes))]
 fn items_of_line(line: &PlannedLine) -> usize
-    ensures count { result ≡ length (stacked line.now) }
+    ensures count { result ≡ length (stacked_nodes line.now) }
     ensures few { result ≤ 3 }
 {
     let glue = if line.glue.is_some() { 1 } else { 0 };
@@ -91,9 +91,9 @@ pub(crate) fn plan_lines(
     previous_depth: Dimen,
 ) -> Result<PlannedLines, LinesFault>
     requires { length broken.now.nodes.now ≤ max_nodes }
-    ensures lines { IfOk result (λ plan. plan.lines.items ≡ map (planned (paragraph_of broken.now previous_depth))
+    ensures lines { IfOk result (λ plan. plan.lines.items ≡ map (plan_of_line (paragraph_of broken.now previous_depth))
         (up_to (length broken.now.ends.now))) }
-    ensures count { IfOk result (λ plan. plan.count ≡ length (flat_map stacked plan.lines.items)) }
+    ensures count { IfOk result (λ plan. plan.count ≡ length (flat_map stacked_nodes plan.lines.items)) }
     ensures depth { IfOk result (λ plan. plan.depth ≡ last_depth (paragraph_of broken.now previous_depth)) }
     ensures fits { OnOk result (lines_fit (paragraph_of broken.now previous_depth) ≡ true) }
     ensures fault { IfErr result (λ fault. fault ≡ LinesFault.DimensionTooLarge → lines_fit (paragraph_of broken.now previous_depth) ≡ false) }
@@ -135,9 +135,9 @@ pub(crate) fn plan_lines_that_fit(
     previous_depth: Dimen,
 ) -> Result<PlannedLines, LinesFault>
     requires { length broken.now.nodes.now ≤ max_nodes }
-    ensures lines { IfOk result (λ plan. plan.lines.items ≡ map (planned (paragraph_of broken.now previous_depth))
+    ensures lines { IfOk result (λ plan. plan.lines.items ≡ map (plan_of_line (paragraph_of broken.now previous_depth))
         (up_to (length broken.now.ends.now))) }
-    ensures count { IfOk result (λ plan. plan.count ≡ length (flat_map stacked plan.lines.items)) }
+    ensures count { IfOk result (λ plan. plan.count ≡ length (flat_map stacked_nodes plan.lines.items)) }
     ensures depth { IfOk result (λ plan. plan.depth ≡ last_depth (paragraph_of broken.now previous_depth)) }
     ensures fits { OnOk result (lines_fit (paragraph_of broken.now previous_depth) ≡ true) }
     ensures fault { IfErr result (λ fault. fault ≡ LinesFault.DimensionTooLarge → lines_fit (paragraph_of broken.now previous_depth) ≡ false) }

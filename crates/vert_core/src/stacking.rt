@@ -6,7 +6,7 @@ ghost use Rattle.std.specs.List.{All, cons_option};
 ghost use Rattle.node_core.specs.Nodes.{max_nodes};
 ghost use Rattle.vert_core.specs.Lines.{broken_list, penalty_nodes, vertical_items, last_depth, lines_fit};
 ghost use Rattle.vert_core.specs.Private.Measuring.{paragraph_of};
-ghost use Rattle.vert_core.specs.Private.Planned.{HasPlainItems, closed_box, stacked};
+ghost use Rattle.vert_core.specs.Private.Planned.{HasPlainItems, closed_box, stacked_nodes};
 
 use crate::filling::copy_items;
 use crate::line_boxes::{LinesFault, keep_line};
@@ -63,11 +63,11 @@ fn closed_box(alloc: Global, line: PlannedLine, plain: bool) -> HeapBox
 }
 
 /// Appends a line to a list with room for it: its glue, its box, and its penalty.
-#[tactic(auto, unfolding(crate::specs::Private::Planned::stacked))]
+#[tactic(auto, unfolding(crate::specs::Private::Planned::stacked_nodes))]
 fn stack_line(list: &mut Vec<Node>, line: PlannedLine, plain: bool)
-    requires room { vec_len list.old + length (stacked line) ≤ vec_capacity list.old }
+    requires room { vec_len list.old + length (stacked_nodes line) ≤ vec_capacity list.old }
     requires plain { plain ≡ true → HasPlainItems line }
-    ensures items { list.new.items ≡ list.old.items ++ stacked line }
+    ensures items { list.new.items ≡ list.old.items ++ stacked_nodes line }
     ensures capacity { vec_capacity list.new ≡ vec_capacity list.old }
 {
     let after = penalty_node(line.penalty);
@@ -80,9 +80,9 @@ fn stack_line(list: &mut Vec<Node>, line: PlannedLine, plain: bool)
 /// Appends lines that have their items, and of which the last one comes first, to a list with room for them. `plain` says that it is known that none
 /// of these items is a box or a special.
 pub(crate) fn stack_lines(list: &mut Vec<Node>, mut lines: Vec<PlannedLine>, plain: bool)
-    requires room { vec_len list.old + length (flat_map stacked (reverse lines.items)) ≤ vec_capacity list.old }
+    requires room { vec_len list.old + length (flat_map stacked_nodes (reverse lines.items)) ≤ vec_capacity list.old }
     requires plain { plain ≡ true → All HasPlainItems lines.items }
-    ensures { list.new.items ≡ list.old.items ++ flat_map stacked (reverse lines.items) }
+    ensures { list.new.items ≡ list.old.items ++ flat_map stacked_nodes (reverse lines.items) }
 {
     while let Some(line) = lines.pop() {
         stack_line(list, line, plain);

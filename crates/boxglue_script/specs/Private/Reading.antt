@@ -316,14 +316,14 @@ abbrev pub unboxing_command : Kind → Transfer → ℕ → Command
 unboxing_command kind taking register = Unbox (record { kind = kind; register = register; taking = taking })
 
 -- The command that splits the box of a register to that height, with its front for another one.
-abbrev pub split : (register : ℕ) → (height : ℤ) → (into : ℕ) → Command
-split register height into = Split (record { register = register; height = height; into = into })
+abbrev pub split_command : (register : ℕ) → (height : ℤ) → (into : ℕ) → Command
+split_command register height into = Split (record { register = register; height = height; into = into })
 
 -- What follows the height of a split: `into` and a register.
 unfoldable pub split_into : (register : ℕ) → (height : ℤ) → List (List ℕ) → Result Command Cause
 split_into register height [] = Err Missing
 split_into register height (word ∷ rest) =
-    if bytes_eq word (codes "into") then map_ok (split register height) (last_number register_count rest) else Err Word
+    if bytes_eq word (codes "into") then map_ok (split_command register height) (last_number register_count rest) else Err Word
 
 -- The height of a split, and what follows it.
 unfoldable pub split_height : (register : ℕ) → List (List ℕ) → Result Command Cause
@@ -467,31 +467,31 @@ abbrev pub kept_text : List ℕ → List ℕ
 kept_text line = drop 1 (after_field line)
 
 -- The command of a line: a text or a special with its text, by its first field, otherwise the command of its fields.
-unfoldable pub given : List ℕ → Result Command Cause
-given line =
+unfoldable pub command_of_printable : List ℕ → Result Command Cause
+command_of_printable line =
     if bytes_eq (front_field line) (codes "text") then Ok (Text (kept_text line))
     else (if bytes_eq (front_field line) (codes "special") then Ok (Special (kept_text line)) else command_of (fields_of line))
 
 -- The command of a line, or the cause why it has none.
 unfoldable pub command_of_line : List ℕ → Result Command Cause
-command_of_line line = if list_all is_printable line then given line else Err Byte
+command_of_line line = if list_all is_printable line then command_of_printable line else Err Byte
 
 -- The result of reading lines: the lines that give commands, or why the script was not read.
-abbrev pub Found : Type 0
-Found = Result (List Line) ScriptFault
+abbrev pub LinesOrFault : Type 0
+LinesOrFault = Result (List Line) ScriptFault
 
 -- Lines that were found, followed by those found after them; a fault stays.
-abbrev pub lines_then : List Line → Found → Found
+abbrev pub lines_then : List Line → LinesOrFault → LinesOrFault
 lines_then found (Err fault) = Err fault
 lines_then found (Ok more) = Ok (found ++ more)
 
 -- The line of that number with its command, followed by what is found after it; or the fault if the line gives no command.
-abbrev pub reads_by : ℕ → Result Command Cause → Found → Found
+abbrev pub reads_by : ℕ → Result Command Cause → LinesOrFault → LinesOrFault
 reads_by number (Err cause) more = Err (BadScript number cause)
 reads_by number (Ok command) more = lines_then (record { number = number; command = command } ∷ []) more
 
 -- The result of reading the lines from that number on.
-abbrev pub reading_from : ℕ → List (List ℕ) → Found
+abbrev pub reading_from : ℕ → List (List ℕ) → LinesOrFault
 reading_from number [] = Ok []
 reading_from number (line ∷ rest) = if is_passed_over line then reading_from (number + 1) rest
     else reads_by number (command_of_line line) (reading_from (number + 1) rest)

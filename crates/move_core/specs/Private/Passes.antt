@@ -136,7 +136,7 @@ rewritten_instructions [] g = []
 rewritten_instructions (i ∷ rest) g =
     op_written (groups_entered i g).known i (again_in i rest)
     ∷ rewritten_instructions rest (record
-        { known = amounts_after (groups_entered i g).known i (again_in i rest); outer = (groups_entered i g).outer })
+    { known = amounts_after (groups_entered i g).known i (again_in i rest); outer = (groups_entered i g).outer })
 
 -- Whether a set of amounts contains this one.
 unfoldable pub has_amount : AmountSet → ℤ → Bool
@@ -173,4 +173,4 @@ HasFlags p ops i = reverse p.flags.items ≡ flags_of (map body_view (drop i ops
 abbrev pub RewritesOp : RegisterPass → List BodyOp → ℕ → RegisterPass → List BodyOp → Type 0
 RewritesOp before ops i after written_leaf =
     (length written_leaf ≡ length ops) × (HasFlags before ops i
-        → HasFlags after written_leaf (i + 1) × (pass_output after written_leaf (i + 1) ≡ pass_output before ops i))
+    → HasFlags after written_leaf (i + 1) × (pass_output after written_leaf (i + 1) ≡ pass_output before ops i))

@@ -2,12 +2,12 @@
 use Rattle.std.specs.Prelude.{◌≤◌, ◌*◌, length}
 use Rattle.std.specs.Box.{boxed_slice_items}
 use Rattle.raster_core.specs.Words.{in_rows}
-use Rattle.raster_core.specs.Pictures.{PixelGrid, drawn}
+use Rattle.raster_core.specs.Pictures.{PixelGrid, grid_of}
 use Rattle.raster_core.specs.declared.painting.Bitmap.TheInside.{Inside}
 
 -- The picture that a bitmap shows. Its rows have as many words as its mask (own).
 abbrev pub picture : Inside → PixelGrid
-picture b = drawn b.width b.height (in_rows (boxed_slice_items b.words) (length (boxed_slice_items b.mask)))
+picture b = grid_of b.width b.height (in_rows (boxed_slice_items b.words) (length (boxed_slice_items b.mask)))
 
 -- The words have room for the pixels, at most 157 of them a row, and `full` has 192 bits a row for these words (own).
 pub record IsBitmap (b : Inside) : Type 0 where

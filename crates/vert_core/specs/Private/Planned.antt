@@ -29,8 +29,8 @@ abbrev pub hollow_box : BoxNode → BoxNode
 hollow_box b = record b { list = none }
 
 -- A line of a paragraph without its items.
-unfoldable pub planned : BrokenParagraph → ℕ → PlannedLine
-planned p line =
+unfoldable pub plan_of_line : BrokenParagraph → ℕ → PlannedLine
+plan_of_line p line =
     record {
       glue = glue_of (interline p.params (depth_before p line) (line_box p line).height);
       box_node = hollow_box (line_box p line);
@@ -48,8 +48,8 @@ abbrev pub closed_box : PlannedLine → BoxNode
 closed_box line = record line.box_node { list = items_of (items_with_break (line.end - line.begin) (nodes_of line.box_node.list)) }
 
 -- The nodes that a line adds to a vertical list.
-unfoldable pub stacked : PlannedLine → List Node
-stacked line = appended_nodes line.glue (pos 0) (closed_box line) ++ penalty_nodes line.penalty
+unfoldable pub stacked_nodes : PlannedLine → List Node
+stacked_nodes line = appended_nodes line.glue (pos 0) (closed_box line) ++ penalty_nodes line.penalty
 
 -- A line with these items.
 abbrev pub with_part : List Node → PlannedLine → PlannedLine

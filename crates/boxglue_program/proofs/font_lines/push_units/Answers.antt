@@ -1,7 +1,7 @@
 -- The five pieces.
 use Rattle.std.proofs.Common.{◌≡◌, ◌++◌, rules}
 use Rattle.std.proofs.lemmas.Result.{on_ok_weaker}
-use Rattle.boxglue_program.specs.FontLines.{spaced, units_line}
+use Rattle.boxglue_program.specs.FontLines.{space_and_number, units_line}
 use Rattle.boxglue_program.proofs.TextLemmas.{five_pieces}
 use Rattle.boxglue_program.proofs.font_lines.push_units.Goals as goal
 
@@ -9,7 +9,7 @@ pub returns : goal.returns
 unfolding units_line
 returns c =
     let units = c.args.units in
-    let num : c.push_spaced.new.out.items ≡ c.push_text.new.out.items ++ spaced units.num = search rules in
-    let den : c.push_spaced-2.new.out.items ≡ c.push_spaced.new.out.items ++ spaced units.den = search rules in
-    let mag : c.push_spaced-3.new.out.items ≡ c.push_spaced-2.new.out.items ++ spaced units.mag = search rules in
+    let num : c.push_spaced.new.out.items ≡ c.push_text.new.out.items ++ space_and_number units.num = search rules in
+    let den : c.push_spaced-2.new.out.items ≡ c.push_spaced.new.out.items ++ space_and_number units.den = search rules in
+    let mag : c.push_spaced-3.new.out.items ≡ c.push_spaced-2.new.out.items ++ space_and_number units.mag = search rules in
     on_ok_weaker c.push_text-2.result (five_pieces _ _ _ _ _ _ _ _ _ _ _ c.in_ok-push_text.ensures.ok num den mag) c.push_text-2.ensures.ok

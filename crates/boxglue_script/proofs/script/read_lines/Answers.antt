@@ -6,10 +6,10 @@ use Rattle.boxglue_script.specs.Blocks.{lines_of}
 use Rattle.boxglue_script.proofs.ScriptLaws.{handed_is, read_more, read_whole, right_at_start, right_so_far, right_up_to}
 use Rattle.boxglue_script.proofs.PlainTexts.{ArePrintable, plain_lines}
 use Rattle.boxglue_script.specs.declared.script.Line.{Line}
-use Rattle.boxglue_script.specs.Private.Reading.{Found, lines_then, reading_from}
+use Rattle.boxglue_script.specs.Private.Reading.{LinesOrFault, lines_then, reading_from}
 use Rattle.boxglue_script.proofs.script.read_lines.Goals as goal
 
-nothing_found : (found : Found) → lines_then [] found ≡ found
+nothing_found : (found : LinesOrFault) → lines_then [] found ≡ found
 nothing_found (Err fault) = refl
 nothing_found (Ok more) = refl
 

@@ -1,10 +1,10 @@
 use Rattle.std.proofs.Common.{refl}
-use Rattle.raster_core.specs.Pictures.{drawn}
+use Rattle.raster_core.specs.Pictures.{grid_of}
 use Rattle.raster_core.proofs.DrawnPixels.{drawn_pixel, drawn_right, drawn_below}
 use Rattle.raster_core.proofs.laws.drawn_pixels.Goals as goal
 
 pub returns : goal.returns
-unfolding drawn
+unfolding grid_of
 returns c = record {
   width = λ w h black. refl;
   height = λ w h black. refl;

@@ -4,7 +4,7 @@ use Rattle.node_core.specs.Nodes.{IsPlain, items_of}
 use Rattle.vert_core.specs.declared.paragraph.ParagraphFault.TheVariants.{OutOfMemory}
 use Rattle.vert_core.specs.Lines.{vertical_items}
 use Rattle.vert_core.specs.Paragraphs.{with_breaks, IsUnsetList}
-use Rattle.vert_core.specs.Private.Planned.{AreInOrder, moved_lines, stacked}
+use Rattle.vert_core.specs.Private.Planned.{AreInOrder, moved_lines, stacked_nodes}
 use Rattle.vert_core.specs.Private.PlannedParagraphs.{IsPlanned}
 use Rattle.vert_core.proofs.Rests.{handed_on}
 use Rattle.vert_core.proofs.FewLines.{few_lines, few_items}
@@ -39,7 +39,7 @@ from_vec-requires c =
     let empty : c.new-items.result.items ≡ [] = search rules in
     let items : c.stack_planned.new.around.items ≡ vertical_items (with_breaks list params c.args.previous_depth breaks) =
     c.in_ok-stack_planned.ensures.ok
-    ∙ (ap (λ (xs : List Node). xs ++ flat_map stacked (moved_lines list (length list) lines)) empty ∙ moved_items list params c.args.previous_depth breaks lines planned.lines order) in
+    ∙ (ap (λ (xs : List Node). xs ++ flat_map stacked_nodes (moved_lines list (length list) lines)) empty ∙ moved_items list params c.args.previous_depth breaks lines planned.lines order) in
     record {
       list_bounded =
           omega (
@@ -62,7 +62,7 @@ returns-clause-ok c =
     let empty : c.new-items.result.items ≡ [] = search rules in
     let items : c.stack_planned.new.around.items ≡ vertical_items (with_breaks list params c.args.previous_depth breaks) =
     c.in_ok-stack_planned.ensures.ok
-    ∙ (ap (λ (xs : List Node). xs ++ flat_map stacked (moved_lines list (length list) lines)) empty ∙ moved_items list params c.args.previous_depth breaks lines planned.lines order) in
+    ∙ (ap (λ (xs : List Node). xs ++ flat_map stacked_nodes (moved_lines list (length list) lines)) empty ∙ moved_items list params c.args.previous_depth breaks lines planned.lines order) in
     record {
       breaks = breaks;
       broken = planned.broken;

@@ -8,7 +8,7 @@ use Rattle.pack_core.specs.Boxes.{packed_of}
 use Rattle.break_lines.specs.Legal.{up_to}
 use Rattle.vert_core.specs.declared.planning.PlannedLine.{PlannedLine}
 use Rattle.vert_core.specs.Lines.{BrokenParagraph, broken_list, line_places, line_items, depth_before, line_fits, lines_fit, last_depth}
-use Rattle.vert_core.specs.Private.Planned.{penalty_between, planned}
+use Rattle.vert_core.specs.Private.Planned.{penalty_between, plan_of_line}
 use Rattle.vert_core.proofs.Stacks.{count_places, depth_after_line, fits_one, all_more, all_but}
 use Rattle.vert_core.proofs.Measured.{measured_depth}
 use Rattle.vert_core.proofs.PlannedLines.{planned_one, count_more, map_more}
@@ -31,12 +31,12 @@ loop-line-preserved c =
     let count : length c.args.broken.now.ends.now ≡ length p.places = sym (count_places c.args.broken.now.ends.now) in
     let made = c.in_ok-planned.ensures
     ∙ ap (λ n. record { glue = c.in-Some.measured.glue; box_node = (packed_of none shell).box_node; penalty = penalty_between p.params n line; begin = c.in-Some.measured.begin; end = get_or (line_places c.args.broken.now.ends.now) line 0 }) count in
-    let one : c.in_ok-planned.planned ≡ planned p line =
+    let one : c.in_ok-planned.planned ≡ plan_of_line p line =
     planned_one p line c.loop-line.depth c.in-Some.measured c.in_ok-planned.planned c.loop-line.invariant.depth c.in-Some.ensures.packed c.in-Some.ensures.glue c.in-Some.ensures.begin made in
     record {
       lines = c.push_reserved.ensures.items
           ∙ (ap (λ (xs : List PlannedLine). xs ++ c.in_ok-planned.planned ∷ []) c.loop-line.invariant.lines
-          ∙ (ap (λ (x : PlannedLine). map (planned p) (up_to line) ++ x ∷ []) one ∙ sym (map_more (planned p) line)));
+          ∙ (ap (λ (x : PlannedLine). map (plan_of_line p) (up_to line) ++ x ∷ []) one ∙ sym (map_more (plan_of_line p) line)));
       count = omega (arith, c.loop-line.invariant.count, c.items_of_line-count.ensures.count, count_more c.loop-line.lines.items c.push_reserved.new.self.items c.in_ok-planned.planned c.push_reserved.ensures.items);
       few = omega (arith, c.loop-line.invariant.few, c.items_of_line-count.ensures.few);
       room = omega (arith, c.loop-line.invariant.room, c.push_reserved.ensures.len);

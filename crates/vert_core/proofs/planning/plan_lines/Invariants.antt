@@ -2,13 +2,13 @@ use Rattle.std.proofs.Common.{◌≡◌, ◌≤◌, ◌*◌, length, map, true, 
 use Rattle.std.specs.List.{list_all}
 use Rattle.break_lines.specs.Legal.{up_to}
 use Rattle.vert_core.specs.Lines.{broken_list, depth_before, line_fits}
-use Rattle.vert_core.specs.Private.Planned.{planned, stacked}
+use Rattle.vert_core.specs.Private.Planned.{plan_of_line, stacked_nodes}
 use Rattle.vert_core.proofs.planning.plan_lines.Given as goal
 
 abbrev pub invariant-loop-line : goal.invariant-loop-line
 invariant-loop-line l = record {
-  lines : l.lines.items ≡ map (planned (broken_list l.broken.nodes.now l.broken.ends.now l.broken.params.now l.fn.previous_depth)) (up_to l.line);
-  count : l.count ≡ length (flat_map stacked l.lines.items);
+  lines : l.lines.items ≡ map (plan_of_line (broken_list l.broken.nodes.now l.broken.ends.now l.broken.params.now l.fn.previous_depth)) (up_to l.line);
+  count : l.count ≡ length (flat_map stacked_nodes l.lines.items);
   few : l.count ≤ 3 * l.line;
   room : vec_len l.lines ≡ l.line;
   capacity : length l.broken.ends.now ≤ vec_capacity l.lines;

@@ -2,7 +2,7 @@ use Rattle.std.proofs.Common.{◌∙◌, ◌++◌, List, length, reverse, flat_m
 use Rattle.node_core.specs.declared.tree.Node.{Node}
 use Rattle.vert_core.specs.declared.planning.PlannedLine.{PlannedLine}
 use Rattle.vert_core.specs.Lines.{BrokenParagraph, broken_list}
-use Rattle.vert_core.specs.Private.Planned.{stacked}
+use Rattle.vert_core.specs.Private.Planned.{stacked_nodes}
 use Rattle.vert_core.proofs.Stacks.{count_places}
 use Rattle.vert_core.proofs.PlannedLines.{count_copied}
 use Rattle.vert_core.proofs.PlannedOrder.{copied_items}
@@ -21,7 +21,7 @@ stack_lines-requires-clause-room c =
       arith,
       c.in_ok-nodes.ensures.len,
       c.in_ok-nodes.ensures.capacity,
-      ap (λ (xs : List PlannedLine). length (flat_map stacked xs)) c.in_ok-filled.ensures,
+      ap (λ (xs : List PlannedLine). length (flat_map stacked_nodes xs)) c.in_ok-filled.ensures,
       count_copied c.args.broken.now.nodes.now c.in_ok-plan.plan.lines.items,
       c.in_ok-plan.ensures.count,
     )
@@ -32,6 +32,6 @@ returns-clause-ok c =
     let p : BrokenParagraph = broken_list c.args.broken.now.nodes.now ends c.args.broken.now.params.now c.args.previous_depth in
     let filled = c.in_ok-filled.filled.items in
     c.stack_lines.ensures
-    ∙ (ap (λ (xs : List Node). xs ++ flat_map stacked (reverse filled)) c.in_ok-nodes.ensures.items
-    ∙ (ap (flat_map stacked) c.in_ok-filled.ensures
+    ∙ (ap (λ (xs : List Node). xs ++ flat_map stacked_nodes (reverse filled)) c.in_ok-nodes.ensures.items
+    ∙ (ap (flat_map stacked_nodes) c.in_ok-filled.ensures
     ∙ copied_items p (length ends) c.in_ok-plan.plan.lines.items (sym (count_places ends)) c.in_ok-plan.ensures.lines))

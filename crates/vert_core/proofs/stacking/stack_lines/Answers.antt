@@ -1,7 +1,7 @@
 use Rattle.std.proofs.Common.{◌∙◌, length, length-append, reverse, flat_map, ap, arith}
 use Rattle.std.proofs.lemmas.List.Elements.{All-pop}
 use Rattle.std.specs.Prelude.{Some}
-use Rattle.vert_core.specs.Private.Planned.{HasPlainItems, stacked}
+use Rattle.vert_core.specs.Private.Planned.{HasPlainItems, stacked_nodes}
 use Rattle.vert_core.proofs.Filled.{popped, popped_room}
 use Rattle.vert_core.proofs.stacking.stack_lines.Goals as goal
 
@@ -13,9 +13,9 @@ pub stack_line-requires-clause-room : goal.stack_line-requires-clause-room
 stack_line-requires-clause-room c =
     omega (
       arith,
-      popped_room stacked c.loop-line.list.items c.loop-line.lines.items c.pop.new.self.items c.in-Some.line c.in-Some.ensures.items,
+      popped_room stacked_nodes c.loop-line.list.items c.loop-line.lines.items c.pop.new.self.items c.in-Some.line c.in-Some.ensures.items,
       ap length c.loop-line.invariant.whole,
-      length-append c.args.list.now.items (flat_map stacked (reverse c.args.lines.items)),
+      length-append c.args.list.now.items (flat_map stacked_nodes (reverse c.args.lines.items)),
       c.requires.room,
       c.loop-line.invariant.capacity,
       c.loop-line.list.ok.0,
@@ -24,7 +24,7 @@ stack_line-requires-clause-room c =
 
 pub loop-line-preserved : goal.loop-line-preserved
 loop-line-preserved c = record {
-  whole = popped stacked c.loop-line.list.items c.stack_line.new.list.items c.loop-line.lines.items c.pop.new.self.items c.in-Some.line c.in-Some.ensures.items c.stack_line.ensures.items
+  whole = popped stacked_nodes c.loop-line.list.items c.stack_line.new.list.items c.loop-line.lines.items c.pop.new.self.items c.in-Some.line c.in-Some.ensures.items c.stack_line.ensures.items
       ∙ c.loop-line.invariant.whole;
   capacity = c.stack_line.ensures.capacity ∙ c.loop-line.invariant.capacity;
   plain = λ on.

@@ -1,5 +1,5 @@
 use Rattle.std.proofs.Common.{◌≡◌, take}
-use Rattle.vert_core.proofs.cut.copied.Given as goal
+use Rattle.vert_core.proofs.cut.copy_nodes.Given as goal
 
 abbrev pub invariant-loop-node : goal.invariant-loop-node
 invariant-loop-node l = l.copy.items ≡ take l.node-index l.nodes

@@ -1,5 +1,5 @@
 use Rattle.std.proofs.Common.{◌≡◌, ◌≤◌, ◌<◌, ℕ, List, length, slice_index}
-use Rattle.dvi_scan.proofs.ending.untrailed.Given as goal
+use Rattle.dvi_scan.proofs.ending.size_before_padding.Given as goal
 
 -- After the end so far there are only bytes 223.
 pub record TrailedSo (bytes : List ℕ) (end : ℕ) : Type 0 where
