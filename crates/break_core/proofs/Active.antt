@@ -14,7 +14,7 @@ use Rattle.break_lines.proofs.Rows.{row_empty}
 use Rattle.break_lines.proofs.Since.{since_free}
 use Rattle.break_lines.proofs.Bellman.{first_table, next_table}
 use Rattle.break_lines.proofs.Live.{live_forced, new_group, first_live}
-use Rattle.break_core.specs.Private.Active.{with_group, IsQuiet, IsNext, IsActive, IsFilled}
+use Rattle.break_core.specs.Private.Active.{with_group, IsSilentWithin, IsNext, IsActive, IsFilled}
 
 -- The next group, and those after it.
 pub next_active :
@@ -29,10 +29,10 @@ next_active p stop table b high at low i live g is here =
     subst (λ groups. IsActive p stop table b high at low groups) same here
 
 -- Entries that offer nothing leave a row as it is.
-pub row_passed :
+pub row_same :
     (p : Problem) (table : List Entry) (b n m : ℕ) (row : List (Option Entry))
     → n ≤ m → ((k : ℕ) (e : Entry) → n ≤ k → k < m → slice_get table k ≡ Some e → offer p e k b ≡ None) → IsRow p table b n row → IsRow p table b m row
-row_passed p table b n m row more passed is =
+row_same p table b n m row more passed is =
     record {
       wide = is.wide;
       held = λ s o at.
@@ -48,12 +48,12 @@ row_passed p table b n m row more passed is =
         let some = offered.offers in
         absurd (cc)
 
--- Quiet entries leave a row as it is.
-pub row_quiet :
+-- Silent entries leave a row as it is.
+pub row_silent :
     (p : Problem) (table : List Entry) (b n m : ℕ) (row : List (Option Entry))
-    → n ≤ m → b ≤ p.places → IsQuiet p table b n m → IsRow p table b n row → IsRow p table b m row
-row_quiet p table b n m row more within quiet is =
-    row_passed p table b n m row more (λ k e low high at. quiet k e low high at b (omega arith) within) is
+    → n ≤ m → b ≤ p.places → IsSilentWithin p table b n m → IsRow p table b n row → IsRow p table b m row
+row_silent p table b n m row more within silent is =
+    row_same p table b n m row more (λ k e low high at. silent k e low high at b (omega arith) within) is
 
 -- After all groups there are no more offers.
 pub row_end :
@@ -62,16 +62,16 @@ pub row_end :
 row_end p stop table b high at low i live row past within here is =
     let none : drop i live ≡ [] = drop_of_length-le live past in
     let last = subst (λ groups. IsActive p stop table b high at low groups) none here in
-    row_quiet p table b at (length table) row last.gap within last.quiet is
+    row_silent p table b at (length table) row last.gap within last.silent is
 
--- Quiet entries before the next group stay quiet for the next place, and so do those of a group that is removed.
-pub later_quiet : (p : Problem) (table : List Entry) (b c from to : ℕ) → b ≤ c → IsQuiet p table b from to → IsQuiet p table c from to
-later_quiet p table b c from to later quiet k e low high at l after within = quiet k e low high at l (omega arith) within
+-- Silent entries before the next group stay silent for the next place, and so do those of a group that is removed.
+pub later_silent : (p : Problem) (table : List Entry) (b c from to : ℕ) → b ≤ c → IsSilentWithin p table b from to → IsSilentWithin p table c from to
+later_silent p table b c from to later silent k e low high at l after within = silent k e low high at l (omega arith) within
 
-joined_quiet :
+joined_silent :
     (p : Problem) (table : List Entry) (b from middle to : ℕ)
-    → IsQuiet p table b from middle → IsQuiet p table b middle to → IsQuiet p table b from to
-joined_quiet p table b from middle to front back k e low high at l after within = cases (cases_lt k middle)
+    → IsSilentWithin p table b from middle → IsSilentWithin p table b middle to → IsSilentWithin p table b from to
+joined_silent p table b from middle to front back k e low high at l after within = cases (cases_lt k middle)
   where
     cases : (k < middle) ⊎ (middle ≤ k) → offer p e k l ≡ None
     cases (inl before) = front k e low before at l after within
@@ -79,16 +79,16 @@ joined_quiet p table b from middle to front back k e low high at l after within 
 
 earlier_active :
     (p : Problem) (stop : ℕ → ℕ → Bool) (table : List Entry) (b high from at low more : ℕ) (groups : List ActiveGroup)
-    → from ≤ at → low ≤ more → IsQuiet p table b from at → IsActive p stop table b high at more groups → IsActive p stop table b high from low groups
-earlier_active p stop table b high from at low more [] front less quiet is =
-    record { gap = omega (arith, is.gap); quiet = joined_quiet p table b from at (length table) quiet is.quiet; lower = omega (arith, is.lower) }
-earlier_active p stop table b high from at low more (g ∷ groups) front less quiet is =
+    → from ≤ at → low ≤ more → IsSilentWithin p table b from at → IsActive p stop table b high at more groups → IsActive p stop table b high from low groups
+earlier_active p stop table b high from at low more [] front less silent is =
+    record { gap = omega (arith, is.gap); silent = joined_silent p table b from at (length table) silent is.silent; lower = omega (arith, is.lower) }
+earlier_active p stop table b high from at low more (g ∷ groups) front less silent is =
     let next = is.0 in (
       record {
         gap = omega (arith, next.gap);
-        quiet = joined_quiet p table b from at g.start quiet next.quiet;
+        silent = joined_silent p table b from at g.start silent next.silent;
         group = next.group;
-        trying = next.trying;
+        not_stopped = next.not_stopped;
         later = omega (arith, next.later);
       },
       is.1,
@@ -102,7 +102,7 @@ pub kept_active :
 kept_active p stop table b high at low g rest free goes next is = (
   record {
     gap = next.gap;
-    quiet = later_quiet p table b (b + 1) at g.start (omega arith) next.quiet;
+    silent = later_silent p table b (b + 1) at g.start (omega arith) next.silent;
     group = record {
       rises = next.group.rises;
       within = next.group.within;
@@ -110,15 +110,15 @@ kept_active p stop table b high at low g rest free goes next is = (
       earlier = omega (arith, next.group.earlier);
       entries = next.group.entries;
     };
-    trying = λ l after before. trying l after (cases_lt l b) before;
+    not_stopped = λ l after before. not_stopped l after (cases_lt l b) before;
     later = next.later;
   },
   is,
 )
   where
-    trying : (l : ℕ) → g.place < l → (l < b) ⊎ (b ≤ l) → l < b + 1 → stop g.place l ≡ false
-    trying l after (inl before) within = next.trying l after before
-    trying l after (inr here) within =
+    not_stopped : (l : ℕ) → g.place < l → (l < b) ⊎ (b ≤ l) → l < b + 1 → stop g.place l ≡ false
+    not_stopped l after (inl before) within = next.not_stopped l after before
+    not_stopped l after (inr here) within =
         let same : b ≡ l = omega arith in
         subst (λ k. stop g.place k ≡ false) same goes
 
@@ -129,30 +129,30 @@ IsFront p stop table b high at low front =
 
 -- One more group stays or is removed.
 pub front_more :
-    (p : Problem) (stop : ℕ → ℕ → Bool) (table : List Entry) (b high at low : ℕ) (front new : List ActiveGroup) (g : ActiveGroup) (ended : Bool)
+    (p : Problem) (stop : ℕ → ℕ → Bool) (table : List Entry) (b high at low : ℕ) (front new : List ActiveGroup) (g : ActiveGroup) (stopped : Bool)
     → IsFront p stop table b high at low front → IsNext p stop table b at low g
-    → (p.forced b ≡ false → ended ≡ false → stop g.place b ≡ false)
-    → (ended ≡ true → IsQuiet p table (b + 1) g.start g.end)
-    → new ≡ (if ended then front else (front ++ g ∷ []))
+    → (p.forced b ≡ false → stopped ≡ false → stop g.place b ≡ false)
+    → (stopped ≡ true → IsSilentWithin p table (b + 1) g.start g.end)
+    → new ≡ (if stopped then front else (front ++ g ∷ []))
     → IsFront p stop table b high g.end (g.place + 1) new
-front_more p stop table b high at low front new g ended is next goes quiet made rest free active = cases (cases_Bool ended)
+front_more p stop table b high at low front new g stopped is next goes silent made rest free active = cases (cases_Bool stopped)
   where
     joined : (xs : List ActiveGroup) → (xs ++ g ∷ []) ++ rest ≡ xs ++ g ∷ rest
     joined [] = refl
     joined (x ∷ xs) = ap (λ ys. x ∷ ys) (joined xs)
 
-    cases : (ended ≡ true) ⊎ (ended ≡ false) → IsActive p stop table (b + 1) high 0 0 (new ++ rest)
-    cases (inl yes_ended) =
-        let same : new ≡ front = made ∙ ap (λ t. cond t front (front ++ g ∷ [])) yes_ended in
-        let gap : IsQuiet p table (b + 1) at g.end =
-        joined_quiet p table (b + 1) at g.start g.end (later_quiet p table b (b + 1) at g.start (omega arith) next.quiet) (quiet yes_ended) in
+    cases : (stopped ≡ true) ⊎ (stopped ≡ false) → IsActive p stop table (b + 1) high 0 0 (new ++ rest)
+    cases (inl yes_stopped) =
+        let same : new ≡ front = made ∙ ap (λ t. cond t front (front ++ g ∷ [])) yes_stopped in
+        let gap : IsSilentWithin p table (b + 1) at g.end =
+        joined_silent p table (b + 1) at g.start g.end (later_silent p table b (b + 1) at g.start (omega arith) next.silent) (silent yes_stopped) in
         subst (λ xs. IsActive p stop table (b + 1) high 0 0 (xs ++ rest)) (sym same)
         (is rest free
         (earlier_active p stop table (b + 1) high at g.end low (g.place + 1) rest (omega (arith, next.gap, next.group.rises)) (omega (arith, next.later)) gap active))
-    cases (inr not_ended) =
-        let same : new ≡ front ++ g ∷ [] = made ∙ ap (λ t. cond t front (front ++ g ∷ [])) not_ended in
+    cases (inr not_stopped) =
+        let same : new ≡ front ++ g ∷ [] = made ∙ ap (λ t. cond t front (front ++ g ∷ [])) not_stopped in
         subst (λ xs. IsActive p stop table (b + 1) high 0 0 xs) (sym (ap (λ xs. xs ++ rest) same ∙ joined front))
-        (is (g ∷ rest) free (kept_active p stop table b high at low g rest free (goes free not_ended) next active))
+        (is (g ∷ rest) free (kept_active p stop table b high at low g rest free (goes free not_stopped) next active))
 
 pub front_end :
     (p : Problem) (stop : ℕ → ℕ → Bool) (table : List Entry) (b at low i : ℕ) (live front : List ActiveGroup)
@@ -163,7 +163,7 @@ front_end p stop table b at low i live front past here is free =
     let last = subst (λ groups. IsActive p stop table b b at low groups) none here in
     let all : front ++ [] ≡ front = same front in
     subst (λ xs. IsActive p stop table (b + 1) b 0 0 xs) all
-    (is [] free (record { gap = last.gap; quiet = later_quiet p table b (b + 1) at (length table) (omega arith) last.quiet; lower = last.lower }))
+    (is [] free (record { gap = last.gap; silent = later_silent p table b (b + 1) at (length table) (omega arith) last.silent; lower = last.lower }))
   where
     same : (xs : List ActiveGroup) → xs ++ [] ≡ xs
     same [] = refl
@@ -177,8 +177,8 @@ shorter table more k e within at = cases (get_cases table more k e at)
     cases (inl here) = here
     cases (inr there) = absurd (omega (arith, there.1))
 
-quiet_longer : (p : Problem) (table more : List Entry) (b from to : ℕ) → to ≤ length table → IsQuiet p table b from to → IsQuiet p (table ++ more) b from to
-quiet_longer p table more b from to within quiet k e low high at = quiet k e low high (shorter table more k e (omega arith) at)
+silent_longer : (p : Problem) (table more : List Entry) (b from to : ℕ) → to ≤ length table → IsSilentWithin p table b from to → IsSilentWithin p (table ++ more) b from to
+silent_longer p table more b from to within silent k e low high at = silent k e low high (shorter table more k e (omega arith) at)
 
 -- The group of the next place is appended to the others.
 active_more :
@@ -189,18 +189,18 @@ active_more :
 active_more p stop table more b at low [] g is place start group end = (
   record {
     gap = omega (arith, is.gap, start);
-    quiet = subst (λ n. IsQuiet p (table ++ more) (b + 1) at n) (sym start) (quiet_longer p table more (b + 1) at (length table) (omega arith) is.quiet);
+    silent = subst (λ n. IsSilentWithin p (table ++ more) (b + 1) at n) (sym start) (silent_longer p table more (b + 1) at (length table) (omega arith) is.silent);
     group = group;
-    trying = λ l after before. absurd (omega (arith, place));
+    not_stopped = λ l after before. absurd (omega (arith, place));
     later = omega (arith, is.lower, place);
   },
-  record { gap = omega (arith, end); quiet = λ k e low high there l after within. absurd (omega (arith, end)); lower = omega (arith, place) },
+  record { gap = omega (arith, end); silent = λ k e low high there l after within. absurd (omega (arith, end)); lower = omega (arith, place) },
 )
 active_more p stop table more b at low (h ∷ groups) g is place start group end =
     let old = is.0 in (
       record {
         gap = old.gap;
-        quiet = quiet_longer p table more (b + 1) at h.start (omega (arith, old.group.rises, old.group.within)) old.quiet;
+        silent = silent_longer p table more (b + 1) at h.start (omega (arith, old.group.rises, old.group.within)) old.silent;
         group = record {
           rises = old.group.rises;
           within = omega (arith, old.group.within, length-append table more);
@@ -208,7 +208,7 @@ active_more p stop table more b at low (h ∷ groups) g is place start group end
           earlier = old.group.earlier;
           entries = λ k e low high there. old.group.entries k e low high (shorter table more k e (omega (arith, old.group.within)) there);
         };
-        trying = old.trying;
+        not_stopped = old.not_stopped;
         later = old.later;
       },
       active_more p stop table more b h.end (h.place + 1) groups g is.1 place start group end,
@@ -222,29 +222,29 @@ active_one p stop table b g live place =
     let last = live.3 in (
       record {
         gap = live.0;
-        quiet = λ k e low high at l after within. live.1 k e low high at l after;
+        silent = λ k e low high at l after within. live.1 k e low high at l after;
         group = live.2;
-        trying = λ l after before. absurd (omega (arith, place));
+        not_stopped = λ l after before. absurd (omega (arith, place));
         later = omega arith;
       },
-      record { gap = last.0; quiet = λ k e low high at l after within. last.1 k e low high at l after; lower = omega (arith, place) },
+      record { gap = last.0; silent = λ k e low high at l after within. last.1 k e low high at l after; lower = omega (arith, place) },
     )
 
 -- The groups stay if the next place has no entries.
 active_higher :
     (p : Problem) (stop : ℕ → ℕ → Bool) (table : List Entry) (b high at low : ℕ) (groups : List ActiveGroup)
     → IsActive p stop table b high at low groups → IsActive p stop table b (high + 1) at low groups
-active_higher p stop table b high at low [] is = record { gap = is.gap; quiet = is.quiet; lower = omega (arith, is.lower) }
+active_higher p stop table b high at low [] is = record { gap = is.gap; silent = is.silent; lower = omega (arith, is.lower) }
 active_higher p stop table b high at low (g ∷ groups) is = (is.0, active_higher p stop table b high g.end (g.place + 1) groups is.1)
 
--- If the next place has no entries and a break there is forced, all entries are quiet.
+-- If the next place has no entries and a break there is forced, all entries are silent.
 active_none :
     (p : Problem) (stop : ℕ → ℕ → Bool) (table : List Entry) (b : ℕ) (g : ActiveGroup)
     → IsLive p table (b + 1) 0 (g ∷ []) → g.start ≡ length table → IsActive p stop table (b + 1) (b + 1) 0 0 []
 active_none p stop table b g live start =
     record {
       gap = omega arith;
-      quiet = λ k e low high at l after within. live.1 k e low (omega (arith, high, start)) at l after;
+      silent = λ k e low high at l after within. live.1 k e low (omega (arith, high, start)) at l after;
       lower = omega arith;
     }
 
@@ -264,19 +264,19 @@ no_entries : (n : ℕ) → row_entries (replicate n None) ≡ []
 no_entries zero = refl
 no_entries (suc n) = no_entries n
 
--- If all entries are quiet, later places have no entries.
-quiet_table :
+-- If all entries are silent, later places have no entries.
+silent_table :
     (p : Problem) (n b : ℕ) (table : List Entry)
-    → 0 < b → b + n ≡ p.places + 1 → IsTable p b table → IsQuiet p table b 0 (length table) → IsTable p (p.places + 1) table
-quiet_table p zero b table some at is quiet =
+    → 0 < b → b + n ≡ p.places + 1 → IsTable p b table → IsSilentWithin p table b 0 (length table) → IsTable p (p.places + 1) table
+silent_table p zero b table some at is silent =
     let same : b ≡ p.places + 1 = omega (arith, at) in
     subst (λ k. IsTable p k table) same is
-quiet_table p (suc n) b table some at is quiet =
+silent_table p (suc n) b table some at is silent =
     let row : List (Option Entry) = replicate (slots p.cut) None in
-    let full = row_quiet p table b 0 (length table) row (omega arith) (omega (arith, at)) quiet (row_empty p table b) in
+    let full = row_silent p table b 0 (length table) row (omega arith) (omega (arith, at)) silent (row_empty p table b) in
     let none : table ++ row_entries row ≡ table = ap (λ entries. table ++ entries) (no_entries (slots p.cut)) ∙ append-nil table in
-    quiet_table p n (b + 1) table (omega arith) (omega (arith, at)) (subst (λ t. IsTable p (b + 1) t) none (next_table p b table row some is full))
-    (later_quiet p table b (b + 1) 0 (length table) (omega arith) quiet)
+    silent_table p n (b + 1) table (omega arith) (omega (arith, at)) (subst (λ t. IsTable p (b + 1) t) none (next_table p b table row some is full))
+    (later_silent p table b (b + 1) 0 (length table) (omega arith) silent)
 
 -- If no group is left, the table is that of all places.
 pub table_rest :
@@ -284,7 +284,7 @@ pub table_rest :
     → 0 < b → b ≤ p.places → live ≡ [] → IsFilled p stop b table live → IsTable p (p.places + 1) table
 table_rest p stop b table live some within none is =
     let last = subst (λ groups. IsActive p stop table b b 0 0 groups) none is.is_active in
-    quiet_table p (p.places + 1 - b) b table some (omega (arith, within)) is.is_table last.quiet
+    silent_table p (p.places + 1 - b) b table some (omega (arith, within)) is.is_table last.silent
 
 -- With the row of the next place appended, the table and the groups are filled up to after that place.
 pub filled_more :

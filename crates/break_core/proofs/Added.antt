@@ -15,26 +15,26 @@ use Rattle.break_core.specs.Passes.{problem_of, bound_of}
 use Rattle.break_core.specs.Private.Filling.{IsGrown}
 use Rattle.break_core.specs.declared.pass_rules.StopRule.{StopRule}
 use Rattle.break_core.specs.declared.pass_rules.StopRule.TheVariants.{Overfull}
-use Rattle.break_core.specs.Private.Leaving.{is_long}
+use Rattle.break_core.specs.Private.LeftOut.{is_long}
 use Rattle.break_core.specs.Trials.{is_overfull, is_bounded, passes_run, places_up_to, AreBounded, AreBoundedByPasses, HasNoTrials}
-use Rattle.break_core.specs.Private.Active.{deactivates, stops_at, IsCounted, IsWithin, AreAdded, AreAddedByPasses}
+use Rattle.break_core.specs.Private.Active.{stops_after, stops_at, IsCounted, IsWithin, AreAdded, AreAddedByPasses}
 use Rattle.break_core.proofs.Admitting.{before_first, before_second, before_third}
 
 -- The counted trials are within the bound of the definition of stops.
 pub within_pass :
-    (facts : Facts) (params : Params) (pass : Pass) (ending : StopRule) (before now : ℕ → ℕ)
-    → (IsSteady facts → is_bounded pass ≡ true → ending ≡ Overfull)
-    → IsCounted (stops_at facts params ending) facts.places before now → IsWithin facts params pass before now
-within_pass facts params pass ending before now short counted a l (inl last) = omega (arith, counted.grown a, last)
-within_pass facts params pass ending before now short counted a l (inr (earlier, within, inl forced)) =
-    counted.stopped a l earlier within (ap (λ t. t || deactivates ending (is_overfull facts params a l) (is_long facts params a l)) forced)
-within_pass facts params pass ending before now short counted a l (inr (earlier, within, inr over)) =
-    let test : deactivates ending (is_overfull facts params a l) (is_long facts params a l) ≡ true =
-    ap (λ e. deactivates e (is_overfull facts params a l) (is_long facts params a l)) (short over.0 over.1) ∙ over.2 in
+    (facts : Facts) (params : Params) (pass : Pass) (rule : StopRule) (before now : ℕ → ℕ)
+    → (IsSteady facts → is_bounded pass ≡ true → rule ≡ Overfull)
+    → IsCounted (stops_at facts params rule) facts.places before now → IsWithin facts params pass before now
+within_pass facts params pass rule before now short counted a l (inl last) = omega (arith, counted.grown a, last)
+within_pass facts params pass rule before now short counted a l (inr (earlier, within, inl forced)) =
+    counted.stopped a l earlier within (ap (λ t. t || stops_after rule (is_overfull facts params a l) (is_long facts params a l)) forced)
+within_pass facts params pass rule before now short counted a l (inr (earlier, within, inr over)) =
+    let test : stops_after rule (is_overfull facts params a l) (is_long facts params a l) ≡ true =
+    ap (λ e. stops_after e (is_overfull facts params a l) (is_long facts params a l)) (short over.0 over.1) ∙ over.2 in
     counted.stopped a l earlier within (ap (λ t. is_forced (facts.penalty l) || t) test ∙ or-true (is_forced (facts.penalty l)))
 
 pub grown_pass :
-    (stop : ℕ → ℕ → Bool) (places : ℕ) (before now : ℕ → ℕ) → places ≤ max_places → IsCounted stop places before now → IsGrown 8192 before now
+    (stop : ℕ → ℕ → Bool) (places : ℕ) (before now : ℕ → ℕ) → places ≤ max_places → IsCounted stop places before now → IsGrown max_places before now
 grown_pass stop places before now few counted a = omega (arith, counted.grown a, few)
 
 -- No pass was run.

@@ -26,7 +26,7 @@ use Rattle.break_core.specs.Passes.{problem_of, bound_of, IsBefore}
 use Rattle.break_core.specs.Private.Filling.{AreEndsInParagraph}
 use Rattle.break_core.specs.declared.pass_rules.StopRule.{StopRule}
 use Rattle.break_core.specs.declared.pass_rules.StopRule.TheVariants.{Never, Overfull, Long}
-use Rattle.break_core.specs.Private.Active.{pruned_problem, MayEnd}
+use Rattle.break_core.specs.Private.Active.{problem_leaving_out, MayStop}
 use Rattle.break_core.proofs.Detours.{answer_without, none_without}
 
 -- A bound below 0 admits no line.
@@ -138,22 +138,22 @@ found_some facts other params bound found least same some is =
 
 -- The result of a pass without the lines that are left out is the result of the pass.
 pub found_whole :
-    (facts : Facts) (params : Params) (bound : Bound) (ending : StopRule) (found : Option ChosenBreaks)
-    → MayEnd ending facts params bound
-    → MatchOption found (AdmitsNone (pruned_problem facts params bound ending)) (IsAnswer (pruned_problem facts params bound ending)) → Found facts params bound found
+    (facts : Facts) (params : Params) (bound : Bound) (rule : StopRule) (found : Option ChosenBreaks)
+    → MayStop rule facts params bound
+    → MatchOption found (AdmitsNone (problem_leaving_out facts params bound rule)) (IsAnswer (problem_leaving_out facts params bound rule)) → Found facts params bound found
 found_whole facts params bound Never found may is = is
 found_whole facts params bound Overfull found may is = is
 found_whole facts params bound Long None may is =
     subst (λ b. AdmitsNone (problem_of facts params b)) (sym may.1)
-    (none_without facts params may.0 (subst (λ b. AdmitsNone (pruned_problem facts params b Long)) may.1 is))
+    (none_without facts params may.0 (subst (λ b. AdmitsNone (problem_leaving_out facts params b Long)) may.1 is))
 found_whole facts params bound Long (Some least) may is =
     subst (λ b. IsAnswer (problem_of facts params b) least) (sym may.1)
-    (answer_without facts params least may.0 (subst (λ b. IsAnswer (pruned_problem facts params b Long) least) may.1 is))
+    (answer_without facts params least may.0 (subst (λ b. IsAnswer (problem_leaving_out facts params b Long) least) may.1 is))
 
 pub all_found :
-    {E : Type 0} (facts : Facts) (params : Params) (bound : Bound) (ending : StopRule) (result : Result (Option ChosenBreaks) E)
-    → MayEnd ending facts params bound
-    → IfOk result (λ found. MatchOption found (AdmitsNone (pruned_problem facts params bound ending)) (IsAnswer (pruned_problem facts params bound ending)))
+    {E : Type 0} (facts : Facts) (params : Params) (bound : Bound) (rule : StopRule) (result : Result (Option ChosenBreaks) E)
+    → MayStop rule facts params bound
+    → IfOk result (λ found. MatchOption found (AdmitsNone (problem_leaving_out facts params bound rule)) (IsAnswer (problem_leaving_out facts params bound rule)))
     → IfOk result (Found facts params bound)
-all_found facts params bound ending (Ok found) may is = found_whole facts params bound ending found may is
-all_found facts params bound ending (Err fault) may is = tt
+all_found facts params bound rule (Ok found) may is = found_whole facts params bound rule found may is
+all_found facts params bound rule (Err fault) may is = tt

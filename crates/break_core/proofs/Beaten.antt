@@ -1,4 +1,4 @@
--- The best entry of a group, and groups that are passed over.
+-- The best entry of a group, and groups that are beaten by the offer that is held.
 use Rattle.std.proofs.Common.{◌≡◌, ◌∙◌, ℕ, ◌+◌, ◌<◌, ◌≤◌, ◌++◌, true, false, List, length-append, ap, sym, subst, arith, Option, Some}
 use Rattle.std.specs.Prelude.{ℤ, pos, ◌+ℤ◌, ◌≤ℤ◌, slice_get}
 use Rattle.std.proofs.Math.Logic.{◌⊎◌, inl, inr}
@@ -20,7 +20,7 @@ use Rattle.break_core.specs.declared.active_list.Live.{Live}
 use Rattle.break_core.specs.Private.Active.{IsBestOf, HaveBest}
 use Rattle.break_core.specs.Private.Filling.{IsOf, IsLeastLine, IsBeaten, IsOfferingBest, offer_from}
 use Rattle.break_core.proofs.Active.{shorter}
-use Rattle.break_core.proofs.ActiveNodes.{offers}
+use Rattle.break_core.proofs.BestOffers.{offers}
 
 -- The first entry is the best one of itself alone.
 pub best_one : (table : List Entry) (start : ℕ) (e : Entry) → slice_get table start ≡ Some e → IsBestOf table start (start + 1) start

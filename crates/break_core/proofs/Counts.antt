@@ -5,23 +5,23 @@ use Rattle.std.proofs.lemmas.Option.{same_Some}
 use Rattle.break_lines.specs.declared.group.ActiveGroup.{ActiveGroup}
 use Rattle.std.proofs.Math.Logic.{◌⊎◌, inl, inr}
 use Rattle.std.proofs.lemmas.Bool.{cases_lt, cases_eq}
-use Rattle.break_core.specs.Private.Active.{IsTrying, IsSwept, IsCounted, TrialsOnlyGrow, WasTried}
+use Rattle.break_core.specs.Private.Active.{HasNotStopped, IsSwept, IsCounted, TrialsOnlyGrow, WasTried}
 
 -- A line was tried from one more place, which is after the others.
 pub swept_more :
     (stop : ℕ → ℕ → Bool) (b low place : ℕ) (before now new : ℕ → ℕ)
     → IsSwept stop b before now → ((a : ℕ) → low ≤ a → now a ≤ before a)
-    → low ≤ place → place < b → IsTrying stop place b
+    → low ≤ place → place < b → HasNotStopped stop place b
     → new place ≡ now place + 1 → ((other : ℕ) → other ≢ place → new other ≡ now other) → IsSwept stop b before new
-swept_more stop b low place before now new swept fresh later earlier trying counted others a = cases (cases_eq a place)
+swept_more stop b low place before now new swept fresh later earlier not_stopped counted others a = cases (cases_eq a place)
   where
-    cases : (a ≡ place) ⊎ (a ≡ place → ⊥) → (new a ≤ before a) ⊎ ((new a ≤ before a + 1) × (a < b) × IsTrying stop a b)
+    cases : (a ≡ place) ⊎ (a ≡ place → ⊥) → (new a ≤ before a) ⊎ ((new a ≤ before a + 1) × (a < b) × HasNotStopped stop a b)
     cases (inl same) =
         let old = fresh place later in
-        subst (λ x. (new x ≤ before x) ⊎ ((new x ≤ before x + 1) × (x < b) × IsTrying stop x b)) (sym same)
-        (inr (omega (arith, counted, old), earlier, trying))
+        subst (λ x. (new x ≤ before x) ⊎ ((new x ≤ before x + 1) × (x < b) × HasNotStopped stop x b)) (sym same)
+        (inr (omega (arith, counted, old), earlier, not_stopped))
     cases (inr other) =
-        subst (λ n. (n ≤ before a) ⊎ ((n ≤ before a + 1) × (a < b) × IsTrying stop a b)) (sym (others a other)) (swept a)
+        subst (λ n. (n ≤ before a) ⊎ ((n ≤ before a + 1) × (a < b) × HasNotStopped stop a b)) (sym (others a other)) (swept a)
 
 pub fresh_more :
     (low place : ℕ) (before now new : ℕ → ℕ)
@@ -36,13 +36,13 @@ pub counted_more :
 counted_more stop b before middle now is swept =
     record { grown = λ a. grown a (swept a); stopped = λ a l earlier within stops. stopped a l earlier within stops (swept a) (cases_lt l (b + 1)) }
   where
-    grown : (a : ℕ) → (now a ≤ middle a) ⊎ ((now a ≤ middle a + 1) × (a < b + 1) × IsTrying stop a (b + 1)) → now a ≤ before a + (b + 1 - a)
+    grown : (a : ℕ) → (now a ≤ middle a) ⊎ ((now a ≤ middle a + 1) × (a < b + 1) × HasNotStopped stop a (b + 1)) → now a ≤ before a + (b + 1 - a)
     grown a (inl none) = omega (arith, is.grown a)
     grown a (inr one) = omega (arith, is.grown a, one.0, one.1)
 
     stopped :
         (a l : ℕ) → a < l → l ≤ b + 1 → stop a l ≡ true
-        → (now a ≤ middle a) ⊎ ((now a ≤ middle a + 1) × (a < b + 1) × IsTrying stop a (b + 1)) → (l < b + 1) ⊎ (b + 1 ≤ l) → now a ≤ before a + (l - a)
+        → (now a ≤ middle a) ⊎ ((now a ≤ middle a + 1) × (a < b + 1) × HasNotStopped stop a (b + 1)) → (l < b + 1) ⊎ (b + 1 ≤ l) → now a ≤ before a + (l - a)
     stopped a l earlier within stops (inl none) (inl low) = omega (arith, is.stopped a l earlier (omega arith) stops)
     stopped a l earlier within stops (inr one) (inl low) =
         let goes = one.2 l earlier low in

@@ -1,6 +1,7 @@
 -- In the last pass over a steady paragraph each long line has a detour.
-use Rattle.std.proofs.Common.{◌≡◌, ◌∙◌, ℕ, zero, suc, ◌+◌, ◌<◌, ◌≤◌, min, true, false, cond, ◌&&◌, refl, ap, sym, subst, arith, Some}
+use Rattle.std.proofs.Common.{◌≡◌, ◌∙◌, ℕ, zero, suc, ◌+◌, ◌<◌, ◌≤◌, min, Bool, true, false, ◌&&◌, refl, ap, sym, subst, arith, Option, Some, None}
 use Rattle.std.specs.Prelude.{ℤ, nat_lt, int_lt, ◌+ℤ◌, ◌-ℤ◌, ◌<ℤ◌, ◌≤ℤ◌}
+use Rattle.std.specs.Option.{option_map}
 use Rattle.std.proofs.Math.Logic.{◌⊎◌, inl, inr}
 use Rattle.std.proofs.lemmas.Int.{ints}
 use Rattle.std.proofs.lemmas.Bool.{cases_Bool, cond-true, cond-false}
@@ -12,7 +13,7 @@ use Rattle.break_lines.specs.declared.state.BreakState.{BreakState}
 use Rattle.break_lines.specs.declared.state.LineCost.{LineCost}
 use Rattle.break_lines.specs.Problems.{end_after}
 use Rattle.break_lines.specs.Chosen.{IsAnswer, AdmitsNone}
-use Rattle.break_lines.specs.Private.Parts.{IsNoWorse, IsOrder, HasDetours}
+use Rattle.break_lines.specs.Private.Parts.{IsNoWorse, IsOrder, IsDetour, HasDetours}
 use Rattle.break_lines.proofs.TableParts.{answer_of_part, none_of_part}
 use Rattle.break_lines.specs.declared.cost.LineFit.{LineFit}
 use Rattle.break_lines.specs.declared.cost.Bound.TheVariants.{Any}
@@ -24,7 +25,7 @@ use Rattle.break_lines.specs.Facts.{Facts}
 use Rattle.break_lines.specs.Divided.{IsDivided}
 use Rattle.break_core.specs.Passes.{problem_of}
 use Rattle.break_core.specs.Trials.{is_overfull}
-use Rattle.break_core.specs.Private.Leaving.{first_over, is_long, without_long, IsWidening, MayLeave}
+use Rattle.break_core.specs.Private.LeftOut.{first_over, is_long, is_more, kept_over, problem_without_long, IsWidening, MayLeaveOut}
 use Rattle.break_core.proofs.Overfull.{both_true, overfull_stays}
 
 -- The line in a pass that admits every line.
@@ -44,60 +45,66 @@ pub record IsFirstOver (facts : Facts) (params : Params) (a m b : ℕ) : Type 0 
   pub later : a < m
   pub before : m < b
   pub over : is_overfull facts params a m ≡ true
-  pub none : first_over facts params a m ≡ 0
+  pub none : first_over facts params a m ≡ None
 
-pub first_is : (facts : Facts) (params : Params) (a b : ℕ) → 0 < first_over facts params a b → IsFirstOver facts params a (first_over facts params a b) b
+pub first_is : (facts : Facts) (params : Params) (a b m : ℕ) → first_over facts params a b ≡ Some m → IsFirstOver facts params a m b
 unfolding first_over
-first_is facts params a zero some = absurd (omega arith)
-first_is facts params a (suc b) some =
-    cases (λ before. first_is facts params a b before) (cases_Bool (nat_lt 0 (first_over facts params a b))) (cases_Bool (nat_lt a b && is_overfull facts params a b))
+first_is facts params a zero m some =
+    let no : None ≡ Some m = some in
+    absurd (cc)
+first_is facts params a (suc b) m some =
+    cases (first_over facts params a b) refl (λ n. first_is facts params a b n) (cases_Bool (nat_lt a b && is_overfull facts params a b))
   where
-    f : ℕ
-    f = first_over facts params a b
+    here : Bool
+    here = nat_lt a b && is_overfull facts params a b
 
-    inner : ℕ
-    inner = cond (nat_lt a b && is_overfull facts params a b) b 0
+    above : (n k : ℕ) → nat_lt n k ≡ true → n < k
+    above n k h = grind arith
 
     cases :
-        (0 < first_over facts params a b → IsFirstOver facts params a (first_over facts params a b) b)
-        → (nat_lt 0 (first_over facts params a b) ≡ true) ⊎ (nat_lt 0 (first_over facts params a b) ≡ false)
+        (x : Option ℕ) → first_over facts params a b ≡ x
+        → ((n : ℕ) → first_over facts params a b ≡ Some n → IsFirstOver facts params a n b)
         → ((nat_lt a b && is_overfull facts params a b) ≡ true) ⊎ ((nat_lt a b && is_overfull facts params a b) ≡ false)
-        → IsFirstOver facts params a (first_over facts params a (suc b)) (suc b)
-    cases shorter (inl is) other =
-        let same : first_over facts params a (suc b) ≡ f = cond-true (nat_lt 0 f) f inner is in
-        let old = shorter (grind arith) in
-        subst (λ m. IsFirstOver facts params a m (suc b)) (sym same)
+        → IsFirstOver facts params a m (suc b)
+    cases (Some n) found shorter other =
+        let one : n ≡ m = same_Some n m (sym (ap (λ x. kept_over x here b) found) ∙ some) in
+        let old = shorter n found in
+        subst (λ k. IsFirstOver facts params a k (suc b)) one
         (record { later = old.later; before = omega (arith, old.before); over = old.over; none = old.none })
-    cases shorter (inr none_yet) (inl is) =
-        let same : first_over facts params a (suc b) ≡ b = cond-false (nat_lt 0 f) f inner none_yet ∙ cond-true (nat_lt a b && is_overfull facts params a b) b 0 is in
+    cases None nothing shorter (inl is) =
+        let one : b ≡ m = same_Some b m (sym (ap (λ x. kept_over x here b) nothing ∙ cond-true here (Some b) None is) ∙ some) in
         let both = both_true (nat_lt a b) (is_overfull facts params a b) is in
-        let none : f ≡ 0 = grind arith in
-        subst (λ m. IsFirstOver facts params a m (suc b)) (sym same)
-        (record { later = grind arith; before = omega arith; over = both.1; none = none })
-    cases shorter (inr none_yet) (inr is_not) =
-        let same : first_over facts params a (suc b) ≡ 0 =
-        cond-false (nat_lt 0 f) f inner none_yet ∙ cond-false (nat_lt a b && is_overfull facts params a b) b 0 is_not in
-        absurd (omega (arith, same, some))
+        subst (λ k. IsFirstOver facts params a k (suc b)) one
+        (record { later = above a b both.0; before = omega arith; over = both.1; none = nothing })
+    cases None nothing shorter (inr is_not) =
+        let no : None ≡ Some m = sym (ap (λ x. kept_over x here b) nothing ∙ cond-false here (Some b) None is_not) ∙ some in
+        absurd (cc)
 
-not_long : (facts : Facts) (params : Params) (a m : ℕ) → first_over facts params a m ≡ 0 → is_long facts params a m ≡ false
+not_long : (facts : Facts) (params : Params) (a m : ℕ) → first_over facts params a m ≡ None → is_long facts params a m ≡ false
 unfolding is_long
 not_long facts params a m none =
-    ap (λ n. nat_lt 0 n && int_lt (least_width (facts.sums a n)) (least_width (facts.sums a m))) none
+    ap (λ x. is_more (option_map (λ place. least_width (facts.sums a place)) x) (least_width (facts.sums a m))) none
 
 pub long_means :
     (facts : Facts) (params : Params) (a b : ℕ) → is_long facts params a b ≡ true
-    → (0 < first_over facts params a b) × (least_width (facts.sums a (first_over facts params a b)) <ℤ least_width (facts.sums a b))
+    → (m : ℕ) × (first_over facts params a b ≡ Some m) × (least_width (facts.sums a m) <ℤ least_width (facts.sums a b))
 unfolding is_long
-long_means facts params a b is =
-    let f = first_over facts params a b in
-    let both = both_true (nat_lt 0 f) (int_lt (least_width (facts.sums a f)) (least_width (facts.sums a b))) is in
-    (above f both.0, lower (least_width (facts.sums a f)) (least_width (facts.sums a b)) both.1)
+long_means facts params a b is = cases (first_over facts params a b) refl
   where
-    above : (n : ℕ) → nat_lt 0 n ≡ true → 0 < n
-    above n h = grind arith
-
     lower : (x y : ℤ) → int_lt x y ≡ true → x <ℤ y
     lower x y h = grind (arith, ints)
+
+    cases :
+        (x : Option ℕ) → first_over facts params a b ≡ x
+        → (m : ℕ) × (first_over facts params a b ≡ Some m) × (least_width (facts.sums a m) <ℤ least_width (facts.sums a b))
+    cases None none =
+        let no : false ≡ true =
+        sym (ap (λ x. is_more (option_map (λ place. least_width (facts.sums a place)) x) (least_width (facts.sums a b))) none) ∙ is in
+        absurd (cc)
+    cases (Some m) some =
+        let less : int_lt (least_width (facts.sums a m)) (least_width (facts.sums a b)) ≡ true =
+        sym (ap (λ x. is_more (option_map (λ place. least_width (facts.sums a place)) x) (least_width (facts.sums a b))) some) ∙ is in
+        (m, some, lower (least_width (facts.sums a m)) (least_width (facts.sums a b)) less)
 
 -- From the second line on no line is wider than the next one, nor than any later one.
 next_wider : (params : Params) (lines : ℕ) → IsWidening params → line_size params (lines + 1) ≤ℤ line_size params (lines + 2)
@@ -196,11 +203,13 @@ two_less facts params a m b size next o_l o_m divided later before within wide i
         let o = hangs_not (facts.sums m b) next fits in
         omega (arith, ints, o, is_l, is_m, more)
 
--- The lines that are left out have detours.
-detours :
-    (facts : Facts) (params : Params) → MayLeave facts params
-    → HasDetours (problem_of facts params Any) (λ s b. is_long facts params s.place b) (IsAhead params)
-detours facts params may s b l later since_b within is long =
+-- A long line has a detour over the first place to which it is overfull.
+detour_over :
+    (facts : Facts) (params : Params) → MayLeaveOut facts params → (s : BreakState) (b : ℕ) (l : LineCost)
+    → b ≤ facts.places → (problem_of facts params Any).line s b ≡ Some l
+    → (m : ℕ) → IsFirstOver facts params s.place m b → least_width (facts.sums s.place m) <ℤ least_width (facts.sums s.place b)
+    → IsDetour (problem_of facts params Any) (λ t c. is_long facts params t.place c) (IsAhead params) s b l
+detour_over facts params may s b l within is m first more =
     record {
       by = m;
       later = first.later;
@@ -211,16 +220,10 @@ detours facts params may s b l later since_b within is long =
       second = any_line params (facts.penalty b) one.class (line_fit (facts.sums m b) next);
       second_is = line_is facts params (end_after params.first_lines s m (any_line params (facts.penalty m) s.class one)) b;
       less = two_less facts params s.place m b size next l.overhang one.overhang may.divided first.later first.before within wide hangs
-          (overhang_is (facts.sums s.place m) size over_m) (long_means facts params s.place b long).1;
+          (overhang_is (facts.sums s.place m) size over_m) more;
       ahead = (refl, ahead);
     }
   where
-    m : ℕ
-    m = first_over facts params s.place b
-
-    first : IsFirstOver facts params s.place (first_over facts params s.place b) b
-    first = first_is facts params s.place b (long_means facts params s.place b long).0
-
     size : ℤ
     size = line_size params s.lines
 
@@ -240,13 +243,12 @@ detours facts params may s b l later since_b within is long =
     one = line_fit (facts.sums s.place m) size
 
     over_m : (line_fit (facts.sums s.place m) size).overfull ≡ true
-    over_m = overfull_each params (facts.sums s.place m) s.lines (first_is facts params s.place b (long_means facts params s.place b long).0).over
+    over_m = overfull_each params (facts.sums s.place m) s.lines first.over
 
     over_b : (line_fit (facts.sums s.place b) size).overfull ≡ true
     over_b =
-        let f = first_is facts params s.place b (long_means facts params s.place b long).0 in
         overfull_each params (facts.sums s.place b) s.lines
-        (overfull_stays facts params s.place m b may.steady f.later (omega (arith, f.before)) within f.over)
+        (overfull_stays facts params s.place m b may.steady first.later (omega (arith, first.before)) within first.over)
 
     hangs : l.overhang ≡ ((facts.sums s.place b).width -ℤ size) -ℤ (facts.sums s.place b).shrink
     hangs =
@@ -267,16 +269,24 @@ detours facts params may s b l later since_b within is long =
         let w = next_wider params (s.lines + more) may.widening in
         omega (arith, ints, x, ap (line_size params) n, y, ap (line_size params) k, z, ap (line_size params) j, w)
 
+-- The lines that are left out have detours.
+detours :
+    (facts : Facts) (params : Params) → MayLeaveOut facts params
+    → HasDetours (problem_of facts params Any) (λ s b. is_long facts params s.place b) (IsAhead params)
+detours facts params may s b l later since_b within is long =
+    let means = long_means facts params s.place b long in
+    detour_over facts params may s b l within is means.0 (first_is facts params s.place b means.0 means.1) means.2
+
 -- In the last pass the answer of the problem without these lines is the answer, and if that problem has none there is none.
 pub answer_without :
-    (facts : Facts) (params : Params) (answer : ChosenBreaks) → MayLeave facts params
-    → IsAnswer (without_long facts params) answer → IsAnswer (problem_of facts params Any) answer
+    (facts : Facts) (params : Params) (answer : ChosenBreaks) → MayLeaveOut facts params
+    → IsAnswer (problem_without_long facts params) answer → IsAnswer (problem_of facts params Any) answer
 answer_without facts params answer may is =
     answer_of_part (problem_of facts params Any) (λ s b. is_long facts params s.place b) (IsAhead params) answer (ahead_order facts params)
     (detours facts params may) is
 
 pub none_without :
-    (facts : Facts) (params : Params) → MayLeave facts params → AdmitsNone (without_long facts params) → AdmitsNone (problem_of facts params Any)
+    (facts : Facts) (params : Params) → MayLeaveOut facts params → AdmitsNone (problem_without_long facts params) → AdmitsNone (problem_of facts params Any)
 none_without facts params may none =
     none_of_part (problem_of facts params Any) (λ s b. is_long facts params s.place b) (IsAhead params) (ahead_order facts params)
     (detours facts params may) none

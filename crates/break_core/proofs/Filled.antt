@@ -18,7 +18,7 @@ use Rattle.break_lines.specs.Facts.{Facts}
 use Rattle.break_core.specs.Passes.{problem_of}
 use Rattle.break_core.specs.Private.Filling.{IsOf, IsFitOf, IsOffering}
 use Rattle.break_core.proofs.Overfull.{no_offer}
-use Rattle.break_core.proofs.Active.{row_passed}
+use Rattle.break_core.proofs.Active.{row_same}
 
 -- The entries of a live group have its place.
 pub group_of : (p : Problem) (table : List Entry) (b : ℕ) (g : ActiveGroup) → IsTable p b table → IsGroup p table b g → IsOf p.cut table g
@@ -45,7 +45,7 @@ pub none_offered :
     → rest ≡ line_alone params bound penalty line.rest → first ≡ None → rest ≡ None
     → IsOffering table params bound group place penalty line group.start group.end row row
 none_offered table params bound group place penalty line first rest row rises of is_first is_rest no_first no_rest p cut late line_fit before =
-    row_passed p table place group.start group.end row rises (λ k e low high at. no_offer p e k place (no_line e (of k e low high at).0)) before
+    row_same p table place group.start group.end row rises (λ k e low high at. no_offer p e k place (no_line e (of k e low high at).0)) before
   where
     no_line : (e : Entry) → e.end.place ≡ group.place → p.line e.end place ≡ None
     no_line e at =

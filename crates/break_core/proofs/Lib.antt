@@ -9,7 +9,7 @@ pub mod Added
 pub mod Joined
 pub mod Detours
 pub mod Long
-pub mod Endings
+pub mod Stopping
 pub mod Lives
-pub mod ActiveNodes
+pub mod BestOffers
 pub mod Beaten

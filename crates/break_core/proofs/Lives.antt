@@ -15,8 +15,8 @@ use Rattle.break_lines.specs.Facts.{Facts}
 use Rattle.break_core.specs.declared.pass_rules.StopRule.{StopRule}
 use Rattle.break_core.specs.declared.active_list.Live.{Live}
 use Rattle.break_lines.specs.declared.cost.Bound.{Bound}
-use Rattle.break_core.specs.Private.Leaving.{over_before, kept_over}
-use Rattle.break_core.specs.Private.Active.{stops_at, pruned_problem, groups_of, with_group, with_live, AreOver, IsBestOf, HaveBest, IsNext, IsActive, IsFilled}
+use Rattle.break_core.specs.Private.LeftOut.{over_before, kept_over}
+use Rattle.break_core.specs.Private.Active.{stops_at, problem_leaving_out, groups_of, with_group, with_live, AreOver, IsBestOf, HaveBest, IsNext, IsActive, IsFilled}
 use Rattle.break_core.proofs.Active.{next_active, filled_first}
 use Rattle.break_core.proofs.Long.{over_start}
 
@@ -32,15 +32,15 @@ no_groups (live ∷ lives) n is same =
 
 -- One more group, or the same groups.
 pub groups_kept :
-    (ended : Bool) (lives new : List Live) (live : Live)
-    → new ≡ cond ended lives (lives ++ live ∷ []) → groups_of new ≡ cond ended (groups_of lives) (groups_of lives ++ live.group ∷ [])
+    (stopped : Bool) (lives new : List Live) (live : Live)
+    → new ≡ cond stopped lives (lives ++ live ∷ []) → groups_of new ≡ cond stopped (groups_of lives) (groups_of lives ++ live.group ∷ [])
 groups_kept true lives new live made = ap groups_of made
 groups_kept false lives new live made = ap groups_of made ∙ map-append (λ (x : Live). x.group) lives (live ∷ [])
 
 -- What holds of all groups of a list, and of one more.
 all_kept :
-    (P : Live → Type 0) (ended : Bool) (lives new : List Live) (live : Live)
-    → ((k : ℕ) (x : Live) → slice_get lives k ≡ Some x → P x) → P live → new ≡ cond ended lives (lives ++ live ∷ [])
+    (P : Live → Type 0) (stopped : Bool) (lives new : List Live) (live : Live)
+    → ((k : ℕ) (x : Live) → slice_get lives k ≡ Some x → P x) → P live → new ≡ cond stopped lives (lives ++ live ∷ [])
     → (k : ℕ) (x : Live) → slice_get new k ≡ Some x → P x
 all_kept P true lives new live are is made k x at = are k x (ap (λ xs. slice_get xs k) (sym made) ∙ at)
 all_kept P false lives new live are is made k x at = cases (get_cases lives (live ∷ []) k x (ap (λ xs. slice_get xs k) (sym made) ∙ at))
@@ -54,16 +54,16 @@ all_kept P false lives new live are is made k x at = cases (get_cases lives (liv
     cases (inr end) = subst P (last end.0 end.2) is
 
 pub over_kept :
-    (facts : Facts) (params : Params) (b : ℕ) (ended : Bool) (lives new : List Live) (live : Live)
-    → AreOver facts params b lives → live.over ≡ over_before facts params live.group.place b → new ≡ cond ended lives (lives ++ live ∷ [])
+    (facts : Facts) (params : Params) (b : ℕ) (stopped : Bool) (lives new : List Live) (live : Live)
+    → AreOver facts params b lives → live.over ≡ over_before facts params live.group.place b → new ≡ cond stopped lives (lives ++ live ∷ [])
     → AreOver facts params b new
-over_kept facts params b ended lives new live are is made =
-    all_kept (λ x. x.over ≡ over_before facts params x.group.place b) ended lives new live are is made
+over_kept facts params b stopped lives new live are is made =
+    all_kept (λ x. x.over ≡ over_before facts params x.group.place b) stopped lives new live are is made
 
 pub best_kept :
-    (table : List Entry) (ended : Bool) (lives new : List Live) (live : Live)
-    → HaveBest table lives → IsBestOf table live.group.start live.group.end live.best → new ≡ cond ended lives (lives ++ live ∷ []) → HaveBest table new
-best_kept table ended lives new live are is made = all_kept (λ x. IsBestOf table x.group.start x.group.end x.best) ended lives new live are is made
+    (table : List Entry) (stopped : Bool) (lives new : List Live) (live : Live)
+    → HaveBest table lives → IsBestOf table live.group.start live.group.end live.best → new ≡ cond stopped lives (lives ++ live ∷ []) → HaveBest table new
+best_kept table stopped lives new live are is made = all_kept (λ x. IsBestOf table x.group.start x.group.end x.best) stopped lives new live are is made
 
 -- The group of a place is appended to those of earlier places.
 pub groups_put :
@@ -126,28 +126,28 @@ filled_start p stop table lives live is_table is_lives place start end =
 
 -- The next group from which a line is tried, and those after it.
 pub next_live :
-    (f : Facts) (params : Params) (bound : Bound) (ending : StopRule) (table : List Entry) (b at low : ℕ) (lives : List Live) (i : ℕ) (live : Live)
-    → slice_get lives i ≡ Some live → IsActive (pruned_problem f params bound ending) (stops_at f params ending) table b b at low (drop i (groups_of lives))
-    → IsNext (pruned_problem f params bound ending) (stops_at f params ending) table b at low live.group
-    × IsActive (pruned_problem f params bound ending) (stops_at f params ending) table b b live.group.end (live.group.place + 1) (drop (i + 1) (groups_of lives))
-next_live f params bound ending table b at low lives i live here is =
-    next_active (pruned_problem f params bound ending) (stops_at f params ending) table b b at low i (groups_of lives) live.group (group_at lives i live here) is
+    (f : Facts) (params : Params) (bound : Bound) (rule : StopRule) (table : List Entry) (b at low : ℕ) (lives : List Live) (i : ℕ) (live : Live)
+    → slice_get lives i ≡ Some live → IsActive (problem_leaving_out f params bound rule) (stops_at f params rule) table b b at low (drop i (groups_of lives))
+    → IsNext (problem_leaving_out f params bound rule) (stops_at f params rule) table b at low live.group
+    × IsActive (problem_leaving_out f params bound rule) (stops_at f params rule) table b b live.group.end (live.group.place + 1) (drop (i + 1) (groups_of lives))
+next_live f params bound rule table b at low lives i live here is =
+    next_active (problem_leaving_out f params bound rule) (stops_at f params rule) table b b at low i (groups_of lives) live.group (group_at lives i live here) is
 
 -- The stored value does not change after a line that is not overfull.
 pub same_over : (over : Option ℤ) (overfull : Bool) (width : ℤ) → overfull ≡ false → kept_over over overfull width ≡ over
 same_over None overfull width is = cond-false overfull (Some width) None is
 same_over (Some over) overfull width is = refl
 
--- What is left of a list whose elements from number `from` on were copied down to number `to`.
+-- What remains of a list whose elements from number `from` on were copied down to number `to`.
 pub copied_down :
-    (xs : List Live) (to from n left : ℕ) → to ≤ from → from ≤ length xs → length xs ≡ from + n → left ≡ to + n
-    → take left (take to xs ++ take n (drop from xs) ++ drop (to + n) xs) ≡ take to xs ++ drop from xs
-copied_down xs to from n left rises within is_n is_left =
+    (xs : List Live) (to from n remaining : ℕ) → to ≤ from → from ≤ length xs → length xs ≡ from + n → remaining ≡ to + n
+    → take remaining (take to xs ++ take n (drop from xs) ++ drop (to + n) xs) ≡ take to xs ++ drop from xs
+copied_down xs to from n remaining rises within is_n is_remaining =
     let zs = drop from xs in
     let copied = take to xs ++ take n zs in
     let rest = drop (to + n) xs in
     let size : length zs ≡ n = omega (arith, length-drop from xs) in
     let all : take n zs ≡ zs = take_all n zs (omega (arith, size)) in
     let front : length (take to xs) ≡ to = length-take-le to xs (omega arith) in
-    let is_length : left ≡ length copied = omega (arith, length-append (take to xs) (take n zs), front, size, ap length all, is_left) in
+    let is_length : remaining ≡ length copied = omega (arith, length-append (take to xs) (take n zs), front, size, ap length all, is_remaining) in
     ap (λ k. take k (copied ++ rest)) is_length ∙ take-append_seam copied rest ∙ ap (λ ys. take to xs ++ ys) all

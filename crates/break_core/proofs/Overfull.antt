@@ -22,7 +22,7 @@ use Rattle.break_lines.specs.Facts.{Facts}
 use Rattle.break_core.specs.Passes.{problem_of}
 use Rattle.break_lines.specs.Steady.{IsNoNarrower, IsSteady}
 use Rattle.break_core.specs.Trials.{is_overfull}
-use Rattle.break_core.specs.Private.Active.{is_limit, MayDrop, IsQuiet}
+use Rattle.break_core.specs.Private.Active.{is_limit, MayStopOverfull, IsSilentWithin}
 
 -- A line that is at least as wide as an overfull one is overfull.
 overfull_more : (s t : Sums) (size : ℤ) → IsNoNarrower t s → (line_fit s size).overfull ≡ true → (line_fit t size).overfull ≡ true
@@ -70,11 +70,11 @@ no_offer p e k l none = cases (nat_le (last_forced_below p l) e.end.place) _ (ap
     cases false x is = refl
 
 -- After an overfull line no entry of its group offers anything.
-pub overfull_quiet :
+pub overfull_silent :
     (facts : Facts) (params : Params) (bound : Bound) (table : List Entry) (b : ℕ) (g : ActiveGroup)
-    → MayDrop facts bound → IsGroup (problem_of facts params bound) table b g → is_overfull facts params g.place b ≡ true
-    → IsQuiet (problem_of facts params bound) table (b + 1) g.start g.end
-overfull_quiet facts params bound table b g may group is k e low high at l after within =
+    → MayStopOverfull facts bound → IsGroup (problem_of facts params bound) table b g → is_overfull facts params g.place b ≡ true
+    → IsSilentWithin (problem_of facts params bound) table (b + 1) g.start g.end
+overfull_silent facts params bound table b g may group is k e low high at l after within =
     let place = group.entries k e low high at in
     let late : is_overfull facts params e.end.place l ≡ true =
     ap (λ a. is_overfull facts params a l) place ∙ overfull_stays facts params g.place b l may.0 group.earlier (omega arith) within is in

@@ -28,10 +28,10 @@ use Rattle.break_core.specs.declared.pass_rules.StopRule.TheVariants.{Never, Ove
 use Rattle.break_core.specs.declared.active_list.Live.{Live}
 use Rattle.break_core.specs.Passes.{problem_of}
 use Rattle.break_core.specs.Trials.{is_overfull}
-use Rattle.break_core.specs.Private.Leaving.{first_over, is_long, over_before}
+use Rattle.break_core.specs.Private.LeftOut.{is_long, over_before}
 use Rattle.break_core.specs.Private.Filling.{IsOfferingBest}
-use Rattle.break_core.specs.Private.Active.{deactivates, leaves_out, stops_at, pruned_problem, groups_of, AreOver, HaveBest, MayEnd, IsBestOf, IsActive, AreLoosest, AllWait, CostLoosest, CanWait, CanAllWait, IsOfferingFirst, IsOfferingWaiting, WasTried}
-use Rattle.break_core.proofs.Active.{later_quiet, kept_active, row_quiet, row_passed, row_end, next_active, IsFront}
+use Rattle.break_core.specs.Private.Active.{stops_after, leaves_out, stops_at, problem_leaving_out, groups_of, AreOver, HaveBest, MayStop, IsBestOf, IsActive, AreLoosest, AllWait, CostLoosest, CanWait, CanAllWait, IsOfferingFirst, IsOfferingEach, IsOfferingWaiting, WasTried}
+use Rattle.break_core.proofs.Active.{later_silent, kept_active, row_silent, row_same, row_end, next_active, IsFront}
 use Rattle.break_core.proofs.Detours.{first_is, long_means}
 use Rattle.break_core.proofs.Filled.{group_of}
 use Rattle.break_core.proofs.Overfull.{no_offer, overfull_stays}
@@ -61,9 +61,9 @@ not_overfull facts params bound a b none is =
     ap (λ x. (line_fit (facts.sums a b) x).overfull) (greatest_none params none) ∙ loosest_fits bound (facts.sums a b) params.hsize is
 
 not_long :
-    (facts : Facts) (params : Params) (bound : Bound) (ending : StopRule) (a b : ℕ)
-    → MayEnd ending facts params bound → a < b → b ≤ facts.places → is_overfull facts params a b ≡ false
-    → (deactivates ending false (is_long facts params a b) ≡ false) × (leaves_out ending (is_long facts params a b) ≡ false)
+    (facts : Facts) (params : Params) (bound : Bound) (rule : StopRule) (a b : ℕ)
+    → MayStop rule facts params bound → a < b → b ≤ facts.places → is_overfull facts params a b ≡ false
+    → (stops_after rule false (is_long facts params a b) ≡ false) × (leaves_out rule (is_long facts params a b) ≡ false)
 not_long facts params bound Never a b may earlier within fits = (refl, refl)
 not_long facts params bound Overfull a b may earlier within fits = (refl, refl)
 not_long facts params bound Long a b may earlier within fits = cases (cases_Bool (is_long facts params a b))
@@ -71,8 +71,8 @@ not_long facts params bound Long a b may earlier within fits = cases (cases_Bool
     no : is_long facts params a b ≡ true → ⊥
     no long =
         let means = long_means facts params a b long in
-        let first = first_is facts params a b means.0 in
-        let stays = overfull_stays facts params a (first_over facts params a b) b may.0.steady first.later (omega (arith, first.before)) within first.over in
+        let first = first_is facts params a b means.0 means.1 in
+        let stays = overfull_stays facts params a means.0 b may.0.steady first.later (omega (arith, first.before)) within first.over in
         let wrong : true ≡ false = sym stays ∙ fits in
         absurd (cc)
 
@@ -83,31 +83,31 @@ not_long facts params bound Long a b may earlier within fits = cases (cases_Bool
     cases (inr short) = (short, short)
 
 no_stop :
-    (facts : Facts) (params : Params) (bound : Bound) (ending : StopRule) (a b : ℕ)
-    → MayEnd ending facts params bound → a < b → b ≤ facts.places → is_forced (facts.penalty b) ≡ false → is_overfull facts params a b ≡ false
-    → stops_at facts params ending a b ≡ false
-no_stop facts params bound ending a b may earlier within free fits =
-    ap (λ t. t || deactivates ending (is_overfull facts params a b) (is_long facts params a b)) free
-    ∙ ap (λ t. deactivates ending t (is_long facts params a b)) fits
-    ∙ (not_long facts params bound ending a b may earlier within fits).0
+    (facts : Facts) (params : Params) (bound : Bound) (rule : StopRule) (a b : ℕ)
+    → MayStop rule facts params bound → a < b → b ≤ facts.places → is_forced (facts.penalty b) ≡ false → is_overfull facts params a b ≡ false
+    → stops_at facts params rule a b ≡ false
+no_stop facts params bound rule a b may earlier within free fits =
+    ap (λ t. t || stops_after rule (is_overfull facts params a b) (is_long facts params a b)) free
+    ∙ ap (λ t. stops_after rule t (is_long facts params a b)) fits
+    ∙ (not_long facts params bound rule a b may earlier within fits).0
 
 -- The line of the pass costs what the loosest line costs.
 waiting_line :
-    (facts : Facts) (params : Params) (bound : Bound) (ending : StopRule) (a b : ℕ)
-    → MayEnd ending facts params bound → a < b → b ≤ facts.places → params.first_lines ≡ 0
+    (facts : Facts) (params : Params) (bound : Bound) (rule : StopRule) (a b : ℕ)
+    → MayStop rule facts params bound → a < b → b ≤ facts.places → params.first_lines ≡ 0
     → is_loosest bound (line_fit (facts.sums a b) params.hsize) ≡ true
     → (s : BreakState) → s.place ≡ a
-    → (pruned_problem facts params bound ending).line s b ≡ admitted_line params bound (facts.penalty b) s.class loosest_line
-waiting_line facts params bound ending a b may earlier within none is s at =
+    → (problem_leaving_out facts params bound rule).line s b ≡ admitted_line params bound (facts.penalty b) s.class loosest_line
+waiting_line facts params bound rule a b may earlier within none is s at =
     let fits = not_overfull facts params bound a b none is in
-    let left : leaves_out ending (is_long facts params s.place b) ≡ false =
-    ap (λ n. leaves_out ending (is_long facts params n b)) at ∙ (not_long facts params bound ending a b may earlier within fits).1 in
-    cond-false (leaves_out ending (is_long facts params s.place b)) None ((problem_of facts params bound).line s b) left
+    let left_out : leaves_out rule (is_long facts params s.place b) ≡ false =
+    ap (λ n. leaves_out rule (is_long facts params n b)) at ∙ (not_long facts params bound rule a b may earlier within fits).1 in
+    cond-false (leaves_out rule (is_long facts params s.place b)) None ((problem_of facts params bound).line s b) left_out
     ∙ ap (λ x. admitted_line params bound (facts.penalty b) s.class (line_fit (facts.sums s.place b) x)) (size_none params s.lines none)
     ∙ ap (λ n. admitted_line params bound (facts.penalty b) s.class (line_fit (facts.sums n b) params.hsize)) at
     ∙ loosest_costs params bound (facts.penalty b) s.class (facts.sums a b) params.hsize is
 
--- If a group is left, it waits.
+-- If there is a group, it waits.
 one_waits :
     (facts : Facts) (params : Params) (bound : Bound) (low b : ℕ) (g : ActiveGroup) (groups : List ActiveGroup)
     → AllWait facts params bound low b (g ∷ groups) → AreLoosest facts params bound low b
@@ -123,52 +123,52 @@ fewer_wait facts params bound low more b later wait =
 
 -- The lines from groups that wait cost what the loosest line costs.
 pub costs_waiting :
-    (facts : Facts) (params : Params) (bound : Bound) (ending : StopRule) (table : List Entry) (b high at low : ℕ) (groups : List ActiveGroup)
-    → MayEnd ending facts params bound → b ≤ facts.places → AllWait facts params bound low b groups
-    → IsActive (pruned_problem facts params bound ending) (stops_at facts params ending) table b high at low groups
-    → CostLoosest (pruned_problem facts params bound ending) params bound (facts.penalty b) b groups
-costs_waiting facts params bound ending table b high at low [] may within wait is k h there = absurd (cc)
-costs_waiting facts params bound ending table b high at low (g ∷ groups) may within wait is zero h there =
+    (facts : Facts) (params : Params) (bound : Bound) (rule : StopRule) (table : List Entry) (b high at low : ℕ) (groups : List ActiveGroup)
+    → MayStop rule facts params bound → b ≤ facts.places → AllWait facts params bound low b groups
+    → IsActive (problem_leaving_out facts params bound rule) (stops_at facts params rule) table b high at low groups
+    → CostLoosest (problem_leaving_out facts params bound rule) params bound (facts.penalty b) b groups
+costs_waiting facts params bound rule table b high at low [] may within wait is k h there = absurd (cc)
+costs_waiting facts params bound rule table b high at low (g ∷ groups) may within wait is zero h there =
     let next = is.0 in
     let all = one_waits facts params bound low b g groups wait in
     subst (λ (x : ActiveGroup). (s : BreakState) → s.place ≡ x.place
-    → (pruned_problem facts params bound ending).line s b ≡ admitted_line params bound (facts.penalty b) s.class loosest_line) (same_Some g h there)
-    (waiting_line facts params bound ending g.place b may next.group.earlier within all.uncounted (all.loosest g.place next.later next.group.earlier))
-costs_waiting facts params bound ending table b high at low (g ∷ groups) may within wait is (suc k) h there =
+    → (problem_leaving_out facts params bound rule).line s b ≡ admitted_line params bound (facts.penalty b) s.class loosest_line) (same_Some g h there)
+    (waiting_line facts params bound rule g.place b may next.group.earlier within all.uncounted (all.loosest g.place next.later next.group.earlier))
+costs_waiting facts params bound rule table b high at low (g ∷ groups) may within wait is (suc k) h there =
     let next = is.0 in
     let all = one_waits facts params bound low b g groups wait in
-    costs_waiting facts params bound ending table b high g.end (g.place + 1) groups may within
+    costs_waiting facts params bound rule table b high g.end (g.place + 1) groups may within
     (inr (fewer_wait facts params bound low (g.place + 1) b (omega (arith, next.later)) all)) is.1 k h there
 
 -- Groups that wait go on to the next place.
 pub active_waiting :
-    (facts : Facts) (params : Params) (bound : Bound) (ending : StopRule) (table : List Entry) (b high at low : ℕ) (groups : List ActiveGroup)
-    → MayEnd ending facts params bound → b ≤ facts.places → is_forced (facts.penalty b) ≡ false → AllWait facts params bound low b groups
-    → IsActive (pruned_problem facts params bound ending) (stops_at facts params ending) table b high at low groups
-    → IsActive (pruned_problem facts params bound ending) (stops_at facts params ending) table (b + 1) high at low groups
-active_waiting facts params bound ending table b high at low [] may within free wait is =
+    (facts : Facts) (params : Params) (bound : Bound) (rule : StopRule) (table : List Entry) (b high at low : ℕ) (groups : List ActiveGroup)
+    → MayStop rule facts params bound → b ≤ facts.places → is_forced (facts.penalty b) ≡ false → AllWait facts params bound low b groups
+    → IsActive (problem_leaving_out facts params bound rule) (stops_at facts params rule) table b high at low groups
+    → IsActive (problem_leaving_out facts params bound rule) (stops_at facts params rule) table (b + 1) high at low groups
+active_waiting facts params bound rule table b high at low [] may within free wait is =
     record {
       gap = is.gap;
-      quiet = later_quiet (pruned_problem facts params bound ending) table b (b + 1) at (length table) (omega arith) is.quiet;
+      silent = later_silent (problem_leaving_out facts params bound rule) table b (b + 1) at (length table) (omega arith) is.silent;
       lower = is.lower;
     }
-active_waiting facts params bound ending table b high at low (g ∷ groups) may within free wait is =
+active_waiting facts params bound rule table b high at low (g ∷ groups) may within free wait is =
     let next = is.0 in
     let all = one_waits facts params bound low b g groups wait in
     let fits = not_overfull facts params bound g.place b all.uncounted (all.loosest g.place next.later next.group.earlier) in
-    kept_active (pruned_problem facts params bound ending) (stops_at facts params ending) table b high at low g groups free
-    (no_stop facts params bound ending g.place b may next.group.earlier within free fits) next
-    (active_waiting facts params bound ending table b high g.end (g.place + 1) groups may within free
+    kept_active (problem_leaving_out facts params bound rule) (stops_at facts params rule) table b high at low g groups free
+    (no_stop facts params bound rule g.place b may next.group.earlier within free fits) next
+    (active_waiting facts params bound rule table b high g.end (g.place + 1) groups may within free
     (inr (fewer_wait facts params bound low (g.place + 1) b (omega (arith, next.later)) all)) is.1)
 
 -- The stored values of groups that wait hold for the next place too.
 pub over_waiting :
-    (facts : Facts) (params : Params) (bound : Bound) (ending : StopRule) (table : List Entry) (b high at low : ℕ) (lives : List Live)
+    (facts : Facts) (params : Params) (bound : Bound) (rule : StopRule) (table : List Entry) (b high at low : ℕ) (lives : List Live)
     → AllWait facts params bound low b (groups_of lives)
-    → IsActive (pruned_problem facts params bound ending) (stops_at facts params ending) table b high at low (groups_of lives)
+    → IsActive (problem_leaving_out facts params bound rule) (stops_at facts params rule) table b high at low (groups_of lives)
     → AreOver facts params b lives → AreOver facts params (b + 1) lives
-over_waiting facts params bound ending table b high at low [] wait is over k x there = absurd (cc)
-over_waiting facts params bound ending table b high at low (live ∷ lives) wait is over zero x there =
+over_waiting facts params bound rule table b high at low [] wait is over k x there = absurd (cc)
+over_waiting facts params bound rule table b high at low (live ∷ lives) wait is over zero x there =
     let next = is.0 in
     let all = one_waits facts params bound low b live.group (groups_of lives) wait in
     let a = live.group.place in
@@ -178,10 +178,10 @@ over_waiting facts params bound ending table b high at low (live ∷ lives) wait
     ∙ sym (over_next facts params a b next.group.earlier
     ∙ same_over (over_before facts params a b) (is_overfull facts params a b) (least_width (facts.sums a b)) fits) in
     subst (λ y. y.over ≡ over_before facts params y.group.place (b + 1)) (same_Some live x there) stays
-over_waiting facts params bound ending table b high at low (live ∷ lives) wait is over (suc k) x there =
+over_waiting facts params bound rule table b high at low (live ∷ lives) wait is over (suc k) x there =
     let next = is.0 in
     let all = one_waits facts params bound low b live.group (groups_of lives) wait in
-    over_waiting facts params bound ending table b high live.group.end (live.group.place + 1) lives
+    over_waiting facts params bound rule table b high live.group.end (live.group.place + 1) lives
     (inr (fewer_wait facts params bound low (live.group.place + 1) b (omega (arith, next.later)) all)) is.1 (λ j y here. over (suc j) y here) k x there
 
 -- The entries of all groups can be offered.
@@ -210,13 +210,13 @@ none_waiting :
     → IsActive p stop table b high at low groups → IsRow p table b at row → IsRow p table b (length table) row
 unfolding after_class
 none_waiting p stop table params bound penalty b high at low [] row within none costs is here =
-    row_quiet p table b at (length table) row is.gap within is.quiet here
+    row_silent p table b at (length table) row is.gap within is.silent here
 none_waiting p stop table params bound penalty b high at low (g ∷ groups) row within none costs is here =
     let next = is.0 in
     none_waiting p stop table params bound penalty b high g.end (g.place + 1) groups row within none (λ k h there. costs (suc k) h there) is.1
-    (row_passed p table b g.start g.end row next.group.rises
+    (row_same p table b g.start g.end row next.group.rises
     (λ k e from to there. no_offer p e k b (costs 0 g refl e.end (next.group.entries k e from to there) ∙ refused e.end))
-    (row_quiet p table b at g.start row next.gap within next.quiet here))
+    (row_silent p table b at g.start row next.gap within next.silent here))
   where
     refused : (s : BreakState) → admitted_line params bound penalty s.class loosest_line ≡ None
     refused s = sym (parts params bound penalty s.class loosest_line) ∙ ap (after_class params s.class) none
@@ -227,21 +227,18 @@ pub none_offered_waiting :
 none_offered_waiting table params bound lives place penalty row none p stop at low cut within costs is here =
     none_waiting p stop table params bound penalty place place at low (groups_of lives) row within none costs is here
 
--- No group has been passed yet, and after all of them there are no more offers.
-pub first_passed :
-    (table : List Entry) (params : Params) (bound : Bound) (lives : List Live) (place : ℕ) (penalty : ℤ) (row : List (Option Entry))
-    → IsOfferingFirst table params bound lives place penalty 0 row row
-first_passed table params bound lives place penalty row p stop at low cut within costs is here =
-    record { at = at; low = low; rest = is; held = here }
+-- No group has been offered yet, and after all of them there are no more offers.
+pub offered_none :
+    (table : List Entry) (params : Params) (alone : LineCost) (lives : List Live) (place : ℕ) (row : List (Option Entry))
+    → IsOfferingFirst table params alone lives place 0 row row
+offered_none table params alone lives place row p stop at low cut within costs is here = record { at = at; low = low; rest = is; held = here }
 
-pub passed_more :
-    (table : List Entry) (params : Params) (bound : Bound) (lives : List Live) (place : ℕ) (penalty : ℤ) (index : ℕ) (live : Live) (alone : LineCost)
-    (old middle new : List (Option Entry))
-    → params.first_lines ≡ 0 → Some alone ≡ line_alone params bound penalty loosest_line → slice_get lives index ≡ Some live
-    → IsOfferingBest table params live.group place alone middle new → IsOfferingFirst table params bound lives place penalty index old middle
-    → IsOfferingFirst table params bound lives place penalty (index + 1) old new
-unfolding after_class
-passed_more table params bound lives place penalty index live alone old middle new none is there offering first p stop at low cut within costs active here =
+pub offered_more :
+    (table : List Entry) (params : Params) (alone : LineCost) (lives : List Live) (place index : ℕ) (live : Live) (old middle new : List (Option Entry))
+    → params.first_lines ≡ 0 → slice_get lives index ≡ Some live
+    → IsOfferingBest table params live.group place alone middle new → IsOfferingFirst table params alone lives place index old middle
+    → IsOfferingFirst table params alone lives place (index + 1) old new
+offered_more table params alone lives place index live old middle new none there offering first p stop at low cut within costs active here =
     let before = first p stop at low cut within costs active here in
     let group = group_at lives index live there in
     let both = next_active p stop table place place before.at before.low index (groups_of lives) live.group group before.rest in
@@ -250,19 +247,27 @@ passed_more table params bound lives place penalty index live alone old middle n
       at = live.group.end;
       low = live.group.place + 1;
       rest = both.1;
-      held = offering p (cut ∙ none) next.group.since
-          (λ s is_place. costs index live.group group s is_place ∙ sym (parts params bound penalty s.class loosest_line)
-          ∙ ap (after_class params s.class) (sym is))
-          (row_quiet p table place before.at live.group.start middle next.gap within next.quiet before.held);
+      held = offering p (cut ∙ none) next.group.since (λ s is_place. costs index live.group group s is_place)
+          (row_silent p table place before.at live.group.start middle next.gap within next.silent before.held);
     }
 
-pub all_passed :
-    (table : List Entry) (params : Params) (bound : Bound) (lives : List Live) (place : ℕ) (penalty : ℤ) (n : ℕ) (old new : List (Option Entry))
-    → length (groups_of lives) ≤ n → IsOfferingFirst table params bound lives place penalty n old new
-    → IsOfferingWaiting table params bound lives place penalty old new
-all_passed table params bound lives place penalty n old new past first p stop at low cut within costs is here =
+pub offered_all :
+    (table : List Entry) (params : Params) (alone : LineCost) (lives : List Live) (place n : ℕ) (old new : List (Option Entry))
+    → length (groups_of lives) ≤ n → IsOfferingFirst table params alone lives place n old new → IsOfferingEach table params alone lives place old new
+offered_all table params alone lives place n old new past first p stop at low cut within costs is here =
     let end = first p stop at low cut within costs is here in
     row_end p stop table place place end.at end.low n (groups_of lives) new past within end.rest end.held
+
+-- Where the pass admits the loosest line, groups that wait are offered by it.
+pub offered_waiting :
+    (table : List Entry) (params : Params) (bound : Bound) (lives : List Live) (place : ℕ) (penalty : ℤ) (alone : LineCost) (old new : List (Option Entry))
+    → Some alone ≡ line_alone params bound penalty loosest_line → IsOfferingEach table params alone lives place old new
+    → IsOfferingWaiting table params bound lives place penalty old new
+unfolding after_class
+offered_waiting table params bound lives place penalty alone old new is each p stop at low cut within costs active here =
+    each p stop at low cut within
+    (λ k g there s is_place. costs k g there s is_place ∙ sym (parts params bound penalty s.class loosest_line) ∙ ap (after_class params s.class) (sym is))
+    active here
 
 -- What holds of all groups of two lists holds of those of both together.
 all_joined :
@@ -311,18 +316,18 @@ same_rest (x ∷ xs) (y ∷ ys) zero long same =
     ap (λ z. z ∷ xs) first ∙ ap (λ zs. y ∷ zs) rest
 same_rest (x ∷ xs) (y ∷ ys) (suc n) long same = same_rest xs ys n (omega (arith, long)) (λ k low. same (suc k) (omega (arith, low)))
 
--- All groups that are left wait, from a place on that is no earlier.
+-- All groups that follow wait, from a place on that is no earlier.
 pub wait_from :
     (facts : Facts) (params : Params) (bound : Bound) (low more b : ℕ) (lives : List Live) (end : ℕ)
     → low ≤ more → (length lives ≤ end) ⊎ AreLoosest facts params bound low b → (length lives ≤ end) ⊎ AreLoosest facts params bound more b
 wait_from facts params bound low more b lives end later (inl all) = inl all
 wait_from facts params bound low more b lives end later (inr wait) = inr (fewer_wait facts params bound low more b later wait)
 
-left_wait :
+all_wait :
     (facts : Facts) (params : Params) (bound : Bound) (low b : ℕ) (lives : List Live) (end : ℕ)
     → (length lives ≤ end) ⊎ AreLoosest facts params bound low b → AllWait facts params bound low b (groups_of (drop end lives))
-left_wait facts params bound low b lives end (inr wait) = inr wait
-left_wait facts params bound low b lives end (inl all) = inl (ap groups_of (past lives end all))
+all_wait facts params bound low b lives end (inr wait) = inr wait
+all_wait facts params bound low b lives end (inl all) = inl (ap groups_of (past lives end all))
   where
     past : (xs : List Live) (n : ℕ) → length xs ≤ n → drop n xs ≡ []
     past [] zero low = refl
@@ -331,26 +336,26 @@ left_wait facts params bound low b lives end (inl all) = inl (ap groups_of (past
     past (x ∷ xs) (suc n) low = past xs n (omega (arith, low))
 
 -- The groups from which no line is tried, after the others.
-pub record AreLeft
-    (facts : Facts) (params : Params) (bound : Bound) (ending : StopRule) (table : List Entry) (b at low : ℕ) (rest : List Live) : Type 0 where
-  pub active : IsActive (pruned_problem facts params bound ending) (stops_at facts params ending) table b b at low (groups_of rest)
+pub record RestWaits
+    (facts : Facts) (params : Params) (bound : Bound) (rule : StopRule) (table : List Entry) (b at low : ℕ) (rest : List Live) : Type 0 where
+  pub active : IsActive (problem_leaving_out facts params bound rule) (stops_at facts params rule) table b b at low (groups_of rest)
   pub wait : AllWait facts params bound low b (groups_of rest)
   pub over : AreOver facts params b rest
   pub best : HaveBest table rest
   pub uncounted : 0 < length rest → params.first_lines ≡ 0
 
-pub are_left :
-    (facts : Facts) (params : Params) (bound : Bound) (ending : StopRule) (table : List Entry) (b at low index end : ℕ) (lives now : List Live)
+pub rest_waits :
+    (facts : Facts) (params : Params) (bound : Bound) (rule : StopRule) (table : List Entry) (b at low index end : ℕ) (lives now : List Live)
     → index ≡ end → length now ≡ length lives → ((k : ℕ) → index ≤ k → slice_get now k ≡ slice_get lives k)
     → (length lives ≤ end) ⊎ AreLoosest facts params bound low b → AreOver facts params b lives → HaveBest table lives
-    → IsActive (pruned_problem facts params bound ending) (stops_at facts params ending) table b b at low (drop index (groups_of lives))
-    → AreLeft facts params bound ending table b at low (drop end now)
-are_left facts params bound ending table b at low index end lives now last long rest wait over best is =
-    subst (AreLeft facts params bound ending table b at low) (sym same)
+    → IsActive (problem_leaving_out facts params bound rule) (stops_at facts params rule) table b b at low (drop index (groups_of lives))
+    → RestWaits facts params bound rule table b at low (drop end now)
+rest_waits facts params bound rule table b at low index end lives now last long rest wait over best is =
+    subst (RestWaits facts params bound rule table b at low) (sym same)
     (record {
-      active = subst (IsActive (pruned_problem facts params bound ending) (stops_at facts params ending) table b b at low)
+      active = subst (IsActive (problem_leaving_out facts params bound rule) (stops_at facts params rule) table b b at low)
           (ap (λ n. drop n (groups_of lives)) last ∙ drop-map (λ (x : Live). x.group) end lives) is;
-      wait = left_wait facts params bound low b lives end wait;
+      wait = all_wait facts params bound low b lives end wait;
       over = over_from facts params b end lives over;
       best = best_from table end lives best;
       uncounted = λ some. none some wait;
@@ -359,34 +364,34 @@ are_left facts params bound ending table b at low index end lives now last long 
     same : drop end now ≡ drop end lives
     same = same_rest now lives end long (λ k low. rest k (omega (arith, low, last)))
 
-    some_left : (xs : List Live) (n : ℕ) → 0 < length (drop n xs) → n < length xs
-    some_left [] zero some = absurd (omega (arith, some))
-    some_left [] (suc n) some = absurd (omega (arith, some))
-    some_left (x ∷ xs) zero some = omega arith
-    some_left (x ∷ xs) (suc n) some = omega (arith, some_left xs n some)
+    some_rest : (xs : List Live) (n : ℕ) → 0 < length (drop n xs) → n < length xs
+    some_rest [] zero some = absurd (omega (arith, some))
+    some_rest [] (suc n) some = absurd (omega (arith, some))
+    some_rest (x ∷ xs) zero some = omega arith
+    some_rest (x ∷ xs) (suc n) some = omega (arith, some_rest xs n some)
 
     none : 0 < length (drop end lives) → (length lives ≤ end) ⊎ AreLoosest facts params bound low b → params.first_lines ≡ 0
-    none some (inl all) = absurd (omega (arith, all, some_left lives end some))
+    none some (inl all) = absurd (omega (arith, all, some_rest lives end some))
     none some (inr wait) = wait.uncounted
 
--- The groups that are kept, and those that are left.
-pub front_left :
-    (facts : Facts) (params : Params) (bound : Bound) (ending : StopRule) (table : List Entry) (b at low : ℕ) (kept rest : List Live)
-    → MayEnd ending facts params bound → b ≤ facts.places → is_forced (facts.penalty b) ≡ false
-    → AreLeft facts params bound ending table b at low rest
-    → IsFront (pruned_problem facts params bound ending) (stops_at facts params ending) table b b at low (groups_of kept)
-    → IsActive (pruned_problem facts params bound ending) (stops_at facts params ending) table (b + 1) b 0 0 (groups_of (kept ++ rest))
-front_left facts params bound ending table b at low kept rest may within free left front =
-    subst (λ xs. IsActive (pruned_problem facts params bound ending) (stops_at facts params ending) table (b + 1) b 0 0 xs)
+-- The groups that are kept, and those that wait.
+pub front_with_rest :
+    (facts : Facts) (params : Params) (bound : Bound) (rule : StopRule) (table : List Entry) (b at low : ℕ) (kept rest : List Live)
+    → MayStop rule facts params bound → b ≤ facts.places → is_forced (facts.penalty b) ≡ false
+    → RestWaits facts params bound rule table b at low rest
+    → IsFront (problem_leaving_out facts params bound rule) (stops_at facts params rule) table b b at low (groups_of kept)
+    → IsActive (problem_leaving_out facts params bound rule) (stops_at facts params rule) table (b + 1) b 0 0 (groups_of (kept ++ rest))
+front_with_rest facts params bound rule table b at low kept rest may within free waiting front =
+    subst (λ xs. IsActive (problem_leaving_out facts params bound rule) (stops_at facts params rule) table (b + 1) b 0 0 xs)
     (sym (map-append (λ (x : Live). x.group) kept rest))
-    (front (groups_of rest) free (active_waiting facts params bound ending table b b at low (groups_of rest) may within free left.wait left.active))
+    (front (groups_of rest) free (active_waiting facts params bound rule table b b at low (groups_of rest) may within free waiting.wait waiting.active))
 
-pub over_left :
-    (facts : Facts) (params : Params) (bound : Bound) (ending : StopRule) (table : List Entry) (b at low : ℕ) (kept rest : List Live)
-    → AreLeft facts params bound ending table b at low rest → AreOver facts params (b + 1) kept → AreOver facts params (b + 1) (kept ++ rest)
-over_left facts params bound ending table b at low kept rest left over =
+pub over_with_rest :
+    (facts : Facts) (params : Params) (bound : Bound) (rule : StopRule) (table : List Entry) (b at low : ℕ) (kept rest : List Live)
+    → RestWaits facts params bound rule table b at low rest → AreOver facts params (b + 1) kept → AreOver facts params (b + 1) (kept ++ rest)
+over_with_rest facts params bound rule table b at low kept rest waiting over =
     over_joined facts params (b + 1) kept rest over
-    (over_waiting facts params bound ending table b b at low rest left.wait left.active left.over)
+    (over_waiting facts params bound rule table b b at low rest waiting.wait waiting.active waiting.over)
 
 -- A line was tried from the first group, if there is one.
 pub first_tried :
@@ -395,8 +400,3 @@ pub first_tried :
 first_tried index end [] before now last some tried = λ g there. absurd (cc)
 first_tried index end (live ∷ lives) before now last (inl all) tried = tried (omega (arith, last, all))
 first_tried index end (live ∷ lives) before now last (inr some) tried = tried (omega (arith, last, some))
-
--- A group that waits for a place is before the place, also where that has another name.
-pub still_earlier :
-    (first_lines : ℕ) (table : List Entry) (place there : ℕ) (group : ActiveGroup) → CanWait first_lines table place group → there ≡ place → group.place < there
-still_earlier first_lines table place there group can same = omega (arith, can.earlier, same)

@@ -1,4 +1,4 @@
 -- What no contract reaches that another crate or a user can call: only proofs and private functions speak of these definitions.
 pub mod Active
 pub mod Filling
-pub mod Leaving
+pub mod LeftOut

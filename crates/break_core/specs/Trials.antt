@@ -23,15 +23,15 @@ is_bounded Second = true
 is_bounded Third = false
 
 -- Trying lines from place a stops at place l in a pass with a bound: the paragraph is steady, and the line to l is overfull.
-abbrev pub EndsOverfull : Facts → Params → Pass → (a l : ℕ) → Type 0
-EndsOverfull facts params pass a l = IsSteady facts × (is_bounded pass ≡ true) × (is_overfull facts params a l ≡ true)
+abbrev pub StopsOverfull : Facts → Params → Pass → (a l : ℕ) → Type 0
+StopsOverfull facts params pass a l = IsSteady facts × (is_bounded pass ≡ true) × (is_overfull facts params a l ≡ true)
 
 -- In a pass, no line from place a is tried beyond place l: it is the last place, or a break there is forced, or the line to it is overfull in a pass
 -- where trying stops after such lines.
 abbrev pub IsStop : Facts → Params → Pass → (a l : ℕ) → Type 0
 IsStop facts params pass a l =
     (l ≡ facts.places)
-    ⊎ ((a < l) × (l ≤ facts.places) × ((is_forced (facts.penalty l) ≡ true) ⊎ EndsOverfull facts params pass a l))
+    ⊎ ((a < l) × (l ≤ facts.places) × ((is_forced (facts.penalty l) ≡ true) ⊎ StopsOverfull facts params pass a l))
 
 -- The first pass, or no pass if pretolerance is below 0.
 abbrev pub first_run : Params → List Pass

@@ -1,10 +1,10 @@
 //! The active list: the groups of entries from which lines are still tried.
 
 ghost use Rattle.std.specs.Prelude.{◌≡◌, ◌<◌, ◌≤◌, ◌+◌, ◌++◌, ◌&&◌, ℕ, [], ◌∷◌, length, take, drop, set, slice_get, Some, None, if◌then◌else◌, OnOk};
-ghost use Rattle.break_core.specs.Private.Leaving.{is_more, kept_over};
+ghost use Rattle.break_core.specs.Private.LeftOut.{is_more, kept_over};
 ghost use Rattle.break_core.specs.Private.Active.{with_live, IsBestOf};
 
-use break_lines::{ActiveGroup, ActiveNode};
+use break_lines::{ActiveGroup, Entry};
 use std::alloc::AllocError;
 
 /// A group of entries from which lines are tried. `over` is the width, shrunk as far as possible, of the line to the first place to which it was
@@ -18,7 +18,7 @@ pub(crate) struct Live {
 
 /// The number of the best entry of a group, if it has entries.
 #[inline(always)]
-fn best_of(table: &[ActiveNode], group: ActiveGroup) -> usize
+fn best_of(table: &[Entry], group: ActiveGroup) -> usize
     requires group_bounded { group.end ≤ length table.now }
     ensures { group.start < group.end → IsBestOf table.now group.start group.end result }
 {
@@ -39,7 +39,7 @@ fn best_of(table: &[ActiveNode], group: ActiveGroup) -> usize
 impl Live {
     /// A group from which no line has been tried yet.
     #[inline(always)]
-    pub(crate) fn new(table: &[ActiveNode], group: ActiveGroup) -> Live
+    pub(crate) fn new(table: &[Entry], group: ActiveGroup) -> Live
         requires group_bounded { group.end ≤ length table.now }
         ensures group { result.group ≡ group }
         ensures over { result.over ≡ None }
@@ -96,16 +96,16 @@ pub(crate) fn keep_over(lives: &mut Vec<Live>, index: usize, overfull: bool, wid
 /// Keeps group number `index` as number `kept` of the list, unless trying lines from it has stopped, and returns the number of groups that are kept
 /// then.
 #[inline(always)]
-pub(crate) fn keep_group(lives: &mut Vec<Live>, ended: bool, kept: usize, index: usize) -> usize
+pub(crate) fn keep_group(lives: &mut Vec<Live>, stopped: bool, kept: usize, index: usize) -> usize
     requires kept_bounded { kept ≤ index }
     requires index_bounded { index < length lives.old.items }
     ensures front { (live : Live) → slice_get lives.old.items index ≡ Some live →
-        take result lives.new.items ≡ (if ended then take kept lives.old.items else (take kept lives.old.items ++ live ∷ [])) }
+        take result lives.new.items ≡ (if stopped then take kept lives.old.items else (take kept lives.old.items ++ live ∷ [])) }
     ensures rest { (k : ℕ) → kept < k → slice_get lives.new.items k ≡ slice_get lives.old.items k }
     ensures count { length lives.new.items ≡ length lives.old.items }
     ensures result_bounded { result ≤ kept + 1 }
 {
-    if ended {
+    if stopped {
         return kept;
     }
     if kept < index {
@@ -114,10 +114,10 @@ pub(crate) fn keep_group(lives: &mut Vec<Live>, ended: bool, kept: usize, index:
     kept + 1
 }
 
-/// The number of the group before which trying lines to a place ends, after the line from group number `next - 1`. After a line that is as loose as
-/// counts no line is tried from the groups that come next, if groups wait.
+/// The number of the first group that waits for a place, after the line from group number `next - 1`; before that line it was `end`. After a line
+/// that is as loose as counts, all groups that come next wait, if groups wait.
 #[inline(always)]
-pub(crate) fn end_of_trials(loosest: bool, waits: bool, next: usize, end: usize) -> usize
+pub(crate) fn first_waiting(loosest: bool, waits: bool, next: usize, end: usize) -> usize
     ensures { result ≡ (if loosest && waits then next else end) }
 {
     if loosest && waits {
@@ -137,9 +137,9 @@ pub(crate) fn rest_of(lives: &[Live], from: usize) -> &[Live]
     &lives[from..]
 }
 
-/// Leaves out the groups from number `kept` on and before number `next`.
+/// Removes the groups from number `kept` on and before number `next`.
 #[inline(always)]
-pub(crate) fn leave_out(lives: &mut Vec<Live>, kept: usize, next: usize)
+pub(crate) fn remove_groups(lives: &mut Vec<Live>, kept: usize, next: usize)
     requires kept_bounded { kept ≤ next }
     requires next_bounded { next ≤ length lives.old.items }
     ensures { lives.new.items ≡ take kept lives.old.items ++ drop next lives.old.items }
@@ -147,9 +147,9 @@ pub(crate) fn leave_out(lives: &mut Vec<Live>, kept: usize, next: usize)
     if kept == next {
         return;
     }
-    let left = lives.len() - (next - kept);
+    let remaining = lives.len() - (next - kept);
     lives.copy_within(next.., kept);
-    lives.truncate(left);
+    lives.truncate(remaining);
 }
 
 /// Appends the group of a place to those of earlier places, unless it has no entries. If a break at the place is forced, the earlier groups are

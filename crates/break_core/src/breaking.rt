@@ -8,6 +8,7 @@ ghost use Rattle.break_core.specs.Passes.{IsBroken};
 ghost use Rattle.break_core.specs.Trials.{passes_run, AreBounded, AreBoundedByPasses, HasNoTrials};
 
 use crate::broken::Breaks;
+use crate::pass_rules::Trying;
 use crate::passes::breaks_of;
 use break_lines::{BreakFault, ListMeter, Meter};
 use node_core::{Node, Params};
@@ -24,7 +25,7 @@ pub fn breaks(alloc: Global, nodes: &[Node], params: &Params) -> Result<Breaks, 
     ensures fault { IfErr result (λ fault. fault ≡ unwrap_or (refusal nodes.now) BreakFault.OutOfMemory) }
 {
     let mut meter = ListMeter::new(alloc, nodes)?;
-    Ok(breaks_of(alloc, &mut meter, params, false)?)
+    Ok(breaks_of(alloc, &mut meter, params, Trying::EveryLine)?)
 }
 
 /// The breaks of a paragraph, given by a meter without trials: the same list that `breaks` chooses, but with few trials. The only error is that
@@ -41,5 +42,5 @@ pub fn active_breaks<M: Meter>(
     ensures refused { OnErr result (AreBoundedByPasses (M.facts meter.old) params.now (M.trials meter.new)) }
     ensures tried { OnOk result (0 < M.trials meter.new 0) }
 {
-    breaks_of(alloc, meter, params, true)
+    breaks_of(alloc, meter, params, Trying::FewLines)
 }

@@ -6,57 +6,57 @@ ghost use Rattle.break_lines.specs.Problems.{max_places};
 ghost use Rattle.break_lines.specs.Even.{IsEven};
 ghost use Rattle.break_lines.specs.Legal.{is_forced};
 ghost use Rattle.break_core.specs.Private.Filling.{CountsMayGrow};
-ghost use Rattle.break_core.specs.Private.Active.{stops_at, pruned_problem, groups_of, MayEnd, AreOver, HaveBest, IsActive, IsFilled, IsSwept};
+ghost use Rattle.break_core.specs.Private.Active.{stops_at, problem_leaving_out, groups_of, MayStop, AreOver, HaveBest, IsActive, IsFilled, IsSwept};
 ghost use Rattle.break_core.specs.Private.Active.{IsCounted};
 ghost use Rattle.break_core.specs.Private.Active.{TrialsOnlyGrow, WasTried};
 
 use crate::active_list::{
-    Live, add_group, end_of_trials, keep_group, keep_over, leave_out, rest_of,
+    Live, add_group, first_waiting, keep_group, keep_over, remove_groups, rest_of,
 };
 use crate::offering::{Tried, offer_line, offer_waiting};
 use crate::pass_rules::Rules;
-use break_lines::{ActiveGroup, ActiveNode, Meter, empty_row, flush_row};
+use break_lines::{ActiveGroup, Entry, Meter, empty_row, flush_row};
 use std::alloc::{AllocError, Global};
 
 /// The table up to a place, and the groups of its entries from which lines to later places are tried.
 #[derive(Drop)]
 struct Reached {
-    table: Vec<ActiveNode>,
+    table: Vec<Entry>,
     live: Vec<Live>,
 }
 
 /// Tries the line to a place once from each live group, keeps those from which lines to later places are tried, and carries `over` on to the next
-/// place. If groups wait, it stops after a line that is stretched so much that the lines from all later groups cost the same as the loosest line:
-/// these groups stay untried. The groups stay in place, since most of them are kept. The function is not inlined, so that its loop has all registers.
+/// place. If groups wait, then all later groups wait after a line that is stretched so much that the lines from all of them cost the same as the
+/// loosest line. The groups stay in place, since most of them are kept. The function is not inlined, so that its loop has all registers.
 #[inline(never)]
 fn try_lines<M: Meter>(
     meter: &mut M,
     rules: &Rules,
-    table: &[ActiveNode],
+    table: &[Entry],
     lives: &mut Vec<Live>,
-    row: &mut Vec<Option<ActiveNode>>,
+    row: &mut Vec<Option<Entry>>,
     place: usize,
 )
     requires first { 0 < place }
     requires last { place ≤ (M.facts meter.old).places }
     requires places { place ≤ max_places }
-    requires filled { IsFilled (pruned_problem (M.facts meter.old) rules.now.params.now rules.now.bound rules.now.ending)
-        (stops_at (M.facts meter.old) rules.now.params.now rules.now.ending) place table.now (groups_of lives.old.items) }
+    requires filled { IsFilled (problem_leaving_out (M.facts meter.old) rules.now.params.now rules.now.bound rules.now.stop_rule)
+        (stops_at (M.facts meter.old) rules.now.params.now rules.now.stop_rule) place table.now (groups_of lives.old.items) }
     requires over { AreOver (M.facts meter.old) rules.now.params.now place lives.old.items }
     requires best { HaveBest table.now lives.old.items }
     requires empty { row.old.items ≡ replicate (slots rules.now.params.now.first_lines) None }
-    requires may { MayEnd rules.now.ending (M.facts meter.old) rules.now.params.now rules.now.bound }
+    requires may { MayStop rules.now.stop_rule (M.facts meter.old) rules.now.params.now rules.now.bound }
     requires waits { rules.now.waits ≡ true → IsEven (M.facts meter.old) }
     requires trials_bounded { CountsMayGrow 1 (M.trials meter.old) }
-    ensures row { IsRow (pruned_problem (M.facts meter.old) rules.now.params.now rules.now.bound rules.now.ending) table.now place
+    ensures row { IsRow (problem_leaving_out (M.facts meter.old) rules.now.params.now rules.now.bound rules.now.stop_rule) table.now place
         (length table.now) row.new.items }
     ensures live { is_forced ((M.facts meter.old).penalty place) ≡ false →
-        IsActive (pruned_problem (M.facts meter.old) rules.now.params.now rules.now.bound rules.now.ending)
-        (stops_at (M.facts meter.old) rules.now.params.now rules.now.ending) table.now (place + 1) place 0 0 (groups_of lives.new.items) }
+        IsActive (problem_leaving_out (M.facts meter.old) rules.now.params.now rules.now.bound rules.now.stop_rule)
+        (stops_at (M.facts meter.old) rules.now.params.now rules.now.stop_rule) table.now (place + 1) place 0 0 (groups_of lives.new.items) }
     ensures over { AreOver (M.facts meter.old) rules.now.params.now (place + 1) lives.new.items }
     ensures best { HaveBest table.now lives.new.items }
     ensures facts { M.facts meter.new ≡ M.facts meter.old }
-    ensures trials { IsSwept (stops_at (M.facts meter.old) rules.now.params.now rules.now.ending) place (M.trials meter.old) (M.trials meter.new) }
+    ensures trials { IsSwept (stops_at (M.facts meter.old) rules.now.params.now rules.now.stop_rule) place (M.trials meter.old) (M.trials meter.new) }
     ensures kept { TrialsOnlyGrow (M.trials meter.old) (M.trials meter.new) }
     ensures tried { WasTried (groups_of lives.old.items) (M.trials meter.old) (M.trials meter.new) }
 {
@@ -68,21 +68,21 @@ fn try_lines<M: Meter>(
         let live = &lives[index];
         let sums = meter.try_line(live.group.place, place);
         let width = sums.least_width();
-        let left = rules.ending.leaves(live.over, width);
+        let left_out = rules.stop_rule.leaves_out(live.over, width);
         let tried = Tried {
             place,
             penalty: at.penalty,
             sums,
         };
-        let judged = offer_line(left, row, table, live, rules, tried);
-        let ended = rules.ending.deactivates(judged.overfull, left);
+        let judged = offer_line(left_out, row, table, live, rules, tried);
+        let stopped = rules.stop_rule.stops_after(judged.overfull, left_out);
         keep_over(lives, index, judged.overfull, width);
-        kept = keep_group(lives, ended, kept, index);
+        kept = keep_group(lives, stopped, kept, index);
         index += 1;
-        end = end_of_trials(judged.loosest, rules.waits, index, end);
+        end = first_waiting(judged.loosest, rules.waits, index, end);
     }
     offer_waiting(row, table, rest_of(lives, end), rules, place, at.penalty);
-    leave_out(lives, kept, end);
+    remove_groups(lives, kept, end);
 }
 
 /// Goes on to a place: tries the lines to it, and appends the entries of its row to the table.
@@ -90,28 +90,29 @@ fn add_place<M: Meter>(
     meter: &mut M,
     rules: &Rules,
     reached: &mut Reached,
-    row: &mut Vec<Option<ActiveNode>>,
+    row: &mut Vec<Option<Entry>>,
     place: usize,
 ) -> Result<(), AllocError>
     requires first { 0 < place }
     requires last { place ≤ (M.facts meter.old).places }
     requires places { place ≤ max_places }
-    requires filled { IsFilled (pruned_problem (M.facts meter.old) rules.now.params.now rules.now.bound rules.now.ending)
-        (stops_at (M.facts meter.old) rules.now.params.now rules.now.ending) place reached.old.table.items (groups_of reached.old.live.items) }
+    requires filled { IsFilled (problem_leaving_out (M.facts meter.old) rules.now.params.now rules.now.bound rules.now.stop_rule)
+        (stops_at (M.facts meter.old) rules.now.params.now rules.now.stop_rule) place reached.old.table.items (groups_of reached.old.live.items) }
     requires over { AreOver (M.facts meter.old) rules.now.params.now place reached.old.live.items }
     requires best { HaveBest reached.old.table.items reached.old.live.items }
     requires empty { row.old.items ≡ replicate (slots rules.now.params.now.first_lines) None }
-    requires may { MayEnd rules.now.ending (M.facts meter.old) rules.now.params.now rules.now.bound }
+    requires may { MayStop rules.now.stop_rule (M.facts meter.old) rules.now.params.now rules.now.bound }
     requires waits { rules.now.waits ≡ true → IsEven (M.facts meter.old) }
     requires trials_bounded { CountsMayGrow 1 (M.trials meter.old) }
     ensures filled { OnOk result (
-        IsFilled (pruned_problem (M.facts meter.old) rules.now.params.now rules.now.bound rules.now.ending)
-        (stops_at (M.facts meter.old) rules.now.params.now rules.now.ending) (place + 1) reached.new.table.items (groups_of reached.new.live.items)) }
+        IsFilled (problem_leaving_out (M.facts meter.old) rules.now.params.now rules.now.bound rules.now.stop_rule)
+        (stops_at (M.facts meter.old) rules.now.params.now rules.now.stop_rule) (place + 1)
+        reached.new.table.items (groups_of reached.new.live.items)) }
     ensures over { OnOk result (AreOver (M.facts meter.old) rules.now.params.now (place + 1) reached.new.live.items) }
     ensures best { OnOk result (HaveBest reached.new.table.items reached.new.live.items) }
     ensures empty { OnOk result (row.new.items ≡ replicate (slots rules.now.params.now.first_lines) None) }
     ensures facts { M.facts meter.new ≡ M.facts meter.old }
-    ensures trials { IsSwept (stops_at (M.facts meter.old) rules.now.params.now rules.now.ending) place (M.trials meter.old) (M.trials meter.new) }
+    ensures trials { IsSwept (stops_at (M.facts meter.old) rules.now.params.now rules.now.stop_rule) place (M.trials meter.old) (M.trials meter.new) }
     ensures kept { TrialsOnlyGrow (M.trials meter.old) (M.trials meter.new) }
     ensures tried { OnOk result (WasTried (groups_of reached.old.live.items) (M.trials meter.old) (M.trials meter.new)) }
 {
@@ -134,15 +135,15 @@ pub(crate) fn fill<M: Meter>(
     alloc: Global,
     meter: &mut M,
     rules: &Rules,
-) -> Result<Vec<ActiveNode>, AllocError>
-    requires may { MayEnd rules.now.ending (M.facts meter.old) rules.now.params.now rules.now.bound }
+) -> Result<Vec<Entry>, AllocError>
+    requires may { MayStop rules.now.stop_rule (M.facts meter.old) rules.now.params.now rules.now.bound }
     requires waits { rules.now.waits ≡ true → IsEven (M.facts meter.old) }
-    requires trials_bounded { CountsMayGrow 8192 (M.trials meter.old) }
+    requires trials_bounded { CountsMayGrow max_places (M.trials meter.old) }
     ensures table { IfOk result (λ table.
-        IsTable (pruned_problem (M.facts meter.old) rules.now.params.now rules.now.bound rules.now.ending)
+        IsTable (problem_leaving_out (M.facts meter.old) rules.now.params.now rules.now.bound rules.now.stop_rule)
         ((M.facts meter.old).places + 1) table.items) }
     ensures facts { M.facts meter.new ≡ M.facts meter.old }
-    ensures trials { IsCounted (stops_at (M.facts meter.old) rules.now.params.now rules.now.ending) (M.facts meter.old).places
+    ensures trials { IsCounted (stops_at (M.facts meter.old) rules.now.params.now rules.now.stop_rule) (M.facts meter.old).places
         (M.trials meter.old) (M.trials meter.new) }
     ensures kept { TrialsOnlyGrow (M.trials meter.old) (M.trials meter.new) }
     ensures tried { OnOk result (M.trials meter.old 0 < M.trials meter.new 0) }
@@ -153,7 +154,7 @@ pub(crate) fn fill<M: Meter>(
         table,
         live: Vec::new(alloc),
     };
-    reached.table.push(ActiveNode::first())?;
+    reached.table.push(Entry::first())?;
     let group = ActiveGroup {
         place: 0,
         start: 0,

@@ -9,12 +9,12 @@ ghost use Rattle.break_lines.specs.Sizes.{fits_of_sums, IsSmallLineFits};
 ghost use Rattle.break_lines.specs.SmallCosts.{IsSmallAlone};
 ghost use Rattle.break_core.specs.Private.Filling.{IsOf, CanOffer, IsOffering, IsOfferingUnless, offer_from, IsBestOffer, IsLeastLine, IsBeaten};
 ghost use Rattle.break_core.specs.Private.Filling.{IsOfferingBest};
-ghost use Rattle.break_core.specs.Private.Active.{IsBestOf, HaveBest, CanAllWait, IsOfferingWaiting};
+ghost use Rattle.break_core.specs.Private.Active.{IsBestOf, CanOfferWaiting, IsOfferingEach, IsOfferingWaiting};
 
 use crate::active_list::Live;
 use crate::pass_rules::Rules;
 use break_lines::{
-    ActiveGroup, ActiveNode, LineCost, LineFit, LineFits, Sums, fit_both, fit_line, is_loosest,
+    ActiveGroup, Entry, LineCost, LineFit, LineFits, Sums, fit_both, fit_line, is_loosest,
     line_after, line_alone, offer, put,
 };
 use node_core::Params;
@@ -47,8 +47,8 @@ pub(crate) struct Judged {
 /// Offers the entries of a group for a place, by a line from there that was tried and judged. The line is judged for firstsize and for hsize at once,
 /// and costs that are the same for all entries are computed once, so that there is one trial for each pair of places.
 fn offer_each(
-    row: &mut Vec<Option<ActiveNode>>,
-    table: &[ActiveNode],
+    row: &mut Vec<Option<Entry>>,
+    table: &[Entry],
     group: ActiveGroup,
     rules: &Rules,
     tried: &Tried,
@@ -77,15 +77,15 @@ fn offer_each(
 #[cold]
 #[inline(never)]
 fn offer_counted(
-    left: bool,
-    row: &mut Vec<Option<ActiveNode>>,
-    table: &[ActiveNode],
+    left_out: bool,
+    row: &mut Vec<Option<Entry>>,
+    table: &[Entry],
     group: ActiveGroup,
     rules: &Rules,
     tried: &Tried,
 ) -> Judged
     requires can { CanOffer rules.now.params.now.first_lines row.old.items table.now group tried.now }
-    ensures row { IsOfferingUnless left table.now rules.now.params.now rules.now.bound group tried.now.place tried.now.penalty
+    ensures row { IsOfferingUnless left_out table.now rules.now.params.now rules.now.bound group tried.now.place tried.now.penalty
         (fits_of_sums rules.now.params.now tried.now.sums) row.old.items row.new.items }
     ensures wide { length row.new.items ≡ slots rules.now.params.now.first_lines }
     ensures overfull { result.overfull
@@ -97,7 +97,7 @@ fn offer_counted(
         overfull: line.is_overfull(),
         loosest: false,
     };
-    if left {
+    if left_out {
         return judged;
     }
     offer_each(row, table, group, rules, tried, &line);
@@ -107,12 +107,12 @@ fn offer_counted(
 /// The offer of an entry of a table for a place by a line, if no lines are counted.
 #[inline]
 fn offer_from(
-    table: &[ActiveNode],
+    table: &[Entry],
     index: usize,
     params: &Params,
     place: usize,
     alone: &LineCost,
-) -> ActiveNode
+) -> Entry
     requires index_bounded { index < length table.now }
     requires uncounted { (e : Entry) → slice_get table.now index ≡ Some e → e.end.lines ≤ 0 }
     requires later { (e : Entry) → slice_get table.now index ≡ Some e → e.end.place < place }
@@ -128,12 +128,12 @@ fn offer_from(
 /// The best offer of the entries of a group for a place by a line, if no lines are counted.
 #[inline]
 fn best_offer(
-    table: &[ActiveNode],
+    table: &[Entry],
     group: ActiveGroup,
     params: &Params,
     place: usize,
     alone: &LineCost,
-) -> ActiveNode
+) -> Entry
     requires has_entries { group.start < group.end }
     requires group_bounded { group.end ≤ length table.now }
     requires earlier { group.place < place }
@@ -155,8 +155,8 @@ fn best_offer(
 /// memory only for a call.
 #[inline(never)]
 fn put_best(
-    row: &mut Vec<Option<ActiveNode>>,
-    table: &[ActiveNode],
+    row: &mut Vec<Option<Entry>>,
+    table: &[Entry],
     live: &Live,
     params: &Params,
     line: OfferedLine,
@@ -216,7 +216,7 @@ fn offered_line(params: &Params, place: usize, alone: LineCost) -> OfferedLine
 /// Whether an offer that is held is known to be better than each offer of a group: its costs are below those of the best entry of the group by the
 /// line with the fewest demerits.
 #[inline]
-fn is_beaten(held: &Option<ActiveNode>, best: &ActiveNode, least: &LineCost) -> bool
+fn is_beaten(held: &Option<Entry>, best: &Entry, least: &LineCost) -> bool
     requires line_bounded { IsSmallLine least.now }
     ensures { result ≡ true → IsBeaten held.now best.now least.now }
 {
@@ -226,11 +226,11 @@ fn is_beaten(held: &Option<ActiveNode>, best: &ActiveNode, least: &LineCost) -> 
     }
 }
 
-/// Offers the entries of a group by a line, if no lines are counted. The group is passed over if its offers are worse than the one that is held.
+/// Offers the entries of a group by a line, if no lines are counted. Nothing is done if the offer that is held beats all of them.
 #[inline(always)]
 fn offer_best(
-    row: &mut Vec<Option<ActiveNode>>,
-    table: &[ActiveNode],
+    row: &mut Vec<Option<Entry>>,
+    table: &[Entry],
     live: &Live,
     params: &Params,
     line: &OfferedLine,
@@ -261,16 +261,16 @@ fn offer_best(
 /// lines are counted, the line is judged only once.
 #[inline(always)]
 pub(crate) fn offer_line(
-    left: bool,
-    row: &mut Vec<Option<ActiveNode>>,
-    table: &[ActiveNode],
+    left_out: bool,
+    row: &mut Vec<Option<Entry>>,
+    table: &[Entry],
     live: &Live,
     rules: &Rules,
     tried: Tried,
 ) -> Judged
     requires can { CanOffer rules.now.params.now.first_lines row.old.items table.now live.now.group tried }
     requires best { IsBestOf table.now live.now.group.start live.now.group.end live.now.best }
-    ensures row { IsOfferingUnless left table.now rules.now.params.now rules.now.bound live.now.group tried.place tried.penalty
+    ensures row { IsOfferingUnless left_out table.now rules.now.params.now rules.now.bound live.now.group tried.place tried.penalty
         (fits_of_sums rules.now.params.now tried.sums) row.old.items row.new.items }
     ensures wide { length row.new.items ≡ slots rules.now.params.now.first_lines }
     ensures overfull { result.overfull
@@ -281,14 +281,14 @@ pub(crate) fn offer_line(
     if rules.params.first_lines.get() > 0 {
         // Only the address of this copy is taken, so `tried` stays in registers where no lines are counted.
         let counted = tried;
-        return offer_counted(left, row, table, live.group, rules, &counted);
+        return offer_counted(left_out, row, table, live.group, rules, &counted);
     }
     let line = fit_line(&tried.sums, rules.params.hsize);
     let judged = Judged {
         overfull: line.overfull,
         loosest: is_loosest(&rules.bound, &line),
     };
-    if left {
+    if left_out {
         return judged;
     }
     let Some(alone) = line_alone(rules.params, &rules.bound, tried.penalty, &line) else {
@@ -299,30 +299,22 @@ pub(crate) fn offer_line(
     judged
 }
 
-/// Offers the entries of groups that wait for a place, one after the other, if no lines are counted. The function is not inlined, so that its loop
-/// has all registers.
+/// Offers the entries of groups that wait by a line, one after the other, if no lines are counted. The function is not inlined, so that its loop has
+/// all registers.
 #[inline(never)]
 fn offer_each_waiting(
-    row: &mut Vec<Option<ActiveNode>>,
-    table: &[ActiveNode],
+    row: &mut Vec<Option<Entry>>,
+    table: &[Entry],
     lives: &[Live],
-    rules: &Rules,
-    place: usize,
-    penalty: i32,
+    params: &Params,
+    line: OfferedLine,
 )
-    requires wide { length row.old.items ≡ slots rules.now.params.now.first_lines }
-    requires uncounted { 0 < length lives.now → rules.now.params.now.first_lines ≡ 0 }
-    requires can { CanAllWait 0 table.now place lives.now }
-    requires best { HaveBest table.now lives.now }
-    requires places { place ≤ max_places }
-    requires penalty { penalty <ℤ pos 10000 }
-    ensures row { IsOfferingWaiting table.now rules.now.params.now rules.now.bound lives.now place penalty row.old.items row.new.items }
+    requires can { CanOfferWaiting params.now row.old.items table.now lives.now line.place }
+    requires costs_bounded { IsSmallAlone line.alone }
+    requires least { IsLeastLine params.now line.alone line.least }
+    requires line_bounded { IsSmallLine line.least }
+    ensures row { IsOfferingEach table.now params.now line.alone lives.now line.place row.old.items row.new.items }
 {
-    let Some(alone) = line_alone(rules.params, &rules.bound, penalty, &LineFit::LOOSEST) else {
-        return;
-    };
-    let params = rules.params;
-    let line = offered_line(params, place, alone);
     for index in 0..lives.len() {
         let live = &lives[index];
         offer_best(row, table, live, params, &line);
@@ -333,23 +325,20 @@ fn offer_each_waiting(
 /// the pass does not admit it, and then there is nothing to do.
 #[inline]
 pub(crate) fn offer_waiting(
-    row: &mut Vec<Option<ActiveNode>>,
-    table: &[ActiveNode],
+    row: &mut Vec<Option<Entry>>,
+    table: &[Entry],
     lives: &[Live],
     rules: &Rules,
     place: usize,
     penalty: i32,
 )
-    requires wide { length row.old.items ≡ slots rules.now.params.now.first_lines }
-    requires uncounted { 0 < length lives.now → rules.now.params.now.first_lines ≡ 0 }
-    requires can { CanAllWait 0 table.now place lives.now }
-    requires best { HaveBest table.now lives.now }
-    requires places { place ≤ max_places }
+    requires can { CanOfferWaiting rules.now.params.now row.old.items table.now lives.now place }
     requires penalty { penalty <ℤ pos 10000 }
     ensures row { IsOfferingWaiting table.now rules.now.params.now rules.now.bound lives.now place penalty row.old.items row.new.items }
 {
-    let Some(_) = line_alone(rules.params, &rules.bound, penalty, &LineFit::LOOSEST) else {
+    let Some(alone) = line_alone(rules.params, &rules.bound, penalty, &LineFit::LOOSEST) else {
         return;
     };
-    offer_each_waiting(row, table, lives, rules, place, penalty);
+    let line = offered_line(rules.params, place, alone);
+    offer_each_waiting(row, table, lives, rules.params, line);
 }

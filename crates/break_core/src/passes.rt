@@ -1,20 +1,21 @@
 //! The passes over a paragraph.
 
-ghost use Rattle.std.specs.Prelude.{◌≡◌, ◌+◌, ◌<◌, ◌≤◌, ℕ, true, map, List, IfOk, IfSome, OnOk, OnErr, MatchOption};
+ghost use Rattle.std.specs.Prelude.{◌≡◌, ◌+◌, ◌*◌, ◌<◌, ◌≤◌, ℕ, true, map, List, IfOk, IfSome, OnOk, OnErr, MatchOption};
 ghost use Rattle.break_lines.specs.declared.state.BreakState.{BreakState};
+ghost use Rattle.break_lines.specs.Problems.{max_places};
 ghost use Rattle.break_lines.specs.Chosen.{AdmitsNone, IsAnswer};
 ghost use Rattle.break_lines.specs.Facts.{Facts};
 ghost use Rattle.break_core.specs.Passes.{problem_of, bound_of, line_end_at, IsBroken};
 ghost use Rattle.break_lines.specs.Steady.{IsSteady};
 ghost use Rattle.break_lines.specs.Even.{IsEven};
-ghost use Rattle.break_core.specs.Private.Leaving.{IsWidening, MayLeave};
+ghost use Rattle.break_core.specs.Private.LeftOut.{IsWidening, MayLeaveOut};
 ghost use Rattle.break_core.specs.Trials.{is_bounded, first_run, passes_run, AreBounded, AreBoundedByPasses, HasNoTrials};
 ghost use Rattle.break_core.specs.Private.Filling.{IsGrown, CountsMayGrow, AreEndsInParagraph, IsDecided};
-ghost use Rattle.break_core.specs.Private.Active.{TrialsOnlyGrow, MayEnd, IsWithin, AreAdded, AreAddedByPasses};
+ghost use Rattle.break_core.specs.Private.Active.{TrialsOnlyGrow, MayStop, IsWithin, AreAdded, AreAddedByPasses};
 
 use crate::broken::{Breaks, LineEnd, Pass};
 use crate::filling::fill;
-use crate::pass_rules::{Rules, StopRule};
+use crate::pass_rules::{Rules, StopRule, Trying};
 use break_lines::{Bound, BreakState, ChosenBreaks, Meter, chosen_list, line_size};
 use node_core::Params;
 use std::alloc::{AllocError, Global};
@@ -42,9 +43,9 @@ fn is_widening(params: &Params) -> bool
 
 /// Whether long lines can be left out of the last pass over a steady paragraph. They can if a long line can always be divided at the earlier place:
 /// the two lines have less overhang together than the long one, so the long one is in no chosen list.
-fn may_leave<M: Meter>(meter: &M, params: &Params) -> bool
+fn may_leave_out<M: Meter>(meter: &M, params: &Params) -> bool
     requires steady { IsSteady (M.facts meter.now) }
-    ensures { result ≡ true → MayLeave (M.facts meter.now) params.now }
+    ensures { result ≡ true → MayLeaveOut (M.facts meter.now) params.now }
 {
     if !is_widening(params) {
         return false;
@@ -56,21 +57,18 @@ fn may_leave<M: Meter>(meter: &M, params: &Params) -> bool
     meter.divided(least)
 }
 
-/// When to stop trying lines in a pass over a paragraph; if `drops` is false, only at forced breaks.
-fn ending_in<M: Meter>(meter: &M, params: &Params, drops: bool, pass: Pass) -> StopRule
-    ensures may { MayEnd result (M.facts meter.now) params.now (bound_of params.now pass) }
-    ensures overfull { drops ≡ true → IsSteady (M.facts meter.now) → is_bounded pass ≡ true → result ≡ StopRule.Overfull }
+/// When to stop trying lines in a pass over a paragraph if few lines are tried.
+fn earliest_stop<M: Meter>(meter: &M, params: &Params, pass: Pass) -> StopRule
+    ensures may { MayStop result (M.facts meter.now) params.now (bound_of params.now pass) }
+    ensures overfull { IsSteady (M.facts meter.now) → is_bounded pass ≡ true → result ≡ StopRule.Overfull }
 {
-    if !drops {
-        return StopRule::Never;
-    }
     if !meter.steady() {
         return StopRule::Never;
     }
     match pass {
         Pass::First | Pass::Second => StopRule::Overfull,
         Pass::Third => {
-            if may_leave(meter, params) {
+            if may_leave_out(meter, params) {
                 return StopRule::Long;
             }
             StopRule::Never
@@ -78,31 +76,42 @@ fn ending_in<M: Meter>(meter: &M, params: &Params, drops: bool, pass: Pass) -> S
     }
 }
 
-/// Whether places wait in the passes over a paragraph; if `drops` is false, none does.
-fn waits_in<M: Meter>(meter: &M, drops: bool) -> bool
-    ensures { result ≡ true → IsEven (M.facts meter.now) }
+/// When to stop trying lines in a pass over a paragraph.
+fn stop_rule_in<M: Meter>(meter: &M, params: &Params, trying: Trying, pass: Pass) -> StopRule
+    ensures may { MayStop result (M.facts meter.now) params.now (bound_of params.now pass) }
+    ensures overfull { trying ≡ Trying.FewLines → IsSteady (M.facts meter.now) → is_bounded pass ≡ true → result ≡ StopRule.Overfull }
 {
-    if !drops {
-        return false;
+    match trying {
+        Trying::EveryLine => StopRule::Never,
+        Trying::FewLines => earliest_stop(meter, params, pass),
     }
-    meter.even()
 }
 
-/// The chosen list of a pass, or `None` if it admits no list. If `drops` is true, trying lines stops as early as possible.
+/// Whether places wait in the passes over a paragraph.
+fn waits_in<M: Meter>(meter: &M, trying: Trying) -> bool
+    ensures { result ≡ true → IsEven (M.facts meter.now) }
+{
+    match trying {
+        Trying::EveryLine => false,
+        Trying::FewLines => meter.even(),
+    }
+}
+
+/// The chosen list of a pass, or `None` if it admits no list.
 fn chosen_in<M: Meter>(
     alloc: Global,
     meter: &mut M,
     params: &Params,
-    drops: bool,
+    trying: Trying,
     pass: Pass,
 ) -> Result<Option<ChosenBreaks>, AllocError>
-    requires trials_bounded { CountsMayGrow 8192 (M.trials meter.old) }
+    requires trials_bounded { CountsMayGrow max_places (M.trials meter.old) }
     ensures found { IfOk result (λ found. MatchOption found
         (AdmitsNone (problem_of (M.facts meter.old) params.now (bound_of params.now pass)))
         (IsAnswer (problem_of (M.facts meter.old) params.now (bound_of params.now pass)))) }
     ensures facts { M.facts meter.new ≡ M.facts meter.old }
-    ensures trials { drops ≡ true → IsWithin (M.facts meter.old) params.now pass (M.trials meter.old) (M.trials meter.new) }
-    ensures trials_counted { IsGrown 8192 (M.trials meter.old) (M.trials meter.new) }
+    ensures trials { trying ≡ Trying.FewLines → IsWithin (M.facts meter.old) params.now pass (M.trials meter.old) (M.trials meter.new) }
+    ensures trials_counted { IsGrown max_places (M.trials meter.old) (M.trials meter.new) }
     ensures kept { TrialsOnlyGrow (M.trials meter.old) (M.trials meter.new) }
     ensures tried { OnOk result (M.trials meter.old 0 < M.trials meter.new 0) }
 {
@@ -110,8 +119,8 @@ fn chosen_in<M: Meter>(
     let rules = Rules {
         params,
         bound: bound_of(params, pass),
-        ending: ending_in(meter, params, drops, pass),
-        waits: waits_in(meter, drops),
+        stop_rule: stop_rule_in(meter, params, trying, pass),
+        waits: waits_in(meter, trying),
     };
     let table = fill(alloc, meter, &rules)?;
     chosen_list(alloc, &table, places)
@@ -123,22 +132,23 @@ fn chosen_first<M: Meter>(
     alloc: Global,
     meter: &mut M,
     params: &Params,
-    drops: bool,
+    trying: Trying,
 ) -> Result<Option<ChosenBreaks>, AllocError>
-    requires trials_bounded { CountsMayGrow 8192 (M.trials meter.old) }
+    requires trials_bounded { CountsMayGrow max_places (M.trials meter.old) }
     ensures found { IfOk result (λ found. MatchOption found
         (AdmitsNone (problem_of (M.facts meter.old) params.now (bound_of params.now Pass.First)))
         (IsAnswer (problem_of (M.facts meter.old) params.now (bound_of params.now Pass.First)))) }
     ensures facts { M.facts meter.new ≡ M.facts meter.old }
-    ensures trials { drops ≡ true → AreAdded (M.facts meter.old) params.now (first_run params.now) (M.trials meter.old) (M.trials meter.new) }
-    ensures trials_counted { IsGrown 8192 (M.trials meter.old) (M.trials meter.new) }
+    ensures trials { trying ≡ Trying.FewLines →
+        AreAdded (M.facts meter.old) params.now (first_run params.now) (M.trials meter.old) (M.trials meter.new) }
+    ensures trials_counted { IsGrown max_places (M.trials meter.old) (M.trials meter.new) }
     ensures kept { TrialsOnlyGrow (M.trials meter.old) (M.trials meter.new) }
     ensures tried { IfOk result (λ found. IfSome found (λ least. M.trials meter.old 0 < M.trials meter.new 0)) }
 {
     if params.pretolerance.get() < 0 {
         return Ok(None);
     }
-    chosen_in(alloc, meter, params, drops, Pass::First)
+    chosen_in(alloc, meter, params, trying, Pass::First)
 }
 
 /// The chosen list of the first pass that admits one.
@@ -146,23 +156,24 @@ fn decide<M: Meter>(
     alloc: Global,
     meter: &mut M,
     params: &Params,
-    drops: bool,
+    trying: Trying,
 ) -> Result<(Pass, ChosenBreaks), AllocError>
-    requires trials_bounded { CountsMayGrow 24576 (M.trials meter.old) }
+    requires trials_bounded { CountsMayGrow (3 * max_places) (M.trials meter.old) }
     ensures decided { IfOk result (λ decided. IsDecided (M.facts meter.old) params.now decided.0 decided.1) }
     ensures facts { M.facts meter.new ≡ M.facts meter.old }
-    ensures run { drops ≡ true → IfOk result (λ decided.
+    ensures run { trying ≡ Trying.FewLines → IfOk result (λ decided.
         AreAdded (M.facts meter.old) params.now (passes_run params.now decided.0) (M.trials meter.old) (M.trials meter.new)) }
-    ensures refused { drops ≡ true → OnErr result (AreAddedByPasses (M.facts meter.old) params.now (M.trials meter.old) (M.trials meter.new)) }
+    ensures refused { trying ≡ Trying.FewLines →
+        OnErr result (AreAddedByPasses (M.facts meter.old) params.now (M.trials meter.old) (M.trials meter.new)) }
     ensures tried { OnOk result (M.trials meter.old 0 < M.trials meter.new 0) }
 {
-    if let Some(least) = chosen_first(alloc, meter, params, drops)? {
+    if let Some(least) = chosen_first(alloc, meter, params, trying)? {
         return Ok((Pass::First, least));
     }
-    if let Some(least) = chosen_in(alloc, meter, params, drops, Pass::Second)? {
+    if let Some(least) = chosen_in(alloc, meter, params, trying, Pass::Second)? {
         return Ok((Pass::Second, least));
     }
-    match chosen_in(alloc, meter, params, drops, Pass::Third)? {
+    match chosen_in(alloc, meter, params, trying, Pass::Third)? {
         Some(least) => Ok((Pass::Third, least)),
         // This cannot happen: the last pass admits every line, so each place can be reached from the one before (law `the_last_pass_admits_a_list`).
         None => unreachable!(),
@@ -188,22 +199,22 @@ fn line_ends<M: Meter>(
     Ok(lines)
 }
 
-/// The breaks of a paragraph, given by a meter without trials. If `drops` is true, trying lines stops as early as possible; the breaks are the same.
+/// The breaks of a paragraph, given by a meter without trials: the same ones, however many lines are tried.
 pub(crate) fn breaks_of<M: Meter>(
     alloc: Global,
     meter: &mut M,
     params: &Params,
-    drops: bool,
+    trying: Trying,
 ) -> Result<Breaks, AllocError>
     requires fresh { HasNoTrials (M.trials meter.old) }
     ensures broken { IfOk result (IsBroken (M.facts meter.old) params.now) }
     ensures facts { M.facts meter.new ≡ M.facts meter.old }
-    ensures run { drops ≡ true
+    ensures run { trying ≡ Trying.FewLines
         → IfOk result (λ breaks. AreBounded (M.facts meter.old) params.now (passes_run params.now breaks.pass) (M.trials meter.new)) }
-    ensures refused { drops ≡ true → OnErr result (AreBoundedByPasses (M.facts meter.old) params.now (M.trials meter.new)) }
+    ensures refused { trying ≡ Trying.FewLines → OnErr result (AreBoundedByPasses (M.facts meter.old) params.now (M.trials meter.new)) }
     ensures tried { OnOk result (0 < M.trials meter.new 0) }
 {
-    let (pass, least) = decide(alloc, meter, params, drops)?;
+    let (pass, least) = decide(alloc, meter, params, trying)?;
     let lines = line_ends(alloc, meter, &least.ends)?;
     Ok(Breaks {
         lines,

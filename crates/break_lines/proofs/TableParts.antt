@@ -16,64 +16,64 @@ use Rattle.break_lines.specs.Private.Parts.{problem_without, IsNoWorse, IsOrder,
 use Rattle.break_lines.proofs.Since.{since_grows}
 use Rattle.break_lines.proofs.Lists.{way_of_break_list, break_list_of_way}
 
-since_part : (p : Problem) (leaves : BreakState → ℕ → Bool) (b : ℕ) → last_forced_below (problem_without p leaves) b ≡ last_forced_below p b
-since_part p leaves zero = refl
-since_part p leaves (suc b) = ap (λ n. cond (p.forced b) b n) (since_part p leaves b)
+since_part : (p : Problem) (left_out : BreakState → ℕ → Bool) (b : ℕ) → last_forced_below (problem_without p left_out) b ≡ last_forced_below p b
+since_part p left_out zero = refl
+since_part p left_out (suc b) = ap (λ n. cond (p.forced b) b n) (since_part p left_out b)
 
 kept_line :
-    (p : Problem) (leaves : BreakState → ℕ → Bool) (s : BreakState) (b : ℕ) (l : LineCost)
-    → leaves s b ≡ false → p.line s b ≡ Some l → (problem_without p leaves).line s b ≡ Some l
-kept_line p leaves s b l stays is = cond-false (leaves s b) None (p.line s b) stays ∙ is
+    (p : Problem) (left_out : BreakState → ℕ → Bool) (s : BreakState) (b : ℕ) (l : LineCost)
+    → left_out s b ≡ false → p.line s b ≡ Some l → (problem_without p left_out).line s b ≡ Some l
+kept_line p left_out s b l stays is = cond-false (left_out s b) None (p.line s b) stays ∙ is
 
-line_kept : (p : Problem) (leaves : BreakState → ℕ → Bool) (s : BreakState) (b : ℕ) (l : LineCost) → (problem_without p leaves).line s b ≡ Some l → p.line s b ≡ Some l
-line_kept p leaves s b l is = cases (cases_Bool (leaves s b))
+line_kept : (p : Problem) (left_out : BreakState → ℕ → Bool) (s : BreakState) (b : ℕ) (l : LineCost) → (problem_without p left_out).line s b ≡ Some l → p.line s b ≡ Some l
+line_kept p left_out s b l is = cases (cases_Bool (left_out s b))
   where
-    cases : (leaves s b ≡ true) ⊎ (leaves s b ≡ false) → p.line s b ≡ Some l
-    cases (inl left_out) = let none = cond-true (leaves s b) None (p.line s b) left_out in absurd (cc)
-    cases (inr kept) = sym (cond-false (leaves s b) None (p.line s b) kept) ∙ is
+    cases : (left_out s b ≡ true) ⊎ (left_out s b ≡ false) → p.line s b ≡ Some l
+    cases (inl is_out) = let none = cond-true (left_out s b) None (p.line s b) is_out in absurd (cc)
+    cases (inr kept) = sym (cond-false (left_out s b) None (p.line s b) kept) ∙ is
 
 -- A way of the smaller problem is a way.
-way_in : (p : Problem) (leaves : BreakState → ℕ → Bool) (w : Path) → Way (problem_without p leaves) w → Way p w
-way_in p leaves _ starts = starts
-way_in p leaves _ (goes q b l way later since_b is) =
-    goes q b l (way_in p leaves q way) later (subst (λ n. n ≤ q.last.place) (since_part p leaves b) since_b) (line_kept p leaves q.last b l is)
+way_in : (p : Problem) (left_out : BreakState → ℕ → Bool) (w : Path) → Way (problem_without p left_out) w → Way p w
+way_in p left_out _ starts = starts
+way_in p left_out _ (goes q b l way later since_b is) =
+    goes q b l (way_in p left_out q way) later (subst (λ n. n ≤ q.last.place) (since_part p left_out b) since_b) (line_kept p left_out q.last b l is)
 
 -- A way of the smaller problem that leads to a state that is ahead, and is this path or has less overhang.
-pub record IsShifted (p : Problem) (leaves : BreakState → ℕ → Bool) (Ahead : BreakState → BreakState → Type 0) (w : Path) : Type 0 where
+pub record IsShifted (p : Problem) (left_out : BreakState → ℕ → Bool) (Ahead : BreakState → BreakState → Type 0) (w : Path) : Type 0 where
   pub by : Path
-  pub way : Way (problem_without p leaves) by
+  pub way : Way (problem_without p left_out) by
   pub ahead : Ahead by.last w.last
   pub better : (by ≡ w) ⊎ (by.overhang <ℤ w.overhang)
 
 -- A line after a way of the smaller problem, or its detours.
 line_shifted :
-    (p : Problem) (leaves : BreakState → ℕ → Bool) (Ahead : BreakState → BreakState → Type 0) (n : ℕ) (q : Path) (b : ℕ) (l : LineCost)
-    → IsOrder p Ahead → HasDetours p leaves Ahead → b ≤ q.last.place + n → Way (problem_without p leaves) q
-    → q.last.place < b → last_forced_below p b ≤ q.last.place → b ≤ p.places → p.line q.last b ≡ Some l → IsShifted p leaves Ahead (with_line p q b l)
-line_shifted p leaves Ahead zero q b l order detours near way later since_b within is = absurd (omega arith)
-line_shifted p leaves Ahead (suc n) q b l order detours near way later since_b within is =
-    cases (λ r m k. line_shifted p leaves Ahead n r m k order detours) (cases_Bool (leaves q.last b))
+    (p : Problem) (left_out : BreakState → ℕ → Bool) (Ahead : BreakState → BreakState → Type 0) (n : ℕ) (q : Path) (b : ℕ) (l : LineCost)
+    → IsOrder p Ahead → HasDetours p left_out Ahead → b ≤ q.last.place + n → Way (problem_without p left_out) q
+    → q.last.place < b → last_forced_below p b ≤ q.last.place → b ≤ p.places → p.line q.last b ≡ Some l → IsShifted p left_out Ahead (with_line p q b l)
+line_shifted p left_out Ahead zero q b l order detours near way later since_b within is = absurd (omega arith)
+line_shifted p left_out Ahead (suc n) q b l order detours near way later since_b within is =
+    cases (λ r m k. line_shifted p left_out Ahead n r m k order detours) (cases_Bool (left_out q.last b))
   where
     cases :
-        ((r : Path) (m : ℕ) (k : LineCost) → m ≤ r.last.place + n → Way (problem_without p leaves) r → r.last.place < m → last_forced_below p m ≤ r.last.place → m ≤ p.places
-        → p.line r.last m ≡ Some k → IsShifted p leaves Ahead (with_line p r m k))
-        → (leaves q.last b ≡ true) ⊎ (leaves q.last b ≡ false) → IsShifted p leaves Ahead (with_line p q b l)
+        ((r : Path) (m : ℕ) (k : LineCost) → m ≤ r.last.place + n → Way (problem_without p left_out) r → r.last.place < m → last_forced_below p m ≤ r.last.place → m ≤ p.places
+        → p.line r.last m ≡ Some k → IsShifted p left_out Ahead (with_line p r m k))
+        → (left_out q.last b ≡ true) ⊎ (left_out q.last b ≡ false) → IsShifted p left_out Ahead (with_line p q b l)
     cases shorter (inr kept) =
         record {
           by = with_line p q b l;
-          way = goes q b l way later (subst (λ n. n ≤ q.last.place) (sym (since_part p leaves b)) since_b) (kept_line p leaves q.last b l kept is);
+          way = goes q b l way later (subst (λ n. n ≤ q.last.place) (sym (since_part p left_out b)) since_b) (kept_line p left_out q.last b l kept is);
           ahead = order.same (end_after p.cut q.last b l);
           better = inl refl;
         }
-    cases shorter (inl left_out) = round (detours q.last b l later since_b within is left_out)
+    cases shorter (inl is_out) = round (detours q.last b l later since_b within is is_out)
       where
-        round : IsDetour p leaves Ahead q.last b l → IsShifted p leaves Ahead (with_line p q b l)
+        round : IsDetour p left_out Ahead q.last b l → IsShifted p left_out Ahead (with_line p q b l)
         round d =
             let grows = since_grows p d.by b (omega (arith, d.before)) in
-            let middle : Way (problem_without p leaves) (with_line p q d.by d.first) =
+            let middle : Way (problem_without p left_out) (with_line p q d.by d.first) =
             goes q d.by d.first way d.later
-            (subst (λ n. n ≤ q.last.place) (sym (since_part p leaves d.by)) (omega (arith, grows, since_b)))
-            (kept_line p leaves q.last d.by d.first d.kept d.first_is) in
+            (subst (λ n. n ≤ q.last.place) (sym (since_part p left_out d.by)) (omega (arith, grows, since_b)))
+            (kept_line p left_out q.last d.by d.first d.kept d.first_is) in
             let rest = shorter (with_line p q d.by d.first) b d.second (omega (arith, d.later, near)) middle d.before (omega (arith, d.later, since_b)) within d.second_is in
             record {
               by = rest.by;
@@ -84,7 +84,7 @@ line_shifted p leaves Ahead (suc n) q b l order detours near way later since_b w
             }
           where
             less :
-                (d : IsDetour p leaves Ahead q.last b l) (v : Path)
+                (d : IsDetour p left_out Ahead q.last b l) (v : Path)
                 → (v ≡ with_line p (with_line p q d.by d.first) b d.second) ⊎ (v.overhang <ℤ ((q.overhang +ℤ d.first.overhang) +ℤ d.second.overhang))
                 → v.overhang <ℤ (q.overhang +ℤ l.overhang)
             less d v (inl same) =
@@ -94,19 +94,19 @@ line_shifted p leaves Ahead (suc n) q b l order detours near way later since_b w
 
 -- For each way the smaller problem has one that is as good or better.
 pub way_shifted :
-    (p : Problem) (leaves : BreakState → ℕ → Bool) (Ahead : BreakState → BreakState → Type 0) (w : Path)
-    → IsOrder p Ahead → HasDetours p leaves Ahead → Way p w → w.last.place ≤ p.places → IsShifted p leaves Ahead w
-way_shifted p leaves Ahead _ order detours starts within = record { by = first_path; way = starts; ahead = order.same _; better = inl refl }
-way_shifted p leaves Ahead _ order detours (goes q b l way later since_b is) within =
-    more (way_shifted p leaves Ahead q order detours way (omega arith))
+    (p : Problem) (left_out : BreakState → ℕ → Bool) (Ahead : BreakState → BreakState → Type 0) (w : Path)
+    → IsOrder p Ahead → HasDetours p left_out Ahead → Way p w → w.last.place ≤ p.places → IsShifted p left_out Ahead w
+way_shifted p left_out Ahead _ order detours starts within = record { by = first_path; way = starts; ahead = order.same _; better = inl refl }
+way_shifted p left_out Ahead _ order detours (goes q b l way later since_b is) within =
+    more (way_shifted p left_out Ahead q order detours way (omega arith))
   where
-    more : IsShifted p leaves Ahead q → IsShifted p leaves Ahead (with_line p q b l)
+    more : IsShifted p left_out Ahead q → IsShifted p left_out Ahead (with_line p q b l)
     more before = after before (order.line before.by.last q.last b l before.ahead is)
       where
-        after : (before : IsShifted p leaves Ahead q) → IsNoWorse p Ahead before.by.last q.last b l → IsShifted p leaves Ahead (with_line p q b l)
+        after : (before : IsShifted p left_out Ahead q) → IsNoWorse p Ahead before.by.last q.last b l → IsShifted p left_out Ahead (with_line p q b l)
         after before k =
             let place : before.by.last.place ≡ q.last.place = order.place before.by.last q.last before.ahead in
-            let rest = line_shifted p leaves Ahead b before.by b k.line order detours (omega arith) before.way (omega (arith, place)) (omega (arith, place)) within k.is in
+            let rest = line_shifted p left_out Ahead b before.by b k.line order detours (omega arith) before.way (omega (arith, place)) (omega (arith, place)) within k.is in
             record {
               by = rest.by;
               way = rest.way;
@@ -136,9 +136,9 @@ first_less q v r (inr same) less = inl (omega (arith, ints, same.0, less))
 
 -- The answer of the smaller problem is the answer.
 pub answer_of_part :
-    (p : Problem) (leaves : BreakState → ℕ → Bool) (Ahead : BreakState → BreakState → Type 0) (answer : ChosenBreaks)
-    → IsOrder p Ahead → HasDetours p leaves Ahead → IsAnswer (problem_without p leaves) answer → IsAnswer p answer
-answer_of_part p leaves Ahead answer order detours is =
+    (p : Problem) (left_out : BreakState → ℕ → Bool) (Ahead : BreakState → BreakState → Type 0) (answer : ChosenBreaks)
+    → IsOrder p Ahead → HasDetours p left_out Ahead → IsAnswer (problem_without p left_out) answer → IsAnswer p answer
+answer_of_part p left_out Ahead answer order detours is =
     record {
       path = is.path;
       chosen = record { is_list = list.0; admitted = list.1; least = least };
@@ -150,18 +150,18 @@ answer_of_part p leaves Ahead answer order detours is =
     q : Path
     q = is.path
 
-    way : Way (problem_without p leaves) q × (q.last.place ≡ p.places)
-    way = way_of_break_list (problem_without p leaves) (places_of (ends_of q)) q is.chosen.is_list is.chosen.admitted
+    way : Way (problem_without p left_out) q × (q.last.place ≡ p.places)
+    way = way_of_break_list (problem_without p left_out) (places_of (ends_of q)) q is.chosen.is_list is.chosen.admitted
 
     list : IsBreakList p (places_of (ends_of q)) × (path_of p (places_of (ends_of q)) ≡ Some q)
-    list = break_list_of_way p q (way_in p leaves q way.0) way.1
+    list = break_list_of_way p q (way_in p left_out q way.0) way.1
 
     least : (others : List ℕ) (r : Path) → IsBreakList p others → path_of p others ≡ Some r → NotAfter (key q) (key r)
     least others r is_list admitted =
         let other = way_of_break_list p others r is_list admitted in
-        let shifted = way_shifted p leaves Ahead r order detours other.0 (omega (arith, other.1)) in
+        let shifted = way_shifted p left_out Ahead r order detours other.0 (omega (arith, other.1)) in
         let ends : shifted.by.last.place ≡ p.places = order.place shifted.by.last r.last shifted.ahead ∙ other.1 in
-        let list = break_list_of_way (problem_without p leaves) shifted.by shifted.way ends in
+        let list = break_list_of_way (problem_without p left_out) shifted.by shifted.way ends in
         let first = is.chosen.least (places_of (ends_of shifted.by)) shifted.by list.0 list.1 in
         cases shifted.by first shifted.better
       where
@@ -171,11 +171,11 @@ answer_of_part p leaves Ahead answer order detours is =
 
 -- If the smaller problem has no list, there is none.
 pub none_of_part :
-    (p : Problem) (leaves : BreakState → ℕ → Bool) (Ahead : BreakState → BreakState → Type 0)
-    → IsOrder p Ahead → HasDetours p leaves Ahead → AdmitsNone (problem_without p leaves) → AdmitsNone p
-none_of_part p leaves Ahead order detours none places r is_list admitted =
+    (p : Problem) (left_out : BreakState → ℕ → Bool) (Ahead : BreakState → BreakState → Type 0)
+    → IsOrder p Ahead → HasDetours p left_out Ahead → AdmitsNone (problem_without p left_out) → AdmitsNone p
+none_of_part p left_out Ahead order detours none places r is_list admitted =
     let other = way_of_break_list p places r is_list admitted in
-    let shifted = way_shifted p leaves Ahead r order detours other.0 (omega (arith, other.1)) in
+    let shifted = way_shifted p left_out Ahead r order detours other.0 (omega (arith, other.1)) in
     let ends : shifted.by.last.place ≡ p.places = order.place shifted.by.last r.last shifted.ahead ∙ other.1 in
-    let list = break_list_of_way (problem_without p leaves) shifted.by shifted.way ends in
+    let list = break_list_of_way (problem_without p left_out) shifted.by shifted.way ends in
     none (places_of (ends_of shifted.by)) shifted.by list.0 list.1

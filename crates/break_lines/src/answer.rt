@@ -6,7 +6,7 @@ ghost use Rattle.break_lines.specs.Chosen.{AdmitsNone, IsAnswer};
 ghost use Rattle.break_lines.specs.Tables.{IsTable, IsSomeTable};
 ghost use Rattle.break_lines.specs.Private.Tables.{IsBestEnd, HasNoEnd, AreEndsOf};
 
-use crate::entry::ActiveNode;
+use crate::entry::Entry;
 use crate::state::BreakState;
 use std::alloc::{AllocError, Global};
 
@@ -19,12 +19,7 @@ pub struct ChosenBreaks {
 }
 
 /// The best entry of a place among the entries 0 to `index`, given the best one among those before `index`.
-fn better_end(
-    table: &[ActiveNode],
-    best: Option<usize>,
-    index: usize,
-    place: usize,
-) -> Option<usize>
+fn better_end(table: &[Entry], best: Option<usize>, index: usize, place: usize) -> Option<usize>
     requires index_bounded { index < length table.now }
     requires best { MatchOption best (HasNoEnd table.now place index) (IsBestEnd table.now place index) }
     ensures { MatchOption result (HasNoEnd table.now place (index + 1)) (IsBestEnd table.now place (index + 1)) }
@@ -43,7 +38,7 @@ fn better_end(
 }
 
 /// The number of the best entry of a place, if the place has an entry.
-fn best_end(table: &[ActiveNode], place: usize) -> Option<usize>
+fn best_end(table: &[Entry], place: usize) -> Option<usize>
     ensures { MatchOption result (HasNoEnd table.now place (length table.now)) (IsBestEnd table.now place (length table.now)) }
 {
     let mut best = None;
@@ -54,7 +49,7 @@ fn best_end(table: &[ActiveNode], place: usize) -> Option<usize>
 }
 
 /// The ends of the lines that lead to an entry, in order. An entry knows only the entry before it, so they are collected backward and then reversed.
-fn read_back(alloc: Global, table: &[ActiveNode], at: usize) -> Result<Vec<BreakState>, AllocError>
+fn read_back(alloc: Global, table: &[Entry], at: usize) -> Result<Vec<BreakState>, AllocError>
     requires index_bounded { at < length table.now }
     requires table { IsSomeTable table.now }
     ensures { IfOk result (λ ends. AreEndsOf table.now at (reverse ends.items)) }
@@ -73,7 +68,7 @@ fn read_back(alloc: Global, table: &[ActiveNode], at: usize) -> Result<Vec<Break
 /// The chosen list of breaks, from a table for all places, or `None` if no list is admitted.
 pub fn chosen_list(
     alloc: Global,
-    table: &[ActiveNode],
+    table: &[Entry],
     places: usize,
 ) -> Result<Option<ChosenBreaks>, AllocError>
     requires has_places { 0 < places }

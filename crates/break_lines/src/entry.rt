@@ -11,7 +11,7 @@ use std::marker::Model;
 
 /// An entry of a table: a state, the costs of the best way to it, the state before it, and the number of the entry for that state.
 #[derive(Clone, Copy, Debug, PartialEq, Eq)]
-pub struct ActiveNode {
+pub struct Entry {
     end: BreakState,
     overhang: i64,
     demerits: i64,
@@ -19,7 +19,7 @@ pub struct ActiveNode {
     index: usize,
 }
 
-impl Model for ActiveNode {
+impl Model for Entry {
     ghost use Rattle.break_lines.specs.Tables.{Entry};
     ghost use Rattle.break_lines.specs.Private.Tables.{IsSmall};
 
@@ -32,12 +32,12 @@ impl Model for ActiveNode {
     ghost inverse = { λ e. record { end = e.end; overhang = e.overhang; demerits = e.demerits; from = e.from; index = e.index } };
 }
 
-impl ActiveNode {
+impl Entry {
     /// The entry for the start.
-    pub fn first() -> ActiveNode
+    pub fn first() -> Entry
         ensures { result ≡ first_entry }
     {
-        ActiveNode {
+        Entry {
             end: BreakState::start(),
             overhang: 0,
             demerits: 0,
@@ -79,7 +79,7 @@ impl ActiveNode {
 
     /// This entry, number `index` of its table, extended by a line to a later place.
     #[inline]
-    pub fn extended(self, index: usize, place: usize, line: LineCost, cut: usize) -> ActiveNode
+    pub fn extended(self, index: usize, place: usize, line: LineCost, cut: usize) -> Entry
         requires cut_bounded { cut < 1000 }
         requires counted { self.end.lines ≤ cut }
         requires later { self.end.place < place }
@@ -87,7 +87,7 @@ impl ActiveNode {
         requires line_bounded { IsSmallLine line }
         ensures { result ≡ extended_entry cut self index place line }
     {
-        ActiveNode {
+        Entry {
             end: self.end.after(place as u32, line, cut),
             overhang: self.overhang + line.overhang,
             demerits: self.demerits + line.demerits,
@@ -98,7 +98,7 @@ impl ActiveNode {
 
     /// Whether this entry is as good as another one or better: costs are compared first, and then ends of lines.
     #[inline]
-    pub fn is_not_after(self, other: ActiveNode) -> bool
+    pub fn is_not_after(self, other: Entry) -> bool
         ensures not_after { result ≡ true → NotAfter (compared_numbers self) (compared_numbers other) }
         ensures after { result ≡ false → NotAfter (compared_numbers other) (compared_numbers self) }
     {
@@ -127,7 +127,7 @@ impl ActiveNode {
 
     /// Whether the costs of this entry are below those of another one with a line added: the overhang counts first, then the demerits.
     #[inline]
-    pub fn is_below(self, other: ActiveNode, line: LineCost) -> bool
+    pub fn is_below(self, other: Entry, line: LineCost) -> bool
         requires line_bounded { IsSmallLine line }
         ensures below { result ≡ true → AreBelow self other line }
         ensures not_below { result ≡ false → AreBelow self other line → ⊥ }
@@ -144,7 +144,7 @@ impl ActiveNode {
 
     /// The better one of two entries: this one, unless the other one is strictly better.
     #[inline]
-    pub fn or_better(self, other: ActiveNode) -> ActiveNode
+    pub fn or_better(self, other: Entry) -> Entry
         ensures { IsKept (Some self) other result }
     {
         if self.is_not_after(other) {
@@ -156,7 +156,7 @@ impl ActiveNode {
 
 /// Whether an offer replaces the content of a slot: the slot is empty, or its content is worse than the offer.
 #[inline]
-pub fn replaces(held: &Option<ActiveNode>, offered: ActiveNode) -> bool
+pub fn replaces(held: &Option<Entry>, offered: Entry) -> bool
     ensures yes { result ≡ true → IsKept held.now offered offered }
     ensures no { result ≡ false → (kept : Entry) × (held.now ≡ Some kept) × IsKept held.now offered kept }
 {

@@ -11,6 +11,15 @@ ghost use Rattle.break_lines.specs.declared.cost.Bound.{Bound};
 ghost use Rattle.break_lines.specs.Costs.{line_fit, demerits_of, admitted_line, line_alone, after_class};
 ghost use Rattle.break_lines.specs.Sizes.{line_size, greatest_size, fits_of_sums, fit_after};
 ghost use Rattle.break_lines.specs.Examples.{line_of_points};
+ghost use Rattle.break_lines.specs.Problems.{max_places};
+
+use crate::list::MAX_PLACES;
+
+/// A paragraph has at most 8,192 legal places, in code and in definitions.
+pub fn most_legal_places()
+    ensures code { MAX_PLACES ≡ max_places }
+    ensures number { max_places ≡ 8192 }
+{}
 
 /// The badness of a line is at most 10000, whatever its sums are.
 pub fn badness_is_bounded()

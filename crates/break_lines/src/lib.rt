@@ -34,7 +34,7 @@ mod walk;
 
 pub use answer::{ChosenBreaks, chosen_list};
 pub use cost::{Bound, LineFit, fit_line, is_loosest, line_after, line_alone};
-pub use entry::ActiveNode;
+pub use entry::Entry;
 pub use fault::BreakFault;
 pub use group::ActiveGroup;
 pub use list::refusal;

@@ -4,12 +4,12 @@ ghost use Rattle.std.specs.Prelude.{◌≡◌, ◌<◌, ◌≤◌, ◌++◌, len
 ghost use Rattle.break_lines.specs.Tables.{slots, row_entries, IsSmallLine, IsPut, IsImproved};
 ghost use Rattle.break_lines.specs.Problems.{max_places};
 
-use crate::entry::{ActiveNode, replaces};
+use crate::entry::{Entry, replaces};
 use crate::state::LineCost;
 use std::alloc::{AllocError, Global};
 
 /// A row without offers, with a slot for each state of a place. The error is that memory was refused.
-pub fn empty_row(alloc: Global, cut: usize) -> Result<Vec<Option<ActiveNode>>, AllocError>
+pub fn empty_row(alloc: Global, cut: usize) -> Result<Vec<Option<Entry>>, AllocError>
     requires cut_bounded { cut < 1000 }
     ensures { IfOk result (λ row. row.items ≡ replicate (slots cut) None) }
 {
@@ -22,7 +22,7 @@ pub fn empty_row(alloc: Global, cut: usize) -> Result<Vec<Option<ActiveNode>>, A
 
 /// Puts an offer into its slot, unless the slot holds one that is as good or better.
 #[inline(always)]
-pub fn put(row: &mut Vec<Option<ActiveNode>>, offered: ActiveNode, cut: usize)
+pub fn put(row: &mut Vec<Option<Entry>>, offered: Entry, cut: usize)
     requires cut_bounded { cut < 1000 }
     requires wide { length row.old.items ≡ slots cut }
     requires counted { offered.end.lines ≤ cut }
@@ -37,8 +37,8 @@ pub fn put(row: &mut Vec<Option<ActiveNode>>, offered: ActiveNode, cut: usize)
 
 /// Extends an entry, number `index` of its table, by its line to a place, if there is one, and offers the result.
 pub fn offer(
-    row: &mut Vec<Option<ActiveNode>>,
-    entry: ActiveNode,
+    row: &mut Vec<Option<Entry>>,
+    entry: Entry,
     index: usize,
     place: usize,
     line: Option<LineCost>,
@@ -61,10 +61,7 @@ pub fn offer(
 
 /// Appends the offers of a row to a table, and removes them from the row.
 #[inline]
-fn move_held(
-    table: &mut Vec<ActiveNode>,
-    row: &mut Vec<Option<ActiveNode>>,
-) -> Result<(), AllocError>
+fn move_held(table: &mut Vec<Entry>, row: &mut Vec<Option<Entry>>) -> Result<(), AllocError>
     ensures front { take (length table.old.items) table.new.items ≡ table.old.items }
     ensures table { OnOk result (table.new.items ≡ table.old.items ++ row_entries row.old.items) }
     ensures row { OnOk result (row.new.items ≡ replicate (length row.old.items) None) }
@@ -82,10 +79,7 @@ fn move_held(
 /// Appends the offers of a row to a table, and empties the row. If memory is refused, the table is as it was before the call, and the row keeps its
 /// slots; some of them may be empty then.
 #[inline]
-pub fn flush_row(
-    table: &mut Vec<ActiveNode>,
-    row: &mut Vec<Option<ActiveNode>>,
-) -> Result<(), AllocError>
+pub fn flush_row(table: &mut Vec<Entry>, row: &mut Vec<Option<Entry>>) -> Result<(), AllocError>
     ensures table { OnOk result (table.new.items ≡ table.old.items ++ row_entries row.old.items) }
     ensures row { OnOk result (row.new.items ≡ replicate (length row.old.items) None) }
     ensures err { OnErr result (table.new.items ≡ table.old.items) }

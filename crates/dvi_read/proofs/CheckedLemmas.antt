@@ -17,7 +17,7 @@ use Rattle.dvi_scan.specs.Closing.{ClosesTo}
 use Rattle.dvi_scan.specs.Pass.{PassStateView, Between, Inside, passes}
 use Rattle.dvi_scan.specs.Passed.{file_framing}
 use Rattle.dvi_scan.specs.Preamble.{HasPreamble}
-use Rattle.dvi_scan.specs.Reached.{IsReached, Left, ReadSoFar}
+use Rattle.dvi_scan.specs.Reached.{IsReached, PlacesLeft, ReadSoFar}
 use Rattle.dvi_read.specs.Opening.{IsDviFault}
 use Rattle.dvi_read.specs.Private.OpeningParts.{HasPassed, IsFinishFault}
 use Rattle.dvi_read.specs.PageMarks.{read_width}
@@ -81,11 +81,11 @@ pub bare_between : (p : PassStateView) (pages : List MarkedPage) → bare p ≡ 
 bare_between (Between all) pages e = (all, refl)
 bare_between (Inside all counts marks stack s) pages e = absurd cc
 
-bare_ended : (p : PassStateView) (left : Left) (pages : List MarkedPage) → PagesHaveEnded (bare p) left pages → (all : List MarkedPage) × PagesHaveEnded p left all
+bare_ended : (p : PassStateView) (left : PlacesLeft) (pages : List MarkedPage) → PagesHaveEnded (bare p) left pages → (all : List MarkedPage) × PagesHaveEnded p left all
 bare_ended p left pages ended = let (all, between) = bare_between p pages ended.between in (all, record { between = between; none = ended.none })
 
 -- A fault at the place of post is one of the whole state.
-pub finish_bare : (bytes : List ℕ) (post after last : ℕ) (p : PassStateView) (left : Left) (known : List Definition) (fault : DviFault) → IsFinishFault bytes post after last (bare p) left known fault
+pub finish_bare : (bytes : List ℕ) (post after last : ℕ) (p : PassStateView) (left : PlacesLeft) (known : List Definition) (fault : DviFault) → IsFinishFault bytes post after last (bare p) left known fault
     → IsFinishFault bytes post after last p left known fault
 finish_bare bytes post after last p left known faults.OutOfMemory (pages, ended, new, wants) = let (all, done) = bare_ended p left pages ended in (all, done, new, wants)
 finish_bare bytes post after last p left known (faults.Bad bad) (inl (place, inl (cause, open_page))) = inl (place, inl (cause, λ pages e. open_page [] (ap bare e)))

@@ -14,7 +14,7 @@ use Rattle.scaled_core.proofs.EachOf.{all_append, all_weaker}
 use Rattle.dvi_scan.specs.Ends.{StandsAt}
 use Rattle.dvi_scan.specs.Execution.{BreaksTurn, IsAllowed, TakesRoom, pass_at}
 use Rattle.dvi_scan.specs.Pass.{PassStateView, Between, Inside, execute, with_marks}
-use Rattle.dvi_scan.specs.Reached.{HasWidths, IsReached, IsRightAt, Left, after_bops, before_pages, has_number}
+use Rattle.dvi_scan.specs.Reached.{HasWidths, IsReached, IsRightAt, PlacesLeft, after_bops, before_pages, has_number}
 use Rattle.dvi_scan.specs.View.{marked_page}
 use Rattle.dvi_scan.specs.declared.executing.PassState.{PassState}
 use Rattle.dvi_scan.specs.declared.fault.DviCause.{DviCause}
@@ -210,7 +210,7 @@ walked_over_next keeps metrics ahead bytes stop chain at post next old mid new h
     let goes : execute does (min 1024 stop.stack_depth) reads.here (held keeps walked.pass) ≡ Some (stand_of mid) =
     subst (λ (p : PassStateView). execute does (min 1024 stop.stack_depth) reads.here p ≡ Some (stand_of mid)) walked.stand steps.goes_on in
     walked_over_turn keeps metrics ahead bytes stop chain at next old new reads.here (stand_of mid) (omega arith) (omega arith) walked reads.spelled goes stand
-    (steps.bop ∙ ap (λ (l : Left). Some l) (sym left)) steps.right (known ∙ steps.known_is) steps.widths steps.named
+    (steps.bop ∙ ap (λ (l : PlacesLeft). Some l) (sym left)) steps.right (known ∙ steps.known_is) steps.widths steps.named
     (subst (λ (fonts : ReadFonts). FontsAreRead fonts (walked.selected ++ selection_of reads.here)) (sym fonts)
     (all_append (λ f. FontIsRead f mid.fonts) walked.selected (selection_of reads.here)
     (all_weaker (λ f. FontIsRead f old.fonts) (λ f. FontIsRead f mid.fonts) walked.selected steps.kept walked.read) steps.read))

@@ -22,7 +22,7 @@ use Rattle.dvi_scan.proofs.FontLemmas.{current_of, has_definition, same_more_wid
 use Rattle.dvi_scan.specs.Ends.{StandsAt}
 use Rattle.dvi_scan.specs.Execution.{TakesRoom, pass_at}
 use Rattle.dvi_scan.specs.Pass.{PassStateView, Between, Inside, execute, passes, then_pass, with_marks}
-use Rattle.dvi_scan.specs.Reached.{IsReached, Left, ReadSoFar}
+use Rattle.dvi_scan.specs.Reached.{IsReached, PlacesLeft, ReadSoFar}
 use Rattle.dvi_scan.specs.View.{marked_page}
 use Rattle.dvi_scan.specs.declared.executing.PassState.{PassState}
 use Rattle.dvi_scan.specs.declared.page.Page.{Page}
@@ -488,7 +488,7 @@ special_fault files ahead bytes stop at post i old new stands puts steps selecte
     (i, stands, inl (takes_special (widths_of (file_widths files) (known_of old)) (min 1024 stop.stack_depth) i (stand_of old) (stand_of new) puts steps.goes_on))
 
 -- The same for what is kept of a file: its pages are those of the walk, and its definitions are those before post and after it.
-module _ (p : PassStateView) (left : Left) (pages bounded_acts : List MarkedPage) (units : Units) (new : List Definition) (dvi : Opened) (ended : PagesHaveEnded p left pages) (same : bounded_acts ≡ pages)
+module _ (p : PassStateView) (left : PlacesLeft) (pages bounded_acts : List MarkedPage) (units : Units) (new : List Definition) (dvi : Opened) (ended : PagesHaveEnded p left pages) (same : bounded_acts ≡ pages)
     (is : dvi ≡ record { units = units; pages = bounded_acts; fonts = new }) where
   pages_of_dvi : dvi.pages ≡ pages
   pages_of_dvi = ap (λ (d : Opened). d.pages) is ∙ same

@@ -16,7 +16,7 @@ use Rattle.dvi_ops.specs.Tokens.{Token, token_instructions, token_bytes}
 use Rattle.dvi_ops.proofs.Frames.{one_list, one_list_of_pages}
 use Rattle.dvi_scan.specs.Pass.{PassStateView}
 use Rattle.dvi_scan.specs.Passed.{file_framing, IsFramed}
-use Rattle.dvi_scan.specs.Reached.{IsReached, IsTail, Left, ReadSoFar, before_pages}
+use Rattle.dvi_scan.specs.Reached.{IsReached, IsTail, PlacesLeft, ReadSoFar, before_pages}
 use Rattle.dvi_scan.proofs.PassedLemmas.{frame_parts, passed_file}
 use Rattle.dvi_scan.proofs.ReachedLemmas.{reached_end, reached_first}
 use Rattle.dvi_read.specs.Opened.{Opened, GivesPages, HasFontsOf, HasUnitsOf, IsExact, IsNoFile, IsReadFrom}
@@ -140,7 +140,7 @@ pub exact_open : (files : List NamedBytes) (bytes : List ℕ) (result : Result O
 exact_open files bytes result read bad = λ pages f. exactly files bytes result pages read bad f
 
 -- A fault after post.
-pub tail_refused : (bytes : List ℕ) (post after last : ℕ) (p : PassStateView) (left : Left) (pages : List MarkedPage) (known new : List Definition) (fault : FrameFault) → PagesHaveEnded p left pages
+pub tail_refused : (bytes : List ℕ) (post after last : ℕ) (p : PassStateView) (left : PlacesLeft) (pages : List MarkedPage) (known new : List Definition) (fault : FrameFault) → PagesHaveEnded p left pages
     → IsClosingFault bytes after (last - 5) known new fault → IsFinishFault bytes post after last p left known (of_frame fault)
 tail_refused bytes post after last p left pages known new frames.OutOfMemory ended wants = (pages, ended, new, wants)
 tail_refused bytes post after last p left pages known new (frames.Bad fault) ended broken = inr (pages, ended, new, broken)

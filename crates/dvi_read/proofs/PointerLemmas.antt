@@ -12,7 +12,7 @@ use Rattle.dvi_ops.specs.Fonts.{WidthsByName, widths_of}
 use Rattle.dvi_ops.specs.Instruction.{Instruction, Do, Push, Pop, Bop, Eop, Postamble}
 use Rattle.dvi_ops.specs.Tokens.{bop_place, places}
 use Rattle.dvi_scan.specs.Pass.{PassStateView, Between, Inside}
-use Rattle.dvi_scan.specs.Reached.{IsIn, IsReached, Left, ReadSoFar, all_left, after_bops}
+use Rattle.dvi_scan.specs.Reached.{IsIn, IsReached, PlacesLeft, ReadSoFar, all_left, after_bops}
 use Rattle.dvi_scan.specs.Execution.{BreaksTurn}
 use Rattle.dvi_scan.proofs.StrayLemmas.{all_met, later_left, stray}
 use Rattle.dvi_read.specs.Stops.{page_bytes, BreaksPages, BreaksRule, IsUnended, IsWalkFault}
@@ -30,11 +30,11 @@ no_pointer does most i (Inside pages counts marks stack s) b = b
 no_pointer does most i (Between pages) b = b
 
 -- An instruction that leaves no places is a bop.
-not_left : (at : ℕ) (i : Instruction) (left : Left) → after_bops (bop_place at i) left ≡ None → after_bops (at ∷ []) left ≡ None
+not_left : (at : ℕ) (i : Instruction) (left : PlacesLeft) → after_bops (bop_place at i) left ≡ None → after_bops (at ∷ []) left ≡ None
 not_left at (Bop counts pointer) left e = e
 not_left at i left e = absurd cc
 
-bop_at : (bytes : List ℕ) (at post : ℕ) (i : Instruction) (left : Left) → after_bops (bop_place at i) left ≡ None → StandsAt bytes at post i → IsPageAt bytes at post
+bop_at : (bytes : List ℕ) (at post : ℕ) (i : Instruction) (left : PlacesLeft) → after_bops (bop_place at i) left ≡ None → StandsAt bytes at post i → IsPageAt bytes at post
 bop_at bytes at post (Bop counts pointer) left e stands = (counts, pointer, stands)
 bop_at bytes at post i left e stands = absurd cc
 

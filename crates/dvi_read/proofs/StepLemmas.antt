@@ -12,7 +12,7 @@ use Rattle.dvi_ops.specs.Tokens.{bop_place}
 use Rattle.dvi_ops.specs.Instruction.{Definition, BodyLeaf, SetChar, PutChar, FontNum, FontDef, Instruction, Do}
 use Rattle.dvi_scan.specs.Drawing.{constant_width}
 use Rattle.dvi_scan.specs.Pass.{PassStateView, Between, Inside, with_marks, execute}
-use Rattle.dvi_scan.specs.Reached.{Left, after_bops}
+use Rattle.dvi_scan.specs.Reached.{PlacesLeft, after_bops}
 use Rattle.dvi_scan.specs.Execution.{BreaksTurn, IsAsked, TakesRoom, pass_at}
 use Rattle.dvi_scan.specs.View.{marked_page}
 use Rattle.dvi_scan.specs.declared.executing.PassState.{PassState}
@@ -165,7 +165,7 @@ pub note_fault : (files : List NamedBytes) (ahead : List ℤ) (most at : ℕ) (i
 note_fault files ahead most at i old mid OutOfMemory sound current passes b selected read =
     inr (goes_on files selected most i old mid sound current passes, lacks_same files ahead selected most i old mid read passes b)
 note_fault files ahead most at i old mid (Broken cause) sound current passes b selected read =
-    inr (goes_on files selected most i old mid sound current passes, subst₂ (λ (ds : List Definition) (left : Left). BreaksRest ahead ds at left i cause) passes.known passes.left b)
+    inr (goes_on files selected most i old mid sound current passes, subst₂ (λ (ds : List Definition) (left : PlacesLeft). BreaksRest ahead ds at left i cause) passes.known passes.left b)
 note_fault files ahead most at i old mid (Refused refusal) sound current passes (f, is, unread) selected read = (
   f,
   is,

@@ -21,7 +21,7 @@ use Rattle.dvi_ops.specs.Instruction.{Definition, FontNum, Instruction, Do, Push
 use Rattle.dvi_ops.specs.Tokens.{token_instructions}
 use Rattle.dvi_scan.specs.Pass.{PassStateView, Between, Inside}
 use Rattle.dvi_scan.specs.Passed.{file_framing, IsPassed}
-use Rattle.dvi_scan.specs.Reached.{AreNumbersOf, HasWidths, IsReached, IsRightAt, Left, ReadSoFar, all_left, before_pages, has_number}
+use Rattle.dvi_scan.specs.Reached.{AreNumbersOf, HasWidths, IsReached, IsRightAt, PlacesLeft, ReadSoFar, all_left, before_pages, has_number}
 use Rattle.dvi_scan.specs.Execution.{BreaksTurn, pass_at}
 use Rattle.dvi_scan.specs.View.{marked_page}
 use Rattle.dvi_scan.specs.declared.page.Page.{Page}
@@ -155,7 +155,7 @@ walked_first metrics ahead bytes stop chain from walk begun reached =
     subst (λ (ds : List Definition). IsReached metrics ahead bytes stop chain from (record { pass = stand_of walk; known = ds; selected = nothing; left = all_left chain })) (sym begun.known) one in
     record {
       selected = [];
-      reached = subst (λ (l : Left). IsReached metrics ahead bytes stop chain from (record { pass = stand_of walk; known = known_of walk; selected = nothing; left = l })) left two;
+      reached = subst (λ (l : PlacesLeft). IsReached metrics ahead bytes stop chain from (record { pass = stand_of walk; known = known_of walk; selected = nothing; left = l })) left two;
       read = tt;
       sound = record {
         widths = λ f place there. (let none : None ≡ Some place = sym (ap (λ (places : List (ℤ × ℕ)). lookup (is_at (int_cmp f)) places) begun.places) ∙ there in absurd cc);
@@ -171,5 +171,5 @@ left_over walk post closed some =
     (refl, inr (refl, (map marked_page walk.done.items, ap (λ (stand : PassState). pass_at (map marked_page walk.done.items) stand) closed), λ same. by_rule some same))
   where
     by_rule : (walk.missed ≡ true) ⊎ (walk.left.items ≢ []) → places_left walk ≡ all_left [] → ⊥
-    by_rule (inl missed) same = let both : true ≡ false = sym missed ∙ ap (λ (l : Left). l.missed) same in cc
-    by_rule (inr some) same = some (sym (reverse-reverse walk.left.items) ∙ ap (λ (l : Left). reverse l.places) same)
+    by_rule (inl missed) same = let both : true ≡ false = sym missed ∙ ap (λ (l : PlacesLeft). l.missed) same in cc
+    by_rule (inr some) same = some (sym (reverse-reverse walk.left.items) ∙ ap (λ (l : PlacesLeft). reverse l.places) same)

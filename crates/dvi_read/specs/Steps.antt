@@ -10,7 +10,7 @@ use Rattle.dvi_ops.specs.Fonts.{WidthsByName, IsRightAfter, first_definition_of,
 use Rattle.dvi_ops.specs.Instruction.{Definition, FontNum, Instruction, Do}
 use Rattle.dvi_ops.specs.Tokens.{bop_place}
 use Rattle.dvi_scan.specs.Pass.{PassStateView, execute}
-use Rattle.dvi_scan.specs.Reached.{HasWidths, Left, ReadSoFar, after_bops, has_number}
+use Rattle.dvi_scan.specs.Reached.{HasWidths, PlacesLeft, ReadSoFar, after_bops, has_number}
 use Rattle.dvi_scan.specs.Execution.{pass_at}
 use Rattle.dvi_scan.specs.View.{marked_page}
 use Rattle.dvi_read.specs.ReadFonts.{AreSound, HasCurrent, IsCurrent, FontIsRead, font_place}
@@ -57,7 +57,7 @@ abbrev pub known_of : Walk → List Definition
 known_of walk = walk.known
 
 -- The places left of the chain of pages.
-abbrev pub places_left : Walk → Left
+abbrev pub places_left : Walk → PlacesLeft
 places_left walk = record { missed = walk.missed; places = reverse walk.left.items }
 
 -- What was read of a file, from the state of a walk and the selected fonts.

@@ -14,7 +14,7 @@ use Rattle.dvi_ops.specs.Fonts.{WidthsByName, IsRightAfter, first_definition_of,
 use Rattle.dvi_ops.specs.Instruction.{Definition, FontDef, FontNum, Instruction, Do, Postamble}
 use Rattle.dvi_ops.specs.Tokens.{bop_place}
 use Rattle.dvi_scan.specs.Pass.{PassStateView, Between, execute}
-use Rattle.dvi_scan.specs.Reached.{IsReached, Left, ReadSoFar, all_left, after_bops, has_number}
+use Rattle.dvi_scan.specs.Reached.{IsReached, PlacesLeft, ReadSoFar, all_left, after_bops, has_number}
 use Rattle.dvi_scan.specs.Execution.{BreaksTurn, TakesRoom}
 use Rattle.dvi_read.specs.declared.fault.DviFault.{DviFault}
 use Rattle.dvi_read.specs.declared.fault.DviFault.TheVariants as faults
@@ -41,7 +41,7 @@ pub record LacksMemoryForFont (files : List NamedBytes) (ahead : List ℤ) (s : 
 
 -- The effect of an instruction on pages or fonts is wrong: a bop is not among the places left of the chain; a definition has no valid size or differs
 -- from an earlier one; a selected font is not defined before, or its number is not defined after post.
-abbrev pub BreaksRest : (ahead : List ℤ) → (known : List Definition) → (at : ℕ) → (left : Left) → Instruction → DviCause → Type 0
+abbrev pub BreaksRest : (ahead : List ℤ) → (known : List Definition) → (at : ℕ) → (left : PlacesLeft) → Instruction → DviCause → Type 0
 BreaksRest ahead known at left i Pointer = after_bops (bop_place at i) left ≡ None
 BreaksRest ahead known at left i Font = (IsRightAfter known i → ⊥) ⊎ (f : ℤ) × (i ≡ Do (FontNum f)) × (has_number ahead f ≡ false)
 BreaksRest ahead known at left i cause = ⊥
@@ -122,12 +122,12 @@ IsWalkFault files ahead bytes stop chain post fault =
     (at : ℕ) × StopsAt files (page_bytes ahead bytes (min max_pushes stop.stack_depth) post) stop chain at fault
 
 -- At the place of post no page is open, no place of the chain is still to come, and none was missed.
-pub record PagesHaveEnded (p : PassStateView) (left : Left) (pages : List MarkedPage) : Type 0 where
+pub record PagesHaveEnded (p : PassStateView) (left : PlacesLeft) (pages : List MarkedPage) : Type 0 where
   pub between : p ≡ Between pages
   pub none : left ≡ all_left []
 
 -- A page is open there, and the fault is Opcode; or none is open, some place of the chain was no bop, and the fault is Pointer.
-abbrev pub IsUnended : PassStateView → Left → (post : ℕ) → BadDvi → Type 0
+abbrev pub IsUnended : PassStateView → PlacesLeft → (post : ℕ) → BadDvi → Type 0
 IsUnended p left post fault =
     (fault.place ≡ post)
     × ((fault.cause ≡ Opcode) × ((pages : List MarkedPage) → p ≡ Between pages → ⊥) ⊎ (fault.cause ≡ Pointer)

@@ -15,7 +15,7 @@ use Rattle.dvi_ops.proofs.Frames.{begins, not_empty, one_list}
 use Rattle.dvi_scan.specs.Known.{HasSame}
 use Rattle.dvi_scan.specs.Pass.{PassStateView, Between, execute, then_pass, passes}
 use Rattle.dvi_scan.specs.Passed.{file_framing, IsPassed}
-use Rattle.dvi_scan.specs.Reached.{AreNumbersOf, HasRight, HasWidths, IsDefined, IsReached, IsRightAt, IsTail, Left, ReadSoFar, all_left, before_pages, after_bops, has_number}
+use Rattle.dvi_scan.specs.Reached.{AreNumbersOf, HasRight, HasWidths, IsDefined, IsReached, IsRightAt, IsTail, PlacesLeft, ReadSoFar, all_left, before_pages, after_bops, has_number}
 use Rattle.dvi_scan.proofs.FontLemmas.{SameNow, all_more_widths, all_same_widths, defined_more, same_passes, same_turn, some_definition}
 use Rattle.dvi_scan.proofs.KnownLemmas.{fonts_same, same_after, same_right, same_self, same_sym}
 use Rattle.dvi_scan.proofs.LeftLemmas.{after_bops-append, bops_met, none_missed}
@@ -273,7 +273,7 @@ pub reached_end : (metrics : WidthsByName) (bytes : List ℕ) (post after last :
     → AreNumbersOf ahead (definitions (token_instructions tail)) → IsReached metrics ahead bytes stop chain post s → s.pass ≡ Between pages → s.left ≡ all_left [] → IsTail bytes after last s.known tail
     → IsPassed metrics bytes (file_framing post after last stop chain) pages
 reached_end metrics bytes post after last stop chain pages ahead s tail units numbers r pass_is left_is t =
-    let bops = r.bops ∙ ap (λ (l : Left). Some l) left_is in
+    let bops = r.bops ∙ ap (λ (l : PlacesLeft). Some l) left_is in
     let order = same_order (token_instructions r.before) s.known r.known_is in
     record {
       front = r.before;

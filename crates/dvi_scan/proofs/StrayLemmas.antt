@@ -12,7 +12,7 @@ use Rattle.dvi_ops.specs.Table.{Spells}
 use Rattle.dvi_ops.specs.Tokens.{Token, IsSpelled, bop_place, places, token_bytes}
 use Rattle.scaled_core.proofs.EachOf.{all_append}
 use Rattle.dvi_ops.proofs.Frames.{not_empty}
-use Rattle.dvi_scan.specs.Reached.{IsIn, IsReached, Left, ReadSoFar, all_left, after_bop, after_bops}
+use Rattle.dvi_scan.specs.Reached.{IsIn, IsReached, PlacesLeft, ReadSoFar, all_left, after_bop, after_bops}
 use Rattle.dvi_scan.proofs.LeftLemmas.{bops_met}
 
 -- Each number is less than those after it.
@@ -45,7 +45,7 @@ links_rise bytes bound pointer (place ∷ earlier) later (named, counts, before,
     (links_rise bytes place before earlier (place ∷ later) links (omega arith, all_from place bound later low above) (all_less place bound later low above, rises))
 
 -- A bop that was found is among the places.
-found_in : (at : ℕ) (missed : Bool) (ps : List ℕ) (next : Left) → after_bop at missed ps ≡ Some next → IsIn at ps
+found_in : (at : ℕ) (missed : Bool) (ps : List ℕ) (next : PlacesLeft) → after_bop at missed ps ≡ Some next → IsIn at ps
 found_in at missed [] next e = absurd cc
 found_in at missed (p ∷ ps) next e = go (nat_eq p at) refl (found_in at true ps next) e
   where
@@ -63,10 +63,10 @@ lost_out at missed (p ∷ ps) e there = go (nat_eq p at) refl (lost_out at true 
     go false is rest e (inl same) = let both : false ≡ true = sym is ∙ eq-eqb p at (sym same) in absurd cc
     go false is rest e (inr there) = rest e there
 
-pub stray : (at : ℕ) (left : Left) → after_bops (at ∷ []) left ≡ None → IsIn at left.places → ⊥
+pub stray : (at : ℕ) (left : PlacesLeft) → after_bops (at ∷ []) left ≡ None → IsIn at left.places → ⊥
 stray at left e there = go (after_bop at left.missed left.places) refl e
   where
-    go : (o : Option Left) → after_bop at left.missed left.places ≡ o → option_and_then (after_bops []) o ≡ None → ⊥
+    go : (o : Option PlacesLeft) → after_bop at left.missed left.places ≡ o → option_and_then (after_bops []) o ≡ None → ⊥
     go None is e = lost_out at left.missed left.places is there
     go (Some next) is e = cc
 
@@ -76,7 +76,7 @@ in_all P x (y ∷ ys) (here, all) (inl same) = subst P (sym same) here
 in_all P x (y ∷ ys) (here, all) (inr there) = in_all P x ys all there
 
 -- After a bop the places after its own are left.
-left_one : (c at : ℕ) (missed : Bool) (ps : List ℕ) (next : Left) → Rises ps → at < c → after_bop at missed ps ≡ Some next → IsIn c ps → IsIn c next.places × Rises next.places
+left_one : (c at : ℕ) (missed : Bool) (ps : List ℕ) (next : PlacesLeft) → Rises ps → at < c → after_bop at missed ps ≡ Some next → IsIn c ps → IsIn c next.places × Rises next.places
 left_one c at missed [] next rises low e there = absurd there
 left_one c at missed (p ∷ ps) next (above, rises) low e there = go (nat_eq p at) refl (left_one c at true ps next rises low) (found_in at true ps next) e there
   where
@@ -87,12 +87,12 @@ left_one c at missed (p ∷ ps) next (above, rises) low e there = go (nat_eq p a
     go false is rest found e (inl same) = let below : p < at = in_all (λ (y : ℕ). p < y) at ps above (found e) in absurd (omega arith)
     go false is rest found e (inr there) = rest e there
 
-left_all : (c at : ℕ) (bops : List ℕ) (start left : Left) → Rises start.places → at ≤ c → AllByRecursion (λ (p : ℕ). p < at) bops → after_bops bops start ≡ Some left → IsIn c start.places → IsIn c left.places
-left_all c at [] start left rises low all e there = let same : start ≡ left = cc in subst (λ (l : Left). IsIn c l.places) same there
+left_all : (c at : ℕ) (bops : List ℕ) (start left : PlacesLeft) → Rises start.places → at ≤ c → AllByRecursion (λ (p : ℕ). p < at) bops → after_bops bops start ≡ Some left → IsIn c start.places → IsIn c left.places
+left_all c at [] start left rises low all e there = let same : start ≡ left = cc in subst (λ (l : PlacesLeft). IsIn c l.places) same there
 left_all c at (bop ∷ bops) start left rises low (here, all) e there = go (after_bop bop start.missed start.places) refl (λ next. left_all c at bops next left) e
   where
-    go : (o : Option Left) → after_bop bop start.missed start.places ≡ o
-        → ((next : Left) → Rises next.places → at ≤ c → AllByRecursion (λ (p : ℕ). p < at) bops → after_bops bops next ≡ Some left → IsIn c next.places → IsIn c left.places)
+    go : (o : Option PlacesLeft) → after_bop bop start.missed start.places ≡ o
+        → ((next : PlacesLeft) → Rises next.places → at ≤ c → AllByRecursion (λ (p : ℕ). p < at) bops → after_bops bops next ≡ Some left → IsIn c next.places → IsIn c left.places)
         → option_and_then (after_bops bops) o ≡ Some left → IsIn c left.places
     go None is rest e = absurd cc
     go (Some next) is rest e =

@@ -31,7 +31,7 @@ abbrev pub AreNumbersOf : List ℤ → List Definition → Type 0
 AreNumbersOf numbers table = (f : ℤ) → has_number numbers f ≡ is_some (first_definition_of f table)
 
 -- The places of a chain that are still to come, in rising order, and whether one before them was missed, because no bop was there.
-pub record Left : Type 0 where
+pub record PlacesLeft : Type 0 where
   pub missed : Bool
   pub places : List ℕ
 
@@ -41,16 +41,16 @@ IsIn at [] = ⊥
 IsIn at (place ∷ places) = (at ≡ place) ⊎ IsIn at places
 
 -- All places of a chain, which has the last one first.
-abbrev pub all_left : List ℕ → Left
+abbrev pub all_left : List ℕ → PlacesLeft
 all_left chain = record { missed = false; places = reverse chain }
 
 -- The places left after a bop, where its own place is among them; those before it are missed.
-abbrev pub after_bop : ℕ → (missed : Bool) → List ℕ → Option Left
+abbrev pub after_bop : ℕ → (missed : Bool) → List ℕ → Option PlacesLeft
 after_bop at missed [] = None
 after_bop at missed (place ∷ places) = if nat_eq place at then Some (record { missed = missed; places = places }) else after_bop at true places
 
 -- The places left after several bops.
-abbrev pub after_bops : List ℕ → Left → Option Left
+abbrev pub after_bops : List ℕ → PlacesLeft → Option PlacesLeft
 after_bops [] left = Some left
 after_bops (at ∷ more) left = option_and_then (after_bops more) (after_bop at left.missed left.places)
 
@@ -60,7 +60,7 @@ pub record ReadSoFar : Type 0 where
   pub pass : PassStateView
   pub known : List Definition
   pub selected : List ℤ
-  pub left : Left
+  pub left : PlacesLeft
 
 -- The state directly after the preamble: no page, no font, and all places of the chain still to come.
 abbrev pub before_pages : List ℕ → ReadSoFar

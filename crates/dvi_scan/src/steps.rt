@@ -9,7 +9,7 @@ ghost use Rattle.dvi_ops.specs.Tokens.{Token, places, token_instructions};
 ghost use Rattle.dvi_scan.specs.Chain.{Links};
 ghost use Rattle.dvi_scan.specs.Passed.{file_framing, IsPassed};
 ghost use Rattle.dvi_scan.specs.Pass.{Between};
-ghost use Rattle.dvi_scan.specs.Reached.{AreNumbersOf, HasRight, IsIn, IsReached, IsRightAt, IsTail, Left, ReadSoFar, all_left, before_pages};
+ghost use Rattle.dvi_scan.specs.Reached.{AreNumbersOf, HasRight, IsIn, IsReached, IsRightAt, IsTail, PlacesLeft, ReadSoFar, all_left, before_pages};
 ghost use Rattle.dvi_scan.specs.Reached.{after_bops};
 
 /// A right instruction takes the pass forward.
@@ -34,7 +34,7 @@ pub fn later_places_are_left()
     ensures left { (metrics : WidthsByName) (ahead : List ℤ) (bytes : List ℕ) (stop : Postamble) (chain : List ℕ) (at : ℕ) (s : ReadSoFar)
         (r : IsReached metrics ahead bytes stop chain at s) (bound : ℕ) (pointer : ℤ) (place : ℕ)
         → at ≤ length bytes → Links bytes bound pointer chain → IsIn place (reverse chain) → at ≤ place → IsIn place s.left.places }
-    ensures stray { (at : ℕ) (left : Left) → after_bops (at ∷ []) left ≡ None → IsIn at left.places → ⊥ }
+    ensures stray { (at : ℕ) (left : PlacesLeft) → after_bops (at ∷ []) left ≡ None → IsIn at left.places → ⊥ }
     ensures met { (metrics : WidthsByName) (ahead : List ℤ) (bytes : List ℕ) (stop : Postamble) (chain : List ℕ) (at : ℕ) (s : ReadSoFar)
         (r : IsReached metrics ahead bytes stop chain at s) → places 0 r.before ≡ reverse chain → s.left ≡ all_left [] }
 {}

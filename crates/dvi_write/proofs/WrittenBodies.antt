@@ -12,7 +12,7 @@ use Rattle.dvi_ops.specs.Spelling.{HasSpelling}
 use Rattle.dvi_ops.specs.Layout.{IsWritable, bytes_of}
 use Rattle.dvi_ops.specs.Plain.{NamesNoRegister}
 use Rattle.scaled_core.proofs.EachOf.{all_append, all_front, all_back}
-use Rattle.move_core.specs.Reused.{reused}
+use Rattle.move_core.specs.Reused.{reused_body}
 use Rattle.move_core.specs.SamePage.{IsPlainBody, still_of, leaves_in_order}
 use Rattle.move_core.proofs.SameBody.{reused_length, reused_nests, reused_order, reused_fits}
 use Rattle.move_core.proofs.Sheets.{reused_selections, reused_definitions, reused_kept}
@@ -80,5 +80,5 @@ spelled_still (Group inner rest) all =
 -- Each instruction can be spelled, whether the page is huge or not.
 pub spelled_written : (page : ShippedPage) → items_text page.box_node.list < 2 ^ 32 → AllByRecursion HasSpelling (flat (written_body page))
 spelled_written page few =
-    spelled_still (reused (body_of page))
+    spelled_still (reused_body (body_of page))
     (subst (AllByRecursion IsSpelled) (sym (reused_order (body_of page))) (still_spelled (flat (body_of page)) (spelled_page page few)))

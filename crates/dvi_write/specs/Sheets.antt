@@ -7,14 +7,14 @@ use Rattle.dvi_ops.specs.Forest.{Forest, flat}
 use Rattle.dvi_ops.specs.Layout.{Sheet}
 use Rattle.page_core.specs.Marks.{ShippedPage}
 use Rattle.ship_core.specs.Drawing.{body_of}
-use Rattle.move_core.specs.Reused.{reused}
+use Rattle.move_core.specs.Reused.{reused_body}
 use Rattle.tfm_core.specs.declared.slots.LoadedFont.{LoadedFont}
 use Rattle.tfm_core.specs.Slots.{Slots, font_in}
 
 -- The body of a page as it is written: without empty groups, and with movements by w, x, y and z where their amounts come again. Only this body is
 -- written; the plan of the page stays `body_of`.
 abbrev pub written_body : ShippedPage → Forest
-written_body page = reused (body_of page)
+written_body page = reused_body (body_of page)
 
 -- The definition of a font: its number is its slot, and its name has no area (DVItype, 18).
 abbrev pub definition_of : ℕ → LoadedFont → Definition

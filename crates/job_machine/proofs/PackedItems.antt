@@ -6,7 +6,7 @@ use Rattle.node_core.specs.Items.{Items}
 use Rattle.pack_core.specs.declared.pack.Target.{Target}
 use Rattle.pack_core.specs.declared.pack.Packed as packs
 use Rattle.pack_core.specs.declared.pack.TooLarge.{TooLarge}
-use Rattle.pack_core.specs.Boxes.{hbox, hpacked, vbox, vpacked, vtop_box, vtopped}
+use Rattle.pack_core.specs.Boxes.{hbox, hpack_result, vbox, vpack_result, vtop_box, vtop_result}
 use Rattle.job_machine.specs.declared.command.BoxForm.{BoxForm}
 use Rattle.job_machine.specs.declared.ListPurpose.{ListPurpose}
 use Rattle.job_machine.specs.declared.ListPurpose.TheVariants.{Box, Paragraph}
@@ -17,16 +17,16 @@ items_packed : (b : Bool) (p q : packs.Packed) (items : Items) → if◌then◌e
 items_packed true p q items is = cc
 items_packed false p q items is = cc
 
-hpacked_items : (target : Target) (items : Items) (q : packs.Packed) → hpacked target items ≡ Ok q → items ≡ q.box_node.list
-unfolding hpacked hbox
+hpacked_items : (target : Target) (items : Items) (q : packs.Packed) → hpack_result target items ≡ Ok q → items ≡ q.box_node.list
+unfolding hpack_result hbox
 hpacked_items target items q is = ap (λ (p : packs.Packed). p.box_node.list) (items_packed _ _ q items is)
 
-vpacked_items : (target : Target) (limit : ℤ) (items : Items) (q : packs.Packed) → vpacked target limit items ≡ Ok q → items ≡ q.box_node.list
-unfolding vpacked vbox
+vpacked_items : (target : Target) (limit : ℤ) (items : Items) (q : packs.Packed) → vpack_result target limit items ≡ Ok q → items ≡ q.box_node.list
+unfolding vpack_result vbox
 vpacked_items target limit items q is = ap (λ (p : packs.Packed). p.box_node.list) (items_packed _ _ q items is)
 
-vtopped_items : (target : Target) (limit : ℤ) (items : Items) (q : packs.Packed) → vtopped target limit items ≡ Ok q → items ≡ q.box_node.list
-unfolding vtopped vtop_box vbox
+vtopped_items : (target : Target) (limit : ℤ) (items : Items) (q : packs.Packed) → vtop_result target limit items ≡ Ok q → items ≡ q.box_node.list
+unfolding vtop_result vtop_box vbox
 vtopped_items target limit items q is = ap (λ (p : packs.Packed). p.box_node.list) (items_packed _ _ q items is)
 
 packed_as_items : (form : BoxForm) (params : Params) (target : Target) (items : Items) (q : packs.Packed) → packed_as form params target items ≡ Ok q → items ≡ q.box_node.list

@@ -18,7 +18,7 @@ use Rattle.job_machine.specs.declared.command.BoxForm.TheVariants.{Hbox, Vbox, V
 use Rattle.pack_core.specs.declared.pack.Target.{Target}
 use Rattle.pack_core.specs.declared.pack.Packed as packs
 use Rattle.pack_core.specs.declared.pack.TooLarge.{TooLarge}
-use Rattle.pack_core.specs.Boxes.{hpacked, vpacked, vtopped}
+use Rattle.pack_core.specs.Boxes.{hpack_result, vpack_result, vtop_result}
 
 -- A list that was just opened: it has no items, and its previous depth is the one that counts as none.
 abbrev pub opened_list : ListPurpose → OpenList
@@ -55,9 +55,9 @@ box_items params open_list shift b = appended_nodes (glue_of (glue_in params ope
 -- The box that a list of items becomes, or the items where a size does not fit. A vbox is no deeper than boxmaxdepth
 -- (TeX: The Program, part 47, §1086).
 abbrev pub packed_as : BoxForm → Params → Target → Items → Result packs.Packed TooLarge
-packed_as Hbox params target items = hpacked target items
-packed_as Vbox params target items = vpacked target params.box_max_depth items
-packed_as Vtop params target items = vtopped target params.box_max_depth items
+packed_as Hbox params target items = hpack_result target items
+packed_as Vbox params target items = vpack_result target params.box_max_depth items
+packed_as Vtop params target items = vtop_result target params.box_max_depth items
 
 -- The box that a list with these items becomes, by what it was opened for. A paragraph becomes no box.
 abbrev pub packed_by : ListPurpose → Params → Items → Result packs.Packed TooLarge

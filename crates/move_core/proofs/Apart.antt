@@ -5,7 +5,7 @@ use Rattle.dvi_ops.specs.Instruction.{Axis, Across, Downward, By, Set, Again, Mo
 use Rattle.dvi_ops.specs.Forest.{Forest, flat}
 use Rattle.dvi_ops.specs.Runs.{characters, woven_instructions}
 use Rattle.move_core.specs.Registers.{is_amount}
-use Rattle.move_core.specs.Reused.{movement_along, plain_amount, reused}
+use Rattle.move_core.specs.Reused.{movement_along, plain_amount, reused_body}
 use Rattle.move_core.specs.Private.Passes.{Groups, amount_comes, again_in, groups_entered, op_written, amounts_after, rewritten_instructions, outside_groups, ends_empty_group, is_push, has_empty_group}
 use Rattle.move_core.proofs.FullGroups.{trimmed_whole}
 use Rattle.move_core.proofs.SameBody.{gives_reused}
@@ -118,7 +118,7 @@ length-rewritten (i ∷ is) g =
 -- Where no pop comes directly after a push among the other instructions, these alone, written with registers, give the reused body.
 pub reused-woven :
     (codes places : List ℕ) (is js : List Instruction) (body : Forest) → length places ≡ length is → has_empty_group false is ≡ false
-    → js ≡ rewritten_instructions is outside_groups → woven_instructions 0 codes places is ≡ flat body → woven_instructions 0 codes places js ≡ flat (reused body)
+    → js ≡ rewritten_instructions is outside_groups → woven_instructions 0 codes places is ≡ flat body → woven_instructions 0 codes places js ≡ flat (reused_body body)
 reused-woven codes places is js body paired none writes same =
     let all = woven_instructions 0 codes places is in
     gives_reused all all (woven_instructions 0 codes places js) body (sym (trimmed_whole all (none-woven false 0 codes places is paired none)))

@@ -4,7 +4,7 @@ use Rattle.std.proofs.lemmas.List.{reverse-append}
 use Rattle.dvi_ops.specs.Instruction.{Axis, By, Set, Again, BodyLeaf, Move, Instruction, Do, Push, Pop}
 use Rattle.dvi_ops.specs.Forest.{Forest, Empty, Then, Group, flat}
 use Rattle.move_core.specs.Registers.{Known, nothing_known, is_amount, written_leaf}
-use Rattle.move_core.specs.Reused.{movement_along, plain_amount, has_move, comes_again, reused_from, grouped_body, pruned_body, reused}
+use Rattle.move_core.specs.Reused.{movement_along, plain_amount, has_move, comes_again, reused_from, grouped_body, pruned_body, reused_body}
 use Rattle.move_core.specs.Private.Passes.{trimmed_instructions, amount_comes, again_in, outside_groups, rewritten_instructions}
 
 -- A reversed list before another one.
@@ -128,8 +128,8 @@ rewritten_forest (Group inner f) k outer rest ends =
     )
 
 -- All passes over a body.
-pub passes_body : (f : Forest) → rewritten_instructions (trimmed_instructions (flat f) []) outside_groups ≡ flat (reused f)
-unfolding onto Ends reused
+pub passes_body : (f : Forest) → rewritten_instructions (trimmed_instructions (flat f) []) outside_groups ≡ flat (reused_body f)
+unfolding onto Ends reused_body
 passes_body f =
     let body = flat (pruned_body f) in
     let last = rewritten_forest (pruned_body f) nothing_known [] [] (λ axis n. refl) in

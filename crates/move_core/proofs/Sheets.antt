@@ -10,7 +10,7 @@ use Rattle.dvi_ops.specs.Fonts.{WidthsByName, definitions_in, definitions, selec
 use Rattle.dvi_ops.specs.Layout.{Sheet, Table, IsGood, define, table_widths}
 use Rattle.dvi_ops.specs.Plain.{NamesNoRegister}
 use Rattle.dvi_ops.proofs.Ranges.{meaning-kept, kept-meaning}
-use Rattle.move_core.specs.Reused.{reused}
+use Rattle.move_core.specs.Reused.{reused_body}
 use Rattle.move_core.specs.SamePage.{ShownPage, shown_meaning, leaves_in_order}
 use Rattle.move_core.proofs.SameBody.{plain_forest, reused_meaning, reused_places, reused_nests, reused_order, reused_fits}
 
@@ -27,14 +27,14 @@ definitions-still (Do leaf ∷ is) = ap (λ (fonts : List Definition). definitio
 definitions-still (i ∷ is) = definitions-still is
 
 -- The same fonts are selected, in the same order.
-pub reused_selections : (f : Forest) → selections (flat (reused f)) ≡ selections (flat f)
+pub reused_selections : (f : Forest) → selections (flat (reused_body f)) ≡ selections (flat f)
 reused_selections f =
-    selections-still (flat (reused f)) ∙ (ap (flat_map (λ leaf. selection_of (Do leaf))) (reused_order f) ∙ sym (selections-still (flat f)))
+    selections-still (flat (reused_body f)) ∙ (ap (flat_map (λ leaf. selection_of (Do leaf))) (reused_order f) ∙ sym (selections-still (flat f)))
 
 -- The same fonts are defined, in the same order.
-pub reused_definitions : (f : Forest) → definitions (flat (reused f)) ≡ definitions (flat f)
+pub reused_definitions : (f : Forest) → definitions (flat (reused_body f)) ≡ definitions (flat f)
 reused_definitions f =
-    definitions-still (flat (reused f)) ∙ (ap (flat_map (λ leaf. definitions_in (Do leaf))) (reused_order f) ∙ sym (definitions-still (flat f)))
+    definitions-still (flat (reused_body f)) ∙ (ap (flat_map (λ leaf. definitions_in (Do leaf))) (reused_order f) ∙ sym (definitions-still (flat f)))
 
 -- A meaning that shows the same as another has the same marks.
 shown_back : (m : Meaning) (marks : List Mark) (s : DviState) → shown_meaning m ≡ shown_meaning (Some (marks, s)) → (t : DviState) × (m ≡ Some (marks, t))
@@ -46,21 +46,21 @@ shown_back (Some (others, t)) marks s e =
 -- A body that shows marks from a place in signed 32 bits, with h and v in that range all the way, and its reused body.
 pub reused_kept : (widths : Widths) (f : Forest) (s : DviState) (marks : List Mark) (last : DviState) → AllByRecursion NamesNoRegister (flat f) →
     IsPoint (s.place.h, s.place.v) → meaning (bounded_acts (instruction_acts widths)) f s ≡ Some (marks, last) →
-    (t : DviState) × (meaning (bounded_acts (instruction_acts widths)) (reused f) s ≡ Some (marks, t))
+    (t : DviState) × (meaning (bounded_acts (instruction_acts widths)) (reused_body f) s ≡ Some (marks, t))
 reused_kept widths f s marks last names here e =
     let plain = plain_forest f names in
     let free = kept-meaning (instruction_acts widths) f s (marks, last) here e in
     let within =
-    recursion_from_All IsPoint (points (instruction_acts widths) (reused f) s)
-    (All-weaker (Contains (points (instruction_acts widths) (reused f) s)) IsPoint
+    recursion_from_All IsPoint (points (instruction_acts widths) (reused_body f) s)
+    (All-weaker (Contains (points (instruction_acts widths) (reused_body f) s)) IsPoint
     (λ p there. All-contains IsPoint (points (instruction_acts widths) f s) p (All-from_recursion IsPoint (points (instruction_acts widths) f s) free.1) (reused_places f plain widths s p there))
-    (points (instruction_acts widths) (reused f) s) (All-contains_itself (points (instruction_acts widths) (reused f) s))) in
-    let found = shown_back (meaning (instruction_acts widths) (reused f) s) marks last (reused_meaning f plain widths s ∙ ap shown_meaning free.0) in
-    (found.0, meaning-kept (instruction_acts widths) (reused f) s within ∙ found.1)
+    (points (instruction_acts widths) (reused_body f) s) (All-contains_itself (points (instruction_acts widths) (reused_body f) s))) in
+    let found = shown_back (meaning (instruction_acts widths) (reused_body f) s) marks last (reused_meaning f plain widths s ∙ ap shown_meaning free.0) in
+    (found.0, meaning-kept (instruction_acts widths) (reused_body f) s within ∙ found.1)
 
 -- A good page stays good with its reused body, and has the same marks.
 pub good_reused : (metrics : WidthsByName) (table : Table) (known : List Definition) (p : Sheet) (marks : List Mark) →
-    AllByRecursion NamesNoRegister (flat p.body) → IsGood metrics table known p marks → IsGood metrics table known (record p { body = reused p.body }) marks
+    AllByRecursion NamesNoRegister (flat p.body) → IsGood metrics table known p marks → IsGood metrics table known (record p { body = reused_body p.body }) marks
 good_reused metrics table known p marks names good =
     let fonts = sym (reused_selections p.body) in
     let shows = reused_kept (table_widths metrics table) p.body start marks good.last names (refl, refl) good.shows in

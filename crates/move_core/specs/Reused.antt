@@ -47,5 +47,5 @@ pruned_body (Then leaf rest) = Then leaf (pruned_body rest)
 pruned_body (Group inner rest) = grouped_body (pruned_body inner) (pruned_body rest)
 
 -- A body without empty groups, with its movements written with registers; at first no value is known.
-unfoldable pub reused : Forest → Forest
-reused body = reused_from nothing_known (pruned_body body)
+unfoldable pub reused_body : Forest → Forest
+reused_body body = reused_from nothing_known (pruned_body body)

@@ -7,7 +7,7 @@ ghost use Rattle.dvi_ops.specs.Forest.{Forest, flat};
 ghost use Rattle.dvi_ops.specs.Layout.{IsWritable, bytes_of};
 ghost use Rattle.dvi_ops.specs.Runs.{instructions_of};
 ghost use Rattle.dvi_ops.specs.View.{body_view};
-ghost use Rattle.move_core.specs.Reused.{reused};
+ghost use Rattle.move_core.specs.Reused.{reused_body};
 ghost use Rattle.move_core.specs.SamePage.{AreBodies, HasNoHollow, IsPlainBody, MeansTheSame, NestsNoDeeper, PassesThroughNoOther, SetsAhead};
 ghost use Rattle.move_core.specs.SamePage.{UsesStored, leaves_in_order, unset_registers};
 
@@ -18,7 +18,7 @@ use std::alloc::AllocError;
 /// Writes the movements of a page body with w, x, y and z where their amounts come again, and removes empty groups. Where memory is refused, the list
 /// is dropped.
 ///
-/// The result is `reused` of the body; the law `reused_means_the_same` says the clauses below of every page body.
+/// The result is `reused_body` of the body; the law `reused_means_the_same` says the clauses below of every page body.
 pub fn reuse<'a>(ops: Vec<BodyOp<'a>>) -> Result<Vec<BodyOp<'a>>, AllocError>
     // The instructions are the body of a page, and none sets or reads w, x, y or z.
     requires { IsPlainBody (map body_view ops.items) }
@@ -45,7 +45,7 @@ pub fn reuse<'a>(ops: Vec<BodyOp<'a>>) -> Result<Vec<BodyOp<'a>>, AllocError>
         (map body_view written.items)) }
     // The result is the reused body.
     ensures reused { IfOk result (λ written. (body : Forest) → map body_view ops.entry.items ≡ flat body
-        → map body_view written.items ≡ flat (reused body)) }
+        → map body_view written.items ≡ flat (reused_body body)) }
 {
     let trimmed = without_empty_groups(ops)?;
     with_registers(trimmed)
@@ -54,7 +54,7 @@ pub fn reuse<'a>(ops: Vec<BodyOp<'a>>) -> Result<Vec<BodyOp<'a>>, AllocError>
 /// As `reuse_runs`, for a body that may have empty groups. Few pages have them, so the body is listed here.
 fn reuse_list<'a>(runs: &PageRuns<'a>) -> Result<PageRuns<'a>, AllocError>
     requires { IsPlainBody (instructions_of runs.now) }
-    ensures { IfOk result (λ written. (body : Forest) → instructions_of runs.now ≡ flat body → instructions_of written ≡ flat (reused body)) }
+    ensures { IfOk result (λ written. (body : Forest) → instructions_of runs.now ≡ flat body → instructions_of written ≡ flat (reused_body body)) }
 {
     let alloc = *runs.ops.allocator();
     let drawn = runs.instructions(alloc)?;
@@ -67,7 +67,7 @@ fn reuse_list<'a>(runs: &PageRuns<'a>) -> Result<PageRuns<'a>, AllocError>
 /// alone. Where a pop comes directly after a push there, characters may stand between the two: then all instructions are listed first.
 pub fn reuse_runs<'a>(runs: PageRuns<'a>) -> Result<PageRuns<'a>, AllocError>
     requires { IsPlainBody (instructions_of runs) }
-    ensures { IfOk result (λ written. (body : Forest) → instructions_of runs.entry ≡ flat body → instructions_of written ≡ flat (reused body)) }
+    ensures { IfOk result (λ written. (body : Forest) → instructions_of runs.entry ≡ flat body → instructions_of written ≡ flat (reused_body body)) }
 {
     if has_empty_group(&runs.ops) {
         return reuse_list(&runs);

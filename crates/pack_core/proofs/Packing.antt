@@ -18,7 +18,7 @@ use Rattle.pack_core.specs.Items.{advance}
 use Rattle.scaled_core.specs.Dimensions.{fits}
 use Rattle.pack_core.specs.Totals.{total, first_height}
 use Rattle.pack_core.specs.Glue.{setting_of, setting_badness}
-use Rattle.pack_core.specs.Boxes.{hbox, hbox_excess, hbox_badness, hbox_numbers, hpacked, vbox, vbox_excess, vbox_badness, vbox_numbers, vpacked, vtop_box, vtop_numbers, vtopped, some_if, hbox_shell, vbox_shell, packed_of}
+use Rattle.pack_core.specs.Boxes.{hbox, hbox_excess, hbox_badness, hbox_numbers, hpack_result, vbox, vbox_excess, vbox_badness, vbox_numbers, vpack_result, vtop_box, vtop_numbers, vtop_result, some_if, hbox_shell, vbox_shell, packed_of}
 use Rattle.pack_core.specs.Places.{place, place_in}
 use Rattle.pack_core.specs.Private.Steps.{vtop_shell, boxed_list}
 use Rattle.pack_core.proofs.Edge.{fills}
@@ -28,21 +28,21 @@ unfolding boxed_list some_if
 boxed-given true items shell = refl
 boxed-given false items shell = refl
 
-pub boxed-hbox : (target : Target) (items : Items) → boxed_list items (some_if (list_all fits (hbox_numbers target (nodes_of items))) (hbox_shell target (nodes_of items))) ≡ hpacked target items
-unfolding hpacked hbox hbox_shell packed_of
+pub boxed-hbox : (target : Target) (items : Items) → boxed_list items (some_if (list_all fits (hbox_numbers target (nodes_of items))) (hbox_shell target (nodes_of items))) ≡ hpack_result target items
+unfolding hpack_result hbox hbox_shell packed_of
 boxed-hbox target items = boxed-given (list_all fits (hbox_numbers target (nodes_of items))) items (hbox_shell target (nodes_of items))
 
 pub boxed-vbox :
     (target : Target) (limit : ℤ) (items : Items)
-    → boxed_list items (some_if (list_all fits (vbox_numbers target limit (nodes_of items))) (vbox_shell target limit (nodes_of items))) ≡ vpacked target limit items
-unfolding vpacked vbox vbox_shell packed_of
+    → boxed_list items (some_if (list_all fits (vbox_numbers target limit (nodes_of items))) (vbox_shell target limit (nodes_of items))) ≡ vpack_result target limit items
+unfolding vpack_result vbox vbox_shell packed_of
 boxed-vbox target limit items = boxed-given (list_all fits (vbox_numbers target limit (nodes_of items))) items (vbox_shell target limit (nodes_of items))
 
 pub boxed-vtop :
     (target : Target) (limit : ℤ) (items : Items)
     → boxed_list items (some_if (list_all fits (vtop_numbers target limit (nodes_of items))) (vtop_shell (vbox_shell target limit (nodes_of items)) (first_height (nodes_of items))))
-    ≡ vtopped target limit items
-unfolding vtopped vtop_box vbox vbox_shell vtop_shell packed_of
+    ≡ vtop_result target limit items
+unfolding vtop_result vtop_box vbox vbox_shell vtop_shell packed_of
 boxed-vtop target limit items =
     boxed-given (list_all fits (vtop_numbers target limit (nodes_of items))) items (vtop_shell (vbox_shell target limit (nodes_of items)) (first_height (nodes_of items)))
 
@@ -80,22 +80,22 @@ filled :
 filled kind items excess set good = rw (whole items) (fills kind (nodes_of items) excess set good)
 
 -- An hbox.
-pub hpacked-ok : (target : Target) (items : Items) → IfOk (hpacked target items) (λ p. (p.box_node ≡ hbox target items) × (p.badness ≡ hbox_badness target (nodes_of items)))
-unfolding hpacked hbox
+pub hpacked-ok : (target : Target) (items : Items) → IfOk (hpack_result target items) (λ p. (p.box_node ≡ hbox target items) × (p.badness ≡ hbox_badness target (nodes_of items)))
+unfolding hpack_result hbox
 hpacked-ok target items = packed-ok _ _ items (λ p. (p.box_node ≡ hbox target items) × (p.badness ≡ hbox_badness target (nodes_of items))) (refl, refl)
 
-pub hpacked-fits : (target : Target) (items : Items) → is_ok (hpacked target items) ≡ list_all fits (hbox_numbers target (nodes_of items))
-unfolding hpacked
+pub hpacked-fits : (target : Target) (items : Items) → is_ok (hpack_result target items) ≡ list_all fits (hbox_numbers target (nodes_of items))
+unfolding hpack_result
 hpacked-fits target items = packed-fits _ _ items
 
-pub hpacked-back : (target : Target) (items : Items) → IfErr (hpacked target items) (λ e. e.list ≡ items)
-unfolding hpacked
+pub hpacked-back : (target : Target) (items : Items) → IfErr (hpack_result target items) (λ e. e.list ≡ items)
+unfolding hpack_result
 hpacked-back target items = packed-back _ _ items
 
 pub hpacked-edge :
     (target : Target) (items : Items)
-    → IfOk (hpacked target items) (λ p. p.box_node.setting ≢ Natural → p.badness ≢ 1000000 → place_in p.box_node (length (nodes_of p.box_node.list)) ≡ p.box_node.width)
-unfolding hpacked hbox
+    → IfOk (hpack_result target items) (λ p. p.box_node.setting ≢ Natural → p.badness ≢ 1000000 → place_in p.box_node (length (nodes_of p.box_node.list)) ≡ p.box_node.width)
+unfolding hpack_result hbox
 hpacked-edge target items =
     packed-ok _ _ items (λ p. p.box_node.setting ≢ Natural → p.badness ≢ 1000000 → place_in p.box_node (length (nodes_of p.box_node.list)) ≡ p.box_node.width)
     (λ set good. omega (arith, ints, filled Horizontal items (hbox_excess target (nodes_of items)) set good))
@@ -103,23 +103,23 @@ hpacked-edge target items =
 -- A vbox.
 pub vpacked-ok :
     (target : Target) (limit : ℤ) (items : Items)
-    → IfOk (vpacked target limit items) (λ p. (p.box_node ≡ vbox target limit items) × (p.badness ≡ vbox_badness target limit (nodes_of items)))
-unfolding vpacked vbox
+    → IfOk (vpack_result target limit items) (λ p. (p.box_node ≡ vbox target limit items) × (p.badness ≡ vbox_badness target limit (nodes_of items)))
+unfolding vpack_result vbox
 vpacked-ok target limit items = packed-ok _ _ items (λ p. (p.box_node ≡ vbox target limit items) × (p.badness ≡ vbox_badness target limit (nodes_of items))) (refl, refl)
 
-pub vpacked-fits : (target : Target) (limit : ℤ) (items : Items) → is_ok (vpacked target limit items) ≡ list_all fits (vbox_numbers target limit (nodes_of items))
-unfolding vpacked
+pub vpacked-fits : (target : Target) (limit : ℤ) (items : Items) → is_ok (vpack_result target limit items) ≡ list_all fits (vbox_numbers target limit (nodes_of items))
+unfolding vpack_result
 vpacked-fits target limit items = packed-fits _ _ items
 
-pub vpacked-back : (target : Target) (limit : ℤ) (items : Items) → IfErr (vpacked target limit items) (λ e. e.list ≡ items)
-unfolding vpacked
+pub vpacked-back : (target : Target) (limit : ℤ) (items : Items) → IfErr (vpack_result target limit items) (λ e. e.list ≡ items)
+unfolding vpack_result
 vpacked-back target limit items = packed-back _ _ items
 
 pub vpacked-edge :
     (target : Target) (limit : ℤ) (items : Items)
-    → IfOk (vpacked target limit items)
+    → IfOk (vpack_result target limit items)
     (λ p. p.box_node.setting ≢ Natural → p.badness ≢ 1000000 → place_in p.box_node (length (nodes_of p.box_node.list)) ≡ p.box_node.height +ℤ p.box_node.depth)
-unfolding vpacked vbox
+unfolding vpack_result vbox
 vpacked-edge target limit items =
     packed-ok _ _ items
     (λ p. p.box_node.setting ≢ Natural → p.badness ≢ 1000000 → place_in p.box_node (length (nodes_of p.box_node.list)) ≡ p.box_node.height +ℤ p.box_node.depth)
@@ -128,23 +128,23 @@ vpacked-edge target limit items =
 -- A vtop.
 pub vtopped-ok :
     (target : Target) (limit : ℤ) (items : Items)
-    → IfOk (vtopped target limit items) (λ p. (p.box_node ≡ vtop_box target limit items) × (p.badness ≡ vbox_badness target limit (nodes_of items)))
-unfolding vtopped vtop_box
+    → IfOk (vtop_result target limit items) (λ p. (p.box_node ≡ vtop_box target limit items) × (p.badness ≡ vbox_badness target limit (nodes_of items)))
+unfolding vtop_result vtop_box
 vtopped-ok target limit items = packed-ok _ _ items (λ p. (p.box_node ≡ vtop_box target limit items) × (p.badness ≡ vbox_badness target limit (nodes_of items))) (refl, refl)
 
-pub vtopped-fits : (target : Target) (limit : ℤ) (items : Items) → is_ok (vtopped target limit items) ≡ list_all fits (vtop_numbers target limit (nodes_of items))
-unfolding vtopped
+pub vtopped-fits : (target : Target) (limit : ℤ) (items : Items) → is_ok (vtop_result target limit items) ≡ list_all fits (vtop_numbers target limit (nodes_of items))
+unfolding vtop_result
 vtopped-fits target limit items = packed-fits _ _ items
 
-pub vtopped-back : (target : Target) (limit : ℤ) (items : Items) → IfErr (vtopped target limit items) (λ e. e.list ≡ items)
-unfolding vtopped
+pub vtopped-back : (target : Target) (limit : ℤ) (items : Items) → IfErr (vtop_result target limit items) (λ e. e.list ≡ items)
+unfolding vtop_result
 vtopped-back target limit items = packed-back _ _ items
 
 pub vtopped-edge :
     (target : Target) (limit : ℤ) (items : Items)
-    → IfOk (vtopped target limit items)
+    → IfOk (vtop_result target limit items)
     (λ p. p.box_node.setting ≢ Natural → p.badness ≢ 1000000 → place_in p.box_node (length (nodes_of p.box_node.list)) ≡ p.box_node.height +ℤ p.box_node.depth)
-unfolding vtopped vtop_box vbox
+unfolding vtop_result vtop_box vbox
 vtopped-edge target limit items =
     packed-ok _ _ items
     (λ p. p.box_node.setting ≢ Natural → p.badness ≢ 1000000 → place_in p.box_node (length (nodes_of p.box_node.list)) ≡ p.box_node.height +ℤ p.box_node.depth)

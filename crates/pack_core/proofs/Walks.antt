@@ -10,7 +10,7 @@ use Rattle.node_core.specs.declared.tree.Setting.TheVariants.{Natural, Stretch, 
 use Rattle.pack_core.specs.Items.{advance}
 use Rattle.pack_core.specs.Totals.{total}
 use Rattle.pack_core.specs.Places.{share, place}
-use Rattle.pack_core.specs.Cursors.{reached, one_more, moved_on, place_at}
+use Rattle.pack_core.specs.Cursors.{sums_after, one_more, moved_on, place_at}
 use Rattle.pack_core.proofs.Sums.{total-append}
 use Rattle.pack_core.proofs.Passing.{IsNoGlue, no_stretch, no_shrink}
 
@@ -20,8 +20,8 @@ total-one size xs x = omega (arith, ints, total-append size xs (x ∷ []))
 -- One more item after those that were passed.
 pub one_more-reached :
     (kind : Kind) (setting : Setting) (before : List Node) (node : Node)
-    → one_more kind setting (reached kind setting before) node ≡ reached kind setting (before ++ node ∷ [])
-unfolding reached
+    → one_more kind setting (sums_after kind setting before) node ≡ sums_after kind setting (before ++ node ∷ [])
+unfolding sums_after
 one_more-reached kind setting before node =
     let n : length before + 1 ≡ length (before ++ node ∷ []) = omega (arith, length-append before (node ∷ [])) in
     rw (total-one (advance kind) before node, total-one (share setting) before node, n) refl
@@ -30,9 +30,9 @@ one_more-reached kind setting before node =
 pub moved_on-reached :
     (kind : Kind) (setting : Setting) (before : List Node) (node : Node) (distance : ℤ)
     → distance ≡ advance kind node → share setting node ≡ pos 0
-    → moved_on (reached kind setting before) distance ≡ reached kind setting (before ++ node ∷ [])
+    → moved_on (sums_after kind setting before) distance ≡ sums_after kind setting (before ++ node ∷ [])
 moved_on-reached kind setting before node distance moves none =
-    let from = reached kind setting before in
+    let from = sums_after kind setting before in
     let shares : from.shares ≡ from.shares +ℤ share setting node = omega (arith, ints, none) in
     rw (moves, ← shares) refl ∙ one_more-reached kind setting before node
 
@@ -44,18 +44,18 @@ no_share node other (Shrink order ratio) = ap neg_ℤ (no_shrink node other orde
 
 pub reached-more :
     (kind : Kind) (setting : Setting) (nodes : List Node) (i : ℕ) (node : Node) → i < length nodes → node ≡ get_or nodes i node
-    → one_more kind setting (reached kind setting (take i nodes)) node ≡ reached kind setting (take (i + 1) nodes)
+    → one_more kind setting (sums_after kind setting (take i nodes)) node ≡ sums_after kind setting (take (i + 1) nodes)
 reached-more kind setting nodes i node within is =
     one_more-reached kind setting (take i nodes) node
-    ∙ ap (λ (x : Node). reached kind setting (take i nodes ++ x ∷ [])) is
-    ∙ sym (ap (reached kind setting) (take_more nodes i node within))
+    ∙ ap (λ (x : Node). sums_after kind setting (take i nodes ++ x ∷ [])) is
+    ∙ sym (ap (sums_after kind setting) (take_more nodes i node within))
 
-pub reached-passed : (kind : Kind) (setting : Setting) (before : List Node) → (reached kind setting before).passed ≡ length before
-unfolding reached
+pub reached-passed : (kind : Kind) (setting : Setting) (before : List Node) → (sums_after kind setting before).passed ≡ length before
+unfolding sums_after
 reached-passed kind setting before = refl
 
-pub place-reached : (kind : Kind) (setting : Setting) (before : List Node) → place_at setting (reached kind setting before) ≡ place kind setting before
-unfolding reached place
+pub place-reached : (kind : Kind) (setting : Setting) (before : List Node) → place_at setting (sums_after kind setting before) ≡ place kind setting before
+unfolding sums_after place
 place-reached kind setting before = refl
 
 pub ruleset walks = (one_more-reached, reached-passed, place-reached)

@@ -81,8 +81,8 @@ abbrev pub hbox_packing : Target → List Node → Packing
 hbox_packing target nodes = record { frame = hbox_frame target nodes; badness = hbox_badness target nodes; numbers = hbox_numbers target nodes }
 
 -- The result of packing a horizontal list: its box and its badness, or the list itself if one of its numbers does not fit (own).
-unfoldable pub hpacked : Target → Items → Result Packed TooLarge
-hpacked target items = packed_by (hbox_packing target (nodes_of items)) items
+unfoldable pub hpack_result : Target → Items → Result Packed TooLarge
+hpack_result target items = packed_by (hbox_packing target (nodes_of items)) items
 
 -- The depth of a vbox: that of its last rule or box, but at most the limit (TeX: The Program, part 33, §668).
 abbrev pub vbox_depth : (limit : ℤ) → List Node → ℤ
@@ -131,8 +131,8 @@ vbox_packing target limit nodes =
     record { frame = vbox_frame target limit nodes; badness = vbox_badness target limit nodes; numbers = vbox_numbers target limit nodes }
 
 -- The result of packing a vertical list into a vbox: its box and its badness, or the list itself if one of its numbers does not fit (own).
-unfoldable pub vpacked : Target → (limit : ℤ) → Items → Result Packed TooLarge
-vpacked target limit items = packed_by (vbox_packing target limit (nodes_of items)) items
+unfoldable pub vpack_result : Target → (limit : ℤ) → Items → Result Packed TooLarge
+vpack_result target limit items = packed_by (vbox_packing target limit (nodes_of items)) items
 
 -- A value if a test holds, and otherwise none (own).
 unfoldable pub some_if : {A : Type 0} → Bool → A → Option A
@@ -197,5 +197,5 @@ vtop_packing target limit nodes =
     record { frame = vtop_frame target limit nodes; badness = vbox_badness target limit nodes; numbers = vtop_numbers target limit nodes }
 
 -- The result of packing a vertical list into a vtop: its box and its badness, or the list itself if one of its numbers does not fit (own).
-unfoldable pub vtopped : Target → (limit : ℤ) → Items → Result Packed TooLarge
-vtopped target limit items = packed_by (vtop_packing target limit (nodes_of items)) items
+unfoldable pub vtop_result : Target → (limit : ℤ) → Items → Result Packed TooLarge
+vtop_result target limit items = packed_by (vtop_packing target limit (nodes_of items)) items

@@ -11,8 +11,9 @@ ghost use Rattle.node_core.specs.declared.tree.Node.{Node};
 ghost use Rattle.pack_core.specs.Items.{breadth};
 ghost use Rattle.pack_core.specs.Totals.{greatest_of, first_height};
 ghost use Rattle.pack_core.specs.ListTotals.{totals_of};
-ghost use Rattle.pack_core.specs.Boxes.{target_size, hbox, hbox_badness, hbox_numbers, hpacked, vbox, vbox_badness, vbox_numbers, vpacked, vtop_box};
-ghost use Rattle.pack_core.specs.Boxes.{vtop_numbers, vtopped, some_if, hbox_shell, vbox_shell, packed_of};
+ghost use Rattle.pack_core.specs.Boxes.{target_size, hbox, hbox_badness, hbox_numbers, hpack_result, vbox, vbox_badness, vbox_numbers, vpack_result};
+ghost use Rattle.pack_core.specs.Boxes.{vtop_box};
+ghost use Rattle.pack_core.specs.Boxes.{vtop_numbers, vtop_result, some_if, hbox_shell, vbox_shell, packed_of};
 ghost use Rattle.pack_core.specs.Places.{place_in};
 ghost use Rattle.pack_core.specs.Private.Steps.{vtop_shell, boxed_list};
 
@@ -55,7 +56,7 @@ pub struct TooLarge {
 /// not allocate.
 #[tactic(auto, using(crate::proofs::Packing::packing))]
 pub fn hpack(list: NodeList, target: Target) -> Result<Packed, TooLarge>
-    ensures value { result ≡ hpacked target list }
+    ensures value { result ≡ hpack_result target list }
     ensures ok { IfOk result (λ p. (p.box_node ≡ hbox target list) × (p.badness ≡ hbox_badness target (nodes_of list))) }
     ensures fits { is_ok result ≡ list_all fits (hbox_numbers target (nodes_of list)) }
     ensures list_returned { IfErr result (λ e. e.list ≡ list) }
@@ -71,7 +72,7 @@ pub fn hpack(list: NodeList, target: Target) -> Result<Packed, TooLarge>
 /// unchanged. Does not allocate.
 #[tactic(auto, using(crate::proofs::Packing::packing))]
 pub fn vpack(list: NodeList, target: Target, depth_limit: Dimen) -> Result<Packed, TooLarge>
-    ensures value { result ≡ vpacked target depth_limit list }
+    ensures value { result ≡ vpack_result target depth_limit list }
     ensures ok { IfOk result (λ p. (p.box_node ≡ vbox target depth_limit list) × (p.badness ≡ vbox_badness target depth_limit (nodes_of list))) }
     ensures fits { is_ok result ≡ list_all fits (vbox_numbers target depth_limit (nodes_of list)) }
     ensures list_returned { IfErr result (λ e. e.list ≡ list) }
@@ -86,7 +87,7 @@ pub fn vpack(list: NodeList, target: Target, depth_limit: Dimen) -> Result<Packe
 /// The Program, part 47, §1087). `TooLarge` is returned exactly when one of its numbers does not fit, with the list unchanged. Does not allocate.
 #[tactic(auto, using(crate::proofs::Packing::packing))]
 pub fn vtop(list: NodeList, target: Target, depth_limit: Dimen) -> Result<Packed, TooLarge>
-    ensures value { result ≡ vtopped target depth_limit list }
+    ensures value { result ≡ vtop_result target depth_limit list }
     ensures ok { IfOk result (λ p. (p.box_node ≡ vtop_box target depth_limit list) × (p.badness ≡ vbox_badness target depth_limit (nodes_of list))) }
     ensures fits { is_ok result ≡ list_all fits (vtop_numbers target depth_limit (nodes_of list)) }
     ensures list_returned { IfErr result (λ e. e.list ≡ list) }

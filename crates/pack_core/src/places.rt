@@ -8,7 +8,7 @@ ghost use Rattle.node_core.specs.declared.tree.Node.{Node};
 ghost use Rattle.node_core.specs.declared.tree.Setting.{Setting};
 ghost use Rattle.pack_core.specs.Items.{advance};
 ghost use Rattle.pack_core.specs.Places.{place, place_in, share, set_by};
-ghost use Rattle.pack_core.specs.Cursors.{reached, one_more, moved_on, place_at};
+ghost use Rattle.pack_core.specs.Cursors.{sums_after, one_more, moved_on, place_at};
 
 use crate::sizes::{advance_of, share_of};
 use node_core::{BoxNode, Kind, Node, Setting};
@@ -23,7 +23,7 @@ pub struct Cursor {
 }
 
 impl Model for Cursor {
-    ghost use Rattle.pack_core.specs.Cursors.{Reached};
+    ghost use Rattle.pack_core.specs.Cursors.{WalkSums};
     ghost use Rattle.pack_core.specs.Private.Cursors.{IsReachable};
 
     ghost Value = { Reached };
@@ -37,10 +37,10 @@ impl Model for Cursor {
 
 impl Cursor {
     /// The state before all items.
-    #[tactic(auto, unfolding(crate::specs::Cursors::reached))]
+    #[tactic(auto, unfolding(crate::specs::Cursors::sums_after))]
     pub fn new() -> Cursor
         ensures value { result ≡ record { natural = pos 0; shares = pos 0; passed = 0 } }
-        ensures reached { (kind : Kind) → (setting : Setting) → result ≡ reached kind setting [] }
+        ensures reached { (kind : Kind) → (setting : Setting) → result ≡ sums_after kind setting [] }
     {
         Cursor {
             natural: 0,
@@ -55,8 +55,8 @@ impl Cursor {
     pub fn pass(&mut self, kind: Kind, setting: &Setting, node: &Node)
         requires { self.old.passed < max_nodes }
         ensures value { self.new ≡ one_more kind setting.now self.old node.now }
-        ensures reached { (before : List Node) → self.old ≡ reached kind setting.now before
-            → self.new ≡ reached kind setting.now (before ++ node.now ∷ []) }
+        ensures reached { (before : List Node) → self.old ≡ sums_after kind setting.now before
+            → self.new ≡ sums_after kind setting.now (before ++ node.now ∷ []) }
     {
         self.natural += advance_of(kind, node);
         self.shares += share_of(setting, node);
@@ -71,7 +71,7 @@ impl Cursor {
         ensures value { self.new ≡ moved_on self.old distance }
         ensures reached { (kind : Kind) → (setting : Setting) → (before : List Node) → (node : Node) → distance ≡ advance kind node
             → share setting node ≡ pos 0 →
-            self.old ≡ reached kind setting before → self.new ≡ reached kind setting (before ++ node ∷ []) }
+            self.old ≡ sums_after kind setting before → self.new ≡ sums_after kind setting (before ++ node ∷ []) }
     {
         self.natural += distance;
         self.passed += 1;
@@ -79,11 +79,12 @@ impl Cursor {
 
     /// The current place in a list of this setting, in scaled points from the beginning of the list. Each place is rounded once, from the exact sums,
     /// so a box is filled exactly.
-    #[tactic(auto, unfolding(crate::specs::Cursors::reached, crate::specs::Places::place))]
+    #[tactic(auto, unfolding(crate::specs::Cursors::sums_after, crate::specs::Places::place))]
     pub fn place(&self, setting: &Setting) -> i128
         ensures value { result ≡ place_at setting.now self.now }
         ensures value_bounded { Within (2 ^ 126 + 2 ^ 63) result }
-        ensures reached { (kind : Kind) → (before : List Node) → self.now ≡ reached kind setting.now before → result ≡ place kind setting.now before }
+        ensures reached { (kind : Kind) → (before : List Node) → self.now ≡ sums_after kind setting.now before
+            → result ≡ place kind setting.now before }
     {
         i128::from(self.natural) + set_by(setting, self.shares)
     }

@@ -15,7 +15,7 @@ use Rattle.node_core.specs.declared.tree.Node.TheVariants as nodes
 use Rattle.node_core.specs.declared.tree.BoxNode.{BoxNode}
 use Rattle.scaled_core.specs.Dimensions.{fits}
 use Rattle.pack_core.specs.Places.{place}
-use Rattle.pack_core.specs.Cursors.{Reached, reached, one_more, place_at}
+use Rattle.pack_core.specs.Cursors.{WalkSums, sums_after, one_more, place_at}
 use Rattle.pack_core.proofs.Walks.{one_more-reached, place-reached, reached-passed}
 use Rattle.page_core.specs.Marks.{ShippedPage, page_v, is_huge, right_at, down_at, list_v, item_h, item_v, box_h, box_v, numbers_at, numbers_after}
 use Rattle.scaled_core.specs.Mark as body
@@ -118,17 +118,17 @@ fits_more b h v xs i x within is =
 -- The numbers and the marks of an item, from the state of a walk that has passed those before it.
 pub between-at :
     (b : BoxNode) (h v : ℤ) (before : List Node) (x : Node)
-    → numbers_between b h v (place_at b.setting (reached b.kind b.setting before)) (place_at b.setting (one_more b.kind b.setting (reached b.kind b.setting before) x)) x
+    → numbers_between b h v (place_at b.setting (sums_after b.kind b.setting before)) (place_at b.setting (one_more b.kind b.setting (sums_after b.kind b.setting before) x)) x
     ≡ numbers_at b h v before x
 between-at b h v before x =
     let next = place b.kind b.setting (before ++ x ∷ []) in
-    ap (λ there. numbers_between b h v (place_at b.setting (reached b.kind b.setting before)) there x)
+    ap (λ there. numbers_between b h v (place_at b.setting (sums_after b.kind b.setting before)) there x)
     (ap (place_at b.setting) (one_more-reached b.kind b.setting before x) ∙ place-reached b.kind b.setting (before ++ x ∷ []))
     ∙ ap (λ here. numbers_between b h v here next x) (place-reached b.kind b.setting before)
 
 -- The place of a walk that has passed the items before an item.
 pub reached-place :
-    (b : BoxNode) (before : List Node) (from : Reached) → from ≡ reached b.kind b.setting before → place_at b.setting from ≡ place b.kind b.setting before
+    (b : BoxNode) (before : List Node) (from : WalkSums) → from ≡ sums_after b.kind b.setting before → place_at b.setting from ≡ place b.kind b.setting before
 reached-place b before from at = ap (place_at b.setting) at ∙ place-reached b.kind b.setting before
 
 -- The second part of a conjunction whose first part is true.
@@ -153,20 +153,20 @@ second_of_three false b c all = cc
 
 -- Whether the numbers of an item fit, from the state of a walk that has passed those before it.
 pub item_fits :
-    (b : BoxNode) (h v : ℤ) (before : List Node) (x : Node) (from : Reached) (found : Bool) → from ≡ reached b.kind b.setting before
+    (b : BoxNode) (h v : ℤ) (before : List Node) (x : Node) (from : WalkSums) (found : Bool) → from ≡ sums_after b.kind b.setting before
     → found ≡ list_all fits (numbers_between b h v (place_at b.setting from) (place_at b.setting (one_more b.kind b.setting from x)) x)
     → found ≡ list_all fits (numbers_at b h v before x)
 item_fits b h v before x from found at is =
     is
-    ∙ (ap (λ (r : Reached). list_all fits (numbers_between b h v (place_at b.setting r) (place_at b.setting (one_more b.kind b.setting r x)) x)) at
+    ∙ (ap (λ (r : WalkSums). list_all fits (numbers_between b h v (place_at b.setting r) (place_at b.setting (one_more b.kind b.setting r x)) x)) at
     ∙ ap (list_all fits) (between-at b h v before x))
 
 -- A walk before an item has passed fewer items than the greatest length of a list.
 pub few_passed :
-    (kind : Kind) (setting : Setting) (xs : List Node) (i : ℕ) (from : Reached) → from ≡ reached kind setting (take i xs) → i < length xs → length xs ≤ max_nodes
+    (kind : Kind) (setting : Setting) (xs : List Node) (i : ℕ) (from : WalkSums) → from ≡ sums_after kind setting (take i xs) → i < length xs → length xs ≤ max_nodes
     → from.passed < max_nodes
 few_passed kind setting xs i from at within short =
-    omega (arith, ap (λ (r : Reached). r.passed) at, reached-passed kind setting (take i xs), length-take-le i xs (omega (arith, within)), within, short)
+    omega (arith, ap (λ (r : WalkSums). r.passed) at, reached-passed kind setting (take i xs), length-take-le i xs (omega (arith, within)), within, short)
 
 pub first_false : (a b : Bool) → false ≡ a → (a && b) ≡ false
 first_false false b is = refl
@@ -178,28 +178,28 @@ second_false true false c is = refl
 second_false true true c is = absurd (cc)
 
 -- A walk before all items.
-pub reached-none : (kind : Kind) (setting : Setting) → record { natural = pos 0; shares = pos 0; passed = 0 } ≡ reached kind setting []
-unfolding reached
+pub reached-none : (kind : Kind) (setting : Setting) → record { natural = pos 0; shares = pos 0; passed = 0 } ≡ sums_after kind setting []
+unfolding sums_after
 reached-none kind setting = refl
 
 -- The marks of an item and its reference point, from the state of such a walk.
 pub item_strokes :
-    (b : BoxNode) (h v : ℤ) (before : List Node) (x : Node) (from : Reached) (rest found : Picture) → from ≡ reached b.kind b.setting before
+    (b : BoxNode) (h v : ℤ) (before : List Node) (x : Node) (from : WalkSums) (rest found : Picture) → from ≡ sums_after b.kind b.setting before
     → found ≡ strokes_at b h v (place_at b.setting from) x rest → found ≡ strokes_of b (item_h b h before) (item_v b v before) x rest
 item_strokes b h v before x from rest found at is = is ∙ ap (λ here. strokes_at b h v here x rest) (reached-place b before from at)
 
 -- The item after a glyph or a rule is where h is after it.
 pub reach : (b : BoxNode) (h : ℤ) (before : List Node) (x : Node) → Reaches b.kind (item_h b h before) (item_h b h (before ++ x ∷ [])) x
 reach b h before x =
-    let from = reached b.kind b.setting before in
+    let from = sums_after b.kind b.setting before in
     let next = ap (place_at b.setting) (one_more-reached b.kind b.setting before x) ∙ place-reached b.kind b.setting (before ++ x ∷ []) in
     reach_by b.kind b.setting from h (item_h b h before) (item_h b h (before ++ x ∷ [])) x (sym (ap (right_at b.kind h) (place-reached b.kind b.setting before)))
     (sym (ap (right_at b.kind h) next))
 
 -- The start of the list of an inner box, whose reference point comes from a walk that has passed the items before it.
 pub inner_begin :
-    (b inner : BoxNode) (h v : ℤ) (before : List Node) (x : Node) (shift : ℤ) (from : Reached) (at_h at_v begin_h begin_v : ℤ)
-    → from ≡ reached b.kind b.setting before → x ≡ nodes.Box shift inner
+    (b inner : BoxNode) (h v : ℤ) (before : List Node) (x : Node) (shift : ℤ) (from : WalkSums) (at_h at_v begin_h begin_v : ℤ)
+    → from ≡ sums_after b.kind b.setting before → x ≡ nodes.Box shift inner
     → at_h ≡ reference_h b.kind (right_at b.kind h (place_at b.setting from)) x
     → at_v ≡ reference_v b.kind (down_at b.kind v (place_at b.setting from)) x
     → begin_h ≡ at_h → begin_v ≡ list_v inner.kind inner.height at_v
@@ -266,8 +266,8 @@ leaf_picture b h v (nodes.Rule sizes) rest other no_text = refl
 
 -- A special that a walk reaches after the items before it is at its place.
 pub special_picture :
-    (b : BoxNode) (h v : ℤ) (before : List Node) (x : Node) (text : List ℕ) (from : Reached) (at_h at_v : ℤ) (rest : Picture)
-    → from ≡ reached b.kind b.setting before → x ≡ nodes.Special text
+    (b : BoxNode) (h v : ℤ) (before : List Node) (x : Node) (text : List ℕ) (from : WalkSums) (at_h at_v : ℤ) (rest : Picture)
+    → from ≡ sums_after b.kind b.setting before → x ≡ nodes.Special text
     → at_h ≡ reference_h b.kind (right_at b.kind h (place_at b.setting from)) x
     → at_v ≡ reference_v b.kind (down_at b.kind v (place_at b.setting from)) x
     → inside b (item_h b h before) (item_v b v before) x rest ≡ stroke (body.Special at_h at_v text) (pos 0) rest

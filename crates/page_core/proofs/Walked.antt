@@ -15,7 +15,7 @@ use Rattle.node_core.specs.declared.tree.Setting.TheVariants as settings
 use Rattle.pack_core.specs.Items.{advance, own_size}
 use Rattle.scaled_core.specs.Dimensions.{fits, dimension_of}
 use Rattle.pack_core.specs.Places.{share, set_by}
-use Rattle.pack_core.specs.Cursors.{Reached, one_more, moved_on, place_at}
+use Rattle.pack_core.specs.Cursors.{WalkSums, one_more, moved_on, place_at}
 use Rattle.page_core.specs.declared.placing.Point.{Point}
 use Rattle.scaled_core.specs.Mark as body
 use Rattle.page_core.specs.Marks.{right_at, down_at, rule_below, rule_tall, rule_wide, glyph_mark, box_h, box_v, points_and_sizes}
@@ -191,18 +191,18 @@ no_share : (setting : Setting) (shares part : ℤ) → part ≡ pos 0 → set_by
 no_share setting shares part none = ap (set_by setting) (omega (arith, ints, none))
 
 right_more :
-    (setting : Setting) (from : Reached) (h by part : ℤ) → part ≡ pos 0
+    (setting : Setting) (from : WalkSums) (h by part : ℤ) → part ≡ pos 0
     → h +ℤ ((from.natural +ℤ by) +ℤ set_by setting (from.shares +ℤ part)) ≡ (h +ℤ (from.natural +ℤ set_by setting from.shares)) +ℤ by
 right_more setting from h by part none = omega (arith, ints, no_share setting from.shares part none)
 
 right_by :
-    (setting : Setting) (from : Reached) (h by part : ℤ) → part ≡ pos 0 → (x y : ℤ)
+    (setting : Setting) (from : WalkSums) (h by part : ℤ) → part ≡ pos 0 → (x y : ℤ)
     → x ≡ h +ℤ place_at setting from → y ≡ h +ℤ ((from.natural +ℤ by) +ℤ set_by setting (from.shares +ℤ part)) → y ≡ x +ℤ by
 right_by setting from h by part none x y here there = there ∙ (right_more setting from h by part none ∙ sym (ap (λ z. z +ℤ by) here))
 
 -- The item after it is therefore where h is after it.
 pub reach_by :
-    (kind : Kind) (setting : Setting) (from : Reached) (h at after : ℤ) (x : Node) → at ≡ right_at kind h (place_at setting from)
+    (kind : Kind) (setting : Setting) (from : WalkSums) (h at after : ℤ) (x : Node) → at ≡ right_at kind h (place_at setting from)
     → after ≡ right_at kind h (place_at setting (one_more kind setting from x)) → Reaches kind at after x
 reach_by Horizontal setting from h at after (nodes.Glyph g) first next = right_by setting from h g.width (share setting (nodes.Glyph g)) (share_glyph setting g) at after first next
 reach_by Vertical setting from h at after (nodes.Glyph g) first next = next ∙ sym first
@@ -216,7 +216,7 @@ reach_by Vertical setting from h at after (nodes.Rule r) first next = next ∙ s
 reach_by kind setting from h at after (nodes.Box shift inner) first next = tt
 
 pub reaches :
-    (b : BoxNode) (h v : ℤ) (from : Reached) (at after : Point ℤ) (x : Node) → point_in b h v (place_at b.setting from) ≡ Some at
+    (b : BoxNode) (h v : ℤ) (from : WalkSums) (at after : Point ℤ) (x : Node) → point_in b h v (place_at b.setting from) ≡ Some at
     → point_in b h v (place_at b.setting (one_more b.kind b.setting from x)) ≡ Some after → Reaches b.kind at.h after.h x
 reaches b h v from at after x here there =
     let p = point-is (right_at b.kind h (place_at b.setting from)) (down_at b.kind v (place_at b.setting from)) at here in
@@ -249,18 +249,18 @@ share_rigid (settings.Shrink order ratio) (nodes.Special text) is = refl
 share_rigid (settings.Shrink order ratio) (nodes.Rule r) is = refl
 share_rigid (settings.Shrink order ratio) (nodes.Box shift b) is = refl
 
-abbrev reaching : (natural shares : ℤ) (passed : ℕ) → Reached
+abbrev reaching : (natural shares : ℤ) (passed : ℕ) → WalkSums
 reaching natural shares passed = record { natural = natural; shares = shares; passed = passed }
 
 -- After such an item only the distance of the walk and the number of passed items change.
 pub rigid_more :
-    (kind : Kind) (setting : Setting) (from : Reached) (x : Node) (distance : ℤ) → is_rigid x ≡ true → distance ≡ advance kind x
+    (kind : Kind) (setting : Setting) (from : WalkSums) (x : Node) (distance : ℤ) → is_rigid x ≡ true → distance ≡ advance kind x
     → moved_on from distance ≡ one_more kind setting from x
 rigid_more kind setting from x distance rigid same =
     ap₂ (λ (natural shares : ℤ). reaching natural shares (from.passed + 1)) (ap (λ (n : ℤ). from.natural +ℤ n) same) (omega (arith, ints, share_rigid setting x rigid))
 
 step_after :
-    (kind : Kind) (setting : Setting) (from : Reached) (h v x y by part : ℤ) → part ≡ pos 0
+    (kind : Kind) (setting : Setting) (from : WalkSums) (h v x y by part : ℤ) → part ≡ pos 0
     → x ≡ right_at kind h (place_at setting from) → y ≡ down_at kind v (place_at setting from)
     → fitting_point (right_at kind x by) (down_at kind y by)
     ≡ fitting_point (right_at kind h ((from.natural +ℤ by) +ℤ set_by setting (from.shares +ℤ part))) (down_at kind v ((from.natural +ℤ by) +ℤ set_by setting (from.shares +ℤ part)))
@@ -273,7 +273,7 @@ step_after Vertical setting from h v x y by part none across down =
 
 -- The position after an item that is independent of the setting is its own plus the advance of the item.
 pub rigid_after :
-    (b : BoxNode) (h v : ℤ) (from : Reached) (at : Point ℤ) (x : Node) → is_rigid x ≡ true → point_in b h v (place_at b.setting from) ≡ Some at
+    (b : BoxNode) (h v : ℤ) (from : WalkSums) (at : Point ℤ) (x : Node) → is_rigid x ≡ true → point_in b h v (place_at b.setting from) ≡ Some at
     → fitting_point (right_at b.kind at.h (advance b.kind x)) (down_at b.kind at.v (advance b.kind x))
     ≡ point_in b h v (place_at b.setting (one_more b.kind b.setting from x))
 rigid_after b h v from at x rigid here =
@@ -298,7 +298,7 @@ told_index P found n is holds = subst (λ (f : Option ℕ). IfSome f P) is holds
 
 -- The item after a glyph of a horizontal list is where h is after it.
 pub ends :
-    (b : BoxNode) (h v : ℤ) (from : Reached) (at after : Point ℤ) (g : Glyph) → b.kind ≡ Horizontal → point_in b h v (place_at b.setting from) ≡ Some at
+    (b : BoxNode) (h v : ℤ) (from : WalkSums) (at after : Point ℤ) (g : Glyph) → b.kind ≡ Horizontal → point_in b h v (place_at b.setting from) ≡ Some at
     → point_in b h v (place_at b.setting (one_more b.kind b.setting from (nodes.Glyph g))) ≡ Some after → after.h ≡ at.h +ℤ g.width
 ends b h v from at after g across here there =
     reaches b h v from at after (nodes.Glyph g) here there ∙ ap (λ (kind : Kind). right_at kind at.h g.width) across

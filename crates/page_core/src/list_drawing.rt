@@ -4,7 +4,7 @@ ghost use Rattle.std.specs.Prelude.{◌≡◌, ◌<◌, ◌≤◌, [], length, t
 ghost use Rattle.std.specs.List.{list_all};
 ghost use Rattle.node_core.specs.Nodes.{max_nodes, items_of};
 ghost use Rattle.scaled_core.specs.Dimensions.{fits};
-ghost use Rattle.pack_core.specs.Cursors.{reached, one_more, place_at};
+ghost use Rattle.pack_core.specs.Cursors.{sums_after, one_more, place_at};
 ghost use Rattle.page_core.specs.Marks.{right_at, down_at, list_v, numbers_after, points_and_sizes};
 ghost use Rattle.node_core.specs.declared.tree.Kind.{Kind};
 ghost use Rattle.page_core.specs.Pictures.{Picture, blank, grouped_picture, picture_after};
@@ -128,13 +128,13 @@ fn draw_run<B: BoxRef, S: MarkSink<B>>(
     requires kind { box_node.now.kind ≡ Kind.Horizontal }
     requires within { left.from ≤ length left.items.now }
     requires items_bounded { length left.items.now ≤ max_nodes }
-    requires cursor { run.old.cursor ≡ reached box_node.now.kind box_node.now.setting (take left.from left.items.now) }
+    requires cursor { run.old.cursor ≡ sums_after box_node.now.kind box_node.now.setting (take left.from left.items.now) }
     requires at { point_in box_node.now begin.now.h begin.now.v (place_at box_node.now.setting run.old.cursor)
         ≡ Some (level_with run.old.v run.old.h) }
     requires stands { S.Stands sink.old run.old.h run.old.v run.old.slot }
     ensures onward { left.entry.from ≤ result }
     ensures within { result ≤ length left.entry.items.now }
-    ensures cursor { run.new.cursor ≡ reached box_node.now.kind box_node.now.setting (take result left.entry.items.now) }
+    ensures cursor { run.new.cursor ≡ sums_after box_node.now.kind box_node.now.setting (take result left.entry.items.now) }
     ensures at { point_in box_node.now begin.now.h begin.now.v (place_at box_node.now.setting run.new.cursor)
         ≡ Some (level_with run.new.v run.new.h) }
     ensures left { list_all fits (numbers_after box_node.now begin.now.h begin.now.v (take result left.entry.items.now)
@@ -171,12 +171,12 @@ fn draw_glyphs<B: BoxRef, S: MarkSink<B>>(
 ) -> Result<Option<usize>, S::Fault>
     requires within { left.from < length left.items.now }
     requires items_bounded { length left.items.now ≤ max_nodes }
-    requires cursor { walk.old.cursor ≡ reached box_node.now.kind box_node.now.setting (take left.from left.items.now) }
+    requires cursor { walk.old.cursor ≡ sums_after box_node.now.kind box_node.now.setting (take left.from left.items.now) }
     requires here { walk.old.here ≡ point_in box_node.now begin.now.h begin.now.v (place_at box_node.now.setting walk.old.cursor) }
     ensures onward { IfOk result (λ drawn. IfSome drawn (λ next. left.entry.from ≤ next)) }
     ensures within { IfOk result (λ drawn. IfSome drawn (λ next. next ≤ length left.entry.items.now)) }
     ensures cursor { IfOk result (λ drawn. IfSome drawn (λ next.
-        walk.new.cursor ≡ reached box_node.now.kind box_node.now.setting (take next left.entry.items.now))) }
+        walk.new.cursor ≡ sums_after box_node.now.kind box_node.now.setting (take next left.entry.items.now))) }
     ensures here { IfOk result (λ drawn. OnSome drawn (walk.new.here
         ≡ point_in box_node.now begin.now.h begin.now.v (place_at box_node.now.setting walk.new.cursor))) }
     ensures over { IfOk result (λ drawn. drawn ≡ None

@@ -18,7 +18,7 @@ use Rattle.node_core.specs.Nodes.{items_of, nodes_of}
 use Rattle.node_core.proofs.NodeLemmas.{nodes_of-items_of}
 use Rattle.pack_core.specs.declared.pack.Packed.{Packed}
 use Rattle.pack_core.specs.declared.pack.Target.TheVariants.{To}
-use Rattle.pack_core.specs.Boxes.{hbox_packing, hbox_badness, hpacked}
+use Rattle.pack_core.specs.Boxes.{hbox_packing, hbox_badness, hpack_result}
 use Rattle.pack_core.specs.Glue.{is_zero, highest, is_finite, overfull, stretch_totals, shrink_totals, stretch_badness, shrink_badness, setting_badness}
 use Rattle.pack_core.specs.Items.{item_width, shrink_in}
 use Rattle.pack_core.specs.Totals.{total}
@@ -212,8 +212,8 @@ packed_bad : (fit : Bool) (p packed : Packed) {E : Type 0} (e : E) → cond fit 
 packed_bad true p packed e is = cc
 packed_bad false p packed e is = absurd (cc)
 
-box_bad : (size : ℤ) (items : List Node) (packed : Packed) → hpacked (To size) (items_of items) ≡ Ok packed → packed.badness ≡ hbox_badness (To size) items
-unfolding hpacked
+box_bad : (size : ℤ) (items : List Node) (packed : Packed) → hpack_result (To size) (items_of items) ≡ Ok packed → packed.badness ≡ hbox_badness (To size) items
+unfolding hpack_result
 box_bad size items packed is =
     packed_bad (list_all fits (hbox_packing (To size) (nodes_of (items_of items))).numbers) _ packed _ is
     ∙ ap (hbox_badness (To size)) (nodes_of-items_of items)
@@ -221,7 +221,7 @@ box_bad size items packed is =
 pub boxed_as_bad :
     (list : List Node) (params : Params) (a b lines : ℕ) (packed : Packed) → refusal list ≡ None → kept_items list (begins_at list a) (position_of list b) ≢ []
     → (line_fit ((facts_of list).sums a b) (line_size params lines)).overfull ≡ false
-    → hpacked (To (line_size params lines)) (items_of (kept_items list (begins_at list a) (position_of list b))) ≡ Ok packed
+    → hpack_result (To (line_size params lines)) (items_of (kept_items list (begins_at list a) (position_of list b))) ≡ Ok packed
     → packed.badness ≡ (line_fit ((facts_of list).sums a b) (line_size params lines)).badness
 boxed_as_bad list params a b lines packed free some fits is =
     box_bad (line_size params lines) (kept_items list (begins_at list a) (position_of list b)) packed is

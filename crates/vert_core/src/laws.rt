@@ -8,7 +8,7 @@ ghost use Rattle.node_core.specs.declared.tree.Node.{Node};
 ghost use Rattle.node_core.specs.Nodes.{items_of};
 ghost use Rattle.node_core.specs.Parameters.{first_split_params};
 ghost use Rattle.pack_core.specs.declared.pack.Target.{Target};
-ghost use Rattle.pack_core.specs.Boxes.{vbox_numbers, vpacked};
+ghost use Rattle.pack_core.specs.Boxes.{vbox_numbers, vpack_result};
 ghost use Rattle.vert_core.specs.declared.parts.SplitFault.TheVariants.{InfiniteShrink, DimensionTooLarge};
 ghost use Rattle.vert_core.specs.Split.{split_place, front_of, refusal, packed_vbox};
 ghost use Rattle.vert_core.specs.Chosen.{IsSplitPlace};
@@ -100,6 +100,6 @@ pub fn chosen_place()
 
 /// The parts of a split are what `vpack` makes of their items.
 pub fn parts_are_packed()
-    ensures { (target : Target) → (limit : ℤ) → (items : List Node) → vpacked target limit (items_of items) ≡
+    ensures { (target : Target) → (limit : ℤ) → (items : List Node) → vpack_result target limit (items_of items) ≡
         (if list_all fits (vbox_numbers target limit items) then Ok (packed_vbox target limit items) else Err (record { list = items_of items })) }
 {}

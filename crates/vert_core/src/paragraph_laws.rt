@@ -13,7 +13,7 @@ ghost use Rattle.break_lines.specs.Costs.{line_fit};
 ghost use Rattle.break_lines.specs.Sizes.{line_size};
 ghost use Rattle.pack_core.specs.declared.pack.Packed.{Packed};
 ghost use Rattle.pack_core.specs.declared.pack.Target.TheVariants.{To};
-ghost use Rattle.pack_core.specs.Boxes.{hpacked};
+ghost use Rattle.pack_core.specs.Boxes.{hpack_result};
 ghost use Rattle.node_core.specs.Nodes.{items_of};
 ghost use Rattle.vert_core.specs.declared.paragraph.SetParagraph.{SetParagraph};
 ghost use Rattle.vert_core.specs.declared.paragraph.ParagraphFault.{ParagraphFault};
@@ -90,6 +90,6 @@ pub fn boxes_are_as_bad_as_lines()
     ensures { (list : List Node) → (params : Params) → (a : ℕ) → (b : ℕ) → (lines : ℕ) → (packed : Packed) → refusal list ≡ None →
         kept_items list (begins_at list a) (position_of list b) ≢ [] →
         (line_fit ((facts_of list).sums a b) (line_size params lines)).overfull ≡ false →
-        hpacked (To (line_size params lines)) (items_of (kept_items list (begins_at list a) (position_of list b))) ≡ Ok packed →
+        hpack_result (To (line_size params lines)) (items_of (kept_items list (begins_at list a) (position_of list b))) ≡ Ok packed →
         packed.badness ≡ (line_fit ((facts_of list).sums a b) (line_size params lines)).badness }
 {}

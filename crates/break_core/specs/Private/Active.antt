@@ -3,10 +3,11 @@ use Rattle.std.specs.Prelude.{◌≡◌, ◌<◌, ◌≤◌, ◌+◌, ◌-◌, �
 use Rattle.std.specs.Prelude.{drop, slice_get, Option, Some, None}
 use Rattle.node_core.specs.declared.params.Params.{Params}
 use Rattle.break_lines.specs.declared.group.ActiveGroup.{ActiveGroup}
-use Rattle.break_lines.specs.Problems.{Problem}
+use Rattle.break_lines.specs.Problems.{Problem, max_places}
 use Rattle.break_lines.specs.Orders.{NotAfter}
 use Rattle.break_lines.specs.declared.state.BreakState.{BreakState}
-use Rattle.break_lines.specs.Tables.{Entry, compared_numbers, IsTable, IsRow, offer}
+use Rattle.break_lines.specs.declared.state.LineCost.{LineCost}
+use Rattle.break_lines.specs.Tables.{Entry, slots, compared_numbers, IsTable, IsRow, offer}
 use Rattle.break_lines.specs.Private.Live.{IsGroup}
 use Rattle.break_lines.specs.Private.Parts.{problem_without}
 use Rattle.break_lines.specs.Chosen.{AdmitsNone}
@@ -14,7 +15,7 @@ use Rattle.break_lines.specs.declared.cost.Bound.{Bound}
 use Rattle.break_lines.specs.declared.cost.Bound.TheVariants.{Any, AtMost}
 use Rattle.break_core.specs.declared.broken.Pass.{Pass}
 use Rattle.break_lines.specs.Legal.{is_forced}
-use Rattle.break_lines.specs.Costs.{line_fit, admitted_line, is_loosest}
+use Rattle.break_lines.specs.Costs.{line_fit, admitted_line, is_loosest, line_after}
 use Rattle.break_lines.specs.Private.Costs.{loosest_line}
 use Rattle.break_lines.specs.Facts.{Facts}
 use Rattle.break_lines.specs.Steady.{IsSteady}
@@ -23,26 +24,27 @@ use Rattle.break_core.specs.declared.pass_rules.StopRule.TheVariants.{Never, Ove
 use Rattle.break_core.specs.declared.active_list.Live.{Live}
 use Rattle.break_core.specs.Passes.{problem_of, bound_of, IsBefore}
 use Rattle.break_core.specs.Trials.{is_overfull, IsStop, places_up_to, passes_run}
-use Rattle.break_core.specs.Private.Leaving.{is_long, over_before, MayLeave}
+use Rattle.break_core.specs.Private.LeftOut.{is_long, over_before, MayLeaveOut}
 use Rattle.break_core.specs.Private.Filling.{IsOf}
 
--- Whether the place where a line begins leaves the active list after the line, which is overfull or not, and long or not.
-abbrev pub deactivates : StopRule → (overfull long : Bool) → Bool
-deactivates Never overfull long = false
-deactivates Overfull overfull long = overfull
-deactivates Long overfull long = long
+-- Whether trying lines from a place stops after a line from there, which is overfull or not, and long or not.
+abbrev pub stops_after : StopRule → (overfull long : Bool) → Bool
+stops_after Never overfull long = false
+stops_after Overfull overfull long = overfull
+stops_after Long overfull long = long
 
 -- Whether no line from place a is tried beyond place l.
 abbrev pub stops_at : Facts → Params → StopRule → (a l : ℕ) → Bool
-stops_at facts params ending a l = is_forced (facts.penalty l) || deactivates ending (is_overfull facts params a l) (is_long facts params a l)
+stops_at facts params rule a l = is_forced (facts.penalty l) || stops_after rule (is_overfull facts params a l) (is_long facts params a l)
 
 -- Whether a line, which is long or not, is left out.
 abbrev pub leaves_out : StopRule → (long : Bool) → Bool
-leaves_out ending long = deactivates ending false long
+leaves_out rule long = stops_after rule false long
 
--- A pass without the lines that are left out.
-abbrev pub pruned_problem : Facts → Params → Bound → StopRule → Problem
-pruned_problem facts params bound ending = problem_without (problem_of facts params bound) (λ s b. leaves_out ending (is_long facts params s.place b))
+-- A pass without the lines that are left out by a rule.
+abbrev pub problem_leaving_out : Facts → Params → Bound → StopRule → Problem
+problem_leaving_out facts params bound rule =
+    problem_without (problem_of facts params bound) (λ s b. leaves_out rule (is_long facts params s.place b))
 
 -- Whether a bound refuses overfull lines.
 abbrev pub is_limit : Bound → Bool
@@ -50,40 +52,40 @@ is_limit Any = false
 is_limit (AtMost most) = true
 
 -- Trying can stop after overfull lines.
-abbrev pub MayDrop : Facts → Bound → Type 0
-MayDrop facts bound = IsSteady facts × (is_limit bound ≡ true)
+abbrev pub MayStopOverfull : Facts → Bound → Type 0
+MayStopOverfull facts bound = IsSteady facts × (is_limit bound ≡ true)
 
--- Trying can stop in this way.
-abbrev pub MayEnd : StopRule → Facts → Params → Bound → Type 0
-MayEnd Never facts params bound = Unit {0}
-MayEnd Overfull facts params bound = MayDrop facts bound
-MayEnd Long facts params bound = MayLeave facts params × (bound ≡ Any)
+-- Trying can stop by this rule.
+abbrev pub MayStop : StopRule → Facts → Params → Bound → Type 0
+MayStop Never facts params bound = Unit {0}
+MayStop Overfull facts params bound = MayStopOverfull facts bound
+MayStop Long facts params bound = MayLeaveOut facts params × (bound ≡ Any)
 
 -- The entries `from` to `to` have no offers for any place from b on.
-abbrev pub IsQuiet : (p : Problem) (table : List Entry) (b from to : ℕ) → Type 0
-IsQuiet p table b from to =
+abbrev pub IsSilentWithin : (p : Problem) (table : List Entry) (b from to : ℕ) → Type 0
+IsSilentWithin p table b from to =
     (k : ℕ) (e : Entry) → from ≤ k → k < to → slice_get table k ≡ Some e → (l : ℕ) → b ≤ l → l ≤ p.places → offer p e k l ≡ None
 
 -- Trying lines from place a has not stopped before place b.
-abbrev pub IsTrying : (stop : ℕ → ℕ → Bool) (a b : ℕ) → Type 0
-IsTrying stop a b = (l : ℕ) → a < l → l < b → stop a l ≡ false
+abbrev pub HasNotStopped : (stop : ℕ → ℕ → Bool) (a b : ℕ) → Type 0
+HasNotStopped stop a b = (l : ℕ) → a < l → l < b → stop a l ≡ false
 
--- The next group from an entry on, with quiet entries before it; its place is at least `low`, and trying lines from there has not stopped.
+-- The next group from an entry on, with silent entries before it; its place is at least `low`, and trying lines from there has not stopped.
 pub record IsNext (p : Problem) (stop : ℕ → ℕ → Bool) (table : List Entry) (b at low : ℕ) (g : ActiveGroup) : Type 0 where
   pub gap : at ≤ g.start
-  pub quiet : IsQuiet p table b at g.start
+  pub silent : IsSilentWithin p table b at g.start
   pub group : IsGroup p table b g
-  pub trying : IsTrying stop g.place b
+  pub not_stopped : HasNotStopped stop g.place b
   pub later : low ≤ g.place
 
 -- The rest of the table after all groups, of which the last has a place below `high`.
 pub record IsLast (p : Problem) (table : List Entry) (b high at low : ℕ) : Type 0 where
   pub gap : at ≤ length table
-  pub quiet : IsQuiet p table b at (length table)
+  pub silent : IsSilentWithin p table b at (length table)
   pub lower : low ≤ high
 
--- The part of the table from an entry on consists of these groups, with quiet entries between them; their places increase from `low` on and are below
--- `high`.
+-- The part of the table from an entry on consists of these groups, with silent entries between them; their places increase from `low` on and are
+-- below `high`.
 abbrev pub IsActive : (p : Problem) (stop : ℕ → ℕ → Bool) (table : List Entry) (b high at low : ℕ) → List ActiveGroup → Type 0
 IsActive p stop table b high at low [] = IsLast p table b high at low
 IsActive p stop table b high at low (g ∷ groups) = IsNext p stop table b at low g × IsActive p stop table b high g.end (g.place + 1) groups
@@ -124,7 +126,7 @@ pub record IsFilled (p : Problem) (stop : ℕ → ℕ → Bool) (b : ℕ) (table
 
 -- Lines to place b were tried at most once from each place, and only from places from which trying had not stopped.
 abbrev pub IsSwept : (stop : ℕ → ℕ → Bool) (b : ℕ) (before now : ℕ → ℕ) → Type 0
-IsSwept stop b before now = (a : ℕ) → (now a ≤ before a) ⊎ ((now a ≤ before a + 1) × (a < b) × IsTrying stop a b)
+IsSwept stop b before now = (a : ℕ) → (now a ≤ before a) ⊎ ((now a ≤ before a + 1) × (a < b) × HasNotStopped stop a b)
 
 -- The counts of trials never decrease.
 abbrev pub TrialsOnlyGrow : (before now : ℕ → ℕ) → Type 0
@@ -139,7 +141,7 @@ pub record AreLoosest (facts : Facts) (params : Params) (bound : Bound) (low b :
   pub uncounted : params.first_lines ≡ 0
   pub loosest : (a : ℕ) → low ≤ a → a < b → is_loosest bound (line_fit (facts.sums a b) params.hsize) ≡ true
 
--- No group is left, or all that are left wait: the lines from them are such lines.
+-- There is no group, or all wait: the lines from them are such lines.
 abbrev pub AllWait : Facts → Params → Bound → (low b : ℕ) → List ActiveGroup → Type 0
 AllWait facts params bound low b groups = (groups ≡ []) ⊎ AreLoosest facts params bound low b
 
@@ -159,8 +161,22 @@ pub record CanWait (first_lines : ℕ) (table : List Entry) (place : ℕ) (group
 abbrev pub CanAllWait : (first_lines : ℕ) → (table : List Entry) → (place : ℕ) → List Live → Type 0
 CanAllWait first_lines table place lives = (k : ℕ) (live : Live) → slice_get lives k ≡ Some live → CanWait first_lines table place live.group
 
+-- The entries of groups that wait can be offered for a place, one group after the other.
+pub record CanOfferWaiting (params : Params) (row : List (Option Entry)) (table : List Entry) (lives : List Live) (place : ℕ) : Type 0 where
+  pub wide : length row ≡ slots params.first_lines
+  pub uncounted : 0 < length lives → params.first_lines ≡ 0
+  pub each : CanAllWait 0 table place lives
+  pub best : HaveBest table lives
+  pub places : place ≤ max_places
+
+-- The lines to place b from the places of these groups are one line, but for the demerits for the class of the line before it.
+abbrev pub HaveLine : Problem → Params → (alone : LineCost) → (b : ℕ) → List ActiveGroup → Type 0
+HaveLine p params alone b groups =
+    (k : ℕ) (g : ActiveGroup) → slice_get groups k ≡ Some g
+    → (s : BreakState) → s.place ≡ g.place → p.line s b ≡ Some (line_after params s.class alone)
+
 -- The rest of these groups from number `index` on, and the row after the offers of those before.
-pub record IsPassed
+pub record AreOfferedUpTo
     (p : Problem) (stop : ℕ → ℕ → Bool) (table : List Entry) (b : ℕ) (groups : List ActiveGroup) (index : ℕ)
     (row : List (Option Entry)) : Type 0 where
   pub at : ℕ
@@ -168,16 +184,23 @@ pub record IsPassed
   pub rest : IsActive p stop table b b at low (drop index groups)
   pub held : IsRow p table b at row
 
--- The step from one row to another: the entries of the first groups of a list were offered by lines that cost what the loosest line costs.
+-- The step from one row to another: the entries of the first groups of a list were offered by a line.
 abbrev pub IsOfferingFirst :
-    (table : List Entry) → Params → Bound → List Live → (place : ℕ) → (penalty : ℤ) → (index : ℕ) → (old new : List (Option Entry)) → Type 0
-IsOfferingFirst table params bound lives place penalty index old new =
+    (table : List Entry) → Params → (alone : LineCost) → List Live → (place : ℕ) → (index : ℕ) → (old new : List (Option Entry)) → Type 0
+IsOfferingFirst table params alone lives place index old new =
     (p : Problem) (stop : ℕ → ℕ → Bool) (at low : ℕ)
-    → p.cut ≡ params.first_lines → place ≤ p.places → CostLoosest p params bound penalty place (groups_of lives)
+    → p.cut ≡ params.first_lines → place ≤ p.places → HaveLine p params alone place (groups_of lives)
     → IsActive p stop table place place at low (groups_of lives) → IsRow p table place at old
-    → IsPassed p stop table place (groups_of lives) index new
+    → AreOfferedUpTo p stop table place (groups_of lives) index new
 
 -- The same for all groups of a list, after which there are no more offers.
+abbrev pub IsOfferingEach : (table : List Entry) → Params → (alone : LineCost) → List Live → (place : ℕ) → (old new : List (Option Entry)) → Type 0
+IsOfferingEach table params alone lives place old new =
+    (p : Problem) (stop : ℕ → ℕ → Bool) (at low : ℕ)
+    → p.cut ≡ params.first_lines → place ≤ p.places → HaveLine p params alone place (groups_of lives)
+    → IsActive p stop table place place at low (groups_of lives) → IsRow p table place at old → IsRow p table place (length table) new
+
+-- The same for groups that wait: the lines from all of them cost what the loosest line costs.
 abbrev pub IsOfferingWaiting :
     (table : List Entry) → Params → Bound → List Live → (place : ℕ) → (penalty : ℤ) → (old new : List (Option Entry)) → Type 0
 IsOfferingWaiting table params bound lives place penalty old new =

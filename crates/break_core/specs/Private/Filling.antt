@@ -42,12 +42,12 @@ IsOffering table params bound group place penalty line from to old new =
 
 -- The same step for all entries of a group, where the line may be left out.
 abbrev pub IsOfferingUnless :
-    (left : Bool) (table : List Entry) → Params → Bound → ActiveGroup → (place : ℕ) → (penalty : ℤ) → LineFits → (old new : List (Option Entry))
+    (left_out : Bool) (table : List Entry) → Params → Bound → ActiveGroup → (place : ℕ) → (penalty : ℤ) → LineFits → (old new : List (Option Entry))
     → Type 0
-IsOfferingUnless left table params bound group place penalty line old new =
+IsOfferingUnless left_out table params bound group place penalty line old new =
     (p : Problem) → p.cut ≡ params.first_lines → last_forced_below p place ≤ group.place
     → ((s : BreakState) → s.place ≡ group.place
-    → p.line s place ≡ (if left then None else admitted_line params bound penalty s.class (fit_after params.first_lines s.lines line)))
+    → p.line s place ≡ (if left_out then None else admitted_line params bound penalty s.class (fit_after params.first_lines s.lines line)))
     → IsRow p table place group.start old → IsRow p table place group.end new
 
 -- The entries of a group can be offered by a line that was tried.

@@ -6,9 +6,9 @@ use Rattle.break_lines.specs.Problems.{Problem, end_after}
 use Rattle.break_lines.specs.Ways.{last_forced_below}
 
 -- The problem without the lines that are left out.
-abbrev pub problem_without : Problem → (leaves : BreakState → ℕ → Bool) → Problem
-problem_without p leaves =
-    record { places = p.places; forced = p.forced; cut = p.cut; line = λ s b. if leaves s b then None else p.line s b }
+abbrev pub problem_without : Problem → (left_out : BreakState → ℕ → Bool) → Problem
+problem_without p left_out =
+    record { places = p.places; forced = p.forced; cut = p.cut; line = λ s b. if left_out s b then None else p.line s b }
 
 -- The line from state s has at most the overhang of line l from state t, and it leads again to a state that is ahead.
 pub record IsNoWorse (p : Problem) (Ahead : BreakState → BreakState → Type 0) (s t : BreakState) (b : ℕ) (l : LineCost) : Type 0 where
@@ -25,21 +25,21 @@ pub record IsOrder (p : Problem) (Ahead : BreakState → BreakState → Type 0) 
   pub line : (s t : BreakState) (b : ℕ) (l : LineCost) → Ahead s t → p.line t b ≡ Some l → IsNoWorse p Ahead s t b l
 
 -- Two lines that replace a line: their overhang is less together, and the first one is not left out.
-pub record IsDetour (p : Problem) (leaves : BreakState → ℕ → Bool) (Ahead : BreakState → BreakState → Type 0) (s : BreakState) (b : ℕ)
+pub record IsDetour (p : Problem) (left_out : BreakState → ℕ → Bool) (Ahead : BreakState → BreakState → Type 0) (s : BreakState) (b : ℕ)
     (l : LineCost) : Type 0 where
   pub by : ℕ
   pub later : s.place < by
   pub before : by < b
   pub first : LineCost
   pub first_is : p.line s by ≡ Some first
-  pub kept : leaves s by ≡ false
+  pub kept : left_out s by ≡ false
   pub second : LineCost
   pub second_is : p.line (end_after p.cut s by first) b ≡ Some second
   pub less : (first.overhang +ℤ second.overhang) <ℤ l.overhang
   pub ahead : Ahead (end_after p.cut (end_after p.cut s by first) b second) (end_after p.cut s b l)
 
 -- Each line that is left out has a detour.
-abbrev pub HasDetours : (p : Problem) (leaves : BreakState → ℕ → Bool) (Ahead : BreakState → BreakState → Type 0) → Type 0
-HasDetours p leaves Ahead =
+abbrev pub HasDetours : (p : Problem) (left_out : BreakState → ℕ → Bool) (Ahead : BreakState → BreakState → Type 0) → Type 0
+HasDetours p left_out Ahead =
     (s : BreakState) (b : ℕ) (l : LineCost)
-    → s.place < b → last_forced_below p b ≤ s.place → b ≤ p.places → p.line s b ≡ Some l → leaves s b ≡ true → IsDetour p leaves Ahead s b l
+    → s.place < b → last_forced_below p b ≤ s.place → b ≤ p.places → p.line s b ≡ Some l → left_out s b ≡ true → IsDetour p left_out Ahead s b l

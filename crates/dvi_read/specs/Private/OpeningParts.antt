@@ -6,7 +6,7 @@ use Rattle.dvi_ops.specs.File.{MarkedPage}
 use Rattle.dvi_ops.specs.Instruction.{Definition}
 use Rattle.dvi_scan.specs.Pass.{PassStateView}
 use Rattle.dvi_scan.specs.Passed.{Framing}
-use Rattle.dvi_scan.specs.Reached.{Left}
+use Rattle.dvi_scan.specs.Reached.{PlacesLeft}
 use Rattle.dvi_read.specs.Opening.{HasPages}
 use Rattle.dvi_read.specs.ReadFonts.{AreSound}
 use Rattle.dvi_read.specs.Steps.{FontsAreRead, known_of, so_far, stand_of}
@@ -34,7 +34,7 @@ pub record HasPassed (files : List NamedBytes) (bytes : List ℕ) (parts : Frami
   pub sound : AreSound (file_widths files) (known_of walk) walk.fonts
 
 -- Why the reading does not end at the place of post, or the part after post is wrong, or memory is refused for a definition there.
-abbrev pub IsFinishFault : List ℕ → (post after last : ℕ) → PassStateView → Left → (known : List Definition) → DviFault → Type 0
+abbrev pub IsFinishFault : List ℕ → (post after last : ℕ) → PassStateView → PlacesLeft → (known : List Definition) → DviFault → Type 0
 IsFinishFault bytes post after last p left known OutOfMemory =
     (pages : List MarkedPage) × PagesHaveEnded p left pages × (new : List Definition)
     × IsClosingFault bytes after (last - 5) known new frames.OutOfMemory

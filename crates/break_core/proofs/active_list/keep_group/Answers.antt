@@ -20,7 +20,7 @@ returns-clause-front c = λ live at.
           ap (λ v. v.items) w.lives-is ∙ sym (set-get_same old c.args.kept live (ap (slice_get old) same ∙ at))
     ] in
     ap (take (c.args.kept + 1)) made ∙ take_more_set old c.args.kept live (omega (arith, c.requires.kept_bounded, c.requires.index_bounded))
-    ∙ sym (cond-false c.args.ended (take c.args.kept old) (take c.args.kept old ++ live ∷ []) c.if-ended.false)
+    ∙ sym (cond-false c.args.stopped (take c.args.kept old) (take c.args.kept old ++ live ∷ []) c.if-stopped.false)
 
 pub returns-clause-rest : goal.returns-clause-rest
 returns-clause-rest c = λ k after.

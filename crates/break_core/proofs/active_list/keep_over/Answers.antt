@@ -1,7 +1,7 @@
 use Rattle.std.proofs.Common.{◌∙◌, Some, ap, sym}
 use Rattle.break_lines.proofs.Entries.{set-get_same}
 use Rattle.break_core.specs.declared.active_list.Live.{Live}
-use Rattle.break_core.specs.Private.Leaving.{kept_over}
+use Rattle.break_core.specs.Private.LeftOut.{kept_over}
 use Rattle.break_core.proofs.Lives.{same_over}
 use Rattle.break_core.proofs.active_list.keep_over.Goals as goal
 

@@ -2,7 +2,7 @@ use Rattle.std.proofs.Common.{◌≡◌, ◌∙◌, ◌+◌, ◌++◌, [], None,
 use Rattle.break_lines.specs.declared.group.ActiveGroup.{ActiveGroup}
 use Rattle.break_lines.specs.Tables.{IsRow, row_entries}
 use Rattle.break_lines.specs.Legal.{is_forced}
-use Rattle.break_core.specs.Private.Active.{stops_at, pruned_problem, groups_of, with_group, with_live, IsBestOf, HaveBest, IsActive, IsFilled}
+use Rattle.break_core.specs.Private.Active.{stops_at, problem_leaving_out, groups_of, with_group, with_live, IsBestOf, HaveBest, IsActive, IsFilled}
 use Rattle.break_core.proofs.Active.{filled_more}
 use Rattle.break_core.proofs.Lives.{groups_put, over_put, best_put}
 use Rattle.break_core.proofs.Beaten.{best_longer}
@@ -12,8 +12,8 @@ pub returns-clause-filled : goal.returns-clause-filled
 returns-clause-filled g c =
     let f = g.M.Meter.facts c.args.meter.now in
     let rules_now = c.args.rules.now in
-    let p = pruned_problem f rules_now.params.now rules_now.bound rules_now.ending in
-    let stop = stops_at f rules_now.params.now rules_now.ending in
+    let p = problem_leaving_out f rules_now.params.now rules_now.bound rules_now.stop_rule in
+    let stop = stops_at f rules_now.params.now rules_now.stop_rule in
     let table = c.args.reached.now.table.items in
     let row = c.try_lines.new.row.items in
     let lives = c.try_lines.new.lives.items in

@@ -1,7 +1,7 @@
 use Rattle.std.proofs.Common.{◌≡◌, ◌∙◌, ◌+◌, ℕ, [], ◌∷◌, None, vec_len, length, false, replicate, refl, ap, sym, subst, rules, arith}
 use Rattle.break_lines.specs.Tables.{slots, first_entry}
 use Rattle.break_lines.specs.declared.group.ActiveGroup.{ActiveGroup}
-use Rattle.break_core.specs.Private.Active.{stops_at, pruned_problem, groups_of, AreOver, IsBestOf, IsFilled, IsSwept}
+use Rattle.break_core.specs.Private.Active.{stops_at, problem_leaving_out, groups_of, AreOver, IsBestOf, IsFilled, IsSwept}
 use Rattle.break_core.proofs.Active.{table_rest}
 use Rattle.break_core.proofs.Counts.{counted_none, counted_more, counted_longer, kept_none, kept_on, started_more, started_none, start_group}
 use Rattle.break_core.proofs.Lives.{filled_start, over_first, best_kept, no_groups}
@@ -11,8 +11,8 @@ pub loop-before-init : goal.loop-before-init
 loop-before-init g c =
     let f = g.M.Meter.facts c.args.meter.now in
     let params = c.args.rules.now.params.now in
-    let ending = c.args.rules.now.ending in
-    let stop = stops_at f params ending in
+    let rule = c.args.rules.now.stop_rule in
+    let stop = stops_at f params rule in
     let live = c.new-live.result in
     let group : live.group ≡ start_group = c.new-live.ensures.group in
     let table : c.push.new.self.items ≡ first_entry ∷ [] = search rules in
@@ -23,7 +23,7 @@ loop-before-init g c =
     record {
       facts = refl;
       counted = counted_none stop (g.M.Meter.trials c.args.meter.now);
-      filled = filled_start (pruned_problem f params c.args.rules.now.bound ending) stop c.push.new.self.items c.push-2.new.self.items live table lives
+      filled = filled_start (problem_leaving_out f params c.args.rules.now.bound rule) stop c.push.new.self.items c.push-2.new.self.items live table lives
           (ap (λ (x : ActiveGroup). x.place) group) (ap (λ (x : ActiveGroup). x.start) group) (ap (λ (x : ActiveGroup). x.end) group);
       over = subst (AreOver f params 1) (sym lives) (over_first f params live (ap (λ (x : ActiveGroup). x.place) group) c.new-live.ensures.over);
       best = best_kept c.push.new.self.items false [] c.push-2.new.self.items live (λ k x there. absurd (cc)) best lives;
@@ -39,16 +39,16 @@ loop-before-preserved g c =
     let before : ℕ = c.loop-before.before in
     let params = c.args.rules.now.params.now in
     let bound = c.args.rules.now.bound in
-    let ending = c.args.rules.now.ending in
+    let rule = c.args.rules.now.stop_rule in
     let first : ℕ → ℕ = g.M.Meter.trials c.args.meter.now in
     let middle : ℕ → ℕ = g.M.Meter.trials c.loop-before.meter in
     let now : ℕ → ℕ = g.M.Meter.trials c.add_place.new.meter in
     let next = c.in_ok-add_place.ensures in
     record {
       facts = c.add_place.ensures.facts ∙ inv.facts;
-      counted = counted_more (stops_at (g.M.Meter.facts c.args.meter.now) params ending) before first middle now inv.counted
-          (subst (λ f. IsSwept (stops_at f params ending) (before + 1) middle now) inv.facts c.add_place.ensures.trials);
-      filled = subst (λ f. IsFilled (pruned_problem f params bound ending) (stops_at f params ending) (before + 1 + 1) c.add_place.new.reached.table.items
+      counted = counted_more (stops_at (g.M.Meter.facts c.args.meter.now) params rule) before first middle now inv.counted
+          (subst (λ f. IsSwept (stops_at f params rule) (before + 1) middle now) inv.facts c.add_place.ensures.trials);
+      filled = subst (λ f. IsFilled (problem_leaving_out f params bound rule) (stops_at f params rule) (before + 1 + 1) c.add_place.new.reached.table.items
           (groups_of c.add_place.new.reached.live.items)) inv.facts next.filled;
       over = subst (λ f. AreOver f params (before + 1 + 1) c.add_place.new.reached.live.items) inv.facts next.over;
       best = next.best;
@@ -68,14 +68,14 @@ returns-then-is_empty-clause-table g c =
     let rules_now = c.args.rules.now in
     let live = c.loop-before.reached.live in
     let none = no_groups live.items (vec_len live) (sym c.is_empty.ensures ∙ c.if-is_empty.true) (omega (arith, live.ok.0)) in
-    table_rest (pruned_problem f rules_now.params.now rules_now.bound rules_now.ending) (stops_at f rules_now.params.now rules_now.ending) (c.loop-before.before + 1) c.loop-before.reached.table.items
+    table_rest (problem_leaving_out f rules_now.params.now rules_now.bound rules_now.stop_rule) (stops_at f rules_now.params.now rules_now.stop_rule) (c.loop-before.before + 1) c.loop-before.reached.table.items
     (groups_of live.items) (omega arith) (omega (arith, c.loop-before-test.true, c.places-before-end.ensures.count, ap (λ x. x.places) c.loop-before.invariant.facts))
     none c.loop-before.invariant.filled
 
 pub returns-then-is_empty-clause-trials : goal.returns-then-is_empty-clause-trials
 returns-then-is_empty-clause-trials g c =
     let f = g.M.Meter.facts c.args.meter.now in
-    counted_longer (stops_at f c.args.rules.now.params.now c.args.rules.now.ending) c.loop-before.before f.places (g.M.Meter.trials c.args.meter.now) (g.M.Meter.trials c.loop-before.meter)
+    counted_longer (stops_at f c.args.rules.now.params.now c.args.rules.now.stop_rule) c.loop-before.before f.places (g.M.Meter.trials c.args.meter.now) (g.M.Meter.trials c.loop-before.meter)
     (omega (arith, c.loop-before-test.true, c.places-before-end.ensures.count, ap (λ x. x.places) c.loop-before.invariant.facts)) c.loop-before.invariant.counted
 
 pub returns-then-is_empty-clause-tried : goal.returns-then-is_empty-clause-tried

@@ -1,14 +1,14 @@
 use Rattle.std.proofs.Common.{◌≡◌, ◌+◌, ◌<◌, [], ◌∷◌, replicate, None}
 use Rattle.break_lines.specs.Tables.{slots}
-use Rattle.break_core.specs.Private.Active.{stops_at, pruned_problem, groups_of, AreOver, HaveBest, IsFilled, IsCounted, TrialsOnlyGrow}
+use Rattle.break_core.specs.Private.Active.{stops_at, problem_leaving_out, groups_of, AreOver, HaveBest, IsFilled, IsCounted, TrialsOnlyGrow}
 use Rattle.break_core.proofs.Counts.{start_group}
 use Rattle.break_core.proofs.filling.fill.Given as goal
 
 abbrev pub invariant-loop-before : goal.invariant-loop-before
 invariant-loop-before g l = record {
   facts : g.M.Meter.facts l.meter ≡ g.M.Meter.facts l.initial.meter;
-  counted : IsCounted (stops_at (g.M.Meter.facts l.initial.meter) l.rules.params.now l.rules.ending) l.before (g.M.Meter.trials l.initial.meter) (g.M.Meter.trials l.meter);
-  filled : IsFilled (pruned_problem (g.M.Meter.facts l.initial.meter) l.rules.params.now l.rules.bound l.rules.ending) (stops_at (g.M.Meter.facts l.initial.meter) l.rules.params.now l.rules.ending) (l.before + 1) l.reached.table.items (groups_of l.reached.live.items);
+  counted : IsCounted (stops_at (g.M.Meter.facts l.initial.meter) l.rules.params.now l.rules.stop_rule) l.before (g.M.Meter.trials l.initial.meter) (g.M.Meter.trials l.meter);
+  filled : IsFilled (problem_leaving_out (g.M.Meter.facts l.initial.meter) l.rules.params.now l.rules.bound l.rules.stop_rule) (stops_at (g.M.Meter.facts l.initial.meter) l.rules.params.now l.rules.stop_rule) (l.before + 1) l.reached.table.items (groups_of l.reached.live.items);
   over : AreOver (g.M.Meter.facts l.initial.meter) l.rules.params.now (l.before + 1) l.reached.live.items;
   best : HaveBest l.reached.table.items l.reached.live.items;
   kept : TrialsOnlyGrow (g.M.Meter.trials l.initial.meter) (g.M.Meter.trials l.meter);

@@ -8,18 +8,18 @@ use Rattle.std.proofs.lemmas.Option.{slice_get_read}
 use Rattle.break_lines.specs.Sizes.{least_width, fits_of_sums}
 use Rattle.break_core.specs.declared.active_list.Live.{Live}
 use Rattle.break_core.specs.Trials.{is_overfull}
-use Rattle.break_core.specs.Private.Leaving.{is_long, is_more, kept_over}
-use Rattle.break_core.specs.Private.Active.{deactivates, stops_at, pruned_problem, groups_of, AreOver, HaveBest, IsNext, IsActive, AreLoosest, CostLoosest, CanAllWait, IsOfferingWaiting}
+use Rattle.break_core.specs.Private.LeftOut.{is_long, is_more, kept_over}
+use Rattle.break_core.specs.Private.Active.{stops_after, stops_at, problem_leaving_out, groups_of, AreOver, HaveBest, IsNext, IsActive, AreLoosest, CostLoosest, CanAllWait, IsOfferingWaiting}
 use Rattle.break_lines.specs.Tables.{slots, IsRow}
 use Rattle.break_lines.proofs.Rows.{row_empty}
 use Rattle.break_lines.proofs.Entries.{get-set_same, get-set_other}
 use Rattle.break_core.proofs.Filled.{group_of}
 use Rattle.break_core.proofs.Overfull.{overfull_of, both_true}
-use Rattle.break_core.proofs.Endings.{long_found, over_found, pruned_is, ended_is, goes_on, ended_quiet}
+use Rattle.break_core.proofs.Stopping.{long_found, over_found, line_leaving_out, stopped_is, goes_on, stopped_silent}
 use Rattle.break_core.proofs.Lives.{group_at, groups_kept, over_kept, best_kept, next_live}
-use Rattle.break_core.proofs.Active.{row_quiet, front_more}
+use Rattle.break_core.proofs.Active.{row_silent, front_more}
 use Rattle.break_core.proofs.Counts.{swept_more, fresh_more, kept_more, kept_none, tried_first}
-use Rattle.break_core.proofs.Waiting.{later_loosest, wait_from, are_left, can_wait, can_uncounted, costs_waiting, front_left, over_left, best_joined, first_tried}
+use Rattle.break_core.proofs.Waiting.{later_loosest, wait_from, rest_waits, can_wait, can_uncounted, costs_waiting, front_with_rest, over_with_rest, best_joined, first_tried}
 use Rattle.break_core.proofs.filling.try_lines.Goals as goal
 
 pub try_line-sums-requires-clause-later : goal.try_line-sums-requires-clause-later
@@ -34,7 +34,7 @@ try_line-sums-requires-clause-later g c =
     let within : index < length c.loop-index.lives.items = omega (arith, c.loop-index-test.true, inv.end_bounded, inv.count) in
     let here : slice_get lives index ≡ Some live =
     sym (inv.rest index (omega arith)) ∙ slice_get_read c.loop-index.lives.items (length c.loop-index.lives.items) index live refl within c.index-live.ensures in
-    let both = next_live f rules_now.params.now rules_now.bound rules_now.ending table c.args.place inv.at inv.low lives index live here inv.live in
+    let both = next_live f rules_now.params.now rules_now.bound rules_now.stop_rule table c.args.place inv.at inv.low lives index live here inv.live in
     let next = both.0 in
     next.group.earlier
 
@@ -50,7 +50,7 @@ try_line-sums-requires-clause-trials_bounded g c =
     let within : index < length c.loop-index.lives.items = omega (arith, c.loop-index-test.true, inv.end_bounded, inv.count) in
     let here : slice_get lives index ≡ Some live =
     sym (inv.rest index (omega arith)) ∙ slice_get_read c.loop-index.lives.items (length c.loop-index.lives.items) index live refl within c.index-live.ensures in
-    let both = next_live f rules_now.params.now rules_now.bound rules_now.ending table c.args.place inv.at inv.low lives index live here inv.live in
+    let both = next_live f rules_now.params.now rules_now.bound rules_now.stop_rule table c.args.place inv.at inv.low lives index live here inv.live in
     let next = both.0 in
     omega (arith, c.requires.trials_bounded live.group.place, inv.fresh live.group.place next.later)
 
@@ -66,7 +66,7 @@ offer_line-judged-requires g c =
     let within : index < length c.loop-index.lives.items = omega (arith, c.loop-index-test.true, inv.end_bounded, inv.count) in
     let here : slice_get lives index ≡ Some live =
     sym (inv.rest index (omega arith)) ∙ slice_get_read c.loop-index.lives.items (length c.loop-index.lives.items) index live refl within c.index-live.ensures in
-    let both = next_live f rules_now.params.now rules_now.bound rules_now.ending table c.args.place inv.at inv.low lives index live here inv.live in
+    let both = next_live f rules_now.params.now rules_now.bound rules_now.stop_rule table c.args.place inv.at inv.low lives index live here inv.live in
     let next = both.0 in
     record {
       can = record {
@@ -75,7 +75,7 @@ offer_line-judged-requires g c =
         within = next.group.within;
         earlier = next.group.earlier;
         places = c.requires.places;
-        entries = group_of (pruned_problem f rules_now.params.now rules_now.bound rules_now.ending) table c.args.place live.group c.requires.filled.is_table next.group;
+        entries = group_of (problem_leaving_out f rules_now.params.now rules_now.bound rules_now.stop_rule) table c.args.place live.group c.requires.filled.is_table next.group;
         penalty = omega (arith, ints, c.place-at.ensures.penalty_bounded);
         small = c.try_line-sums.ensures.sums_bounded;
       };
@@ -111,13 +111,13 @@ loop-index-preserved g c =
     let within : index < length c.loop-index.lives.items = omega (arith, c.loop-index-test.true, inv.end_bounded, inv.count) in
     let here : slice_get lives index ≡ Some live =
     sym (inv.rest index (omega arith)) ∙ slice_get_read c.loop-index.lives.items (length c.loop-index.lives.items) index live refl within c.index-live.ensures in
-    let both = next_live f rules_now.params.now rules_now.bound rules_now.ending table c.args.place inv.at inv.low lives index live here inv.live in
+    let both = next_live f rules_now.params.now rules_now.bound rules_now.stop_rule table c.args.place inv.at inv.low lives index live here inv.live in
     let next = both.0 in
     let params = rules_now.params.now in
-    let ending = rules_now.ending in
+    let rule = rules_now.stop_rule in
     let bound = rules_now.bound in
-    let p = pruned_problem f params bound ending in
-    let stop = stops_at f params ending in
+    let p = problem_leaving_out f params bound rule in
+    let stop = stops_at f params rule in
     let groups = groups_of lives in
     let group = live.group in
     let h = g.M.Meter.facts c.loop-index.meter in
@@ -135,10 +135,10 @@ loop-index-preserved g c =
     let is_long_line : long ≡ is_long f params group.place c.args.place =
     long_found f h params group.place c.args.place sums live.over width long refl over is_width
     c.try_line-sums.ensures.sums inv.facts in
-    let tried = pruned_is f h params bound ending group c.args.place (to_z w32 (of_z w32 c.place-at.result.penalty)) sums line c.leaves-left.result long
-    (penalty ∙ c.place-at.ensures.penalty) refl c.try_line-sums.ensures.sums inv.facts c.leaves-left.ensures is_long_line in
-    let ended : c.deactivates-ended.result ≡ deactivates ending overfull long =
-    c.deactivates-ended.ensures ∙ ap (deactivates ending overfull) c.leaves-left.ensures ∙ ended_is ending overfull long in
+    let tried = line_leaving_out f h params bound rule group c.args.place (to_z w32 (of_z w32 c.place-at.result.penalty)) sums line c.leaves_out-left_out.result long
+    (penalty ∙ c.place-at.ensures.penalty) refl c.try_line-sums.ensures.sums inv.facts c.leaves_out-left_out.ensures is_long_line in
+    let stopped : c.stops_after-stopped.result ≡ stops_after rule overfull long =
+    c.stops_after-stopped.ensures ∙ ap (stops_after rule overfull) c.leaves_out-left_out.ensures ∙ stopped_is rule overfull long in
     let items = c.loop-index.lives.items in
     let at_index = slice_get_read items (length items) index live refl within c.index-live.ensures in
     let next_over = kept_over live.over overfull width in
@@ -150,13 +150,13 @@ loop-index-preserved g c =
     let new = take c.keep_group-kept.result c.keep_group-kept.new.lives.items in
     let same_front : take c.loop-index.kept c.keep_over.new.lives.items ≡ old =
     ap (take c.loop-index.kept) marked ∙ take-set-le c.loop-index.kept items index kept inv.kept_bounded in
-    let made : new ≡ cond c.deactivates-ended.result old (old ++ kept ∷ []) =
-    c.keep_group-kept.ensures.front kept stands ∙ ap (λ xs. cond c.deactivates-ended.result xs (xs ++ kept ∷ [])) same_front in
+    let made : new ≡ cond c.stops_after-stopped.result old (old ++ kept ∷ []) =
+    c.keep_group-kept.ensures.front kept stands ∙ ap (λ xs. cond c.stops_after-stopped.result xs (xs ++ kept ∷ [])) same_front in
     record {
       wide = c.offer_line-judged.ensures.wide;
       facts = c.try_line-sums.ensures.facts ∙ inv.facts;
       swept = swept_more stop c.args.place inv.low group.place (g.M.Meter.trials c.args.meter.now) (g.M.Meter.trials c.loop-index.meter)
-          (g.M.Meter.trials c.try_line-sums.new.self) inv.swept inv.fresh next.later next.group.earlier next.trying c.try_line-sums.ensures.counted
+          (g.M.Meter.trials c.try_line-sums.new.self) inv.swept inv.fresh next.later next.group.earlier next.not_stopped c.try_line-sums.ensures.counted
           c.try_line-sums.ensures.others;
       kept = kept_more group.place (g.M.Meter.trials c.args.meter.now) (g.M.Meter.trials c.loop-index.meter) (g.M.Meter.trials c.try_line-sums.new.self) inv.kept
           c.try_line-sums.ensures.counted c.try_line-sums.ensures.others;
@@ -169,20 +169,20 @@ loop-index-preserved g c =
           (g.M.Meter.trials c.try_line-sums.new.self) inv.fresh next.later c.try_line-sums.ensures.others;
       live = both.1;
       row = c.offer_line-judged.ensures.row p refl next.group.since tried
-          (row_quiet p table c.args.place inv.at group.start c.loop-index.row.items next.gap c.requires.last next.quiet inv.row);
+          (row_silent p table c.args.place inv.at group.start c.loop-index.row.items next.gap c.requires.last next.silent inv.row);
       kept_bounded = omega (arith, inv.kept_bounded, c.keep_group-kept.ensures.result_bounded);
       count = c.keep_group-kept.ensures.count ∙ ap length marked ∙ length-set items index kept ∙ inv.count;
       rest = λ k after. c.keep_group-kept.ensures.rest k (omega (arith, inv.kept_bounded)) ∙ ap (λ xs. slice_get xs k) marked
           ∙ get-set_other items index k kept (λ same. omega (arith, same)) ∙ inv.rest k (omega arith);
-      front = front_more p stop table c.args.place c.args.place inv.at inv.low (groups_of old) (groups_of new) group c.deactivates-ended.result inv.front next
-          (goes_on f params ending group.place c.args.place overfull long c.deactivates-ended.result ended is_over is_long_line)
-          (ended_quiet f params bound table c.args.place group ending overfull long c.deactivates-ended.result ended is_over is_long_line c.requires.may next.group)
-          (groups_kept c.deactivates-ended.result old new kept made);
-      over = over_kept f params (c.args.place + 1) c.deactivates-ended.result old new kept inv.over
+      front = front_more p stop table c.args.place c.args.place inv.at inv.low (groups_of old) (groups_of new) group c.stops_after-stopped.result inv.front next
+          (goes_on f params rule group.place c.args.place overfull long c.stops_after-stopped.result stopped is_over is_long_line)
+          (stopped_silent f params bound table c.args.place group rule overfull long c.stops_after-stopped.result stopped is_over is_long_line c.requires.may next.group)
+          (groups_kept c.stops_after-stopped.result old new kept made);
+      over = over_kept f params (c.args.place + 1) c.stops_after-stopped.result old new kept inv.over
           (over_found f h params group.place c.args.place sums live.over next_over width overfull next.group.earlier
           refl over is_over is_width c.try_line-sums.ensures.sums inv.facts)
           made;
-      best = best_kept table c.deactivates-ended.result old new kept inv.best (c.requires.best index live here) made;
+      best = best_kept table c.stops_after-stopped.result old new kept inv.best (c.requires.best index live here) made;
       index_bounded = next_bounded (cases_Bool both_wait);
       end_bounded = end_within (cases_Bool both_wait);
       begins = begins (cases_Bool both_wait);
@@ -196,35 +196,35 @@ loop-index-preserved g c =
     both_wait = loosest && c.args.rules.now.waits
 
     end : ℕ
-    end = c.end_of_trials-end.result
+    end = c.first_waiting-end.result
 
     low : c.loop-index.index < c.loop-index.end
     low = c.loop-index-test.true
 
-    stopped : both_wait ≡ true → end ≡ c.loop-index.index + 1
-    stopped is = c.end_of_trials-end.ensures ∙ cond-true both_wait (c.loop-index.index + 1) c.loop-index.end is
+    next_waits : both_wait ≡ true → end ≡ c.loop-index.index + 1
+    next_waits is = c.first_waiting-end.ensures ∙ cond-true both_wait (c.loop-index.index + 1) c.loop-index.end is
 
     goes : both_wait ≡ false → end ≡ c.loop-index.end
-    goes is = c.end_of_trials-end.ensures ∙ cond-false both_wait (c.loop-index.index + 1) c.loop-index.end is
+    goes is = c.first_waiting-end.ensures ∙ cond-false both_wait (c.loop-index.index + 1) c.loop-index.end is
 
     next_bounded : (both_wait ≡ true) ⊎ (both_wait ≡ false) → c.loop-index.index + 1 ≤ end
-    next_bounded (inl is) = omega (arith, stopped is)
+    next_bounded (inl is) = omega (arith, next_waits is)
     next_bounded (inr is) = omega (arith, goes is, low)
 
     end_within : (both_wait ≡ true) ⊎ (both_wait ≡ false) → end ≤ length c.args.lives.now.items
-    end_within (inl is) = omega (arith, stopped is, low, c.loop-index.invariant.end_bounded)
+    end_within (inl is) = omega (arith, next_waits is, low, c.loop-index.invariant.end_bounded)
     end_within (inr is) = omega (arith, goes is, c.loop-index.invariant.end_bounded)
 
     begins : (both_wait ≡ true) ⊎ (both_wait ≡ false) → (length c.args.lives.now.items ≤ end) ⊎ (0 < end)
-    begins (inl is) = inr (omega (arith, stopped is))
+    begins (inl is) = inr (omega (arith, next_waits is))
     begins (inr is) = inr (omega (arith, goes is, low))
 
     place : ℕ
     place = c.index-live.result.now.group.place
 
     next :
-        IsNext (pruned_problem (g.M.Meter.facts c.args.meter.now) c.args.rules.now.params.now c.args.rules.now.bound c.args.rules.now.ending)
-        (stops_at (g.M.Meter.facts c.args.meter.now) c.args.rules.now.params.now c.args.rules.now.ending) c.args.table.now c.args.place
+        IsNext (problem_leaving_out (g.M.Meter.facts c.args.meter.now) c.args.rules.now.params.now c.args.rules.now.bound c.args.rules.now.stop_rule)
+        (stops_at (g.M.Meter.facts c.args.meter.now) c.args.rules.now.params.now c.args.rules.now.stop_rule) c.args.table.now c.args.place
         c.loop-index.invariant.at c.loop-index.invariant.low c.index-live.result.now.group
     next =
         let inv = c.loop-index.invariant in
@@ -235,7 +235,7 @@ loop-index-preserved g c =
         let here : slice_get c.args.lives.now.items index ≡ Some live =
         sym (inv.rest index (omega arith))
         ∙ slice_get_read c.loop-index.lives.items (length c.loop-index.lives.items) index live refl within c.index-live.ensures in
-        (next_live (g.M.Meter.facts c.args.meter.now) rules_now.params.now rules_now.bound rules_now.ending c.args.table.now c.args.place inv.at inv.low
+        (next_live (g.M.Meter.facts c.args.meter.now) rules_now.params.now rules_now.bound rules_now.stop_rule c.args.table.now c.args.place inv.at inv.low
         c.args.lives.now.items index live here inv.live).0
 
     waits :
@@ -257,7 +257,7 @@ pub loop-index-init : goal.loop-index-init
 loop-index-init g c =
     let f = g.M.Meter.facts c.args.meter.now in
     let rules_now = c.args.rules.now in
-    let p = pruned_problem f rules_now.params.now rules_now.bound rules_now.ending in
+    let p = problem_leaving_out f rules_now.params.now rules_now.bound rules_now.stop_rule in
     record {
       wide = ap length c.requires.empty ∙ length-replicate (slots rules_now.params.now.first_lines) None;
       facts = refl;
@@ -287,27 +287,29 @@ offer_waiting-requires g c =
     let f = g.M.Meter.facts c.args.meter.now in
     let rules_now = c.args.rules.now in
     let params = rules_now.params.now in
-    let p = pruned_problem f params rules_now.bound rules_now.ending in
-    let stop = stops_at f params rules_now.ending in
+    let p = problem_leaving_out f params rules_now.bound rules_now.stop_rule in
+    let stop = stops_at f params rules_now.stop_rule in
     let table = c.args.table.now in
     let now = c.loop-index.lives.items in
     let last : c.loop-index.index ≡ c.loop-index.end = omega (arith, c.loop-index-test.false, inv.index_bounded) in
-    let left = are_left f params rules_now.bound rules_now.ending table c.args.place inv.at inv.low c.loop-index.index c.loop-index.end
+    let waiting = rest_waits f params rules_now.bound rules_now.stop_rule table c.args.place inv.at inv.low c.loop-index.index c.loop-index.end
     c.args.lives.now.items now last inv.count inv.rest inv.waits c.requires.over c.requires.best inv.live in
     let slice : c.rest_of.result.now ≡ drop c.loop-index.end now = c.rest_of.ensures ∙ ap (drop c.loop-index.end) c.deref.ensures.value in
     record {
-      wide = inv.wide;
-      uncounted = λ some. left.uncounted (subst (λ xs. 0 < length xs) slice some);
-      can = subst (CanAllWait 0 table c.args.place) (sym slice)
-          (can_uncounted params.first_lines table c.args.place (drop c.loop-index.end now) left.uncounted
-          (can_wait p stop table c.args.place c.args.place inv.at inv.low (drop c.loop-index.end now) c.requires.filled.is_table left.active));
-      best = subst (HaveBest table) (sym slice) left.best;
-      places = c.requires.places;
+      can = record {
+        wide = inv.wide;
+        uncounted = λ some. waiting.uncounted (subst (λ xs. 0 < length xs) slice some);
+        each = subst (CanAllWait 0 table c.args.place) (sym slice)
+            (can_uncounted params.first_lines table c.args.place (drop c.loop-index.end now) waiting.uncounted
+            (can_wait p stop table c.args.place c.args.place inv.at inv.low (drop c.loop-index.end now) c.requires.filled.is_table waiting.active));
+        best = subst (HaveBest table) (sym slice) waiting.best;
+        places = c.requires.places;
+      };
       penalty = omega (arith, ints, c.place-at.ensures.penalty_bounded);
     }
 
-pub leave_out-requires : goal.leave_out-requires
-leave_out-requires g c =
+pub remove_groups-requires : goal.remove_groups-requires
+remove_groups-requires g c =
     let inv = c.loop-index.invariant in
     record {
       kept_bounded = omega (arith, inv.kept_bounded, inv.index_bounded);
@@ -321,25 +323,25 @@ returns-clause-row g c =
     let rules_now = c.args.rules.now in
     let params = rules_now.params.now in
     let bound = rules_now.bound in
-    let ending = rules_now.ending in
-    let p = pruned_problem f params bound ending in
-    let stop = stops_at f params ending in
+    let rule = rules_now.stop_rule in
+    let p = problem_leaving_out f params bound rule in
+    let stop = stops_at f params rule in
     let table = c.args.table.now in
     let place = c.args.place in
     let now = c.loop-index.lives.items in
     let last : c.loop-index.index ≡ c.loop-index.end = omega (arith, c.loop-index-test.false, inv.index_bounded) in
-    let left = are_left f params bound ending table place inv.at inv.low c.loop-index.index c.loop-index.end
+    let waiting = rest_waits f params bound rule table place inv.at inv.low c.loop-index.index c.loop-index.end
     c.args.lives.now.items now last inv.count inv.rest inv.waits c.requires.over c.requires.best inv.live in
     let slice : c.rest_of.result.now ≡ drop c.loop-index.end now = c.rest_of.ensures ∙ ap (drop c.loop-index.end) c.deref.ensures.value in
     let penalty : to_z w32 (of_z w32 c.place-at.result.penalty) ≡ f.penalty place =
     omega (arith, ints, c.place-at.ensures.penalty) in
     let costs : CostLoosest p params bound (f.penalty place) place (groups_of (drop c.loop-index.end now)) =
-    costs_waiting f params bound ending table place place inv.at inv.low (groups_of (drop c.loop-index.end now)) c.requires.may c.requires.last left.wait left.active in
+    costs_waiting f params bound rule table place place inv.at inv.low (groups_of (drop c.loop-index.end now)) c.requires.may c.requires.last waiting.wait waiting.active in
     let offered : IsOfferingWaiting table params bound (drop c.loop-index.end now) place (f.penalty place) c.loop-index.row.items c.offer_waiting.new.row.items =
     subst (λ n. IsOfferingWaiting table params bound (drop c.loop-index.end now) place n c.loop-index.row.items c.offer_waiting.new.row.items) penalty
     (subst (λ xs. IsOfferingWaiting table params bound xs place (to_z w32 (of_z w32 c.place-at.result.penalty)) c.loop-index.row.items c.offer_waiting.new.row.items) slice
     c.offer_waiting.ensures.row) in
-    offered p stop inv.at inv.low refl c.requires.last costs left.active inv.row
+    offered p stop inv.at inv.low refl c.requires.last costs waiting.active inv.row
 
 pub returns-clause-live : goal.returns-clause-live
 returns-clause-live g c = λ free.
@@ -348,16 +350,16 @@ returns-clause-live g c = λ free.
     let rules_now = c.args.rules.now in
     let params = rules_now.params.now in
     let bound = rules_now.bound in
-    let ending = rules_now.ending in
+    let rule = rules_now.stop_rule in
     let table = c.args.table.now in
     let place = c.args.place in
     let now = c.loop-index.lives.items in
     let last : c.loop-index.index ≡ c.loop-index.end = omega (arith, c.loop-index-test.false, inv.index_bounded) in
-    let left = are_left f params bound ending table place inv.at inv.low c.loop-index.index c.loop-index.end
+    let waiting = rest_waits f params bound rule table place inv.at inv.low c.loop-index.index c.loop-index.end
     c.args.lives.now.items now last inv.count inv.rest inv.waits c.requires.over c.requires.best inv.live in
-    subst (λ xs. IsActive (pruned_problem f params bound ending) (stops_at f params ending) table (place + 1) place 0 0 (groups_of xs)) (sym c.leave_out.ensures)
-    (front_left f params bound ending table place inv.at inv.low (take c.loop-index.kept now) (drop c.loop-index.end now) c.requires.may c.requires.last
-    free left inv.front)
+    subst (λ xs. IsActive (problem_leaving_out f params bound rule) (stops_at f params rule) table (place + 1) place 0 0 (groups_of xs)) (sym c.remove_groups.ensures)
+    (front_with_rest f params bound rule table place inv.at inv.low (take c.loop-index.kept now) (drop c.loop-index.end now) c.requires.may c.requires.last
+    free waiting inv.front)
 
 pub returns-clause-over : goal.returns-clause-over
 returns-clause-over g c =
@@ -366,15 +368,15 @@ returns-clause-over g c =
     let rules_now = c.args.rules.now in
     let params = rules_now.params.now in
     let bound = rules_now.bound in
-    let ending = rules_now.ending in
+    let rule = rules_now.stop_rule in
     let table = c.args.table.now in
     let place = c.args.place in
     let now = c.loop-index.lives.items in
     let last : c.loop-index.index ≡ c.loop-index.end = omega (arith, c.loop-index-test.false, inv.index_bounded) in
-    let left = are_left f params bound ending table place inv.at inv.low c.loop-index.index c.loop-index.end
+    let waiting = rest_waits f params bound rule table place inv.at inv.low c.loop-index.index c.loop-index.end
     c.args.lives.now.items now last inv.count inv.rest inv.waits c.requires.over c.requires.best inv.live in
-    subst (AreOver f params (place + 1)) (sym c.leave_out.ensures)
-    (over_left f params bound ending table place inv.at inv.low (take c.loop-index.kept now) (drop c.loop-index.end now) left inv.over)
+    subst (AreOver f params (place + 1)) (sym c.remove_groups.ensures)
+    (over_with_rest f params bound rule table place inv.at inv.low (take c.loop-index.kept now) (drop c.loop-index.end now) waiting inv.over)
 
 pub returns-clause-best : goal.returns-clause-best
 returns-clause-best g c =
@@ -384,10 +386,10 @@ returns-clause-best g c =
     let now = c.loop-index.lives.items in
     let table = c.args.table.now in
     let last : c.loop-index.index ≡ c.loop-index.end = omega (arith, c.loop-index-test.false, inv.index_bounded) in
-    let left = are_left f rules_now.params.now rules_now.bound rules_now.ending table c.args.place inv.at inv.low c.loop-index.index c.loop-index.end
+    let waiting = rest_waits f rules_now.params.now rules_now.bound rules_now.stop_rule table c.args.place inv.at inv.low c.loop-index.index c.loop-index.end
     c.args.lives.now.items now last inv.count inv.rest inv.waits c.requires.over c.requires.best inv.live in
-    subst (HaveBest table) (sym c.leave_out.ensures)
-    (best_joined table (take c.loop-index.kept now) (drop c.loop-index.end now) inv.best left.best)
+    subst (HaveBest table) (sym c.remove_groups.ensures)
+    (best_joined table (take c.loop-index.kept now) (drop c.loop-index.end now) inv.best waiting.best)
 
 pub returns-clause-tried : goal.returns-clause-tried
 returns-clause-tried g c =

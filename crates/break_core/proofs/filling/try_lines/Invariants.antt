@@ -1,7 +1,7 @@
 use Rattle.std.proofs.Common.{◌≡◌, ◌+◌, ◌-◌, ◌≤◌, ◌<◌, ℕ, length, drop, take}
 use Rattle.std.specs.Prelude.{slice_get, ◌⊎◌}
 use Rattle.break_lines.specs.Tables.{slots, IsRow}
-use Rattle.break_core.specs.Private.Active.{stops_at, pruned_problem, groups_of, AreOver, HaveBest, IsActive, IsSwept, TrialsOnlyGrow, WasTried, AreLoosest}
+use Rattle.break_core.specs.Private.Active.{stops_at, problem_leaving_out, groups_of, AreOver, HaveBest, IsActive, IsSwept, TrialsOnlyGrow, WasTried, AreLoosest}
 use Rattle.break_core.proofs.Active.{IsFront}
 use Rattle.break_core.proofs.filling.try_lines.Given as goal
 
@@ -9,18 +9,18 @@ abbrev pub invariant-loop-index : goal.invariant-loop-index
 invariant-loop-index g l = record {
   wide : length l.row.items ≡ slots l.rules.params.now.first_lines;
   facts : g.M.Meter.facts l.meter ≡ g.M.Meter.facts l.initial.meter;
-  swept : IsSwept (stops_at (g.M.Meter.facts l.initial.meter) l.rules.params.now l.rules.ending) l.place (g.M.Meter.trials l.initial.meter) (g.M.Meter.trials l.meter);
+  swept : IsSwept (stops_at (g.M.Meter.facts l.initial.meter) l.rules.params.now l.rules.stop_rule) l.place (g.M.Meter.trials l.initial.meter) (g.M.Meter.trials l.meter);
   kept : TrialsOnlyGrow (g.M.Meter.trials l.initial.meter) (g.M.Meter.trials l.meter);
   tried : 0 < l.index → WasTried (groups_of l.initial.lives.items) (g.M.Meter.trials l.initial.meter) (g.M.Meter.trials l.meter);
   at : ℕ;
   low : ℕ;
   fresh : (a : ℕ) → low ≤ a → g.M.Meter.trials l.meter a ≤ g.M.Meter.trials l.initial.meter a;
-  live : IsActive (pruned_problem (g.M.Meter.facts l.initial.meter) l.rules.params.now l.rules.bound l.rules.ending) (stops_at (g.M.Meter.facts l.initial.meter) l.rules.params.now l.rules.ending) l.table l.place l.place at low (drop l.index (groups_of l.initial.lives.items));
-  row : IsRow (pruned_problem (g.M.Meter.facts l.initial.meter) l.rules.params.now l.rules.bound l.rules.ending) l.table l.place at l.row.items;
+  live : IsActive (problem_leaving_out (g.M.Meter.facts l.initial.meter) l.rules.params.now l.rules.bound l.rules.stop_rule) (stops_at (g.M.Meter.facts l.initial.meter) l.rules.params.now l.rules.stop_rule) l.table l.place l.place at low (drop l.index (groups_of l.initial.lives.items));
+  row : IsRow (problem_leaving_out (g.M.Meter.facts l.initial.meter) l.rules.params.now l.rules.bound l.rules.stop_rule) l.table l.place at l.row.items;
   kept_bounded : l.kept ≤ l.index;
   count : length l.lives.items ≡ length l.initial.lives.items;
   rest : (k : ℕ) → l.index ≤ k → slice_get l.lives.items k ≡ slice_get l.initial.lives.items k;
-  front : IsFront (pruned_problem (g.M.Meter.facts l.initial.meter) l.rules.params.now l.rules.bound l.rules.ending) (stops_at (g.M.Meter.facts l.initial.meter) l.rules.params.now l.rules.ending) l.table l.place l.place at low (groups_of (take l.kept l.lives.items));
+  front : IsFront (problem_leaving_out (g.M.Meter.facts l.initial.meter) l.rules.params.now l.rules.bound l.rules.stop_rule) (stops_at (g.M.Meter.facts l.initial.meter) l.rules.params.now l.rules.stop_rule) l.table l.place l.place at low (groups_of (take l.kept l.lives.items));
   over : AreOver (g.M.Meter.facts l.initial.meter) l.rules.params.now (l.place + 1) (take l.kept l.lives.items);
   best : HaveBest l.table (take l.kept l.lives.items);
   index_bounded : l.index ≤ l.end;

@@ -1,7 +1,7 @@
 use Rattle.std.proofs.Common.{◌≡◌, ◌+◌, refl, subst, arith}
 use Rattle.break_lines.proofs.Entries.{get_at}
 use Rattle.break_core.specs.Private.Filling.{IsBestOffer}
-use Rattle.break_core.proofs.ActiveNodes.{best_first, best_more}
+use Rattle.break_core.proofs.BestOffers.{best_first, best_more}
 use Rattle.break_core.proofs.offering.best_offer.Goals as goal
 
 pub offer_from-best-requires-clause-uncounted : goal.offer_from-best-requires-clause-uncounted

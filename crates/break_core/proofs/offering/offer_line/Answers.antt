@@ -4,8 +4,8 @@ use Rattle.break_lines.specs.Tables.{slots}
 use Rattle.break_lines.specs.Costs.{line_alone, is_loosest}
 use Rattle.break_lines.specs.Sizes.{fits_of_sums}
 use Rattle.break_core.specs.Private.Filling.{IsOf}
-use Rattle.break_core.proofs.ActiveNodes.{best_line, none_line, overfull_once}
-use Rattle.break_core.proofs.Endings.{left_out}
+use Rattle.break_core.proofs.BestOffers.{best_line, none_line, overfull_once}
+use Rattle.break_core.proofs.Stopping.{row_left_out}
 use Rattle.break_core.proofs.Beaten.{offered_by}
 use Rattle.break_core.proofs.offering.offer_line.Goals as goal
 
@@ -37,16 +37,16 @@ offer_best-requires-clause-places c = omega (arith, c.requires.can.places, c.off
 pub offer_best-requires-clause-best : goal.offer_best-requires-clause-best
 offer_best-requires-clause-best c = c.requires.best
 
-pub returns-then-left-clause-row : goal.returns-then-left-clause-row
-returns-then-left-clause-row c =
-    left_out c.args.left c.args.table.now c.args.rules.now.params.now c.args.rules.now.bound c.args.live.now.group c.args.tried.place c.args.tried.penalty
-    (fits_of_sums c.args.rules.now.params.now c.args.tried.sums) c.args.row.now.items c.if-left.true c.requires.can.rises c.requires.can.entries
+pub returns-then-left_out-clause-row : goal.returns-then-left_out-clause-row
+returns-then-left_out-clause-row c =
+    row_left_out c.args.left_out c.args.table.now c.args.rules.now.params.now c.args.rules.now.bound c.args.live.now.group c.args.tried.place c.args.tried.penalty
+    (fits_of_sums c.args.rules.now.params.now c.args.tried.sums) c.args.row.now.items c.if-left_out.true c.requires.can.rises c.requires.can.entries
 
-pub returns-then-left-clause-wide : goal.returns-then-left-clause-wide
-returns-then-left-clause-wide c = c.requires.can.wide
+pub returns-then-left_out-clause-wide : goal.returns-then-left_out-clause-wide
+returns-then-left_out-clause-wide c = c.requires.can.wide
 
-pub returns-then-left-clause-overfull : goal.returns-then-left-clause-overfull
-returns-then-left-clause-overfull c =
+pub returns-then-left_out-clause-overfull : goal.returns-then-left_out-clause-overfull
+returns-then-left_out-clause-overfull c =
     let none : c.args.rules.now.params.now.first_lines ≡ 0 = omega (arith, c.get.ensures.value) in
     overfull_once c.args.rules.now.params.now c.args.tried.sums c.fit_line-line.result none c.fit_line-line.ensures.value
 
@@ -56,7 +56,7 @@ returns-in_default-clause-row c =
     let tried = c.args.tried in
     let none : rules.params.now.first_lines ≡ 0 = omega (arith, c.get.ensures.value) in
     let penalty : to_z w32 (of_z w32 tried.penalty) ≡ tried.penalty = omega (arith, ints) in
-    none_line c.args.left c.args.table.now rules.params.now rules.bound c.args.live.now.group tried.place tried.penalty tried.sums c.args.row.now.items none c.if-left.false
+    none_line c.args.left_out c.args.table.now rules.params.now rules.bound c.args.live.now.group tried.place tried.penalty tried.sums c.args.row.now.items none c.if-left_out.false
     (sym c.in_default.is ∙ c.line_alone.ensures.value ∙ ap (λ x. line_alone rules.params.now rules.bound x c.fit_line-line.result) penalty
     ∙ ap (line_alone rules.params.now rules.bound tried.penalty) c.fit_line-line.ensures.value)
     c.requires.can.rises c.requires.can.entries
@@ -75,8 +75,8 @@ returns-clause-row c =
     let tried = c.args.tried in
     let none : rules.params.now.first_lines ≡ 0 = omega (arith, c.get.ensures.value) in
     let penalty : to_z w32 (of_z w32 tried.penalty) ≡ tried.penalty = omega (arith, ints) in
-    best_line c.args.left c.args.table.now rules.params.now rules.bound c.args.live.now.group tried.place tried.penalty tried.sums c.in-Some.alone
-    c.args.row.now.items c.offer_best.new.row.items none c.if-left.false
+    best_line c.args.left_out c.args.table.now rules.params.now rules.bound c.args.live.now.group tried.place tried.penalty tried.sums c.in-Some.alone
+    c.args.row.now.items c.offer_best.new.row.items none c.if-left_out.false
     (sym c.in-Some.is ∙ c.line_alone.ensures.value ∙ ap (λ x. line_alone rules.params.now rules.bound x c.fit_line-line.result) penalty
     ∙ ap (line_alone rules.params.now rules.bound tried.penalty) c.fit_line-line.ensures.value)
     (offered_by c.args.table.now rules.params.now c.args.live.now.group c.args.row.now.items c.offer_best.new.row.items
@@ -92,12 +92,12 @@ returns-clause-overfull c =
     let none : c.args.rules.now.params.now.first_lines ≡ 0 = omega (arith, c.get.ensures.value) in
     overfull_once c.args.rules.now.params.now c.args.tried.sums c.fit_line-line.result none c.fit_line-line.ensures.value
 
-pub returns-then-left-clause-loosest : goal.returns-then-left-clause-loosest
-returns-then-left-clause-loosest c = λ loosest.
+pub returns-then-left_out-clause-loosest : goal.returns-then-left_out-clause-loosest
+returns-then-left_out-clause-loosest c = λ loosest.
     sym (c.is_loosest.ensures ∙ ap (is_loosest c.args.rules.now.bound) c.fit_line-line.ensures.value) ∙ loosest
 
-pub returns-then-left-clause-uncounted : goal.returns-then-left-clause-uncounted
-returns-then-left-clause-uncounted c = λ loosest. omega (arith, c.get.ensures.value)
+pub returns-then-left_out-clause-uncounted : goal.returns-then-left_out-clause-uncounted
+returns-then-left_out-clause-uncounted c = λ loosest. omega (arith, c.get.ensures.value)
 
 pub returns-in_default-clause-loosest : goal.returns-in_default-clause-loosest
 returns-in_default-clause-loosest c = λ loosest.

@@ -1,5 +1,5 @@
 use Rattle.std.proofs.Common.{ap, arith}
-use Rattle.break_core.proofs.ActiveNodes.{best_offered}
+use Rattle.break_core.proofs.BestOffers.{best_offered}
 use Rattle.break_core.proofs.offering.put_best.Goals as goal
 
 pub put-requires-clause-counted : goal.put-requires-clause-counted

@@ -2,7 +2,7 @@ use Rattle.std.proofs.Common.{◌≡◌, ◌∙◌, length, take, ap, arith, to_
 use Rattle.std.specs.Int.{w128}
 use Rattle.std.proofs.lemmas.Int.{ints}
 use Rattle.std.proofs.lemmas.List.{length-take, take_all}
-use Rattle.pack_core.specs.Cursors.{Reached, one_more}
+use Rattle.pack_core.specs.Cursors.{WalkSums, one_more}
 use Rattle.pack_core.specs.Places.{place}
 use Rattle.pack_core.proofs.Walks.{reached-more, reached-passed}
 use Rattle.pack_core.proofs.places.offset.Goals as goal
@@ -15,7 +15,7 @@ loop-node-init c = record {
 
 pub pass-requires : goal.pass-requires
 pass-requires c =
-    let passed = ap (λ (r : Reached). r.passed) c.loop-node.invariant.at ∙ reached-passed c.args.b.now.kind c.args.b.now.setting (take c.loop-node.node-index (take c.args.i c.as_slice.result.now)) in
+    let passed = ap (λ (r : WalkSums). r.passed) c.loop-node.invariant.at ∙ reached-passed c.args.b.now.kind c.args.b.now.setting (take c.loop-node.node-index (take c.args.i c.as_slice.result.now)) in
     let same = ap length c.as_slice.ensures.nodes in
     omega (arith, length-take c.loop-node.node-index (take c.args.i c.as_slice.result.now), length-take c.args.i c.as_slice.result.now)
 
@@ -24,7 +24,7 @@ loop-node-preserved c = record {
   items = c.loop-node.invariant.items;
   at =
       c.pass.ensures.value
-      ∙ ap (λ (r : Reached). one_more c.args.b.now.kind c.args.b.now.setting r c.node-item.result) c.loop-node.invariant.at
+      ∙ ap (λ (r : WalkSums). one_more c.args.b.now.kind c.args.b.now.setting r c.node-item.result) c.loop-node.invariant.at
       ∙ reached-more c.args.b.now.kind c.args.b.now.setting (take c.args.i c.as_slice.result.now) c.loop-node.node-index c.node-item.result c.loop-node-test.true c.node-item.is;
 }
 

@@ -8,7 +8,7 @@ use Rattle.node_core.specs.declared.tree.Node.TheVariants as nodes
 use Rattle.node_core.specs.declared.tree.BoxNode.{BoxNode}
 use Rattle.node_core.proofs.NodeLemmas.{items_of-nodes_of}
 use Rattle.scaled_core.specs.Dimensions.{fits}
-use Rattle.pack_core.specs.Cursors.{reached, one_more, place_at}
+use Rattle.pack_core.specs.Cursors.{sums_after, one_more, place_at}
 use Rattle.pack_core.proofs.Walks.{reached-more}
 use Rattle.std.specs.Prelude.{ℤ, List, Some, slice_get, true, false, is_some, ◌==◌}
 use Rattle.page_core.specs.Marks.{right_at, down_at, item_h, item_v, list_v, numbers_after}
@@ -46,7 +46,7 @@ draw_items-draw_item-requires-clause-items_bounded g t c =
     let b = c.as_box-box_node.result.now in
     let xs = c.as_slice-items.result.now in
     let i = c.in-Some.index in
-    let walked = told_index (λ n. c.draw_glyphs.new.walk.cursor ≡ reached b.kind b.setting (take n xs)) _ i c.in-Some.is c.in_ok-index.ensures.cursor in
+    let walked = told_index (λ n. c.draw_glyphs.new.walk.cursor ≡ sums_after b.kind b.setting (take n xs)) _ i c.in-Some.is c.in_ok-index.ensures.cursor in
     let within_list : i < length xs = omega (arith, c.if-index-items.false) in
     few_passed b.kind b.setting xs i c.draw_glyphs.new.walk.cursor walked within_list (rw c.as_slice-items.ensures.nodes c.as_slice-items.ensures.list_bounded)
 
@@ -57,7 +57,7 @@ draw_items-returns-in_default-2-clause-fits g t c =
     let v = c.args.begin.now.v in
     let xs = c.as_slice-items.result.now in
     let i = c.in-Some.index in
-    let walked = told_index (λ n. c.draw_glyphs.new.walk.cursor ≡ reached b.kind b.setting (take n xs)) _ i c.in-Some.is c.in_ok-index.ensures.cursor in
+    let walked = told_index (λ n. c.draw_glyphs.new.walk.cursor ≡ sums_after b.kind b.setting (take n xs)) _ i c.in-Some.is c.in_ok-index.ensures.cursor in
     let within_list : i < length xs = omega (arith, c.if-index-items.false) in
     let left = told_index (λ n. list_all fits (numbers_left b h v xs n) ≡ list_all fits (numbers_left b h v xs c.loop-next.next)) _ i c.in-Some.is c.in_ok-index.ensures.left
     ∙ c.loop-next.invariant.left in
@@ -85,7 +85,7 @@ draw_items-draw_group-requires g t c κs within =
     let b = c.as_box-box_node.result.now in
     let xs = c.as_slice-items.result.now in
     let i = c.in-Some.index in
-    let walked = told_index (λ n. c.draw_glyphs.new.walk.cursor ≡ reached b.kind b.setting (take n xs)) _ i c.in-Some.is c.in_ok-index.ensures.cursor in
+    let walked = told_index (λ n. c.draw_glyphs.new.walk.cursor ≡ sums_after b.kind b.setting (take n xs)) _ i c.in-Some.is c.in_ok-index.ensures.cursor in
     let within_list : i < length xs = omega (arith, c.if-index-items.false) in
     let x = c.index-items-index.result in
     let found = c.in-Some-inner.ensures.some in
@@ -101,7 +101,7 @@ draw_items-returns-then-not-branch-clause-fits g t c =
     let v = c.args.begin.now.v in
     let xs = c.as_slice-items.result.now in
     let i = c.in-Some.index in
-    let walked = told_index (λ n. c.draw_glyphs.new.walk.cursor ≡ reached b.kind b.setting (take n xs)) _ i c.in-Some.is c.in_ok-index.ensures.cursor in
+    let walked = told_index (λ n. c.draw_glyphs.new.walk.cursor ≡ sums_after b.kind b.setting (take n xs)) _ i c.in-Some.is c.in_ok-index.ensures.cursor in
     let within_list : i < length xs = omega (arith, c.if-index-items.false) in
     let left = told_index (λ n. list_all fits (numbers_left b h v xs n) ≡ list_all fits (numbers_left b h v xs c.loop-next.next)) _ i c.in-Some.is c.in_ok-index.ensures.left
     ∙ c.loop-next.invariant.left in
@@ -133,7 +133,7 @@ draw_items-loop-next-preserved g t c =
     let v = c.args.begin.now.v in
     let xs = c.as_slice-items.result.now in
     let i = c.in-Some.index in
-    let walked = told_index (λ n. c.draw_glyphs.new.walk.cursor ≡ reached b.kind b.setting (take n xs)) _ i c.in-Some.is c.in_ok-index.ensures.cursor in
+    let walked = told_index (λ n. c.draw_glyphs.new.walk.cursor ≡ sums_after b.kind b.setting (take n xs)) _ i c.in-Some.is c.in_ok-index.ensures.cursor in
     let within_list : i < length xs = omega (arith, c.if-index-items.false) in
     let left = told_index (λ n. list_all fits (numbers_left b h v xs n) ≡ list_all fits (numbers_left b h v xs c.loop-next.next)) _ i c.in-Some.is c.in_ok-index.ensures.left
     ∙ c.loop-next.invariant.left in

@@ -3,7 +3,7 @@ use Rattle.std.specs.List.{list_all}
 use Rattle.node_core.specs.Items.{items_depth}
 use Rattle.node_core.specs.Nodes.{items_of}
 use Rattle.scaled_core.specs.Dimensions.{fits}
-use Rattle.pack_core.specs.Cursors.{reached, place_at}
+use Rattle.pack_core.specs.Cursors.{sums_after, place_at}
 use Rattle.page_core.specs.Marks.{numbers_after}
 use Rattle.page_core.specs.Pictures.{picture_after}
 use Rattle.page_core.specs.Private.Placing.{point_in}
@@ -18,7 +18,7 @@ decreases-draw_items g l = items_depth (g.B.BoxRef.box_node l.tree).list * 2
 abbrev pub invariant-draw_items-loop-next : goal.invariant-draw_items-loop-next
 invariant-draw_items-loop-next g l = record {
   within : l.next ≤ length l.items;
-  cursor : l.walk.cursor ≡ reached l.box_node.kind l.box_node.setting (take l.next l.items);
+  cursor : l.walk.cursor ≡ sums_after l.box_node.kind l.box_node.setting (take l.next l.items);
   here : l.walk.here ≡ point_in l.box_node l.begin.h l.begin.v (place_at l.box_node.setting l.walk.cursor);
   left : list_all fits (numbers_after l.box_node l.begin.h l.begin.v (take l.next l.items) (items_of (drop l.next l.items))) ≡ list_all fits (numbers_after l.box_node l.begin.h l.begin.v [] (items_of l.items));
   marks : g.S.MarkSink.drawn_with l.box_node.kind l.sink (picture_after l.box_node l.begin.h l.begin.v (take l.next l.items) (items_of (drop l.next l.items))) ≡ g.S.MarkSink.drawn_with l.box_node.kind l.initial.sink (picture_after l.box_node l.begin.h l.begin.v [] (items_of l.items));

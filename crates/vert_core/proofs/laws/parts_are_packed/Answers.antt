@@ -5,11 +5,11 @@ use Rattle.scaled_core.specs.Dimensions.{fits}
 use Rattle.node_core.specs.declared.tree.Node.{Node}
 use Rattle.node_core.specs.Nodes.{items_of}
 use Rattle.node_core.proofs.NodeLemmas.{nodes_of-items_of}
-use Rattle.pack_core.specs.Boxes.{vbox, vbox_badness, vbox_numbers, vpacked}
+use Rattle.pack_core.specs.Boxes.{vbox, vbox_badness, vbox_numbers, vpack_result}
 use Rattle.vert_core.proofs.laws.parts_are_packed.Goals as goal
 
 pub returns : goal.returns
-unfolding vpacked vbox
+unfolding vpack_result vbox
 returns c = λ target limit items.
     ap
     (λ (xs : List Node).

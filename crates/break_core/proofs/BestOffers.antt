@@ -24,7 +24,7 @@ use Rattle.break_lines.specs.Sizes.{fits_of_sums, fit_after}
 use Rattle.break_lines.proofs.Parts.{parts}
 use Rattle.break_lines.proofs.Widths.{both_overfull, greatest_none}
 use Rattle.break_core.specs.Private.Filling.{IsOf, IsOfferingUnless, offer_from, IsBestOffer, IsOfferingBest}
-use Rattle.break_core.proofs.Active.{row_passed}
+use Rattle.break_core.proofs.Active.{row_same}
 use Rattle.break_core.proofs.Overfull.{no_offer}
 
 -- The offer of an entry of the group.
@@ -163,32 +163,32 @@ fit_once params bound penalty sums lines before found none is =
         (not_first (cases_Bool (nat_lt lines params.first_lines)))
 
 pub best_line :
-    (left : Bool) (table : List Entry) (params : Params) (bound : Bound) (group : ActiveGroup) (place : ℕ) (penalty : ℤ) (sums : Sums) (alone : LineCost)
+    (left_out : Bool) (table : List Entry) (params : Params) (bound : Bound) (group : ActiveGroup) (place : ℕ) (penalty : ℤ) (sums : Sums) (alone : LineCost)
     (old new : List (Option Entry))
-    → params.first_lines ≡ 0 → left ≡ false → Some alone ≡ line_alone params bound penalty (line_fit sums params.hsize)
+    → params.first_lines ≡ 0 → left_out ≡ false → Some alone ≡ line_alone params bound penalty (line_fit sums params.hsize)
     → IsOfferingBest table params group place alone old new
-    → IsOfferingUnless left table params bound group place penalty (fits_of_sums params sums) old new
+    → IsOfferingUnless left_out table params bound group place penalty (fits_of_sums params sums) old new
 unfolding after_class
-best_line left table params bound group place penalty sums alone old new none not_left is offering p cut late line_fit before =
+best_line left_out table params bound group place penalty sums alone old new none not_left_out is offering p cut late line_fit before =
     offering p (cut ∙ none) late
     (λ s at. line_fit s at
-    ∙ cond-false left None (admitted_line params bound penalty s.class (fit_after params.first_lines s.lines (fits_of_sums params sums))) not_left
+    ∙ cond-false left_out None (admitted_line params bound penalty s.class (fit_after params.first_lines s.lines (fits_of_sums params sums))) not_left_out
     ∙ fit_once params bound penalty sums s.lines s.class (Some alone) none is)
     before
 
 pub none_line :
-    (left : Bool) (table : List Entry) (params : Params) (bound : Bound) (group : ActiveGroup) (place : ℕ) (penalty : ℤ) (sums : Sums) (row : List (Option Entry))
-    → params.first_lines ≡ 0 → left ≡ false → None ≡ line_alone params bound penalty (line_fit sums params.hsize)
+    (left_out : Bool) (table : List Entry) (params : Params) (bound : Bound) (group : ActiveGroup) (place : ℕ) (penalty : ℤ) (sums : Sums) (row : List (Option Entry))
+    → params.first_lines ≡ 0 → left_out ≡ false → None ≡ line_alone params bound penalty (line_fit sums params.hsize)
     → group.start ≤ group.end → IsOf params.first_lines table group
-    → IsOfferingUnless left table params bound group place penalty (fits_of_sums params sums) row row
+    → IsOfferingUnless left_out table params bound group place penalty (fits_of_sums params sums) row row
 unfolding after_class
-none_line left table params bound group place penalty sums row none not_left is rises of p cut late line_fit before =
-    row_passed p table place group.start group.end row rises (λ k e low high at. no_offer p e k place (no_line e (of k e low high at).0)) before
+none_line left_out table params bound group place penalty sums row none not_left_out is rises of p cut late line_fit before =
+    row_same p table place group.start group.end row rises (λ k e low high at. no_offer p e k place (no_line e (of k e low high at).0)) before
   where
     no_line : (e : Entry) → e.end.place ≡ group.place → p.line e.end place ≡ None
     no_line e at =
         line_fit e.end at
-        ∙ cond-false left None (admitted_line params bound penalty e.end.class (fit_after params.first_lines e.end.lines (fits_of_sums params sums))) not_left
+        ∙ cond-false left_out None (admitted_line params bound penalty e.end.class (fit_after params.first_lines e.end.lines (fits_of_sums params sums))) not_left_out
         ∙ fit_once params bound penalty sums e.end.lines e.end.class None none is
 
 pub overfull_once :

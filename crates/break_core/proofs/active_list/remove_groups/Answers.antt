@@ -2,7 +2,7 @@ use Rattle.std.proofs.Common.{◌≡◌, ◌∙◌, ◌+◌, ◌-◌, ◌++◌, 
 use Rattle.std.specs.Prelude.{vec_len}
 use Rattle.std.proofs.lemmas.List.{take-append-drop}
 use Rattle.break_core.proofs.Lives.{copied_down}
-use Rattle.break_core.proofs.active_list.leave_out.Goals as goal
+use Rattle.break_core.proofs.active_list.remove_groups.Goals as goal
 
 pub returns-then-kept-next : goal.returns-then-kept-next
 returns-then-kept-next c =
@@ -16,8 +16,8 @@ returns c =
     let long : c.len.result ≡ length old = search rules in
     let size : vec_len c.args.lives.now ≡ length old = search rules in
     let n = vec_len c.args.lives.now - c.args.next in
-    let left = c.len.result - (c.args.next - c.args.kept) in
+    let remaining = c.len.result - (c.args.next - c.args.kept) in
     c.truncate.ensures.items
-    ∙ ap (take left) c.copy_within.ensures.items
-    ∙ copied_down old c.args.kept c.args.next n left (omega (arith, c.requires.kept_bounded)) (omega (arith, c.requires.next_bounded))
+    ∙ ap (take remaining) c.copy_within.ensures.items
+    ∙ copied_down old c.args.kept c.args.next n remaining (omega (arith, c.requires.kept_bounded)) (omega (arith, c.requires.next_bounded))
     (omega (arith, c.requires.next_bounded, size)) (omega (arith, c.requires.kept_bounded, c.requires.next_bounded, size, long))

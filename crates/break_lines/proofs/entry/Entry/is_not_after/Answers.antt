@@ -1,7 +1,7 @@
 use Rattle.std.proofs.Common.{◌≡◌, ◌∙◌, refl, ap, sym, arith}
 use Rattle.std.proofs.lemmas.Int.{ints}
 use Rattle.break_lines.proofs.Comparing.{first_demerits, first_end, first_from, first_same}
-use Rattle.break_lines.proofs.entry.ActiveNode.is_not_after.Goals as goal
+use Rattle.break_lines.proofs.entry.Entry.is_not_after.Goals as goal
 
 pub returns-then-self-other-3-clause-not_after : goal.returns-then-self-other-3-clause-not_after
 returns-then-self-other-3-clause-not_after c = λ _.

@@ -2,7 +2,7 @@ use Rattle.std.proofs.Common.{◌≡◌, ◌+ℤ◌, to_z, of_z, w64, ap, arith}
 use Rattle.std.proofs.Math.Logic.{inl}
 use Rattle.std.proofs.lemmas.Int.{ints}
 use Rattle.break_lines.proofs.Comparing.{below_demerits, not_below_demerits, not_below_overhang}
-use Rattle.break_lines.proofs.entry.ActiveNode.is_below.Goals as goal
+use Rattle.break_lines.proofs.entry.Entry.is_below.Goals as goal
 
 pub returns-then-self-overhang-clause-below : goal.returns-then-self-overhang-clause-below
 returns-then-self-overhang-clause-below c = λ _.

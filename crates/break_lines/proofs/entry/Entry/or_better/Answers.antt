@@ -4,7 +4,7 @@ use Rattle.std.proofs.lemmas.Option.{same_Some}
 use Rattle.break_lines.specs.Orders.{NotAfter}
 use Rattle.break_lines.specs.Tables.{compared_numbers}
 use Rattle.break_lines.proofs.Dictionary.{not_after_refl}
-use Rattle.break_lines.proofs.entry.ActiveNode.or_better.Goals as goal
+use Rattle.break_lines.proofs.entry.Entry.or_better.Goals as goal
 
 pub returns-then-is_not_after : goal.returns-then-is_not_after
 returns-then-is_not_after c =
