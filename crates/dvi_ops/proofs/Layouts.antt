@@ -101,8 +101,8 @@ unfolding IsPlaceUpTo
 place_fits n (pos a) p below = record { sfits = omega arith }
 place_fits n (negsuc a) p below = record { sfits = omega arith }
 
--- The relation between the writer's numbers and what it has written.
-pub record Knows (metrics : WidthsByName) (table : Table) (s : WriterKnowledge) (is : List Instruction) (parts : List FilePart) (pages : List MarkedPage) : Type 0 where
+-- The relation between the writer's numbers and the known definitions, and what it has written.
+pub record Knows (metrics : WidthsByName) (table : Table) (s : WriterKnowledge) (known : List Definition) (is : List Instruction) (parts : List FilePart) (pages : List MarkedPage) : Type 0 where
   pub writable : AllByRecursion IsWritable is
   pub is_front : is ≡ preamble ∷ flat_map instructions parts
   pub size : s.size ≡ length (bytes_of is)
@@ -111,14 +111,14 @@ pub record Knows (metrics : WidthsByName) (table : Table) (s : WriterKnowledge) 
   pub depth : AllByRecursion (λ part. push_depth_of part ≤ s.depth) parts
   pub shallow : s.depth ≤ max_pushes
   pub fonts : FontsAreRight [] is
-  pub known : known_after [] is ≡ s.known
-  pub tabled : AllByRecursion (IsTabled table) s.known
-  pub chosen : AllByRecursion (λ f. IsSome (first_definition_of f s.known)) (selections is)
+  pub known_is : known_after [] is ≡ known
+  pub tabled : AllByRecursion (IsTabled table) known
+  pub chosen : AllByRecursion (λ f. IsSome (first_definition_of f known)) (selections is)
   pub measured : AllByRecursion (λ f. IsSome (widths_in metrics (table f))) (selections is)
   pub shows : pages_of (bounded_acts (instruction_acts (table_widths metrics table))) parts ≡ Some pages
 
 -- At first only the preamble is written.
-pub knows_first : (metrics : WidthsByName) (table : Table) → Knows metrics table after_preamble (preamble ∷ []) [] []
+pub knows_first : (metrics : WidthsByName) (table : Table) → Knows metrics table after_preamble [] (preamble ∷ []) [] []
 unfolding spelling operand IsPlaceUpTo
 knows_first metrics table =
     record {
@@ -130,7 +130,7 @@ knows_first metrics table =
       depth = tt;
       shallow = lit≤ tt;
       fonts = (tt, tt);
-      known = refl;
+      known_is = refl;
       tabled = tt;
       chosen = tt;
       measured = tt;
@@ -153,8 +153,8 @@ pages-define : (does : Acts) (fonts : List Definition) (rest : List FilePart) �
 pages-define does [] rest = refl
 pages-define does (d ∷ fonts) rest = pages-define does fonts rest
 
-module _ (metrics : WidthsByName) (table : Table) (s : WriterKnowledge) (is : List Instruction) (parts : List FilePart) (pages : List MarkedPage) (p : Sheet) (marks : List Mark)
-    (t : Knows metrics table s is parts pages) (g : IsGood metrics table s.known p marks) (small : s.size < 2 ^ 31) where
+module _ (metrics : WidthsByName) (table : Table) (s : WriterKnowledge) (known : List Definition) (is : List Instruction) (parts : List FilePart) (pages : List MarkedPage) (p : Sheet) (marks : List Mark)
+    (t : Knows metrics table s known is parts pages) (g : IsGood metrics table known p marks) (small : s.size < 2 ^ 31) where
   writable_next : AllByRecursion IsWritable (is ++ sheet_from s.last p)
   writable_next =
       all_append IsWritable is (sheet_from s.last p) t.writable
@@ -207,19 +207,19 @@ module _ (metrics : WidthsByName) (table : Table) (s : WriterKnowledge) (is : Li
   selections_sheet : selections (sheet_from s.last p) ≡ selections (flat p.body)
   selections_sheet = selections-append (define p.fresh) (page_from s.last p) ∙ ap₂ (λ (a b : List ℤ). a ++ b) (selections-define p.fresh) selections_page
 
-  known_next : known_after [] (is ++ sheet_from s.last p) ≡ (knowledge_after s p).known
+  known_next : known_after [] (is ++ sheet_from s.last p) ≡ known_after known (define p.fresh)
   known_next =
       known_after-append [] is (sheet_from s.last p)
-      ∙ (ap (λ (known : List Definition). known_after known (sheet_from s.last p)) t.known
-      ∙ (known_after-append s.known (define p.fresh) (page_from s.last p) ∙ known_stays (known_after s.known (define p.fresh)) (page_from s.last p) page_plain))
+      ∙ (ap (λ (known : List Definition). known_after known (sheet_from s.last p)) t.known_is
+      ∙ (known_after-append known (define p.fresh) (page_from s.last p) ∙ known_stays (known_after known (define p.fresh)) (page_from s.last p) page_plain))
 
   fonts_next : FontsAreRight [] (is ++ sheet_from s.last p)
   fonts_next =
-      let known : List Definition = known_after s.known (define p.fresh) in
-      let chosen = subst (AllByRecursion (λ f. IsSome (first_definition_of f known))) (sym selections_page) g.chosen in
-      let page = chosen_right known (page_from s.last p) page_plain chosen in
-      let sheet = fonts_append s.known (define p.fresh) (page_from s.last p) (defined_right table s.known p.fresh t.tabled g.fresh) page in
-      fonts_append [] is (sheet_from s.last p) t.fonts (subst (λ (known : List Definition). FontsAreRight known (sheet_from s.last p)) (sym t.known) sheet)
+      let later : List Definition = known_after known (define p.fresh) in
+      let chosen = subst (AllByRecursion (λ f. IsSome (first_definition_of f later))) (sym selections_page) g.chosen in
+      let page = chosen_right later (page_from s.last p) page_plain chosen in
+      let sheet = fonts_append known (define p.fresh) (page_from s.last p) (defined_right table known p.fresh t.tabled g.fresh) page in
+      fonts_append [] is (sheet_from s.last p) t.fonts (subst (λ (known : List Definition). FontsAreRight known (sheet_from s.last p)) (sym t.known_is) sheet)
 
   -- What holds of the fonts selected before and of those that the page selects holds of both together.
   selected_next : (P : ℤ → Type 0) → AllByRecursion P (selections is) → AllByRecursion P (selections (flat p.body)) → AllByRecursion P (selections (is ++ sheet_from s.last p))
@@ -227,10 +227,10 @@ module _ (metrics : WidthsByName) (table : Table) (s : WriterKnowledge) (is : Li
       subst (AllByRecursion P) (sym (selections-append is (sheet_from s.last p)))
       (all_append P (selections is) (selections (sheet_from s.last p)) before (subst (AllByRecursion P) (sym selections_sheet) here))
 
-  chosen_next : AllByRecursion (λ f. IsSome (first_definition_of f (knowledge_after s p).known)) (selections (is ++ sheet_from s.last p))
+  chosen_next : AllByRecursion (λ f. IsSome (first_definition_of f (known_after known (define p.fresh)))) (selections (is ++ sheet_from s.last p))
   chosen_next =
-      selected_next (λ f. IsSome (first_definition_of f (knowledge_after s p).known))
-      (all_weaker (λ f. IsSome (first_definition_of f s.known)) (λ f. IsSome (first_definition_of f (knowledge_after s p).known)) (selections is) (λ f q. stays_known f s.known p.fresh q) t.chosen) g.chosen
+      selected_next (λ f. IsSome (first_definition_of f (known_after known (define p.fresh))))
+      (all_weaker (λ f. IsSome (first_definition_of f known)) (λ f. IsSome (first_definition_of f (known_after known (define p.fresh)))) (selections is) (λ f q. stays_known f known p.fresh q) t.chosen) g.chosen
 
   shows_next : pages_of (bounded_acts (instruction_acts (table_widths metrics table))) (parts ++ parts_of s.last p) ≡ Some (pages ++ page_with p marks ∷ [])
   shows_next =
@@ -253,7 +253,7 @@ module _ (metrics : WidthsByName) (table : Table) (s : WriterKnowledge) (is : Li
   last_next = omega (arith, length-bytes_of-append (define p.fresh) (page_from s.last p))
 
   -- The relation holds after one more page.
-  pub knows_next : Knows metrics table (knowledge_after s p) (is ++ sheet_from s.last p) (parts ++ parts_of s.last p) (pages ++ page_with p marks ∷ [])
+  pub knows_next : Knows metrics table (knowledge_after s p) (known_after known (define p.fresh)) (is ++ sheet_from s.last p) (parts ++ parts_of s.last p) (pages ++ page_with p marks ∷ [])
   knows_next =
       record {
         writable = writable_next;
@@ -264,8 +264,8 @@ module _ (metrics : WidthsByName) (table : Table) (s : WriterKnowledge) (is : Li
         depth = depth_next;
         shallow = (let before = t.shallow in let here = g.shallow in omega arith);
         fonts = fonts_next;
-        known = known_next;
-        tabled = known_tabled table s.known p.fresh t.tabled g.fresh;
+        known_is = known_next;
+        tabled = known_tabled table known p.fresh t.tabled g.fresh;
         chosen = chosen_next;
         measured = selected_next (λ f. IsSome (widths_in metrics (table f))) t.measured g.measured;
         shows = shows_next;

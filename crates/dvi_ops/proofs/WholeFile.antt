@@ -8,9 +8,9 @@ use Rattle.dvi_ops.specs.Instruction.{Definition, Postamble, FontDef, Instructio
 use Rattle.dvi_ops.specs.Table.{Spells}
 use Rattle.dvi_ops.specs.Spelling.{operand, spelling, NumberFits, NumbersFit}
 use Rattle.dvi_ops.specs.Tokens.{IsSpelled, token_instructions, pointers}
-use Rattle.dvi_ops.specs.Fonts.{WidthsByName, definitions, selections, first_definition_of, FontsAreRight, font, widths_in, width_in, widths_of}
+use Rattle.dvi_ops.specs.Fonts.{WidthsByName, definitions, selections, first_definition_of, FontsAreRight, known_after, font, widths_in, width_in, widths_of}
 use Rattle.dvi_ops.specs.File.{FilePart, instructions, MarkedPage, max_pushes, push_depth_of, IsIdle, Frame, IsFile}
-use Rattle.dvi_ops.specs.Layout.{bytes_of, preamble, define, Sheet, WriterKnowledge, after_preamble, sheet_from, knowledge_after, sheets_from, after_all, front_of, whole_of, stop_of, ending_of, padding_after, Table, table_widths, IsWritable, IsTabled, IsGood, AreGood, IsClosing}
+use Rattle.dvi_ops.specs.Layout.{bytes_of, preamble, define, Sheet, WriterKnowledge, after_preamble, sheet_from, knowledge_after, sheets_from, after_all, front_of, whole_of, stop_of, ending_of, padding_after, Table, table_widths, IsWritable, IsTabled, IsGood, known_in, AreGood, IsClosing}
 use Rattle.scaled_core.proofs.EachOf.{all_weaker, all_both, all_map}
 use Rattle.dvi_ops.proofs.Appends.{fonts_append}
 use Rattle.dvi_ops.proofs.Layouts.{wrote, says-wrote, written-wrote, bytes_of-append, length-bytes_of-append, definitions-define, defined_right, place_fits, Knows, knows_first, knows_next, page_with}
@@ -28,19 +28,20 @@ grows s [] = omega arith
 grows s (p ∷ ps) = let more = grows (knowledge_after s p) ps in omega arith
 
 -- The relation holds after all pages.
-knows_all : (metrics : WidthsByName) (table : Table) (s : WriterKnowledge) (is : List Instruction) (parts : List FilePart) (pages : List MarkedPage) (ps : List Sheet) (more : List MarkedPage) →
-    Knows metrics table s is parts pages → AreGood metrics table s ps more → (after_all s ps).size < 2 ^ 31 →
-    (all : List FilePart) × Knows metrics table (after_all s ps) (is ++ sheets_from s ps) all (pages ++ more)
-knows_all metrics table s is parts pages [] [] t good small =
-    (parts, subst₂ (λ is pages. Knows metrics table s is parts pages) (sym (append-nil is)) (sym (append-nil pages)) t)
-knows_all metrics table s is parts pages [] (page ∷ more) t good small = absurd good
-knows_all metrics table s is parts pages (p ∷ ps) [] t good small = absurd good
-knows_all metrics table s is parts pages (p ∷ ps) (page ∷ more) t (counts, good, rest) small =
+knows_all : (metrics : WidthsByName) (table : Table) (s : WriterKnowledge) (known : List Definition) (is : List Instruction) (parts : List FilePart) (pages : List MarkedPage) (ps : List Sheet) (more : List MarkedPage) →
+    Knows metrics table s known is parts pages → AreGood metrics table known ps more → (after_all s ps).size < 2 ^ 31 →
+    (all : List FilePart) × Knows metrics table (after_all s ps) (known_in known ps) (is ++ sheets_from s ps) all (pages ++ more)
+knows_all metrics table s known is parts pages [] [] t good small =
+    (parts, subst₂ (λ is pages. Knows metrics table s known is parts pages) (sym (append-nil is)) (sym (append-nil pages)) t)
+knows_all metrics table s known is parts pages [] (page ∷ more) t good small = absurd good
+knows_all metrics table s known is parts pages (p ∷ ps) [] t good small = absurd good
+knows_all metrics table s known is parts pages (p ∷ ps) (page ∷ more) t (counts, good, rest) small =
     let bound = grows (knowledge_after s p) ps in
-    let next = knows_next metrics table s is parts pages p page.marks t good (omega arith) in
-    let found = knows_all metrics table (knowledge_after s p) (is ++ sheet_from s.last p) _ (pages ++ (page_with p page.marks) ∷ []) ps more next rest small in
+    let later = known_after known (define p.fresh) in
+    let next = knows_next metrics table s known is parts pages p page.marks t good (omega arith) in
+    let found = knows_all metrics table (knowledge_after s p) later (is ++ sheet_from s.last p) _ (pages ++ (page_with p page.marks) ∷ []) ps more next rest small in
     let same : page_with p page.marks ≡ page = ap (λ (counts : List ℤ). record { counts = counts; marks = page.marks }) (sym counts) in
-    (found.0, subst₂ (λ is pages. Knows metrics table (after_all (knowledge_after s p) ps) is found.0 pages) (append_assoc is (sheet_from s.last p) (sheets_from (knowledge_after s p) ps)) (append_assoc pages (page_with p page.marks ∷ []) more ∙ ap (λ (page : MarkedPage). pages ++ (page ∷ more)) same) found.1)
+    (found.0, subst₂ (λ is pages. Knows metrics table (after_all (knowledge_after s p) ps) (known_in later ps) is found.0 pages) (append_assoc is (sheet_from s.last p) (sheets_from (knowledge_after s p) ps)) (append_assoc pages (page_with p page.marks ∷ []) more ∙ ap (λ (page : MarkedPage). pages ++ (page ∷ more)) same) found.1)
 
 -- A definition of the postamble is the job's.
 closing_is_table : (table : Table) (closing : List Definition) (f : ℤ) → AllByRecursion (IsTabled table) closing → IsSome (first_definition_of f closing) → first_definition_of f closing ≡ table f
@@ -91,9 +92,9 @@ unfolding frame_of
 facts_of_written is stop tail place padding metrics pages front_fits stop_fits tail_fits at small padded f =
     facts_at metrics _ pages f (frame_of is stop tail place padding front_fits stop_fits tail_fits at small padded)
 
-module _ (metrics : WidthsByName) (table : Table) (s : WriterKnowledge) (is : List Instruction) (parts : List FilePart) (pages : List MarkedPage)
+module _ (metrics : WidthsByName) (table : Table) (s : WriterKnowledge) (known : List Definition) (is : List Instruction) (parts : List FilePart) (pages : List MarkedPage)
     (tall wide : ℤ) (closing : List Definition) (padding : ℕ)
-    (t : Knows metrics table s is parts pages) (c : IsClosing table s.known closing) (tall_fits : NumberFits tall) (wide_fits : NumberFits wide) (small : s.size < 2 ^ 31) (padded : 4 ≤ padding) where
+    (t : Knows metrics table s known is parts pages) (c : IsClosing table known closing) (tall_fits : NumberFits tall) (wide_fits : NumberFits wide) (small : s.size < 2 ^ 31) (padded : 4 ≤ padding) where
   stop : Postamble
   stop = stop_of s tall wide (length pages)
 
@@ -118,14 +119,14 @@ module _ (metrics : WidthsByName) (table : Table) (s : WriterKnowledge) (is : Li
   definitions_tail = ap definitions (says-wrote (define closing)) ∙ definitions-define closing
 
   -- A selected font has a definition in the postamble, and it is the job's.
-  closes : (f : ℤ) → IsSome (first_definition_of f s.known) → first_definition_of f closing ≡ table f
+  closes : (f : ℤ) → IsSome (first_definition_of f known) → first_definition_of f closing ≡ table f
   closes f some = closing_is_table table closing f c.tabled (c.each f some)
 
-  same_widths : (f : ℤ) → IsSome (first_definition_of f s.known) → SameWidths (widths_of metrics (definitions (token_instructions (map wrote (define closing))))) (table_widths metrics table) f
+  same_widths : (f : ℤ) → IsSome (first_definition_of f known) → SameWidths (widths_of metrics (definitions (token_instructions (map wrote (define closing))))) (table_widths metrics table) f
   same_widths f some code =
       ap (λ (fonts : List Definition). width_in (widths_in metrics (first_definition_of f fonts)) code) definitions_tail ∙ ap (λ (d : Option Definition). width_in (widths_in metrics d) code) (closes f some)
 
-  measured : (f : ℤ) → IsSome (first_definition_of f s.known) × IsSome (widths_in metrics (table f)) → IsSome (font metrics (definitions (token_instructions (map wrote (define closing)))) f)
+  measured : (f : ℤ) → IsSome (first_definition_of f known) × IsSome (widths_in metrics (table f)) → IsSome (font metrics (definitions (token_instructions (map wrote (define closing)))) f)
   measured f (some, widths) =
       subst (λ (d : Option Definition). IsSome (widths_in metrics d)) (sym (ap (first_definition_of f) definitions_tail ∙ closes f some)) widths
 
@@ -143,35 +144,35 @@ module _ (metrics : WidthsByName) (table : Table) (s : WriterKnowledge) (is : Li
         count = refl;
         fonts =
             subst₂ (λ (a b : List Instruction). FontsAreRight [] (a ++ b)) (sym (says-wrote is)) (sym (says-wrote (define closing)))
-            (fonts_append [] is (define closing) t.fonts (subst (λ (known : List Definition). FontsAreRight known (define closing)) (sym t.known) (defined_right table s.known closing t.tabled c.tabled)));
+            (fonts_append [] is (define closing) t.fonts (subst (λ (known : List Definition). FontsAreRight known (define closing)) (sym t.known_is) (defined_right table known closing t.tabled c.tabled)));
         closing =
             subst (λ (is : List Instruction). AllByRecursion (λ f. IsSome (font metrics (definitions (token_instructions (map wrote (define closing)))) f)) (selections is)) (sym (says-wrote is))
-            (all_weaker (λ f. IsSome (first_definition_of f s.known) × IsSome (widths_in metrics (table f))) (λ f. IsSome (font metrics (definitions (token_instructions (map wrote (define closing)))) f)) (selections is) measured
-            (all_both (λ f. IsSome (first_definition_of f s.known)) (λ f. IsSome (widths_in metrics (table f))) (selections is) t.chosen t.measured));
+            (all_weaker (λ f. IsSome (first_definition_of f known) × IsSome (widths_in metrics (table f))) (λ f. IsSome (font metrics (definitions (token_instructions (map wrote (define closing)))) f)) (selections is) measured
+            (all_both (λ f. IsSome (first_definition_of f known)) (λ f. IsSome (widths_in metrics (table f))) (selections is) t.chosen t.measured));
         depth = all_weaker (λ part. push_depth_of part ≤ s.depth) (λ part. push_depth_of part ≤ min max_pushes s.depth) parts (λ part shallow. (let most = t.shallow in omega arith)) t.depth;
         shows =
             same_pages (widths_of metrics (definitions (token_instructions (map wrote (define closing))))) (table_widths metrics table) parts
-            (all_weaker (λ f. IsSome (first_definition_of f s.known)) (SameWidths (widths_of metrics (definitions (token_instructions (map wrote (define closing))))) (table_widths metrics table)) (selections (flat_map instructions parts)) same_widths
-            (subst (λ (is : List Instruction). AllByRecursion (λ f. IsSome (first_definition_of f s.known)) (selections is)) t.is_front t.chosen))
+            (all_weaker (λ f. IsSome (first_definition_of f known)) (SameWidths (widths_of metrics (definitions (token_instructions (map wrote (define closing))))) (table_widths metrics table)) (selections (flat_map instructions parts)) same_widths
+            (subst (λ (is : List Instruction). AllByRecursion (λ f. IsSome (first_definition_of f known)) (selections is)) t.is_front t.chosen))
             ∙ t.shows;
       }
 
 -- There are as many pages as sheets.
-same_length : (metrics : WidthsByName) (table : Table) (s : WriterKnowledge) (ps : List Sheet) (pages : List MarkedPage) → AreGood metrics table s ps pages → length pages ≡ length ps
-same_length metrics table s [] [] good = refl
-same_length metrics table s [] (page ∷ pages) good = absurd good
-same_length metrics table s (p ∷ ps) [] good = absurd good
-same_length metrics table s (p ∷ ps) (page ∷ pages) (counts, here, good) = ap suc (same_length metrics table (knowledge_after s p) ps pages good)
+same_length : (metrics : WidthsByName) (table : Table) (known : List Definition) (ps : List Sheet) (pages : List MarkedPage) → AreGood metrics table known ps pages → length pages ≡ length ps
+same_length metrics table known [] [] good = refl
+same_length metrics table known [] (page ∷ pages) good = absurd good
+same_length metrics table known (p ∷ ps) [] good = absurd good
+same_length metrics table known (p ∷ ps) (page ∷ pages) (counts, here, good) = ap suc (same_length metrics table (known_after known (define p.fresh)) ps pages good)
 
 -- The bytes that are written for good pages and the postamble are a file of these pages.
 pub whole_file : (metrics : WidthsByName) (table : Table) (ps : List Sheet) (pages : List MarkedPage) (tall wide : ℤ) (closing : List Definition) (padding : ℕ) →
-    AreGood metrics table after_preamble ps pages → IsClosing table (after_all after_preamble ps).known closing → NumberFits tall → NumberFits wide → (after_all after_preamble ps).size < 2 ^ 31 → 4 ≤ padding →
+    AreGood metrics table [] ps pages → IsClosing table (known_in [] ps) closing → NumberFits tall → NumberFits wide → (after_all after_preamble ps).size < 2 ^ 31 → 4 ≤ padding →
     IsFile metrics (whole_of ps tall wide closing padding) pages
 unfolding whole_bytes stop
 whole_file metrics table ps pages tall wide closing padding good closed tall_fits wide_fits small padded =
-    let all = knows_all metrics table after_preamble (preamble ∷ []) [] [] ps pages (knows_first metrics table) good small in
-    subst (λ count. IsFile metrics (front_of ps ++ ending_of (after_all after_preamble ps) (stop_of (after_all after_preamble ps) tall wide count) closing padding) pages) (same_length metrics table after_preamble ps pages good)
-    (file metrics table (after_all after_preamble ps) (preamble ∷ sheets_from after_preamble ps) all.0 pages tall wide closing padding all.1 closed tall_fits wide_fits small padded)
+    let all = knows_all metrics table after_preamble [] (preamble ∷ []) [] [] ps pages (knows_first metrics table) good small in
+    subst (λ count. IsFile metrics (front_of ps ++ ending_of (after_all after_preamble ps) (stop_of (after_all after_preamble ps) tall wide count) closing padding) pages) (same_length metrics table [] ps pages good)
+    (file metrics table (after_all after_preamble ps) (known_in [] ps) (preamble ∷ sheets_from after_preamble ps) all.0 pages tall wide closing padding all.1 closed tall_fits wide_fits small padded)
 
 -- One more page: the writer's numbers, its bytes, and that the pages are good.
 pub after_all-append : (s : WriterKnowledge) (ps qs : List Sheet) → after_all s (ps ++ qs) ≡ after_all (after_all s ps) qs
@@ -188,12 +189,12 @@ front_more ps p =
     ap (λ (is : List Instruction). bytes_of (preamble ∷ is)) (sheets_from-append after_preamble ps (p ∷ []) ∙ ap (λ (is : List Instruction). sheets_from after_preamble ps ++ is) (append-nil (sheet_from (after_all after_preamble ps).last p)))
     ∙ bytes_of-append (preamble ∷ sheets_from after_preamble ps) (sheet_from (after_all after_preamble ps).last p)
 
-pub good_more : (metrics : WidthsByName) (table : Table) (s : WriterKnowledge) (ps : List Sheet) (pages : List MarkedPage) (p : Sheet) (page : MarkedPage) →
-    AreGood metrics table s ps pages → page.counts ≡ p.counts → IsGood metrics table (after_all s ps).known p page.marks → AreGood metrics table s (ps ++ p ∷ []) (pages ++ page ∷ [])
-good_more metrics table s [] [] p page are counts good = (counts, good, tt)
-good_more metrics table s [] (q ∷ pages) p page are counts good = absurd are
-good_more metrics table s (q ∷ ps) [] p page are counts good = absurd are
-good_more metrics table s (q ∷ ps) (first ∷ pages) p page (same, here, are) counts good = (same, here, good_more metrics table (knowledge_after s q) ps pages p page are counts good)
+pub good_more : (metrics : WidthsByName) (table : Table) (known : List Definition) (ps : List Sheet) (pages : List MarkedPage) (p : Sheet) (page : MarkedPage) →
+    AreGood metrics table known ps pages → page.counts ≡ p.counts → IsGood metrics table (known_in known ps) p page.marks → AreGood metrics table known (ps ++ p ∷ []) (pages ++ page ∷ [])
+good_more metrics table known [] [] p page are counts good = (counts, good, tt)
+good_more metrics table known [] (q ∷ pages) p page are counts good = absurd are
+good_more metrics table known (q ∷ ps) [] p page are counts good = absurd are
+good_more metrics table known (q ∷ ps) (first ∷ pages) p page (same, here, are) counts good = (same, here, good_more metrics table (known_after known (define q.fresh)) ps pages p page are counts good)
 
 -- The writer's count of bytes is the length of what it has written.
 pub size_of_front : (ps : List Sheet) → (after_all after_preamble ps).size ≡ length (front_of ps)

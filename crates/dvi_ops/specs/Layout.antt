@@ -32,17 +32,15 @@ pub record Sheet : Type 0 where
   pub fresh : List Definition
   pub body : Forest
 
--- What the writer has written so far: the place of the last bop, or -1; the number of bytes; the greatest number of pushes open at once; and the
--- defined fonts, the last one first.
+-- What the writer has written so far: the place of the last bop, or -1; the number of bytes; and the greatest number of pushes open at once.
 pub record WriterKnowledge : Type 0 where
   pub last : ℤ
   pub size : ℕ
   pub depth : ℕ
-  pub known : List Definition
 
 -- The writer's numbers after the preamble, which has 15 bytes.
 abbrev pub after_preamble : WriterKnowledge
-after_preamble = record { last = negsuc 0; size = 15; depth = 0; known = [] }
+after_preamble = record { last = negsuc 0; size = 15; depth = 0 }
 
 -- The instructions for a page, where the previous bop is at `last`.
 abbrev pub sheet_from : ℤ → Sheet → List Instruction
@@ -55,7 +53,6 @@ knowledge_after s p =
       last = pos (s.size + length (bytes_of (define p.fresh)));
       size = s.size + length (bytes_of (sheet_from s.last p));
       depth = max s.depth (nests p.body);
-      known = known_after s.known (define p.fresh);
     }
 
 -- The instructions for pages, in order.
@@ -77,9 +74,13 @@ abbrev pub stop_of : WriterKnowledge → (tall wide : ℤ) → (count : ℕ) →
 stop_of s tall wide count =
     record { last_bop = s.last; units = scaled_points; height_plus_depth = tall; width = wide; stack_depth = s.depth; pages = count % 65536 }
 
+-- The instructions of the postamble: post, definitions of fonts, and post_post, which names the place of post.
+abbrev pub closing_of : WriterKnowledge → Postamble → List Definition → List Instruction
+closing_of s stop closing = Post stop ∷ (define closing ++ PostPost (pos s.size) 2 ∷ [])
+
 -- The bytes from post to the end of a file.
 abbrev pub ending_of : WriterKnowledge → Postamble → List Definition → (padding : ℕ) → List ℕ
-ending_of s stop closing padding = bytes_of (Post stop ∷ (define closing ++ PostPost (pos s.size) 2 ∷ [])) ++ replicate padding 223
+ending_of s stop closing padding = bytes_of (closing_of s stop closing) ++ replicate padding 223
 
 -- The whole file, with these greatest sizes, and these definitions in the postamble.
 abbrev pub whole_of : List Sheet → (tall wide : ℤ) → List Definition → (padding : ℕ) → List ℕ
@@ -123,13 +124,18 @@ pub record IsGood (metrics : WidthsByName) (table : Table) (known : List Definit
   pub last : DviState
   pub shows : meaning (bounded_acts (instruction_acts (table_widths metrics table))) p.body start ≡ Some (marks, last)
 
--- Each page is good after those before it, and the marked pages have their counts and marks.
-abbrev pub AreGood : WidthsByName → Table → WriterKnowledge → List Sheet → List MarkedPage → Type 0
-AreGood metrics table s [] [] = Unit {0}
-AreGood metrics table s [] (page ∷ pages) = ⊥
-AreGood metrics table s (p ∷ rest) [] = ⊥
-AreGood metrics table s (p ∷ rest) (page ∷ pages) =
-    (page.counts ≡ p.counts) × IsGood metrics table s.known p page.marks × AreGood metrics table (knowledge_after s p) rest pages
+-- The definitions before and in pages, the last one first.
+abbrev pub known_in : (known : List Definition) → List Sheet → List Definition
+known_in known [] = known
+known_in known (p ∷ rest) = known_in (known_after known (define p.fresh)) rest
+
+-- Each page is good after the definitions before it, and the marked pages have their counts and marks.
+abbrev pub AreGood : WidthsByName → Table → (known : List Definition) → List Sheet → List MarkedPage → Type 0
+AreGood metrics table known [] [] = Unit {0}
+AreGood metrics table known [] (page ∷ pages) = ⊥
+AreGood metrics table known (p ∷ rest) [] = ⊥
+AreGood metrics table known (p ∷ rest) (page ∷ pages) =
+    (page.counts ≡ p.counts) × IsGood metrics table known p page.marks × AreGood metrics table (known_after known (define p.fresh)) rest pages
 
 -- The definitions of the postamble: each is the job's, and all known fonts are among them.
 pub record IsClosing (table : Table) (known closing : List Definition) : Type 0 where

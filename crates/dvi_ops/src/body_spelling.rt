@@ -1,7 +1,7 @@
 //! The spelling of an instruction of a page body.
 
 ghost use Rattle.std.specs.Prelude.{◌≡◌, ◌++◌, OnOk, OnErr};
-ghost use Rattle.dvi_ops.specs.Spelling.{HasSpelling, spelling};
+ghost use Rattle.dvi_ops.specs.Spelling.{HasSpelling, NumbersFit, spelling};
 ghost use Rattle.dvi_ops.specs.Table.{Spells};
 ghost use Rattle.dvi_ops.specs.View.{body_view};
 
@@ -22,6 +22,8 @@ pub fn spell_body(op: &BodyOp<'_>, out: &mut Vec<u8>) -> Result<(), AllocError>
     ensures ok { OnOk result (out.new.items ≡ out.old.items ++ spelling (body_view op.now)) }
     // The bytes that are written spell the instruction.
     ensures spelled { Spells (body_view op.now) (spelling (body_view op.now)) }
+    // The numbers of an op fit their fields.
+    ensures fits { NumbersFit (body_view op.now) }
     ensures err { OnErr result (out.new.items ≡ out.old.items) }
 {
     match op {

@@ -8,8 +8,7 @@ ghost use Rattle.dvi_ops.specs.File.{IsFile, MarkedPage, max_pushes};
 ghost use Rattle.dvi_ops.specs.Fonts.{WidthsByName};
 ghost use Rattle.dvi_ops.specs.Instruction.{Definition};
 ghost use Rattle.dvi_ops.specs.Layout.{AreGood, IsClosing, IsGood, Sheet, Table, WriterKnowledge, knowledge_after, after_all, after_preamble};
-ghost use Rattle.dvi_ops.specs.Layout.{bytes_of};
-ghost use Rattle.dvi_ops.specs.Layout.{front_of, padding_after, sheet_from, whole_of};
+ghost use Rattle.dvi_ops.specs.Layout.{bytes_of, front_of, known_in, padding_after, sheet_from, whole_of};
 ghost use Rattle.dvi_ops.specs.Spelling.{NumberFits};
 
 /// The greatest number of pushes that may be open at once on a page, whatever post allows (own).
@@ -31,8 +30,8 @@ pub fn one_file()
 pub fn whole_is_file()
     ensures { (metrics : WidthsByName) (table : Table) (sheets : List Sheet) (pages : List MarkedPage)
         (tall wide : ℤ) (closing : List Definition) (padding : ℕ)
-        → AreGood metrics table after_preamble sheets pages
-        → IsClosing table (after_all after_preamble sheets).known closing
+        → AreGood metrics table [] sheets pages
+        → IsClosing table (known_in [] sheets) closing
         → NumberFits tall → NumberFits wide → (after_all after_preamble sheets).size < 2 ^ 31 → 4 ≤ padding
         → IsFile metrics (whole_of sheets tall wide closing padding) pages }
 {}
@@ -44,11 +43,11 @@ pub fn pages_are_added()
     ensures state { (s : WriterKnowledge) (sheets : List Sheet) (p : Sheet)
         → after_all s (sheets ++ p ∷ []) ≡ knowledge_after (after_all s sheets) p }
     ensures size { (sheets : List Sheet) → (after_all after_preamble sheets).size ≡ length (front_of sheets) }
-    ensures good { (metrics : WidthsByName) (table : Table) (s : WriterKnowledge) (sheets : List Sheet) (pages : List MarkedPage)
+    ensures good { (metrics : WidthsByName) (table : Table) (known : List Definition) (sheets : List Sheet) (pages : List MarkedPage)
         (p : Sheet) (page : MarkedPage)
-        → AreGood metrics table s sheets pages → page.counts ≡ p.counts
-        → IsGood metrics table (after_all s sheets).known p page.marks
-        → AreGood metrics table s (sheets ++ p ∷ []) (pages ++ page ∷ []) }
+        → AreGood metrics table known sheets pages → page.counts ≡ p.counts
+        → IsGood metrics table (known_in known sheets) p page.marks
+        → AreGood metrics table known (sheets ++ p ∷ []) (pages ++ page ∷ []) }
 {}
 
 /// The end has four to seven bytes 223, so that the length is a multiple of four.

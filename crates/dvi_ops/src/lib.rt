@@ -21,4 +21,4 @@ pub use fault::OpFault;
 pub use op::{FontDefinition, Op, Postamble, Units};
 pub use page_runs::PageRuns;
 pub use reading::next;
-pub use spelling::{counts_fit, spell};
+pub use spelling::spell;

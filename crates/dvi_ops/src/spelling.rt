@@ -184,27 +184,28 @@ fn units_of(units: &Units) -> [u8; 12]
     bytes
 }
 
-/// The counts of a page fit their fields, since a field has signed 32 bits. This is a fact for the proofs, and the call does nothing: the pattern
-/// names the ten numbers, because a number behind a reference has the range of its type in a proof only once it is named.
-pub fn counts_fit(counts: &[i32; 10])
+/// The forty bytes of the counts of a page.
+#[tactic(auto, unfolding(crate::specs::Spelling::operand))]
+fn counts_of(counts: &[i32; 10]) -> [u8; 40]
+    ensures bytes { result ≡ flat_map (operand 4) counts.now }
     ensures ten { length counts.now ≡ 10 }
     ensures fits { AllByRecursion NumberFits counts.now }
 {
+    // A number behind a reference has the range of its type in a proof only once it is named.
     let [_c0, _c1, _c2, _c3, _c4, _c5, _c6, _c7, _c8, _c9] = *counts;
+    let mut bytes = [0; 40];
+    BigEndian::write_i32_into(counts, &mut bytes);
+    bytes
 }
 
 /// Appends the beginning of a page.
-#[tactic(auto, unfolding(crate::specs::Spelling::operand))]
 fn append_bop(out: &mut Vec<u8>, counts: &[i32; 10], pointer: i32) -> Result<(), AllocError>
     ensures ok { OnOk result (out.new.items ≡ out.old.items ++ 139 ∷ (flat_map (operand 4) counts.now ++ operand 4 pointer)) }
     ensures ten { length counts.now ≡ 10 }
     ensures fits { AllByRecursion NumberFits counts.now }
     ensures err { OnErr result (out.new.items ≡ out.old.items) }
 {
-    counts_fit(counts);
-    let mut bytes = [0; 40];
-    BigEndian::write_i32_into(counts, &mut bytes);
-    append(out, &[&[opcodes::BOP], &bytes, &word(pointer)])
+    append(out, &[&[opcodes::BOP], &counts_of(counts), &word(pointer)])
 }
 
 /// Appends a font definition.
@@ -292,6 +293,8 @@ pub fn spell(op: &Op<'_>, out: &mut Vec<u8>) -> Result<(), AllocError>
     ensures ok { OnOk result (out.new.items ≡ out.old.items ++ spelling (view op.now)) }
     // The bytes that are written spell the instruction.
     ensures spelled { Spells (view op.now) (spelling (view op.now)) }
+    // The numbers of an op fit their fields.
+    ensures fits { NumbersFit (view op.now) }
     ensures err { OnErr result (out.new.items ≡ out.old.items) }
 {
     match op {

@@ -10,7 +10,7 @@ use Rattle.dvi_ops.specs.Forest.{flat, nests}
 use Rattle.dvi_ops.specs.Fonts.{definitions}
 use Rattle.dvi_ops.specs.File.{FilePart, Defines, Shows, instructions, push_depth_of}
 use Rattle.dvi_ops.specs.Spelling.{NumberFits, NumbersFit, UnitsFit}
-use Rattle.dvi_ops.specs.Layout.{bytes_of, define, preamble, scaled_points, Sheet, WriterKnowledge, after_preamble, sheet_from, knowledge_after, sheets_from, after_all, front_of, stop_of, padding_after, IsTabled, IsWritable, Table}
+use Rattle.dvi_ops.specs.Layout.{bytes_of, define, preamble, scaled_points, Sheet, WriterKnowledge, after_preamble, sheet_from, knowledge_after, sheets_from, after_all, closing_of, front_of, stop_of, whole_of, padding_after, IsTabled, IsWritable, Table}
 use Rattle.scaled_core.proofs.EachOf.{all_append}
 use Rattle.dvi_ops.proofs.Appends.{definitions-append, instructions-append}
 use Rattle.dvi_ops.proofs.Layouts.{says-wrote, definitions-define, instructions-define, length-bytes_of-append, parts_of}
@@ -19,13 +19,14 @@ use Rattle.page_core.specs.Marks.{ShippedPage}
 use Rattle.page_core.specs.Pages.{reach_down, reach_right}
 use Rattle.node_core.specs.declared.limits.TheConstants.{MAX_DEPTH}
 use Rattle.tfm_core.specs.Slots.{Slots, AreDefinable}
-use Rattle.dvi_write.specs.Sheets.{written_body, definitions_of, fresh_slots, in_rising_order, sheet_of}
-use Rattle.dvi_write.specs.Layout.{slots_after, slots_after_all, sheets_of, greatest_size, closing_of, padded_file, unfinished_file, whole}
+use Rattle.dvi_write.specs.Sheets.{written_body, definitions_of, fresh_slots, in_rising_order, sheet_of, slots_after}
+use Rattle.dvi_write.specs.SoFar.{ProgressView, nothing_so_far, so_far_from, so_far_of, with_next, closing_so_far}
+use Rattle.dvi_write.specs.Layout.{sheets_of, whole}
 use Rattle.dvi_write.specs.Shippable.{slot_widths, IsRightPage}
 use Rattle.dvi_write.specs.Closing.{IsGreatestOf, IsOfJob, IsClosedFor}
 use Rattle.dvi_write.proofs.DefinedFonts.{each_of}
-use Rattle.dvi_write.proofs.Files.{table_of, tabled, tall_fits, wide_fits}
-use Rattle.dvi_write.proofs.NextPages.{size-some}
+use Rattle.dvi_write.proofs.Files.{table_of, tabled, tall_fits, wide_fits, small_layout}
+use Rattle.dvi_write.proofs.NextPages.{layout-is, length-sheets, pages-are, whole-laid_out}
 use Rattle.dvi_write.proofs.WrittenBodies.{definitions-written, nests_written, writable_written}
 
 -- The greatest of a size of some values and a number.
@@ -63,18 +64,16 @@ farthest_reached size z (x ∷ xs) =
 farthest-greatest : {X : Type 0} (size : X → ℤ) (xs : List X) → IsGreatestOf (pos 0 ∷ map size xs) (farthest size (pos 0) xs)
 farthest-greatest size xs = record { bounds = farthest_bounds size (pos 0) xs; reached = farthest_reached size (pos 0) xs }
 
--- The greatest value of a size over pages, which is at least 0.
-farthest-is : (size : ShippedPage → ℤ) (z : ℤ) (pages : List ShippedPage) → pos 0 ≤ℤ z → farthest size z pages ≡ int_max z (greatest_size size pages)
-farthest-is size z [] least = omega (arith, ints, clamps, least)
-farthest-is size z (page ∷ pages) least =
-    omega (arith, ints, clamps, least, farthest-is size (int_max z (size page)) pages (omega (arith, ints, clamps, least)))
+-- The writer keeps the greatest sizes of its pages.
+tall-is : (fonts : Slots) (s : ProgressView) (pages : List ShippedPage) → farthest reach_down s.tall pages ≡ (so_far_from fonts s pages).tall
+unfolding with_next
+tall-is fonts s [] = refl
+tall-is fonts s (page ∷ pages) = tall-is fonts (with_next fonts s page) pages
 
-never_less : (size : ShippedPage → ℤ) (pages : List ShippedPage) → pos 0 ≤ℤ greatest_size size pages
-never_less size [] = omega (arith, ints)
-never_less size (page ∷ pages) = omega (arith, ints, clamps, never_less size pages)
-
-greatest-is : (size : ShippedPage → ℤ) (pages : List ShippedPage) → farthest size (pos 0) pages ≡ greatest_size size pages
-greatest-is size pages = omega (arith, ints, clamps, never_less size pages, farthest-is size (pos 0) pages (omega (arith, ints)))
+wide-is : (fonts : Slots) (s : ProgressView) (pages : List ShippedPage) → farthest reach_right s.wide pages ≡ (so_far_from fonts s pages).wide
+unfolding with_next
+wide-is fonts s [] = refl
+wide-is fonts s (page ∷ pages) = wide-is fonts (with_next fonts s page) pages
 
 farthest-append : {X : Type 0} (size : X → ℤ) (z : ℤ) (xs ys : List X) → farthest size z (xs ++ ys) ≡ farthest size (farthest size z xs) ys
 farthest-append size z [] ys = refl
@@ -240,49 +239,57 @@ framed fonts is stop tail place padding pages parts defined front_is units fits 
       fills = fills;
     }
 
--- Padding adds its number of bytes to the length of a file.
-padded : (fonts : Slots) (pages : List ShippedPage) (n : ℕ) → length (padded_file fonts pages n) ≡ length (padded_file fonts pages 0) + n
-padded fonts pages n =
-    let sheets = sheets_of fonts [] pages in
+-- The length of a file in the layout.
+length-whole : (sheets : List Sheet) (tall wide : ℤ) (closing : List Definition) (padding : ℕ) → length (whole_of sheets tall wide closing padding)
+    ≡ (after_all after_preamble sheets).size
+    + length (bytes_of (closing_of (after_all after_preamble sheets) (stop_of (after_all after_preamble sheets) tall wide (length sheets)) closing)) + padding
+length-whole sheets tall wide closing padding =
     let s = after_all after_preamble sheets in
-    let end = bytes_of (Post (stop_of s (greatest_size reach_down pages) (greatest_size reach_right pages) (length sheets)) ∷ (define (closing_of fonts pages) ++ PostPost (pos s.size) 2 ∷ [])) in
+    let end = bytes_of (closing_of s (stop_of s tall wide (length sheets)) closing) in
     omega (
       arith,
-      length-append (front_of sheets) (end ++ replicate n 223),
-      length-append end (replicate n 223),
-      length-append (front_of sheets) (end ++ []),
-      length-append end [],
-      length-replicate {A = ℕ} n 223,
+      length-append (front_of sheets) (end ++ replicate padding 223),
+      length-append end (replicate padding 223),
+      length-replicate {A = ℕ} padding 223,
+      size_of_front sheets,
     )
 
--- The file of some pages has the right end.
-ended_closes : (fonts : Slots) (pages : List ShippedPage) → AreDefinable fonts → AllByRecursion (IsRightPage fonts) pages → (after_all after_preamble (sheets_of fonts [] pages)).size < 2 ^ 31
-    → IsClosedFor fonts (padded_file fonts pages (padding_after (length (padded_file fonts pages 0)))) pages
-ended_closes fonts pages definable all below =
+-- The file of pages, as it is laid out, has the right end.
+laid_out_closes : (fonts : Slots) (pages : List ShippedPage) (padding : ℕ) → AreDefinable fonts → AllByRecursion (IsRightPage fonts) pages
+    → (after_all after_preamble (sheets_of fonts [] pages)).size < 2 ^ 31 → 4 ≤ padding → padding ≤ 7
+    → length (whole_of (sheets_of fonts [] pages) (so_far_of fonts pages).tall (so_far_of fonts pages).wide (definitions_of fonts (in_rising_order (so_far_of fonts pages).defined)) padding) % 4 ≡ 0
+    → IsClosedFor fonts (whole_of (sheets_of fonts [] pages) (so_far_of fonts pages).tall (so_far_of fonts pages).wide (definitions_of fonts (in_rising_order (so_far_of fonts pages).defined)) padding) pages
+laid_out_closes fonts pages padding definable all below least most fills =
     let sheets = sheets_of fonts [] pages in
     let s = after_all after_preamble sheets in
+    let kept = so_far_of fonts pages in
     let is = preamble ∷ sheets_from after_preamble sheets in
     let parts = parts_from fonts [] after_preamble pages in
-    let stop = stop_of s (greatest_size reach_down pages) (greatest_size reach_right pages) (length sheets) in
-    let tail = define (closing_of fonts pages) in
-    let size = length (padded_file fonts pages 0) in
-    let padding = padding_after size in
+    let stop = stop_of s kept.tall kept.wide (length sheets) in
+    let closing = definitions_of fonts (in_rising_order kept.defined) in
     let first : NumberFits (negsuc 0) = record { sfits = omega arith } in
     let units : UnitsFit scaled_points = (record { sfits = lit< tt }, record { sfits = lit< tt }, record { sfits = lit< tt }) in
-    framed fonts is stop tail s.size padding pages parts (all_definitions fonts (slots_after_all fonts [] pages) pages) (ap (λ (is : List Instruction). preamble ∷ is) (instructions_from fonts [] after_preamble pages))
+    framed fonts is stop (define closing) s.size padding pages parts (all_definitions fonts kept.defined pages) (ap (λ (is : List Instruction). preamble ∷ is) (instructions_from fonts [] after_preamble pages))
     refl
     (((lit< tt, units), pages_writable fonts definable [] after_preamble pages all first below))
     (last_fits fonts [] after_preamble pages first below, units, tall_fits fonts pages all, wide_fits fonts pages all, omega (arith, few_pushes fonts [] after_preamble pages all (omega arith)), omega arith)
-    (all_defined (table_of fonts) (closing_of fonts pages) (each_of (IsTabled (table_of fonts)) fonts (in_rising_order (slots_after_all fonts [] pages)) (λ s l among has. tabled fonts definable s l has)))
-    (size_of_front sheets) below (padding_low size) (omega arith)
-    (subst (IsGreatestOf (pos 0 ∷ map reach_down pages)) (greatest-is reach_down pages) (farthest-greatest reach_down pages))
-    (subst (IsGreatestOf (pos 0 ∷ map reach_right pages)) (greatest-is reach_right pages) (farthest-greatest reach_right pages))
+    (all_defined (table_of fonts) closing (each_of (IsTabled (table_of fonts)) fonts (in_rising_order kept.defined) (λ s l among has. tabled fonts definable s l has)))
+    (size_of_front sheets) below least most
+    (subst (IsGreatestOf (pos 0 ∷ map reach_down pages)) (tall-is fonts nothing_so_far pages) (farthest-greatest reach_down pages))
+    (subst (IsGreatestOf (pos 0 ∷ map reach_right pages)) (wide-is fonts nothing_so_far pages) (farthest-greatest reach_right pages))
     (subst (IsGreatestOf (pos 0 ∷ map part_depth parts)) (depth-is fonts [] after_preamble pages) (farthest-greatest part_depth parts))
-    (ap (λ n. n % 4) (padded fonts pages padding) ∙ padding_fills size)
+    fills
 
-pub file_closes : (fonts : Slots) (pages : List ShippedPage) → AreDefinable fonts → pages ≢ [] → AllByRecursion (IsRightPage fonts) pages → length (unfinished_file fonts pages) < 2 ^ 31
-    → IsClosedFor fonts (whole fonts pages) pages
-unfolding whole
-file_closes fonts [] definable some all small = absurd (some refl)
-file_closes fonts (page ∷ pages) definable some all small =
-    ended_closes fonts (page ∷ pages) definable all (omega (arith, size-some fonts (page ∷ pages) some, small))
+pub file_closes : (fonts : Slots) (pages : List ShippedPage) → AreDefinable fonts → pages ≢ [] → AllByRecursion (IsRightPage fonts) pages
+    → (so_far_of fonts pages).layout.size < 2 ^ 31 → IsClosedFor fonts (whole fonts pages) pages
+file_closes fonts pages definable some all small =
+    let sheets = sheets_of fonts [] pages in
+    let s = so_far_of fonts pages in
+    let closing = definitions_of fonts (in_rising_order s.defined) in
+    let size = s.layout.size + length (bytes_of (closing_so_far fonts s)) in
+    let same : s.layout ≡ after_all after_preamble sheets = layout-is fonts nothing_so_far pages in
+    let counted : size ≡ (after_all after_preamble sheets).size + length (bytes_of (closing_of (after_all after_preamble sheets) (stop_of (after_all after_preamble sheets) s.tall s.wide (length sheets)) closing)) =
+    ap₂ (λ (w : WriterKnowledge) (count : ℕ). w.size + length (bytes_of (closing_of w (stop_of w s.tall s.wide count) closing))) same (pages-are fonts pages ∙ sym (length-sheets fonts [] pages)) in
+    let fills = ap (λ n. n % 4) (length-whole sheets s.tall s.wide closing (padding_after size) ∙ ap (λ n. n + padding_after size) (sym counted)) ∙ padding_fills size in
+    subst (λ (bytes : List ℕ). IsClosedFor fonts bytes pages) (sym (whole-laid_out fonts pages some))
+    (laid_out_closes fonts pages (padding_after size) definable all (small_layout fonts pages small) (padding_low size) (omega arith) fills)

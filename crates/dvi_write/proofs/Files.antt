@@ -1,5 +1,5 @@
 -- The bytes that the writer writes for pages are a DVI file of them.
-use Rattle.std.proofs.Common.{◌≡◌, ℕ, ◌<◌, ◌≤◌, ◌^◌, List, [], ◌∷◌, length, map, refl, ap, sym, ◌∙◌, subst, arith}
+use Rattle.std.proofs.Common.{◌≡◌, ℕ, ◌+◌, ◌<◌, ◌≤◌, ◌^◌, List, [], ◌∷◌, length, map, refl, ap, sym, ◌∙◌, subst, arith}
 use Rattle.std.specs.Prelude.{ℤ, pos, negsuc, ◌+ℤ◌, ◌<ℤ◌, true, Option, Some, None, is_some, IsSome}
 use Rattle.std.specs.List.{AllByRecursion, list_any}
 use Rattle.std.specs.Option.{option_map}
@@ -13,21 +13,21 @@ use Rattle.dvi_ops.specs.Instruction.{Definition}
 use Rattle.dvi_ops.specs.Fonts.{WidthsByName, selections, first_definition_of, known_after, widths_in as font_by, width_in}
 use Rattle.dvi_ops.specs.File.{IsFile}
 use Rattle.dvi_ops.specs.Spelling.{NumberFits}
-use Rattle.dvi_ops.specs.Layout.{Table, WriterKnowledge, after_preamble, knowledge_after, after_all, define, padding_after, table_widths, IsTabled, IsGood, AreGood, IsClosing}
+use Rattle.dvi_ops.specs.Layout.{Table, WriterKnowledge, after_preamble, after_all, bytes_of, define, known_in, padding_after, table_widths, IsTabled, IsGood, AreGood, IsClosing}
 use Rattle.dvi_ops.proofs.WholeFile.{whole_file, padding_low}
 use Rattle.page_core.specs.Marks.{ShippedPage, marks_of_page}
-use Rattle.page_core.specs.Pages.{reach_down, reach_right}
 use Rattle.ship_core.specs.Shown.{HasWidth}
 use Rattle.ship_core.proofs.DrawnMarks.{number_within}
 use Rattle.ship_core.proofs.DrawnPages.{HasFont, fits_down, fits_right}
 use Rattle.tfm_core.specs.declared.slots.LoadedFont.{LoadedFont}
 use Rattle.tfm_core.specs.Slots.{Slots, font_in, AreDefinable}
-use Rattle.dvi_write.specs.Sheets.{written_body, definition_of, definitions_of, fresh_slots, in_rising_order, selects, sheet_of}
-use Rattle.dvi_write.specs.Layout.{slots_after, slots_after_all, sheets_of, greatest_size, closing_of, padded_file, unfinished_file, whole}
+use Rattle.dvi_write.specs.Sheets.{written_body, definition_of, definitions_of, fresh_slots, in_rising_order, selects, sheet_of, slots_after}
+use Rattle.dvi_write.specs.SoFar.{ProgressView, nothing_so_far, so_far_from, so_far_of, with_next, closing_so_far}
+use Rattle.dvi_write.specs.Layout.{sheets_of, whole}
 use Rattle.dvi_write.specs.Shippable.{slot_font_widths, slot_widths, IsRightPage, GivesFonts, read_page, IsFileOfPages}
 use Rattle.dvi_write.proofs.DefinedFonts.{AreKnown, HasSelected, none_known, known_next, selected_known, each_selected, each_of, rising_among, listed_at, defined_among, holds_selected}
 use Rattle.node_core.proofs.Leaves.{each_leaf}
-use Rattle.dvi_write.proofs.NextPages.{size-some}
+use Rattle.dvi_write.proofs.NextPages.{layout-is, whole-laid_out}
 use Rattle.dvi_write.proofs.Rooms.{definable_in}
 use Rattle.dvi_write.proofs.WrittenBodies.{selections_written, shown_written, writable_written, definitions-written, nests_written}
 
@@ -140,21 +140,22 @@ module _ (metrics : WidthsByName) (fonts : Slots) (gives : GivesFonts metrics fo
           shows = shown.1;
         }
 
-    pages_good : (slots : List ℕ) (s : WriterKnowledge) (pages : List ShippedPage) → AreKnown fonts slots s.known → AllByRecursion (IsRightPage fonts) pages
-        → AreGood metrics (table_of fonts) s (sheets_of fonts slots pages) (map read_page pages)
-    pages_good slots s [] knows all = tt
-    pages_good slots s (page ∷ pages) knows (here, all) = (
+    pages_good : (slots : List ℕ) (known : List Definition) (pages : List ShippedPage) → AreKnown fonts slots known → AllByRecursion (IsRightPage fonts) pages
+        → AreGood metrics (table_of fonts) known (sheets_of fonts slots pages) (map read_page pages)
+    pages_good slots known [] knows all = tt
+    pages_good slots known (page ∷ pages) knows (here, all) = (
       refl,
-      page_good slots s.known page knows here,
-      pages_good (slots_after fonts slots page) (knowledge_after s (sheet_of fonts slots page)) pages (known_next fonts slots (flat (written_body page)) s.known knows) all,
+      page_good slots known page knows here,
+      pages_good (slots_after fonts slots page) (known_after known (define (sheet_of fonts slots page).fresh)) pages (known_next fonts slots (flat (written_body page)) known knows) all,
     )
 
 -- The known definitions after pages.
-known_after_pages : (fonts : Slots) (slots : List ℕ) (s : WriterKnowledge) (pages : List ShippedPage) → AreKnown fonts slots s.known
-    → AreKnown fonts (slots_after_all fonts slots pages) (after_all s (sheets_of fonts slots pages)).known
-known_after_pages fonts slots s [] knows = knows
-known_after_pages fonts slots s (page ∷ pages) knows =
-    known_after_pages fonts (slots_after fonts slots page) (knowledge_after s (sheet_of fonts slots page)) pages (known_next fonts slots (flat (written_body page)) s.known knows)
+known_after_pages : (fonts : Slots) (s : ProgressView) (known : List Definition) (pages : List ShippedPage) → AreKnown fonts s.defined known
+    → AreKnown fonts (so_far_from fonts s pages).defined (known_in known (sheets_of fonts s.defined pages))
+unfolding with_next
+known_after_pages fonts s known [] knows = knows
+known_after_pages fonts s known (page ∷ pages) knows =
+    known_after_pages fonts (with_next fonts s page) (known_after known (define (sheet_of fonts s.defined page).fresh)) pages (known_next fonts s.defined (flat (written_body page)) known knows)
 
 -- The definitions of the postamble are right, and include all known ones.
 all_closing : (fonts : Slots) (slots : List ℕ) (known : List Definition) → AreDefinable fonts → AreKnown fonts slots known
@@ -168,35 +169,46 @@ all_closing fonts slots known definable knows = record {
       (defined_among fonts listed.slot listed.loaded (in_rising_order slots) listed.has (rising_among slots listed.slot listed.among listed.small));
 }
 
-greatest_within : (fonts : Slots) (size : ShippedPage → ℤ) (pages : List ShippedPage) → ((page : ShippedPage) → IsRightPage fonts page → Within 1073741823 (size page))
-    → AllByRecursion (IsRightPage fonts) pages → Within 1073741823 (greatest_size size pages)
-greatest_within fonts size [] fits all = record { low = omega (arith, ints); high = omega (arith, ints) }
-greatest_within fonts size (page ∷ pages) fits (here, all) =
-    let one = fits page here in
-    let others = greatest_within fonts size pages fits all in
-    record { low = omega (arith, ints, clamps, one.low, others.low); high = omega (arith, ints, clamps, one.high, others.high) }
+-- The greatest sizes are within the range of a dimension.
+abbrev AreWithin : ℤ → ℤ → Type 0
+AreWithin tall wide = Within 1073741823 tall × Within 1073741823 wide
 
-pub tall_fits : (fonts : Slots) (pages : List ShippedPage) → AllByRecursion (IsRightPage fonts) pages → NumberFits (greatest_size reach_down pages)
-tall_fits fonts pages all =
-    number_within _ (greatest_within fonts reach_down pages (λ page right. fits_within (page.v +ℤ page.box_node.depth) (fits_down page right.small)) all)
+reach_within : (fonts : Slots) (s : ProgressView) (pages : List ShippedPage) → AllByRecursion (IsRightPage fonts) pages → AreWithin s.tall s.wide
+    → AreWithin (so_far_from fonts s pages).tall (so_far_from fonts s pages).wide
+unfolding with_next
+reach_within fonts s [] all both = both
+reach_within fonts s (page ∷ pages) (here, all) (tall, wide) =
+    let down = fits_within (page.v +ℤ page.box_node.depth) (fits_down page here.small) in
+    let right = fits_within (page.h +ℤ page.box_node.width) (fits_right page here.small) in
+    reach_within fonts (with_next fonts s page) pages all (
+      record { low = omega (arith, ints, clamps, tall.low, down.low); high = omega (arith, ints, clamps, tall.high, down.high) },
+      record { low = omega (arith, ints, clamps, wide.low, right.low); high = omega (arith, ints, clamps, wide.high, right.high) },
+    )
 
-pub wide_fits : (fonts : Slots) (pages : List ShippedPage) → AllByRecursion (IsRightPage fonts) pages → NumberFits (greatest_size reach_right pages)
-wide_fits fonts pages all =
-    number_within _ (greatest_within fonts reach_right pages (λ page right. fits_within (page.h +ℤ page.box_node.width) (fits_right page right.small)) all)
+first_within : AreWithin (pos 0) (pos 0)
+first_within = (record { low = omega (arith, ints); high = omega (arith, ints) }, record { low = omega (arith, ints); high = omega (arith, ints) })
 
--- The file of some pages is a DVI file of them.
-ended_shows : (metrics : WidthsByName) (fonts : Slots) (pages : List ShippedPage) (padding : ℕ) → GivesFonts metrics fonts → AreDefinable fonts → AllByRecursion (IsRightPage fonts) pages
-    → (after_all after_preamble (sheets_of fonts [] pages)).size < 2 ^ 31 → 4 ≤ padding → IsFile metrics (padded_file fonts pages padding) (map read_page pages)
-ended_shows metrics fonts pages padding gives definable all small low =
-    whole_file metrics (table_of fonts) (sheets_of fonts [] pages) (map read_page pages) (greatest_size reach_down pages) (greatest_size reach_right pages) (closing_of fonts pages) padding
-    (pages_good metrics fonts gives definable [] after_preamble pages (none_known fonts) all)
-    (all_closing fonts (slots_after_all fonts [] pages) (after_all after_preamble (sheets_of fonts [] pages)).known definable (known_after_pages fonts [] after_preamble pages (none_known fonts)))
-    (tall_fits fonts pages all) (wide_fits fonts pages all) small low
+pub tall_fits : (fonts : Slots) (pages : List ShippedPage) → AllByRecursion (IsRightPage fonts) pages → NumberFits (so_far_of fonts pages).tall
+tall_fits fonts pages all = number_within _ (reach_within fonts nothing_so_far pages all first_within).0
 
+pub wide_fits : (fonts : Slots) (pages : List ShippedPage) → AllByRecursion (IsRightPage fonts) pages → NumberFits (so_far_of fonts pages).wide
+wide_fits fonts pages all = number_within _ (reach_within fonts nothing_so_far pages all first_within).1
+
+-- The size of the layout is that of its sheets.
+pub small_layout : (fonts : Slots) (pages : List ShippedPage) → (so_far_of fonts pages).layout.size < 2 ^ 31 → (after_all after_preamble (sheets_of fonts [] pages)).size < 2 ^ 31
+small_layout fonts pages small = subst (λ (w : WriterKnowledge). w.size < 2 ^ 31) (layout-is fonts nothing_so_far pages) small
+
+-- The file of pages is a DVI file of them.
 pub file_shows : (metrics : WidthsByName) (fonts : Slots) (pages : List ShippedPage) → GivesFonts metrics fonts → AreDefinable fonts → AllByRecursion (IsRightPage fonts) pages
-    → length (unfinished_file fonts pages) < 2 ^ 31 → IsFileOfPages metrics (whole fonts pages) pages
+    → (so_far_of fonts pages).layout.size < 2 ^ 31 → IsFileOfPages metrics (whole fonts pages) pages
 unfolding whole
 file_shows metrics fonts [] gives definable all small = refl
 file_shows metrics fonts (page ∷ pages) gives definable all small =
-    ended_shows metrics fonts (page ∷ pages) (padding_after (length (padded_file fonts (page ∷ pages) 0))) gives definable all
-    (omega (arith, size-some fonts (page ∷ pages) (λ is. cc), small)) (padding_low (length (padded_file fonts (page ∷ pages) 0)))
+    let shipped = page ∷ pages in
+    let s = so_far_of fonts shipped in
+    let padding = padding_after (s.layout.size + length (bytes_of (closing_so_far fonts s))) in
+    subst (λ (bytes : List ℕ). IsFile metrics bytes (map read_page shipped)) (sym (whole-laid_out fonts shipped (λ is. cc)))
+    (whole_file metrics (table_of fonts) (sheets_of fonts [] shipped) (map read_page shipped) s.tall s.wide (definitions_of fonts (in_rising_order s.defined)) padding
+    (pages_good metrics fonts gives definable [] [] shipped (none_known fonts) all)
+    (all_closing fonts s.defined (known_in [] (sheets_of fonts [] shipped)) definable (known_after_pages fonts nothing_so_far [] shipped (none_known fonts)))
+    (tall_fits fonts shipped all) (wide_fits fonts shipped all) (small_layout fonts shipped small) (padding_low (s.layout.size + length (bytes_of (closing_so_far fonts s)))))

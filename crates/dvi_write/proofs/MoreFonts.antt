@@ -1,12 +1,14 @@
 -- The layout of pages is the same with more fonts.
-use Rattle.std.proofs.Common.{◌≡◌, ℕ, List, [], ◌∷◌, ◌++◌, length, refl, ap, ap₂, ◌∙◌}
-use Rattle.std.specs.Prelude.{ℤ, pos, Option, Some, None}
+use Rattle.std.proofs.Common.{◌≡◌, ℕ, List, [], ◌∷◌, ◌++◌, refl, ap, ap₂, ◌∙◌}
+use Rattle.std.specs.Prelude.{◌+◌, ℤ, pos, Option, Some, None}
+use Rattle.std.specs.Int.{int_max}
 use Rattle.std.specs.List.{AllByRecursion}
 use Rattle.node_core.specs.declared.tree.BoxNode.{BoxNode}
+use Rattle.node_core.specs.Loads.{load_with_box}
 use Rattle.node_core.specs.Items.{Leaf, glyph, font_kern, kern, glue, penalty, rule, special}
 use Rattle.dvi_ops.specs.Forest.{flat}
 use Rattle.dvi_ops.specs.Instruction.{Definition}
-use Rattle.dvi_ops.specs.Layout.{Sheet, after_preamble, after_all, front_of}
+use Rattle.dvi_ops.specs.Layout.{Sheet, knowledge_after, front_of}
 use Rattle.dvi_ops.specs.Fonts.{width_in}
 use Rattle.scaled_core.proofs.EachOf.{all_weaker}
 use Rattle.page_core.specs.Marks.{ShippedPage}
@@ -15,10 +17,10 @@ use Rattle.ship_core.specs.Shown.{HasWidth}
 use Rattle.tfm_core.specs.declared.slots.LoadedFont.{LoadedFont}
 use Rattle.tfm_core.specs.Slots.{Slots, font_in}
 use Rattle.dvi_write.specs.MoreFonts.{Extends}
-use Rattle.dvi_write.specs.Sheets.{written_body, definitions_of, fresh_slots, sheet_of}
-use Rattle.dvi_write.specs.Layout.{slots_after, slots_after_all, sheets_of, greatest_size, load_on, unfinished_file}
+use Rattle.dvi_write.specs.Sheets.{written_body, definitions_of, fresh_slots, sheet_of, slots_after}
+use Rattle.dvi_write.specs.Layout.{sheets_of, unfinished_file}
 use Rattle.dvi_write.specs.Shippable.{slot_font_widths, slot_widths, IsShippable, IsRightPage}
-use Rattle.dvi_write.specs.SoFar.{ProgressView, so_far_of}
+use Rattle.dvi_write.specs.SoFar.{ProgressView, nothing_so_far, so_far_from, so_far_of, with_next}
 use Rattle.dvi_write.proofs.DefinedFonts.{fresh_parts, among_fresh, fresh_same, definitions_same}
 use Rattle.dvi_write.proofs.Files.{has_selected}
 use Rattle.node_core.proofs.Leaves.{each_leaf}
@@ -68,29 +70,29 @@ module _ (fonts more : Slots) (extends : Extends fonts more) where
       ap₂ (λ (sheet : Sheet) (sheets : List Sheet). sheet ∷ sheets) (sheet_more slots page here)
       (sheets_more (slots_after fonts slots page) pages all ∙ ap (λ slots. sheets_of more slots pages) (after_more slots page here))
 
-  slots_more : (slots : List ℕ) (pages : List ShippedPage) → AllByRecursion (IsRightPage fonts) pages → slots_after_all fonts slots pages ≡ slots_after_all more slots pages
-  slots_more slots [] all = refl
-  slots_more slots (page ∷ pages) (here, all) =
-      slots_more (slots_after fonts slots page) pages all ∙ ap (λ slots. slots_after_all more slots pages) (after_more slots page here)
-
   -- The bytes up to the last eop are the same, and so are the kept numbers.
   pub front_more : (pages : List ShippedPage) → AllByRecursion (IsRightPage fonts) pages → unfinished_file fonts pages ≡ unfinished_file more pages
   unfolding unfinished_file
   front_more [] all = refl
   front_more (page ∷ pages) all = ap front_of (sheets_more [] (page ∷ pages) all)
 
-  pub so_far_more : (pages : List ShippedPage) → AllByRecursion (IsRightPage fonts) pages → so_far_of fonts pages ≡ so_far_of more pages
-  so_far_more pages all =
-      let made : List Sheet → List ℕ → List ℕ → ProgressView =
-      λ sheets bytes slots. record {
-        last = (after_all after_preamble sheets).last;
-        size = length bytes;
+  next_more : (s : ProgressView) (page : ShippedPage) → IsRightPage fonts page → with_next fonts s page ≡ with_next more s page
+  unfolding with_next
+  next_more s page right =
+      let made : Sheet → List ℕ → ProgressView =
+      λ sheet slots. record {
+        layout = knowledge_after s.layout sheet;
         defined = slots;
-        tall = greatest_size reach_down pages;
-        wide = greatest_size reach_right pages;
-        deep = (after_all after_preamble sheets).depth;
-        pages = length pages;
-        load = load_on pages;
+        tall = int_max s.tall (reach_down page);
+        wide = int_max s.wide (reach_right page);
+        pages = s.pages + 1;
+        load = load_with_box s.load page.box_node;
       } in
-      ap (λ sheets. made sheets (unfinished_file fonts pages) (slots_after_all fonts [] pages)) (sheets_more [] pages all)
-      ∙ ap₂ (λ bytes slots. made (sheets_of more [] pages) bytes slots) (front_more pages all) (slots_more [] pages all)
+      ap₂ made (sheet_more s.defined page right) (after_more s.defined page right)
+
+  kept_more : (s : ProgressView) (pages : List ShippedPage) → AllByRecursion (IsRightPage fonts) pages → so_far_from fonts s pages ≡ so_far_from more s pages
+  kept_more s [] all = refl
+  kept_more s (page ∷ pages) (here, all) = kept_more (with_next fonts s page) pages all ∙ ap (λ (t : ProgressView). so_far_from more t pages) (next_more s page here)
+
+  pub so_far_more : (pages : List ShippedPage) → AllByRecursion (IsRightPage fonts) pages → so_far_of fonts pages ≡ so_far_of more pages
+  so_far_more pages all = kept_more nothing_so_far pages all

@@ -1,5 +1,5 @@
 -- The greatest number of bytes of a page, with the definitions before it.
-use Rattle.std.proofs.Common.{◌≡◌, ℕ, ◌+◌, ◌*◌, ◌≤◌, ◌<◌, List, [], ◌∷◌, ◌++◌, length, refl, ap, arith, length-append}
+use Rattle.std.proofs.Common.{◌≡◌, ℕ, ◌+◌, ◌*◌, ◌≤◌, ◌<◌, List, [], ◌∷◌, ◌++◌, length, refl, ap, sym, ◌∙◌, arith, append_assoc, length-append}
 use Rattle.std.specs.Prelude.{ℤ, pos, nat_lt, if◌then◌else◌, Option, Some, None}
 use Rattle.std.proofs.lemmas.Bool.{lt-ltb}
 use Rattle.std.proofs.lemmas.List.{map-append}
@@ -12,7 +12,7 @@ use Rattle.dvi_ops.specs.Body.{Widths}
 use Rattle.dvi_ops.specs.Forest.{flat}
 use Rattle.dvi_ops.specs.Spelling.{operand, code_size, spelling, leaf_spelling}
 use Rattle.dvi_ops.specs.Layout.{bytes_of, define, sheet_from}
-use Rattle.dvi_ops.proofs.Layouts.{length-bytes_of-append}
+use Rattle.dvi_ops.proofs.Layouts.{bytes_of-append, length-bytes_of-append}
 use Rattle.dvi_ops.proofs.Spelled.{operand_length}
 use Rattle.tfm_core.specs.declared.slots.LoadedFont.{LoadedFont}
 use Rattle.tfm_core.specs.Slots.{Slots, font_in}
@@ -103,3 +103,11 @@ sheet_bytes widths fonts slots page last short ten sized =
       length-eop,
       written_bytes widths page sized,
     )
+
+-- The bytes of a page after the opening and its definitions.
+pub laid_out : (opening fonts page ops : List Instruction) (first all : List ℕ) → ops ≡ opening ++ fonts → first ≡ bytes_of ops → all ≡ first ++ bytes_of page
+    → all ≡ bytes_of (opening ++ (fonts ++ page))
+laid_out opening fonts page ops first all says before after =
+    after
+    ∙ (ap (λ (bytes : List ℕ). bytes ++ bytes_of page) (before ∙ ap bytes_of says)
+    ∙ (sym (bytes_of-append (opening ++ fonts) page) ∙ ap bytes_of (append_assoc opening fonts page)))

@@ -1,12 +1,10 @@
 -- The writer's numbers are within the limits, so that every place in the file is below 2^31.
-use Rattle.std.proofs.Common.{◌≡◌, ℕ, ◌+◌, ◌*◌, ◌≤◌, ◌<◌, ◌^◌, List, [], ◌∷◌, ◌++◌, length, refl, ap, ap₂, sym, ◌∙◌, subst, arith, append_assoc, length-append}
+use Rattle.std.proofs.Common.{◌≡◌, ℕ, ◌+◌, ◌≤◌, ◌<◌, ◌^◌, List, [], ◌∷◌, ◌++◌, length, refl, ap, ap₂, sym, ◌∙◌, subst, arith, length-append}
 use Rattle.dvi_ops.specs.Forest.{flat}
 use Rattle.dvi_ops.specs.Instruction.{Instruction, Bop, Eop}
-use Rattle.dvi_ops.specs.Layout.{bytes_of, define, sheet_from}
-use Rattle.std.specs.Prelude.{Bool, true, false, Some, None, nat_le, nat_lt, if◌then◌else◌, zero, suc, IfSome, Result, Ok, Err, OnOk, OnErr}
+use Rattle.dvi_ops.specs.Layout.{bytes_of, define}
+use Rattle.std.specs.Prelude.{Bool, true, false, Some, None, nat_le, nat_lt, if◌then◌else◌, IfSome, Result, Ok, Err, OnOk, OnErr}
 use Rattle.std.proofs.lemmas.Bool.{leb-false, ltb-false}
-use Rattle.dvi_ops.specs.Spelling.{spelling, operand}
-use Rattle.dvi_ops.proofs.Layouts.{length-bytes_of-append}
 use Rattle.node_core.specs.Items.{items_text}
 use Rattle.node_core.specs.Nodes.{box_count, box_text}
 use Rattle.page_core.specs.Marks.{ShippedPage, is_huge}
@@ -15,7 +13,7 @@ use Rattle.node_core.specs.declared.limits.TheConstants.{MAX_PAGES, MAX_SHIPPED_
 use Rattle.tfm_core.specs.declared.slots.LoadedFont.{LoadedFont}
 use Rattle.tfm_core.specs.Slots.{Slots, font_in, IsDefinable, AreDefinable}
 use Rattle.dvi_write.specs.Shippable.{IsShippable, slot_widths}
-use Rattle.dvi_write.specs.Sheets.{written_body, definitions_of, fresh_slots, sheet_of}
+use Rattle.dvi_write.specs.Sheets.{written_body, definitions_of, fresh_slots}
 use Rattle.dvi_write.specs.SoFar.{ProgressView, nothing_so_far, opening_instructions, next_bytes, with_next}
 use Rattle.dvi_write.specs.Limits.{HasRoom, limit_of}
 use Rattle.dvi_write.proofs.DefinedFonts.{few_defined, none_rising, defined_once}
@@ -23,28 +21,29 @@ use Rattle.scaled_core.proofs.EachOf.{each_held, held_within}
 use Rattle.dvi_write.proofs.PageBytes.{HasShortNames, sheet_bytes}
 use Rattle.dvi_write.proofs.WrittenBodies.{nests_written}
 
-pub small : (s : ProgressView) → HasRoom s → s.size < 2 ^ 31
+pub small : (s : ProgressView) → HasRoom s → s.layout.size < 2 ^ 31
 small s room = omega (arith, room.nodes, room.text, room.pages, room.size, few_defined s.defined room.defined)
 
 pub first_room : HasRoom nothing_so_far
-first_room = record { nodes = omega arith; text = omega arith; pages = omega arith; deep = omega arith; defined = none_rising; size = omega arith; empty = λ none. refl }
+first_room = record { nodes = omega arith; text = omega arith; pages = omega arith; deep = omega arith; defined = none_rising; size = omega arith }
 
--- The bytes of the next page, with its definitions among those before its bop.
+-- The bytes of the next page.
 pub next-is : (fonts : Slots) (s : ProgressView) (page : ShippedPage) (bytes slots : List ℕ) (is : List Instruction)
     → slots ≡ fresh_slots fonts s.defined (flat (written_body page)) → is ≡ flat (written_body page)
-    → bytes ≡ bytes_of ((opening_instructions s.pages ++ define (definitions_of fonts slots)) ++ (Bop page.counts s.last ∷ (is ++ Eop ∷ []))) → bytes ≡ next_bytes fonts s page
+    → bytes ≡ bytes_of (opening_instructions s.pages ++ (define (definitions_of fonts slots) ++ (Bop page.counts s.layout.last ∷ (is ++ Eop ∷ [])))) → bytes ≡ next_bytes fonts s page
 unfolding next_bytes
 next-is fonts s page bytes slots is fresh body same =
     same
-    ∙ (ap bytes_of (append_assoc (opening_instructions s.pages) (define (definitions_of fonts slots)) (Bop page.counts s.last ∷ (is ++ Eop ∷ [])))
-    ∙ ap₂ (λ (slots : List ℕ) (is : List Instruction). bytes_of (opening_instructions s.pages ++ (define (definitions_of fonts slots) ++ (Bop page.counts s.last ∷ (is ++ Eop ∷ []))))) fresh body)
+    ∙ ap₂ (λ (slots : List ℕ) (is : List Instruction). bytes_of (opening_instructions s.pages ++ (define (definitions_of fonts slots) ++ (Bop page.counts s.layout.last ∷ (is ++ Eop ∷ []))))) fresh body
 
-pub next_small : (fonts : Slots) (s : ProgressView) (page : ShippedPage) (bytes slots : List ℕ) (is : List Instruction)
+-- They end before the limit.
+pub next_small : (fonts : Slots) (s : ProgressView) (page : ShippedPage) (size : ℕ) (slots : List ℕ) (is : List Instruction)
     → HasRoom (with_next fonts s page) → slots ≡ fresh_slots fonts s.defined (flat (written_body page)) → is ≡ flat (written_body page)
-    → bytes ≡ bytes_of ((opening_instructions s.pages ++ define (definitions_of fonts slots)) ++ (Bop page.counts s.last ∷ (is ++ Eop ∷ []))) → s.size + length bytes < 2 ^ 31
+    → size ≡ length (bytes_of (define (definitions_of fonts slots) ++ (Bop page.counts s.layout.last ∷ (is ++ Eop ∷ [])))) → s.layout.size + size < 2 ^ 31
 unfolding with_next
-next_small fonts s page bytes slots is room fresh body same =
-    omega (arith, small (with_next fonts s page) room, ap length (next-is fonts s page bytes slots is fresh body same))
+next_small fonts s page size slots is room fresh body same =
+    let all = same ∙ ap₂ (λ (slots : List ℕ) (is : List Instruction). length (bytes_of (define (definitions_of fonts slots) ++ (Bop page.counts s.layout.last ∷ (is ++ Eop ∷ []))))) fresh body in
+    omega (arith, small (with_next fonts s page) room, all)
 
 -- The texts of the specials of the page can be spelled.
 pub next_short : (fonts : Slots) (s : ProgressView) (page : ShippedPage) → HasRoom (with_next fonts s page) → items_text page.box_node.list < 2 ^ 32
@@ -91,25 +90,17 @@ admitted s page none =
 pub few_text : (s : ProgressView) (page : ShippedPage) → limit_of s page ≡ (if is_huge page then Some HugePage else None) → box_text page.box_node ≤ MAX_SHIPPED_TEXT
 few_text s page none = omega (arith, ltb-false MAX_SHIPPED_TEXT (s.load.text + box_text page.box_node) (admitted s page none).text)
 
--- Nothing was sent before the preamble.
-opening_fills : (n size nodes text fonts : ℕ) → size ≤ 15 + 46 * n + 19 * nodes + text + 271 * fonts → (n ≡ 0 → size ≡ 0)
-    → size + length (bytes_of (opening_instructions n)) ≤ 15 + 46 * n + 19 * nodes + text + 271 * fonts
-unfolding spelling operand
-opening_fills zero size nodes text fonts fits none = omega (arith, none refl)
-opening_fills (suc n) size nodes text fonts fits none = omega (arith, fits)
-
 -- The limits hold with one more page.
 pub room_next : (fonts : Slots) (s : ProgressView) (page : ShippedPage) → AreDefinable fonts → IsShippable fonts page.box_node → length page.counts ≡ 10
     → limit_of s page ≡ (if is_huge page then Some HugePage else None)
     → HasRoom s → HasRoom (with_next fonts s page)
-unfolding with_next next_bytes
+unfolding with_next
 room_next fonts s page definable sound ten none room =
     let admits = admitted s page none in
     let nodes = ltb-false MAX_SHIPPED_NODES (s.load.nodes + box_count page.box_node) admits.nodes in
     let text = ltb-false MAX_SHIPPED_TEXT (s.load.text + box_text page.box_node) admits.text in
     let pages = leb-false MAX_PAGES s.pages admits.pages in
     let fresh = fresh_slots fonts s.defined (flat (written_body page)) in
-    let sheet = sheet_from s.last (sheet_of fonts s.defined page) in
     record {
       nodes = omega (arith, nodes);
       text = omega (arith, text);
@@ -119,12 +110,10 @@ room_next fonts s page definable sound ten none room =
       size =
           omega (
             arith,
-            opening_fills s.pages s.size s.load.nodes s.load.text (length s.defined) room.size room.empty,
-            length-bytes_of-append (opening_instructions s.pages) sheet,
+            room.size,
             length-append s.defined fresh,
-            sheet_bytes (slot_widths fonts) fonts s.defined page s.last (short_names fonts definable) ten sound.glyphs,
+            sheet_bytes (slot_widths fonts) fonts s.defined page s.layout.last (short_names fonts definable) ten sound.glyphs,
           );
-      empty = λ none. absurd (omega (arith, none));
     }
 
 -- The limits hold after a page, whether its bytes were made or not.

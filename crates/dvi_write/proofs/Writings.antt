@@ -15,11 +15,11 @@ use Rattle.tfm_core.specs.Slots.{Slots}
 use Rattle.dvi_write.specs.MoreFonts.{Extends}
 use Rattle.dvi_write.specs.Layout.{unfinished_file, whole}
 use Rattle.dvi_write.specs.Shippable.{IsRightPage}
-use Rattle.dvi_write.specs.SoFar.{ProgressView, nothing_so_far, next_bytes, with_next, last_bytes}
+use Rattle.dvi_write.specs.SoFar.{ProgressView, nothing_so_far, so_far_of, next_bytes, with_next, last_bytes}
 use Rattle.dvi_write.specs.Limits.{HasRoom, limit_of}
 use Rattle.dvi_write.specs.Writing.{GoesOn, HasWritten, RefusesPage, Writing, refusal_of}
 use Rattle.dvi_write.proofs.Rooms.{small}
-use Rattle.dvi_write.proofs.NextPages.{front-append, so_far-append, whole-is}
+use Rattle.dvi_write.proofs.NextPages.{front-append, pages-are, size-some, so_far-append, whole-is}
 use Rattle.dvi_write.proofs.MoreFonts.{front_more, so_far_more, pages_more}
 
 grown-none : (bytes_written : Option (List ℕ)) → bytes_written ≡ written_then bytes_written []
@@ -128,12 +128,16 @@ past_part fonts before old new pages page written keeps =
     subst (λ (bytes : List ℕ). KeepsPast old.began bytes new) (next-same fonts before old pages page written)
     (keeps_both old.began old.past new (unfinished_file fonts pages) (next_bytes fonts old.so_far page) written.past keeps)
 
+-- The writer counts its pages.
+pub ended_count : (fonts : Slots) (before : Option (List ℕ)) (w : Writing) (pages : List ShippedPage) → HasWritten fonts before w pages → w.so_far.pages ≡ length pages
+ended_count fonts before w pages written = ap (λ (s : ProgressView). s.pages) written.so_far ∙ pages-are fonts pages
+
 -- The pages are not empty where their number is not 0.
 pub some_pages : (fonts : Slots) (before : Option (List ℕ)) (w : Writing) (pages : List ShippedPage) → HasWritten fonts before w pages → w.so_far.pages ≢ 0 → pages ≢ []
-some_pages fonts before w pages written some none = some (ap (λ (s : ProgressView). s.pages) written.so_far ∙ ap length none)
+some_pages fonts before w pages written some none = some (ended_count fonts before w pages written ∙ ap length none)
 
 pub no_pages : (fonts : Slots) (before : Option (List ℕ)) (w : Writing) (pages : List ShippedPage) → HasWritten fonts before w pages → w.so_far.pages ≡ 0 → pages ≡ []
-no_pages fonts before w pages written none = nil_from_length pages (sym (ap (λ (s : ProgressView). s.pages) written.so_far) ∙ none)
+no_pages fonts before w pages written none = nil_from_length pages (sym (ended_count fonts before w pages written) ∙ none)
 
 whole-same : (fonts : Slots) (before : Option (List ℕ)) (w : Writing) (pages : List ShippedPage) → HasWritten fonts before w pages → w.so_far.pages ≢ 0
     → unfinished_file fonts pages ++ last_bytes fonts w.so_far ≡ whole fonts pages
@@ -182,33 +186,25 @@ pub ended_part : (fonts : Slots) (before new : Option (List ℕ)) (old : Writing
 ended_part fonts before new old pages written some grows =
     front_after before old.bytes_written new (unfinished_file fonts pages) (last_bytes fonts old.so_far) (whole fonts pages) written.bytes_written (whole-same fonts before old pages written some) grows
 
--- The length of the file, and the number of its pages.
+-- The length of the file.
 pub ended_size : (fonts : Slots) (before : Option (List ℕ)) (w : Writing) (pages : List ShippedPage) → HasWritten fonts before w pages → w.so_far.pages ≢ 0
-    → length (whole fonts pages) ≡ w.so_far.size + length (last_bytes fonts w.so_far)
+    → length (whole fonts pages) ≡ w.so_far.layout.size + length (last_bytes fonts w.so_far)
 ended_size fonts before w pages written some =
     omega (
       arith,
       ap length (whole-same fonts before w pages written some),
       length-append (unfinished_file fonts pages) (last_bytes fonts w.so_far),
-      ap (λ (s : ProgressView). s.size) written.so_far,
+      ap (λ (s : ProgressView). s.layout.size) written.so_far,
+      size-some fonts pages (some_pages fonts before w pages written some),
     )
 
-pub ended_count : (fonts : Slots) (before : Option (List ℕ)) (w : Writing) (pages : List ShippedPage) → HasWritten fonts before w pages → w.so_far.pages ≡ length pages
-ended_count fonts before w pages written = ap (λ (s : ProgressView). s.pages) written.so_far
-
--- The facts about a page after the device was called.
-pub lost_page : {A : Type 0} (result : Result A WriteFault) (fonts : Slots) (old : Writing) (new : Option (List ℕ)) (page : ShippedPage)
-    → OnErr result (GrowsByFront old.bytes_written new (next_bytes fonts old.so_far page)) → result ≡ Err Device
-    → (before : Option (List ℕ)) (pages : List ShippedPage) → HasWritten fonts before old pages → GrowsByFront before new (unfinished_file fonts (pages ++ page ∷ []))
-lost_page (Ok x) fonts old new page grows is = cc
-lost_page (Err e) fonts old new page grows is = λ before pages written. part_more fonts before new old pages page written grows
-
+-- Without pages there are no bytes.
 pub none_ended : (fonts : Slots) (before : Option (List ℕ)) (w : Writing) (pages : List ShippedPage) → HasWritten fonts before w pages → w.so_far.pages ≡ 0 → 0 ≡ length (whole fonts pages)
 unfolding whole
 none_ended fonts before w pages written none = sym (ap (λ pages. length (whole fonts pages)) (no_pages fonts before w pages written none))
 
-pub written_small : (fonts : Slots) (before : Option (List ℕ)) (w : Writing) (pages : List ShippedPage) → HasWritten fonts before w pages → HasRoom w.so_far → length (unfinished_file fonts pages) < 2 ^ 31
-written_small fonts before w pages written room = omega (arith, small w.so_far room, ap (λ (s : ProgressView). s.size) written.so_far)
+pub written_small : (fonts : Slots) (before : Option (List ℕ)) (w : Writing) (pages : List ShippedPage) → HasWritten fonts before w pages → HasRoom w.so_far → (so_far_of fonts pages).layout.size < 2 ^ 31
+written_small fonts before w pages written room = omega (arith, small w.so_far room, ap (λ (s : ProgressView). s.layout.size) written.so_far)
 
 -- What was written is the same with more fonts.
 pub written_with_more : (fonts more : Slots) (before : Option (List ℕ)) (w : Writing) (pages : List ShippedPage) → Extends fonts more → HasWritten fonts before w pages

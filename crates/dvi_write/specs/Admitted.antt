@@ -5,4 +5,4 @@ use Rattle.dvi_write.specs.declared.page.AdmittedPage.{AdmittedPage}
 
 -- The page that is shipped: its counts, its reference point and its box.
 abbrev pub shipped_page : AdmittedPage → ShippedPage
-shipped_page page = page_at page.counts.now page.at.h page.at.v page.box_node.now
+shipped_page page = page_at page.counts page.at.h page.at.v page.box_node.now

@@ -17,10 +17,8 @@ pub record HasRoom (s : ProgressView) : Type 0 where
   pub nodes : s.load.nodes ≤ MAX_SHIPPED_NODES
   pub text : s.load.text ≤ MAX_SHIPPED_TEXT
   pub pages : s.pages ≤ MAX_PAGES
-  pub deep : s.deep ≤ MAX_DEPTH
+  pub deep : s.layout.depth ≤ MAX_DEPTH
   -- Each slot is defined once, so there are at most `FONT_SLOTS` definitions.
   pub defined : length (in_rising_order s.defined) ≡ length s.defined
-  -- Nothing is sent before the first page.
-  pub empty : s.pages ≡ 0 → s.size ≡ 0
-  -- A page takes 46 bytes, 19 bytes for each node, and the texts of its specials; a font definition takes at most 271.
-  pub size : s.size ≤ 15 + 46 * s.pages + 19 * s.load.nodes + s.load.text + 271 * length s.defined
+  -- The preamble takes 15 bytes; a page 46, 19 for each node, and the texts of its specials; a font definition at most 271.
+  pub size : s.layout.size ≤ 15 + 46 * s.pages + 19 * s.load.nodes + s.load.text + 271 * length s.defined

@@ -67,3 +67,7 @@ in_rising_order defined = filter (λ slot. is_among slot defined) (numbers_below
 abbrev pub sheet_of : Slots → (defined : List ℕ) → ShippedPage → Sheet
 sheet_of fonts defined page =
     record { counts = page.counts; fresh = definitions_of fonts (fresh_slots fonts defined (flat (written_body page))); body = written_body page }
+
+-- The defined slots after a page, where these are defined before it.
+abbrev pub slots_after : Slots → (defined : List ℕ) → ShippedPage → List ℕ
+slots_after fonts defined page = defined ++ fresh_slots fonts defined (flat (written_body page))

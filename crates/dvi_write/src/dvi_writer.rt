@@ -2,7 +2,6 @@
 
 use crate::{AdmittedPage, Fonts, NextPage, Offsets, Progress, WriteFault};
 use dvi_device::{Device, Snapshot, write_all};
-use dvi_ops::counts_fit;
 use node_core::BoxNode;
 use std::alloc::Global;
 use std::marker::Model;
@@ -157,12 +156,11 @@ impl<D: Device> DviWriter<D> {
         }
         let at = offsets.point_of(box_node);
         let load = self.progress.admit(box_node)?;
-        counts_fit(counts);
         fonts.can_be_defined();
         let page = AdmittedPage {
             box_node,
             at,
-            counts,
+            counts: *counts,
             load,
         };
         let next = self.progress.next_page(alloc, &page, fonts)?;
@@ -185,9 +183,6 @@ impl<D: Device> DviWriter<D> {
         requires { IsShippable fonts.now box_node.now }
         ensures written { OnOk result ((before : Option (List ℕ)) (pages : List ShippedPage) → HasWritten fonts.now before self.old pages
             → HasWritten fonts.now before self.new (pages ++ page_with counts.now offsets box_node.now ∷ [])) }
-        ensures part { result ≡ Err WriteFault.Device → (before : Option (List ℕ)) (pages : List ShippedPage)
-            → HasWritten fonts.now before self.old pages
-            → GrowsByFront before self.new.bytes_written (unfinished_file fonts.now (pages ++ page_with counts.now offsets box_node.now ∷ [])) }
         ensures past { result ≡ Err WriteFault.Device → (before : Option (List ℕ)) (pages : List ShippedPage)
             → HasWritten fonts.now before self.old pages
             → KeepsPast self.old.began (unfinished_file fonts.now (pages ++ page_with counts.now offsets box_node.now ∷ [])) self.new.past }
@@ -220,9 +215,6 @@ impl<D: Device> DviWriter<D> {
     pub fn finish(&mut self, alloc: Global, fonts: &Fonts) -> Result<WrittenFile, WriteFault>
         ensures whole { OnOk result ((before : Option (List ℕ)) (pages : List ShippedPage) → HasWritten fonts.now before self.old pages
             → self.new.bytes_written ≡ written_then before (whole fonts.now pages)) }
-        ensures part { result ≡ Err WriteFault.Device → (before : Option (List ℕ)) (pages : List ShippedPage)
-            → HasWritten fonts.now before self.old pages
-            → GrowsByFront before self.new.bytes_written (whole fonts.now pages) }
         ensures past { OnOk result ((before : Option (List ℕ)) (pages : List ShippedPage) → HasWritten fonts.now before self.old pages
             → self.new.past ≡ past_after self.old.began (whole fonts.now pages)) }
         ensures past_lost { result ≡ Err WriteFault.Device → (before : Option (List ℕ)) (pages : List ShippedPage)

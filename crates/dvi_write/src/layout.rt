@@ -4,9 +4,8 @@ ghost use Rattle.std.specs.Prelude.{◌≡◌, ◌<◌, ◌+◌, ◌^◌, ◌++�
 ghost use Rattle.std.specs.Prelude.{◌≤◌, filter};
 ghost use Rattle.dvi_ops.specs.Instruction.{Bop, Do, Eop, FontDef};
 ghost use Rattle.dvi_ops.specs.declared.op.Op.TheVariants as ops;
-ghost use Rattle.dvi_ops.specs.declared.opcodes.TheConstants.{PADDING};
 ghost use Rattle.dvi_ops.specs.Layout.{bytes_of, define, padding_after};
-ghost use Rattle.dvi_ops.specs.Spelling.{HasSpelling};
+ghost use Rattle.dvi_ops.specs.Spelling.{HasSpelling, NumberFits};
 ghost use Rattle.dvi_ops.specs.Runs.{instructions_of};
 ghost use Rattle.dvi_ops.specs.View.{body_view, view};
 ghost use Rattle.ship_core.specs.Private.Pushes.{max_pushed};
@@ -53,7 +52,8 @@ pub fn append_page(
     last: i32,
 ) -> Result<(), AllocError>
     requires { AllByRecursion HasSpelling (instructions_of body.now) }
-    ensures { OnOk result (bytes.new.items ≡ bytes.old.items ++ bytes_of (Bop counts.now last ∷ (instructions_of body.now ++ Eop ∷ []))) }
+    ensures ok { OnOk result (bytes.new.items ≡ bytes.old.items ++ bytes_of (Bop counts.now last ∷ (instructions_of body.now ++ Eop ∷ []))) }
+    ensures counts { AllByRecursion NumberFits counts.now }
 {
     let bop = Op::Bop {
         counts: *counts,
@@ -229,7 +229,7 @@ pub fn append_definitions<'a>(
 /// unchanged.
 pub fn append_padding(before: usize, bytes: &mut Vec<u8>) -> Result<(), AllocError>
     requires { before < 2 ^ 31 }
-    ensures ok { OnOk result (bytes.new.items ≡ bytes.old.items ++ replicate (padding_after (before + length bytes.old.items)) PADDING) }
+    ensures ok { OnOk result (bytes.new.items ≡ bytes.old.items ++ replicate (padding_after (before + length bytes.old.items)) 223) }
     ensures err { OnErr result (bytes.new.items ≡ bytes.old.items) }
 {
     let padding = 7 - (before + bytes.len() + 3) % 4;

@@ -32,7 +32,7 @@ pub struct PageLoad {
 pub struct AdmittedPage<'a> {
     pub box_node: &'a BoxNode,
     pub at: PagePoint,
-    pub counts: &'a [i32; 10],
+    pub counts: [i32; 10],
     pub load: PageLoad,
 }
 

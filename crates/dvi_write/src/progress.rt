@@ -7,7 +7,7 @@ ghost use Rattle.std.specs.List.{AllByRecursion};
 ghost use Rattle.dvi_ops.specs.Instruction.{Bop, Eop, Post};
 ghost use Rattle.dvi_ops.specs.declared.op.Op.TheVariants as ops;
 ghost use Rattle.dvi_ops.specs.Layout.{bytes_of, define};
-ghost use Rattle.dvi_ops.specs.Spelling.{HasSpelling};
+ghost use Rattle.dvi_ops.specs.Spelling.{HasSpelling, NumberFits};
 ghost use Rattle.dvi_ops.specs.Runs.{instructions_of};
 ghost use Rattle.dvi_ops.specs.View.{view};
 ghost use Rattle.node_core.specs.Nodes.{box_count, box_text};
@@ -33,6 +33,9 @@ use std::alloc::{AllocError, Global};
 use std::marker::Model;
 use tfm_core::Fonts;
 
+/// The number of bytes of the preamble.
+const PREAMBLE: usize = 15;
+
 /// The number of bytes of bop and of eop.
 const AROUND_A_BODY: usize = 46;
 
@@ -56,12 +59,10 @@ impl Model for Progress {
     ghost Value = { ProgressView };
 
     ghost view = { λ p. record {
-      last = p.last;
-      size = p.size;
+      layout = record { last = p.last; size = p.size; depth = p.deep };
       defined = p.defined;
       tall = p.tall;
       wide = p.wide;
-      deep = p.deep;
       pages = p.pages;
       load = record { nodes = p.nodes; text = p.text };
     } };
@@ -90,6 +91,22 @@ fn opening(alloc: Global, pages: u32) -> Result<Vec<Op<'static>>, AllocError>
     Ok(ops)
 }
 
+/// The number of bytes of these instructions.
+#[tactic(auto, unfolding(dvi_ops::specs::Spelling::spelling, dvi_ops::specs::Spelling::operand))]
+fn opening_size(pages: u32) -> usize
+    ensures { result ≡ length (bytes_of (opening_instructions pages)) }
+{
+    if pages == 0 { PREAMBLE } else { 0 }
+}
+
+/// A page as it is laid out: its bytes, with what comes before it; and, without the preamble, the place of its bop in them and their number.
+#[derive(Drop)]
+struct LaidOutPage {
+    bytes: Vec<u8>,
+    bop: usize,
+    size: usize,
+}
+
 impl Progress {
     /// The numbers before any page.
     pub fn new() -> Progress
@@ -97,7 +114,7 @@ impl Progress {
     {
         Progress {
             last: -1,
-            size: 0,
+            size: PREAMBLE,
             defined: DefinedSlots::new(),
             tall: Dimen::ZERO,
             wide: Dimen::ZERO,
@@ -115,9 +132,9 @@ impl Progress {
         self.pages
     }
 
-    /// The number of bytes up to the last eop.
+    /// The number of bytes up to the last eop. The preamble counts before any page too, with which it is sent.
     pub fn size(&self) -> usize
-        ensures { result ≡ self.now.size }
+        ensures { result ≡ self.now.layout.size }
     {
         self.size
     }
@@ -155,7 +172,7 @@ impl Progress {
         Ok(PageLoad { nodes, text })
     }
 
-    /// The bytes of a page with this body, after the definitions of the fonts in these slots; and the place of its bop in these bytes.
+    /// A page with this body, after the definitions of the fonts in these slots.
     fn lay_out(
         &self,
         alloc: Global,
@@ -163,13 +180,14 @@ impl Progress {
         slots: &[u8],
         counts: &[i32; 10],
         body: &PageRuns<'_>,
-    ) -> Result<(Vec<u8>, usize), AllocError>
+    ) -> Result<LaidOutPage, AllocError>
         requires { AllByRecursion HasSpelling (instructions_of body.now) }
-        ensures bytes { IfOk result (λ page. page.0.items
-            ≡ bytes_of ((opening_instructions self.now.pages ++ define (definitions_of fonts.now slots.now))
-            ++ (Bop counts.now self.now.last ∷ (instructions_of body.now ++ Eop ∷ [])))) }
-        ensures bop { IfOk result (λ page. page.1
-            ≡ length (bytes_of (opening_instructions self.now.pages ++ define (definitions_of fonts.now slots.now)))) }
+        ensures bytes { IfOk result (λ page. page.bytes.items ≡ bytes_of (opening_instructions self.now.pages
+            ++ (define (definitions_of fonts.now slots.now) ++ (Bop counts.now self.now.layout.last ∷ (instructions_of body.now ++ Eop ∷ []))))) }
+        ensures bop { IfOk result (λ page. page.bop ≡ length (bytes_of (define (definitions_of fonts.now slots.now)))) }
+        ensures size { IfOk result (λ page. page.size ≡ length (bytes_of
+            (define (definitions_of fonts.now slots.now) ++ (Bop counts.now self.now.layout.last ∷ (instructions_of body.now ++ Eop ∷ []))))) }
+        ensures counts { OnOk result (AllByRecursion NumberFits counts.now) }
     {
         let mut before = opening(alloc, self.pages)?;
         append_definitions(fonts, slots, &mut before)?;
@@ -181,22 +199,23 @@ impl Progress {
             .saturating_add(AROUND_A_BODY);
         let mut bytes = Vec::with_capacity(alloc, room)?;
         append_all(&mut bytes, &before)?;
-        let bop = bytes.len();
+        let start = opening_size(self.pages);
+        let bop = bytes.len() - start;
         append_page(&mut bytes, counts, body, self.last)?;
-        Ok((bytes, bop))
+        let size = bytes.len() - start;
+        Ok(LaidOutPage { bytes, bop, size })
     }
 
-    /// Adds a page to the numbers: the slots of the fonts that it defines, the place of its bop in its bytes, and its bytes and nodes.
+    /// Adds a page to the numbers: the slots of the fonts that it defines, the place of its bop, its size, and its load.
     fn keep_size(&mut self, slots: &[u8], bop: usize, size: usize, load: PageLoad)
         requires slots_bounded { length self.old.defined + length slots.now ≤ 256 }
         requires bop_bounded { bop ≤ size }
-        requires room { self.old.size + size < 2 ^ 31 }
+        requires room { self.old.layout.size + size < 2 ^ 31 }
         requires pages { self.old.pages < MAX_PAGES }
         requires nodes { self.old.load.nodes + load.nodes ≤ MAX_SHIPPED_NODES }
         requires text { self.old.load.text + load.text ≤ MAX_SHIPPED_TEXT }
         ensures { self.new ≡ record self.old {
-          last = pos (self.old.size + bop);
-          size = self.old.size + size;
+          layout = record { last = pos (self.old.layout.size + bop); size = self.old.layout.size + size; depth = self.old.layout.depth };
           defined = self.old.defined ++ slots.now;
           pages = self.old.pages + 1;
           load = record { nodes = self.old.load.nodes + load.nodes; text = self.old.load.text + load.text };
@@ -224,7 +243,7 @@ impl Progress {
 
     /// Adds the depth of a page to the numbers: the greatest number of pushes that are open at once.
     fn keep_depth(&mut self, deepest: usize)
-        ensures { self.new ≡ record self.old { deep = max self.old.deep deepest } }
+        ensures { self.new ≡ record self.old { layout = record (self.old.layout) { depth = max self.old.layout.depth deepest } } }
     {
         self.deep = self.deep.max(deepest);
     }
@@ -243,22 +262,26 @@ impl Progress {
         ensures bytes { IfOk result (λ next. next.bytes.items ≡ next_bytes fonts.now self.now (shipped_page page.now)) }
         ensures after { IfOk result (λ next. next.after ≡ with_next fonts.now self.now (shipped_page page.now)) }
         ensures fits { OnOk result (is_huge (shipped_page page.now) ≡ false) }
+        ensures counts { OnOk result (AllByRecursion NumberFits page.now.counts) }
         ensures err { IfErr result (λ fault. fault
             ≡ (if is_huge (shipped_page page.now) then WriteFault.HugePage else WriteFault.OutOfMemory)) }
     {
         let body = written_body(alloc, page)?;
         let (fresh, deepest) = fresh_slots(alloc, fonts, self.defined.as_slice(), &body)?;
-        let (bytes, bop) = self.lay_out(alloc, fonts, &fresh, page.counts, &body)?;
+        let laid_out = self.lay_out(alloc, fonts, &fresh, &page.counts, &body)?;
         let mut after = self.copied();
-        after.keep_size(&fresh, bop, bytes.len(), page.load);
+        after.keep_size(&fresh, laid_out.bop, laid_out.size, page.load);
         after.keep_reach(page);
         after.keep_depth(deepest);
-        Ok(NextPage { bytes, after })
+        Ok(NextPage {
+            bytes: laid_out.bytes,
+            after,
+        })
     }
 
     /// The operands of post.
     fn postamble(&self) -> Postamble
-        requires { self.now.deep < 2 ^ 16 }
+        requires { self.now.layout.depth < 2 ^ 16 }
         ensures { view (ops.Post result) ≡ Post (stop_so_far self.now) }
     {
         Postamble {
@@ -273,8 +296,8 @@ impl Progress {
 
     /// The instructions of the postamble.
     fn closing_ops<'a>(&self, alloc: Global, fonts: &'a Fonts) -> Result<Vec<Op<'a>>, AllocError>
-        requires room { self.now.size < 2 ^ 31 }
-        requires deep { self.now.deep < 2 ^ 16 }
+        requires room { self.now.layout.size < 2 ^ 31 }
+        requires deep { self.now.layout.depth < 2 ^ 16 }
         ensures ok { IfOk result (λ ops. map view ops.items ≡ closing_so_far fonts.now self.now) }
         ensures operands_fit { IfOk result (λ ops. AllByRecursion HasSpelling (map view ops.items)) }
     {
@@ -292,8 +315,8 @@ impl Progress {
     /// The bytes from post to the end of the file. The result is an Err where memory is refused.
     #[tactic(auto, unfolding(crate::specs::SoFar::last_bytes))]
     pub fn last_bytes(&self, alloc: Global, fonts: &Fonts) -> Result<Vec<u8>, AllocError>
-        requires room { self.now.size < 2 ^ 31 }
-        requires deep { self.now.deep < 2 ^ 16 }
+        requires room { self.now.layout.size < 2 ^ 31 }
+        requires deep { self.now.layout.depth < 2 ^ 16 }
         ensures { IfOk result (λ bytes. bytes.items ≡ last_bytes fonts.now self.now) }
     {
         let ops = self.closing_ops(alloc, fonts)?;

@@ -3,7 +3,6 @@ use Rattle.std.proofs.Common.{◌≡◌, ℕ, ◌+◌, ◌*◌, ◌≤◌, ◌<�
 use Rattle.std.specs.Prelude.{pos, zero, suc, nat_le, nat_lt, if◌then◌else◌, IfSome}
 use Rattle.std.specs.List.{AllByRecursion}
 use Rattle.std.proofs.lemmas.List.{length-replicate}
-use Rattle.dvi_ops.specs.declared.opcodes.TheConstants.{FORMAT, PADDING}
 use Rattle.dvi_ops.specs.Instruction.{Instruction, Post, PostPost}
 use Rattle.dvi_ops.specs.Layout.{bytes_of, define, padding_after}
 use Rattle.dvi_ops.specs.Spelling.{spelling}
@@ -20,7 +19,7 @@ use Rattle.tfm_core.specs.Slots.{Slots, IsDefinable, AreDefinable}
 use Rattle.dvi_write.specs.Sheets.{definitions_of, in_rising_order}
 use Rattle.dvi_write.specs.Layout.{unfinished_file, whole}
 use Rattle.dvi_write.specs.Shippable.{IsRightPage}
-use Rattle.dvi_write.specs.SoFar.{ProgressView, nothing_so_far, so_far_of, with_next, stop_so_far, closing_so_far, last_bytes}
+use Rattle.dvi_write.specs.SoFar.{ProgressView, with_next, stop_so_far, closing_so_far, last_bytes}
 use Rattle.dvi_write.specs.Limits.{HasRoom, limit_of}
 use Rattle.dvi_write.proofs.DefinedFonts.{few_defined}
 use Rattle.dvi_write.proofs.PageBytes.{HasShortNames, definition_bytes}
@@ -80,18 +79,18 @@ few_last_bytes : (fonts : Slots) (s : ProgressView) → HasShortNames fonts → 
 unfolding last_bytes
 few_last_bytes fonts s short room =
     let slots = in_rising_order s.defined in
-    let fill = padding_after (s.size + length (bytes_of (closing_so_far fonts s))) in
-    let post_post = PostPost (pos s.size) FORMAT in
+    let fill = padding_after (s.layout.size + length (bytes_of (closing_so_far fonts s))) in
+    let post_post = PostPost (pos s.layout.size) 2 in
     omega (
       arith,
-      length-append (bytes_of (closing_so_far fonts s)) (replicate fill PADDING),
-      length-replicate fill PADDING,
+      length-append (bytes_of (closing_so_far fonts s)) (replicate fill 223),
+      length-replicate fill 223,
       length-append (spelling (Post (stop_so_far s))) (bytes_of (define (definitions_of fonts slots) ++ post_post ∷ [])),
       postamble_length (stop_so_far s),
       length-bytes_of-append (define (definitions_of fonts slots)) (post_post ∷ []),
       definition_bytes fonts slots short,
       length-append (spelling post_post) [],
-      ending_length (pos s.size) FORMAT,
+      ending_length (pos s.layout.size) 2,
       room.defined,
       few_defined s.defined room.defined,
     )

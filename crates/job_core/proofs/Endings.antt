@@ -8,7 +8,7 @@ use Rattle.dvi_device.specs.Pasts.{Past, KeepsPast}
 use Rattle.dvi_ops.specs.Fonts.{WidthsByName}
 use Rattle.tfm_core.specs.Slots.{Slots}
 use Rattle.dvi_write.specs.Layout.{whole}
-use Rattle.dvi_write.specs.SoFar.{ProgressView}
+use Rattle.dvi_write.specs.SoFar.{ProgressView, last_bytes}
 use Rattle.dvi_write.specs.Shippable.{GivesFonts, IsFileOfPages}
 use Rattle.dvi_write.specs.declared.fault.WriteFault.{WriteFault}
 use Rattle.dvi_write.specs.Writing.{Writing, HasWritten, MayFail}
@@ -16,6 +16,7 @@ use Rattle.job_machine.specs.State.{State}
 use Rattle.job_machine.specs.Checks.{first_refusal}
 use Rattle.job_machine.specs.Machine.{Machine, stopped_machine}
 use Rattle.job_machine.specs.Runs.{finish_checks, Finished, Refuses, WantsMemory, LostDevice}
+use Rattle.dvi_write.proofs.Writings.{ended_count, ended_part}
 use Rattle.job_state.specs.JobStateView.{JobStateView, state_of}
 use Rattle.job_state.specs.Private.Loaded.{AreLoaded}
 use Rattle.job_state.proofs.LoadedFonts.{loaded_in, widths-loaded}
@@ -50,9 +51,11 @@ pub sent_by : (old : JobView) (m : Machine) (fonts : Slots) (bytes_written : Opt
     → bytes_written ≡ written_then (before_writing old.bytes_written) (whole m.state.fonts m.pages)
 sent_by old m fonts bytes_written holds same sent = subst (λ (f : Slots). bytes_written ≡ written_then (before_writing old.bytes_written) (whole f m.pages)) (fonts_are old m fonts holds same) sent
 
-pub part_by : (old : JobView) (m : Machine) (fonts : Slots) (bytes_written : Option (List ℕ)) → Represents old m → fonts ≡ old.state.fonts → GrowsByFront (before_writing old.bytes_written) bytes_written (whole fonts m.pages)
-    → GrowsByFront (before_writing old.bytes_written) bytes_written (whole m.state.fonts m.pages)
-part_by old m fonts bytes_written holds same part = subst (λ (f : Slots). GrowsByFront (before_writing old.bytes_written) bytes_written (whole f m.pages)) (fonts_are old m fonts holds same) part
+pub part_by : (old : JobView) (m : Machine) (fonts : Slots) (bytes_written : Option (List ℕ)) → Represents old m → old.state.over ≡ false → fonts ≡ old.state.fonts → old.so_far.pages ≢ 0
+    → GrowsByFront old.bytes_written bytes_written (last_bytes fonts old.so_far) → GrowsByFront (before_writing old.bytes_written) bytes_written (whole m.state.fonts m.pages)
+part_by old m fonts bytes_written holds running same some since =
+    let part = ended_part fonts (before_writing old.bytes_written) bytes_written (writing_of old) m.pages (has_written_by old m fonts holds running same) some since in
+    subst (λ (f : Slots). GrowsByFront (before_writing old.bytes_written) bytes_written (whole f m.pages)) (fonts_are old m fonts holds same) part
 
 -- What the device made of the end of a file, by the fonts of the machine.
 pub kept_by : (old : JobView) (m : Machine) (fonts : Slots) (began new past : Past) → Represents old m → fonts ≡ old.state.fonts → new ≡ began → KeepsPast began (whole fonts m.pages) past
@@ -67,7 +70,7 @@ some_where w fault running (inr h) = h.1
 
 some_pages : (old : JobView) (m : Machine) → Represents old m → old.state.over ≡ false → old.so_far.pages ≢ 0 → m.pages ≢ []
 some_pages old m holds running some none =
-    some (ap (λ (s : ProgressView). s.pages) (has_written old m holds running).so_far ∙ ap length none)
+    some (ended_count m.state.fonts _ (writing_of old) m.pages (has_written old m holds running) ∙ ap length none)
 
 pub over_refused : (old : JobView) → old.state.over ≡ true → FinishesTo old (Err JobOver) old
 over_refused old over m holds =

@@ -19,10 +19,11 @@ use Rattle.dvi_write.specs.declared.fault.WriteFault.{WriteFault}
 use Rattle.dvi_write.specs.declared.fault.WriteFault.TheVariants as faults
 use Rattle.tfm_core.specs.Slots.{Slots}
 use Rattle.dvi_write.specs.Layout.{unfinished_file}
-use Rattle.dvi_write.specs.SoFar.{ProgressView, with_next}
+use Rattle.dvi_write.specs.SoFar.{ProgressView, next_bytes, with_next}
 use Rattle.dvi_write.specs.Shippable.{IsShippable}
 use Rattle.page_core.specs.Pages.{page_with}
 use Rattle.dvi_write.specs.Writing.{Writing, HasWritten, EndsWith, GoesOn, refusal_of}
+use Rattle.dvi_write.proofs.Writings.{part_more}
 use Rattle.job_machine.specs.State.{State, held_in, shipped_with}
 use Rattle.job_machine.specs.Checks.{checks, first_refusal, page_checks}
 use Rattle.job_machine.specs.NextPages.{offsets_of, page_in, shipped_pages}
@@ -53,6 +54,12 @@ next_pages fonts s page = refl
 next_load : (fonts : Slots) (s : ProgressView) (page : ShippedPage) → (with_next fonts s page).load ≡ load_with_box s.load page.box_node
 unfolding with_next
 next_load fonts s page = refl
+
+-- What a device that failed in a page has taken, by the fonts of the job.
+pub part_since : (given fonts : Slots) (w : Writing) (new : Option (List ℕ)) (page : ShippedPage) → given ≡ fonts → GrowsByFront w.bytes_written new (next_bytes given w.so_far page)
+    → (before : Option (List ℕ)) (pages : List ShippedPage) → HasWritten fonts before w pages → GrowsByFront before new (unfinished_file fonts (pages ++ page ∷ []))
+part_since given fonts w new page same since before pages written =
+    part_more fonts before new w pages page written (subst (λ (f : Slots). GrowsByFront w.bytes_written new (next_bytes f w.so_far page)) same since)
 
 -- The refusals of the writer are those of the machine, in the same order.
 by_tests : (over pages nodes text huge : Bool)

@@ -6,21 +6,18 @@ use Rattle.dvi_device.specs.Pasts.{Past}
 use Rattle.dvi_write.specs.SoFar.{ProgressView}
 use Rattle.dvi_write.specs.Writing.{Writing}
 
--- The coding of the kept numbers: the place of the last bop, the length and the slots; the greatest sizes and the depth; the number of pages, and
--- their load.
+-- The coding of the kept numbers: those of the layout and the slots; the greatest sizes; the number of pages, and their load.
 abbrev pub coded_so_far : Coded ProgressView
 coded_so_far =
-    code_by (((ℤ × ℕ) × List ℕ) × (((ℤ × ℤ) × ℕ) × (ℕ × (ℕ × ℕ))))
-    (coded× (coded× (coded× coded_ℤ coded_ℕ) (coded_list coded_ℕ))
-    (coded× (coded× (coded× coded_ℤ coded_ℤ) coded_ℕ) (coded× coded_ℕ (coded× coded_ℕ coded_ℕ))))
-    (λ s. (((s.last, s.size), s.defined), (((s.tall, s.wide), s.deep), (s.pages, (s.load.nodes, s.load.text)))))
+    code_by ((((ℤ × ℕ) × ℕ) × List ℕ) × ((ℤ × ℤ) × (ℕ × (ℕ × ℕ))))
+    (coded× (coded× (coded× (coded× coded_ℤ coded_ℕ) coded_ℕ) (coded_list coded_ℕ))
+    (coded× (coded× coded_ℤ coded_ℤ) (coded× coded_ℕ (coded× coded_ℕ coded_ℕ))))
+    (λ s. ((((s.layout.last, s.layout.size), s.layout.depth), s.defined), ((s.tall, s.wide), (s.pages, (s.load.nodes, s.load.text)))))
     (λ p. record {
-      last = p.0.0.0;
-      size = p.0.0.1;
+      layout = record { last = p.0.0.0.0; size = p.0.0.0.1; depth = p.0.0.1 };
       defined = p.0.1;
-      tall = p.1.0.0.0;
-      wide = p.1.0.0.1;
-      deep = p.1.0.1;
+      tall = p.1.0.0;
+      wide = p.1.0.1;
       pages = p.1.1.0;
       load = record { nodes = p.1.1.1.0; text = p.1.1.1.1 };
     }) (λ _. refl)

@@ -11,7 +11,7 @@ use Rattle.job_core.specs.Jobs.{KeepsTo}
 use Rattle.job_core.specs.Private.Sound.{IsSound, IsBoundedFile, view_of}
 use Rattle.job_core.proofs.BoundedFiles.{bounded_next, definable}
 use Rattle.job_core.proofs.Moves.{sound_after}
-use Rattle.job_core.proofs.Ships.{page_is, may_ship, void_refused, shipped, unshipped_for, part_of, is_lost, is_other, bounded_unshipped}
+use Rattle.job_core.proofs.Ships.{page_is, may_ship, void_refused, shipped, unshipped_for, part_of, part_since, is_lost, is_other, bounded_unshipped}
 use Rattle.job_core.proofs.device_job.ship_page.Goals as goal
 
 pub page-requires : goal.page-requires
@@ -61,7 +61,7 @@ returns-in-Err-clause-keeps g c =
     (unshipped_for kept w c.args.register b page is same c.page.new.self c.in-Err.fault c.in-Err.ensures.refused c.in-Err.ensures.same
     (λ lost. c.page.ensures.failed (c.in-Err.is ∙ ap (λ (f : WriteFault). Err f) lost)) (λ lost. c.page.ensures.over (c.in-Err.is ∙ ap (λ (f : WriteFault). Err f) lost))
     (λ lost. c.page.ensures.so_far (c.in-Err.is ∙ ap (λ (f : WriteFault). Err f) lost)) c.requires.running c.page.ensures.goes_on
-    (λ lost. rw c.fonts.ensures at (c.page.ensures.part (c.in-Err.is ∙ ap (λ (f : WriteFault). Err f) lost)))
+    (λ lost. part_since c.fonts.result.now kept.fonts w c.page.new.self.bytes_written page c.fonts.ensures (c.page.ensures.since (c.in-Err.is ∙ ap (λ (f : WriteFault). Err f) lost)))
     (λ lost. rw c.fonts.ensures at (c.page.ensures.past (c.in-Err.is ∙ ap (λ (f : WriteFault). Err f) lost))))
 
 pub returns-in-Err-clause-same : goal.returns-in-Err-clause-same
@@ -77,4 +77,4 @@ returns-in-Err-clause-part g c =
     λ replied.
     let lost = is_lost c.in-Err.fault (Err c.write_refusal.result) (ap (λ (x : Refusal). Err x) c.write_refusal.ensures) replied in
     part_of kept c.args.writer.now c.args.register b page is same c.page.new.self c.requires.running
-    (rw c.fonts.ensures at (c.page.ensures.part (c.in-Err.is ∙ ap (λ (f : WriteFault). Err f) lost)))
+    (part_since c.fonts.result.now kept.fonts c.args.writer.now c.page.new.self.bytes_written page c.fonts.ensures (c.page.ensures.since (c.in-Err.is ∙ ap (λ (f : WriteFault). Err f) lost)))

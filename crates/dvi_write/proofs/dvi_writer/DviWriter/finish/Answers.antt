@@ -3,7 +3,7 @@ use Rattle.dvi_write.specs.Writing.{Writing}
 use Rattle.dvi_write.proofs.Files.{file_shows}
 use Rattle.dvi_write.proofs.ClosedFiles.{file_closes}
 use Rattle.dvi_write.proofs.Rooms.{small}
-use Rattle.dvi_write.proofs.Writings.{ended_all, ended_none, ended_part, ended_size, none_ended, past_all, past_lost, past_none, written_small}
+use Rattle.dvi_write.proofs.Writings.{ended_all, ended_count, ended_none, ended_size, none_ended, past_all, past_lost, past_none, written_small}
 use Rattle.dvi_write.proofs.dvi_writer.DviWriter.finish.Goals as goal
 
 pub returns-then-pages-eq0-clause-whole : goal.returns-then-pages-eq0-clause-whole
@@ -14,18 +14,19 @@ pub returns-then-pages-eq0-clause-past : goal.returns-then-pages-eq0-clause-past
 returns-then-pages-eq0-clause-past g c =
     rw (← c.self.view_is) (λ before pages written. past_none c.args.fonts.now before _ pages written (sym (sym c.if-pages-eq0.true ∙ c.pages-pages.ensures)))
 
+pub returns-then-pages-eq0-clause-pages : goal.returns-then-pages-eq0-clause-pages
+returns-then-pages-eq0-clause-pages g c =
+    rw (← c.self.view_is) (λ before pages written. (sym c.if-pages-eq0.true ∙ c.pages-pages.ensures) ∙ ended_count c.args.fonts.now before _ pages written)
+
+pub returns-clause-pages : goal.returns-clause-pages
+returns-clause-pages g c = rw (← c.self.view_is) (λ before pages written. c.pages-pages.ensures ∙ ended_count c.args.fonts.now before _ pages written)
+
 pub returns-then-pages-eq0-clause-size : goal.returns-then-pages-eq0-clause-size
 returns-then-pages-eq0-clause-size g c =
     rw (← c.self.view_is) (λ before pages written. none_ended c.args.fonts.now before _ pages written (sym (sym c.if-pages-eq0.true ∙ c.pages-pages.ensures)))
 
 pub last_bytes-requires-clause-room : goal.last_bytes-requires-clause-room
 last_bytes-requires-clause-room g c = small c.self.inside.progress c.self.invariant.0
-
-pub returns-in_err-send-clause-part : goal.returns-in_err-send-clause-part
-returns-in_err-send-clause-part g c is =
-    let some : c.self.inside.progress.pages ≢ 0 = λ none. c.if-pages-eq0.false (c.pages-pages.ensures ∙ none) in
-    let front = rw (c.deref.ensures.value, c.in-Ok.ensures) at c.in_err-send.ensures.front in
-    rw (← c.self.view_is) (λ before pages written. ended_part c.args.fonts.now before c.send.new.self.bytes_written _ pages written some (rw (← c.self.view_is) at front))
 
 pub returns-in_err-send-clause-past_lost : goal.returns-in_err-send-clause-past_lost
 returns-in_err-send-clause-past_lost g c is =

@@ -1,14 +1,8 @@
 use Rattle.std.proofs.Common.{ap, ◌∙◌}
 use Rattle.page_core.specs.Pages.{page_with}
 use Rattle.dvi_write.specs.Writing.{Writing}
-use Rattle.dvi_write.proofs.Writings.{written_more, part_more, past_part}
+use Rattle.dvi_write.proofs.Writings.{written_more, past_part}
 use Rattle.dvi_write.proofs.dvi_writer.DviWriter.page.Goals as goal
-
-pub returns-in_err-send-clause-part : goal.returns-in_err-send-clause-part
-returns-in_err-send-clause-part g c is =
-    let page = page_with c.args.counts.now c.args.offsets c.args.box_node.now in
-    let front = rw (c.deref.ensures.value, c.in_ok-next.ensures.bytes) at c.in_err-send.ensures.front in
-    λ before pages written. part_more c.args.fonts.now before c.send.new.self.bytes_written c.args.self.now pages page written front
 
 pub returns-in_err-send-clause-past : goal.returns-in_err-send-clause-past
 returns-in_err-send-clause-past g c is =

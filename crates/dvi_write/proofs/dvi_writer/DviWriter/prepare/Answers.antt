@@ -13,14 +13,14 @@ use Rattle.dvi_write.proofs.dvi_writer.DviWriter.prepare.Goals as goal
 pub next_page-requires-clause-room : goal.next_page-requires-clause-room
 next_page-requires-clause-room g c =
     let page = page_at c.args.counts.now c.point_of-at.result.h c.point_of-at.result.v c.args.box_node.now in
-    room_next c.args.fonts.now c.self.inside.progress page c.can_be_defined.ensures c.requires c.counts_fit.ensures.ten
+    room_next c.args.fonts.now c.self.inside.progress page c.can_be_defined.ensures c.requires c.told-counts
     (c.in_ok-load.ensures.ok c.args.counts.now c.point_of-at.result.h c.point_of-at.result.v) c.self.invariant.0
 
 pub returns-clause-room : goal.returns-clause-room
 returns-clause-room g c =
     let page = page_at c.args.counts.now c.point_of-at.result.h c.point_of-at.result.v c.args.box_node.now in
     subst HasRoom (sym c.in_ok-next.ensures.after)
-    (room_next c.args.fonts.now c.self.inside.progress page c.can_be_defined.ensures c.requires c.counts_fit.ensures.ten
+    (room_next c.args.fonts.now c.self.inside.progress page c.can_be_defined.ensures c.requires c.told-counts
     (c.in_ok-load.ensures.ok c.args.counts.now c.point_of-at.result.h c.point_of-at.result.v) c.self.invariant.0)
 
 pub returns-clause-right : goal.returns-clause-right
@@ -29,7 +29,7 @@ returns-clause-right g c =
     let page = page_at c.args.counts.now c.point_of-at.result.h c.point_of-at.result.v c.args.box_node.now in
     let limit = c.in_ok-load.ensures.ok c.args.counts.now c.point_of-at.result.h c.point_of-at.result.v in
     let right : IsRightPage c.args.fonts.now page =
-    record { ten = c.counts_fit.ensures.ten; counts_fit = c.counts_fit.ensures.fits; small = c.in_ok-next.ensures.fits; text = few_text s page limit; sound = c.requires } in
+    record { ten = c.told-counts; counts_fit = c.in_ok-next.ensures.counts; small = c.in_ok-next.ensures.fits; text = few_text s page limit; sound = c.requires } in
     subst (λ (at : Point ℤ). IsRightPage c.args.fonts.now (page_at c.args.counts.now at.h at.v c.args.box_node.now)) c.point_of-at.ensures right
 
 pub returns-clause-may : goal.returns-clause-may

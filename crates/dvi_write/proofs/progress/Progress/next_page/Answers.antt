@@ -26,9 +26,8 @@ keep_size-requires-clause-room c =
     let fresh = c.deref.ensures.value ∙ (c.in_ok-fresh.ensures.slots ∙ ap₂ (fresh_slots c.args.fonts.now) (c.as_slice.ensures ∙ ap (λ (s : ProgressView). s.defined) c.self.view_is) c.in_ok-body.ensures.ok) in
     omega (
       arith,
-      next_small c.args.fonts.now c.args.self.now page c.in_ok-bytes.bytes.items c.deref.result.now (instructions_of c.in_ok-body.body) c.requires.room fresh c.in_ok-body.ensures.ok c.in_ok-bytes.ensures.bytes,
-      c.len.ensures,
-      ap (λ (s : ProgressView). s.size) c.copied-after.ensures,
+      next_small c.args.fonts.now c.args.self.now page c.in_ok-laid_out.laid_out.size c.deref.result.now (instructions_of c.in_ok-body.body) c.requires.room fresh c.in_ok-body.ensures.ok c.in_ok-laid_out.ensures.size,
+      ap (λ (s : ProgressView). s.layout.size) c.copied-after.ensures,
     )
 
 pub returns-in_err-fresh-clause-err : goal.returns-in_err-fresh-clause-err
@@ -36,7 +35,7 @@ returns-in_err-fresh-clause-err c =
     let p = err_from_is_err_and c.from_residual-in_err-fresh.result c.from_residual-in_err-fresh.ensures.1 in
     rw (p.1, p.2, c.in_ok-body.ensures.fits) refl
 
-pub returns-in_err-bytes-clause-err : goal.returns-in_err-bytes-clause-err
-returns-in_err-bytes-clause-err c =
-    let p = err_from_is_err_and c.from_residual-in_err-bytes.result c.from_residual-in_err-bytes.ensures.1 in
+pub returns-in_err-laid_out-clause-err : goal.returns-in_err-laid_out-clause-err
+returns-in_err-laid_out-clause-err c =
+    let p = err_from_is_err_and c.from_residual-in_err-laid_out.result c.from_residual-in_err-laid_out.ensures.1 in
     rw (p.1, p.2, c.in_ok-body.ensures.fits) refl

@@ -71,7 +71,16 @@ returns-in-Err-Device-clause-finished g c =
     (some_where c.self.inside.writer _ running c.in-Err-Device.ensures.refused)
     (stopped c.self.inside.kept c.self.inside.writer c.finish.new.self c.finish.ensures.so_far (c.finish.ensures.lost lost)) more (c.finish.ensures.goes_on.more, c.finish.ensures.goes_on.grows)
     (λ m holds.
-    part_by old m c.fonts.result.now c.finish.new.self.bytes_written holds c.fonts.ensures (c.finish.ensures.part lost _ m.pages (has_written_by old m c.fonts.result.now holds running c.fonts.ensures)))
+    part_by old m c.fonts.result.now c.finish.new.self.bytes_written holds running c.fonts.ensures (some_where c.self.inside.writer _ running c.in-Err-Device.ensures.refused) (c.finish.ensures.since lost))
     (λ m holds.
     kept_by old m c.fonts.result.now old.began c.finish.new.self.began c.finish.new.self.past holds c.fonts.ensures c.finish.ensures.goes_on.began
     (c.finish.ensures.past_lost lost _ m.pages (has_written_by old m c.fonts.result.now holds running c.fonts.ensures))))
+
+pub returns-in-Err-Device-clause-part : goal.returns-in-Err-Device-clause-part
+returns-in-Err-Device-clause-part g c is =
+    let running = sym c.is_over.ensures ∙ c.if-is_over.false in
+    let old = view_of c.self.inside.kept c.self.inside.writer in
+    let lost = c.in-Err-Device.is ∙ ap (λ (f : WriteFault). Err f) c.in-Err-Device.field-0-is in
+    rw (← c.self.view_is)
+    (λ m holds.
+    part_by old m c.fonts.result.now c.finish.new.self.bytes_written holds running c.fonts.ensures (some_where c.self.inside.writer _ running c.in-Err-Device.ensures.refused) (c.finish.ensures.since lost))
