@@ -19,8 +19,8 @@ from steps.reached import Name, Tree, imports, models_of, read  # noqa: E402
 ABOUT = """Compares, clause by clause, the contracts of the public functions of two revisions, and the definitions that these contracts reach, after the names of
 the first one were replaced by those of the second one. It prints what stands in one of them alone.
 
-TABLE has lines `crate OLD NEW`, `moved CRATE NAME NEW_CRATE`, `definition CRATE MODULE OLD NEW`, `function CRATE TYPE::OLD NEW`, in the order of the changes;
-crates are those of the second revision.
+TABLE has lines `crate OLD NEW`, `moved CRATE NAME NEW_CRATE`, `definition CRATE MODULE OLD NEW`, `function CRATE TYPE::OLD NEW`, `type CRATE OLD NEW`, in the
+order of the changes; crates are those of the second revision.
 
 A name is compared by what it stands for: a definition by its crate and its name, what std has by its name, a bound name, a field and a label as they are written.
 So a definition may move between modules, and a clause between lines. Crates that only test are left out."""
@@ -34,7 +34,7 @@ class Names:
     """The names of the first revision in the words of the second one. A line of the table counts where the second one has its new name."""
 
     def __init__(self, path, after):
-        self.crates, self.definitions, self.functions, self.moved = {}, [], {}, {}
+        self.crates, self.definitions, self.functions, self.moved, self.types = {}, [], {}, {}, {}
         for line in open(path, encoding="utf-8") if path else ():
             kind, *rest = line.split("#")[0].split() or [""]
             if kind == "crate":
@@ -43,8 +43,10 @@ class Names:
                 self.definitions.append(tuple(rest))
             elif kind == "function" and rest[2] in called(after, rest[0]):
                 self.functions[rest[0], rest[1]] = rest[2]
-            elif kind == "moved":
+            elif kind == "moved" and rest[1] in defined(after, rest[2]) | called(after, rest[2]):
                 self.moved[rest[0], rest[1]] = rest[2]
+            elif kind == "type" and after.type_file(rest[0], rest[2]):
+                self.types[rest[1]] = rest[2]
 
     def crate(self, crate, name=""):
         """The new crate of one, or of a name of it that went elsewhere."""
@@ -61,6 +63,10 @@ class Names:
 
     def function(self, crate, name):
         return self.functions.get((self.crate(crate), name), name)
+
+    def typed(self, text):
+        """A text with the new names of types."""
+        return re.sub(rf"\b({'|'.join(self.types)})\b", lambda it: self.types[it[0]], text) if self.types else text
 
 
 @functools.lru_cache(None)
@@ -85,7 +91,7 @@ class Revision:
     def word(self, it):
         """A definition or type as it is shown: by its crate and its name. A constant is shown by its name."""
         crate = self.names.crate(it.crate, it.name)
-        return f"{crate}::{it.name if it.is_type else self.names.definition(it.crate, it.module, it.name)}"
+        return f"{crate}::{self.names.typed(it.name) if it.is_type else self.names.definition(it.crate, it.module, it.name)}"
 
     def resolved(self, word, own, names, modules, crate, module):
         """What a word stands for, and what stands after it."""
@@ -139,11 +145,13 @@ class Revision:
                 uses = [*sources.files[module], *(block.inner if block else [])]
                 names, modules = imports("\n".join(whole[it.places[0][0]:it.places[0][1]] for it in uses if it.kind == "use"))
                 trait, kind = (impl_of(block) if block.kind == "impl" else (None, block.name)) if block else (None, "")
-                name = self.names.function(crate, f"{kind}::{item.name}" if kind else item.name)
-                key = f"{self.names.crate(crate, item.name)}::{f'<{trait}> ' if trait else ''}{name if '::' in name or not kind else f'{kind}::{name}'}{' (ghost)' if item.kind == 'ghost' else ''}"
+                kind = self.names.typed(kind)
+                name = f"{kind}::{item.name}" if kind else item.name
+                name = self.names.function(crate, name) if item.kind == "fn" else name
+                key = f"{self.names.crate(crate, item.name)}::{f'<{trait}> ' if trait else ''}{name}{' (ghost)' if item.kind == 'ghost' else ''}"
                 clauses = [self.clause(whole[a:b], names, modules, crate) for a, b in item.places]
                 if item.kind == "fn":
-                    clauses.append("signature " + re.sub(r"\s+", " ", item.head).strip().replace(", )", " )").replace(",)", ")").replace("( ", "("))
+                    clauses.append("signature " + re.sub(r",?\s*(?=\))|(?<=\()\s+", "", re.sub(r"\s+", " ", self.names.typed(item.head))).strip())
                 found.setdefault(key, collections.Counter()).update(clauses)
         return found
 
@@ -170,7 +178,7 @@ class Revision:
         views = [(read(file), model) for file in self.tree.files(it.crate) for model in models_of(read(file), it.name)]
         if not views:
             body = re.sub(r"(?m)^\s*(?:///.*|//.*|#\[.*\]|ghost use .*;)$", "", self.tree.definition(it).text)
-            return self.text(body, {}, *imports(read(path)), it.crate, "")
+            return self.names.typed(self.text(body, {}, *imports(read(path)), it.crate, ""))
         shown = []
         for whole, model in views:
             names, modules = imports(whole)

@@ -63,7 +63,7 @@ fn has_printable_bytes(line: &[u8], plain: bool) -> bool
 /// The command of a line, or the cause why it has none. Byte comes first, since a line with a byte that is not printable is not cut into fields. A
 /// text may have any length here: how long a special may be is a limit of the job, so the other commands run. The error is a refused growth, only
 /// where the line gives a command.
-#[tactic(auto, unfolding(crate::specs::Private::Reading::command_of_line, crate::specs::Private::Reading::given))]
+#[tactic(auto, unfolding(crate::specs::Private::Reading::command_of_line, crate::specs::Private::Reading::command_of_printable))]
 fn command_of(alloc: Global, line: &[u8], plain: bool) -> Result<Result<Command, Cause>, AllocError>
     requires { plain ≡ true → IsPrintable line.now }
     ensures read { IfOk result (λ read. read ≡ command_of_line line.now) }

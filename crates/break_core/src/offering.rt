@@ -122,7 +122,7 @@ fn offer_from(
 {
     let entry = table[index];
     let line = line_after(params, entry.end().class, alone);
-    entry.extended(index, place, line, 0)
+    entry.with_line(index, place, line, 0)
 }
 
 /// The best offer of the entries of a group for a place by a line, if no lines are counted.

@@ -54,7 +54,7 @@ fn may_leave_out<M: Meter>(meter: &M, params: &Params) -> bool
     if least.get() <= 0 {
         return false;
     }
-    meter.divided(least)
+    meter.is_divided(least)
 }
 
 /// When to stop trying lines in a pass over a paragraph if few lines are tried.

@@ -79,7 +79,7 @@ impl Entry {
 
     /// This entry, number `index` of its table, extended by a line to a later place.
     #[inline]
-    pub fn extended(self, index: usize, place: usize, line: LineCost, cut: usize) -> Entry
+    pub fn with_line(self, index: usize, place: usize, line: LineCost, cut: usize) -> Entry
         requires cut_bounded { cut < 1000 }
         requires counted { self.end.lines ≤ cut }
         requires later { self.end.place < place }

@@ -141,7 +141,7 @@ impl<'a> Meter for ListMeter<'a> {
         self.even
     }
 
-    fn divided(&self, amount: Dimen) -> bool {
+    fn is_divided(&self, amount: Dimen) -> bool {
         is_divided(&self.marks, amount)
     }
 

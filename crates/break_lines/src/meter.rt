@@ -71,7 +71,7 @@ pub trait Meter {
     /// Whether it is known that every line of a steady paragraph gets wider by less than an amount when it is divided at a place that it passes over,
     /// with all lines shrunk as far as they can. A meter that does not know returns false, as this default does; then `active_breaks` only tries more
     /// lines.
-    fn divided(&self, _amount: Dimen) -> bool
+    fn is_divided(&self, _amount: Dimen) -> bool
         requires steady { IsSteady (facts self.now) }
         requires amount_positive { pos 0 <ℤ _amount }
         ensures divided { result ≡ true → IsDivided (facts self.now) _amount }

@@ -56,7 +56,7 @@ pub fn offer(
     let Some(line) = line else {
         return;
     };
-    put(row, entry.extended(index, place, line, cut), cut);
+    put(row, entry.with_line(index, place, line, cut), cut);
 }
 
 /// Appends the offers of a row to a table, and removes them from the row.

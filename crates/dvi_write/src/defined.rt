@@ -43,7 +43,7 @@ impl DefinedSlots {
     }
 
     /// A copy of the slots.
-    pub fn copied(&self) -> DefinedSlots
+    pub fn copy(&self) -> DefinedSlots
         ensures { result ≡ self.now }
     {
         DefinedSlots { ..*self }

@@ -140,11 +140,11 @@ impl Progress {
     }
 
     /// A copy.
-    fn copied(&self) -> Progress
+    fn copy(&self) -> Progress
         ensures { result ≡ self.now }
     {
         Progress {
-            defined: self.defined.copied(),
+            defined: self.defined.copy(),
             ..*self
         }
     }
@@ -269,7 +269,7 @@ impl Progress {
         let body = written_body(alloc, page)?;
         let (fresh, deepest) = fresh_slots(alloc, fonts, self.defined.as_slice(), &body)?;
         let laid_out = self.lay_out(alloc, fonts, &fresh, &page.counts, &body)?;
-        let mut after = self.copied();
+        let mut after = self.copy();
         after.keep_size(&fresh, laid_out.bop, laid_out.size, page.load);
         after.keep_reach(page);
         after.keep_depth(deepest);

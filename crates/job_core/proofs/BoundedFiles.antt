@@ -84,7 +84,7 @@ few_last_bytes fonts s short room =
     omega (
       arith,
       length-append (bytes_of (closing_so_far fonts s)) (replicate fill 223),
-      length-replicate fill 223,
+      length-replicate {A = ℕ} fill 223,
       length-append (spelling (Post (stop_so_far s))) (bytes_of (define (definitions_of fonts slots) ++ post_post ∷ [])),
       postamble_length (stop_so_far s),
       length-bytes_of-append (define (definitions_of fonts slots)) (post_post ∷ []),

@@ -58,7 +58,7 @@ fn ship_page<D: Device>(
         (unfinished_file m.state.fonts (m.pages ++ new_pages m.state (commands.Ship register))) }
     ensures goes_on { GoesOn writer.old writer.new }
 {
-    let Some(box_node) = kept.held(register) else {
+    let Some(box_node) = kept.box_in(register) else {
         return Err(Refusal::VoidBox);
     };
     match writer.page(alloc, box_node, kept.offsets(), kept.counts(), kept.fonts()) {

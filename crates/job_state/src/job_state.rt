@@ -90,7 +90,7 @@ impl JobState {
         })
     }
 
-    /// Runs a command that ships nothing. `ship` needs the writer of the file: it asks for `held`, and calls `empty` once the page was sent.
+    /// Runs a command that ships nothing. `ship` needs the writer of the file: it asks for `box_in`, and calls `empty` once the page was sent.
     pub fn obey(&mut self, command: &Command) -> Result<Reply, AllocError>
         requires { IsShip command.now → ⊥ }
         ensures reply { IfOk result (λ reply. reply ≡ reply_to (before_shipping self.old) command.now) }

@@ -26,7 +26,7 @@ impl Model for Cursor {
     ghost use Rattle.pack_core.specs.Cursors.{WalkSums};
     ghost use Rattle.pack_core.specs.Private.Cursors.{IsReachable};
 
-    ghost Value = { Reached };
+    ghost Value = { WalkSums };
 
     ghost view = { λ c. record { natural = c.natural; shares = c.shares; passed = c.passed } };
 

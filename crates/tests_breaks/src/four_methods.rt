@@ -8,7 +8,7 @@ use node_core::Node;
 use std::alloc::Global;
 use std::process::Abort;
 
-/// The meter of a list without `divided` and `even`: it knows of the list what `place`, `steady` and single lines tell.
+/// The meter of a list without `is_divided` and `even`: it knows of the list what `place`, `steady` and single lines tell.
 #[derive(Drop)]
 pub(crate) struct FourMethods<'a> {
     pub(crate) inner: ListMeter<'a>,

@@ -196,7 +196,7 @@ impl JobState {
     }
 
     /// The box in a register; None if it is void.
-    pub fn held(&self, register: Register) -> Option<&BoxNode>
+    pub fn box_in(&self, register: Register) -> Option<&BoxNode>
         ensures { option_copied result ≡ held_in self.now.registers register }
     {
         self.registers.get(register)

@@ -5,14 +5,14 @@ use Rattle.break_lines.specs.Costs.{line_after}
 use Rattle.break_core.specs.Private.Filling.{offer_from}
 use Rattle.break_core.proofs.offering.offer_from.Goals as goal
 
-pub extended-requires-clause-counted : goal.extended-requires-clause-counted
-extended-requires-clause-counted c =
+pub with_line-requires-clause-counted : goal.with_line-requires-clause-counted
+with_line-requires-clause-counted c =
     let table = c.args.table.now in
     let e = c.index-table-index.result in
     c.requires.uncounted e (slice_get_read table (length table) c.args.index e refl c.requires.index_bounded c.index-table-index.is)
 
-pub extended-requires-clause-later : goal.extended-requires-clause-later
-extended-requires-clause-later c =
+pub with_line-requires-clause-later : goal.with_line-requires-clause-later
+with_line-requires-clause-later c =
     let table = c.args.table.now in
     let e = c.index-table-index.result in
     c.requires.later e (slice_get_read table (length table) c.args.index e refl c.requires.index_bounded c.index-table-index.is)
@@ -23,6 +23,6 @@ returns c = λ e at.
     let params = c.args.params.now in
     let x = c.index-table-index.result in
     let stands = slice_get_read table (length table) c.args.index x refl c.requires.index_bounded c.index-table-index.is in
-    c.extended.ensures
+    c.with_line.ensures
     ∙ ap (extended_entry 0 x c.args.index c.args.place) (c.line_after-line.ensures.value ∙ ap (λ s. line_after params s.class c.args.alone.now) c.end.ensures.end)
     ∙ ap (λ y. offer_from params y c.args.index c.args.place c.args.alone.now) (same_Some x e (sym stands ∙ at))

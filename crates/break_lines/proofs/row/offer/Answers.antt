@@ -11,11 +11,11 @@ returns-in_default-clause-row c = λ p table cut stands late line is.
 
 pub returns-clause-row : goal.returns-clause-row
 returns-clause-row c = λ p table cut stands late line is.
-    let o = c.extended.result in
+    let o = c.with_line.result in
     let e = c.args.entry in
     let put = c.put.ensures.put in
     let offers : offer p e c.args.index c.args.place ≡ Some o =
     offer_is p e c.args.index c.args.place (Some c.in-Some.line) late (line ∙ c.in-Some.is)
-    ∙ ap Some (ap (λ n. extended_entry n e c.args.index c.args.place c.in-Some.line) cut ∙ sym c.extended.ensures) in
+    ∙ ap Some (ap (λ n. extended_entry n e c.args.index c.args.place c.in-Some.line) cut ∙ sym c.with_line.ensures) in
     subst (IsRow p table c.args.place (c.args.index + 1)) (sym put.is)
     (row_step p table c.args.place c.args.index e o put.kept put.held c.args.row.now.items stands offers put.stood put.is_kept is)

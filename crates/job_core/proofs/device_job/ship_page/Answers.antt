@@ -16,18 +16,18 @@ use Rattle.job_core.proofs.device_job.ship_page.Goals as goal
 
 pub page-requires : goal.page-requires
 page-requires g c =
-    rw c.fonts.ensures (may_ship (before_shipping c.args.kept.now) c.args.register c.in-Some.box_node.now c.requires.sound (sym c.held.ensures ∙ ap option_copied c.in-Some.is))
+    rw c.fonts.ensures (may_ship (before_shipping c.args.kept.now) c.args.register c.in-Some.box_node.now c.requires.sound (sym c.box_in.ensures ∙ ap option_copied c.in-Some.is))
 
 pub returns-in_default-clause-keeps : goal.returns-in_default-clause-keeps
 returns-in_default-clause-keeps g c =
-    void_refused c.args.kept.now c.args.writer.now c.args.register c.requires.running (sym c.held.ensures ∙ ap option_copied c.in_default.is)
+    void_refused c.args.kept.now c.args.writer.now c.args.register c.requires.running (sym c.box_in.ensures ∙ ap option_copied c.in_default.is)
 
 pub returns-in-Ok-clause-keeps : goal.returns-in-Ok-clause-keeps
 returns-in-Ok-clause-keeps g c =
     let kept = c.args.kept.now in
     let b = c.in-Some.box_node.now in
     let page = page_with c.counts.result.now c.offsets.result b in
-    let is = sym c.held.ensures ∙ ap option_copied c.in-Some.is in
+    let is = sym c.box_in.ensures ∙ ap option_copied c.in-Some.is in
     let same = page_is (before_shipping kept) c.counts.result.now c.offsets.result b c.counts.ensures c.offsets.ensures in
     shipped kept c.args.writer.now c.args.register b page is same c.empty.new.self c.page.new.self c.fonts.result.now c.empty.ensures c.in-Ok.ensures.kept c.requires.running
     c.in-Ok.ensures.running c.in-Ok.ensures.may c.pages.result c.pages.ensures c.in-Ok.ensures.stands c.page.ensures.goes_on (rw c.fonts.ensures at c.in-Ok.ensures.written)
@@ -55,7 +55,7 @@ returns-in-Err-clause-keeps g c =
     let w = c.args.writer.now in
     let b = c.in-Some.box_node.now in
     let page = page_with c.counts.result.now c.offsets.result b in
-    let is = sym c.held.ensures ∙ ap option_copied c.in-Some.is in
+    let is = sym c.box_in.ensures ∙ ap option_copied c.in-Some.is in
     let same = page_is (before_shipping kept) c.counts.result.now c.offsets.result b c.counts.ensures c.offsets.ensures in
     subst (λ (x : Refusal). KeepsTo (view_of kept w) (Ship c.args.register) (Err x) (view_of kept c.page.new.self)) (sym c.write_refusal.ensures)
     (unshipped_for kept w c.args.register b page is same c.page.new.self c.in-Err.fault c.in-Err.ensures.refused c.in-Err.ensures.same
@@ -72,7 +72,7 @@ returns-in-Err-clause-part g c =
     let kept = c.args.kept.now in
     let b = c.in-Some.box_node.now in
     let page = page_with c.counts.result.now c.offsets.result b in
-    let is = sym c.held.ensures ∙ ap option_copied c.in-Some.is in
+    let is = sym c.box_in.ensures ∙ ap option_copied c.in-Some.is in
     let same = page_is (before_shipping kept) c.counts.result.now c.offsets.result b c.counts.ensures c.offsets.ensures in
     λ replied.
     let lost = is_lost c.in-Err.fault (Err c.write_refusal.result) (ap (λ (x : Refusal). Err x) c.write_refusal.ensures) replied in

@@ -18,7 +18,7 @@ keep_size-requires-clause-slots_bounded c =
     let page = shipped_page c.args.page.now in
     let few = next_few c.args.fonts.now c.args.self.now page c.deref-2.result.now c.requires.room
     (c.deref-2.ensures.value ∙ (c.in_ok-fresh.ensures.slots ∙ ap₂ (fresh_slots c.args.fonts.now) (c.as_slice.ensures ∙ ap (λ (s : ProgressView). s.defined) c.self.view_is) c.in_ok-body.ensures.ok)) in
-    omega (arith, few, ap (λ (s : ProgressView). length s.defined) c.copied-after.ensures)
+    omega (arith, few, ap (λ (s : ProgressView). length s.defined) c.copy-after.ensures)
 
 pub keep_size-requires-clause-room : goal.keep_size-requires-clause-room
 keep_size-requires-clause-room c =
@@ -27,7 +27,7 @@ keep_size-requires-clause-room c =
     omega (
       arith,
       next_small c.args.fonts.now c.args.self.now page c.in_ok-laid_out.laid_out.size c.deref.result.now (instructions_of c.in_ok-body.body) c.requires.room fresh c.in_ok-body.ensures.ok c.in_ok-laid_out.ensures.size,
-      ap (λ (s : ProgressView). s.layout.size) c.copied-after.ensures,
+      ap (λ (s : ProgressView). s.layout.size) c.copy-after.ensures,
     )
 
 pub returns-in_err-fresh-clause-err : goal.returns-in_err-fresh-clause-err

@@ -3,7 +3,7 @@ use Rattle.std.proofs.lemmas.Int.{ints}
 use Rattle.break_lines.specs.declared.state.BreakState.{BreakState}
 use Rattle.break_lines.specs.Problems.{end_after}
 use Rattle.break_lines.specs.Tables.{Entry}
-use Rattle.break_lines.proofs.entry.Entry.extended.Goals as goal
+use Rattle.break_lines.proofs.entry.Entry.with_line.Goals as goal
 
 abbrev entry : BreakState → ℤ → ℤ → BreakState → ℕ → Entry
 entry end overhang demerits from index = record { end = end; overhang = overhang; demerits = demerits; from = from; index = index }
