@@ -3,6 +3,8 @@ pub mod FontTableLaws
 pub mod MarkRowLaws
 pub mod MarkTableLaws
 pub mod PageLaws
+pub mod WrittenParts
+pub mod RowSteps
 pub mod RunLaws
 pub mod StatusLaws
 pub mod Crossing

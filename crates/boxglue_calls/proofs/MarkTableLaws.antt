@@ -1,108 +1,110 @@
 -- The tables of a file, and how they are handed over.
-use Rattle.std.proofs.Common.{◌≡◌, ◌≢◌, ◌≤◌, ◌<◌, ◌+◌, ◌/◌, ◌++◌, Bool, true, false, List, length, ℕ, arith, inl, inr, refl, sym, ◌∙◌, ap, subst, subst₂}
+use Rattle.std.proofs.Common.{◌≡◌, ◌≢◌, ◌≤◌, ◌<◌, ◌+◌, ◌/◌, ◌++◌, [], Bool, true, false, List, length, ℕ, arith, inl, inr, refl, sym, ◌∙◌, subst}
 use Rattle.std.specs.Prelude.{◌⊎◌}
-use Rattle.dvi_ops.specs.Fonts.{widths_of, definitions}
-use Rattle.dvi_ops.specs.Instruction.{Definition, Units}
+use Rattle.dvi_ops.specs.File.{MarkedPage}
+use Rattle.dvi_ops.specs.Fonts.{definitions, widths_of}
+use Rattle.dvi_ops.specs.Instruction.{Definition}
 use Rattle.dvi_ops.specs.Tokens.{token_instructions}
 use Rattle.dvi_ops.specs.View.{units as view_units}
-use Rattle.dvi_read.specs.Opened.{IsNoFile, IsReadFrom}
-use Rattle.dvi_read.specs.Opening.{IsDviFault}
-use Rattle.dvi_read.specs.PageMarks.{HasGlyphWidths, HasRoomFor, TextsStandAt, marks_of, texts_in}
-use Rattle.dvi_read.specs.declared.fault.DviFault.{DviFault}
-use Rattle.dvi_read.specs.declared.fault.DviFault.TheVariants.{OutOfMemory}
-use Rattle.dvi_read.specs.declared.opening.ReadDvi.{ReadDvi}
+use Rattle.dvi_ops.specs.declared.op.Units.{Units as UnitsOf}
+use Rattle.dvi_read.specs.PageMarks.{marks_of}
+use Rattle.dvi_read.specs.declared.sights.Sights.{Sights}
 use Rattle.tfm_core.specs.FileWidths.{file_widths}
 use Rattle.tfm_core.specs.NamedBytes.{NamedBytes}
-use Rattle.boxglue_program.specs.Outputs.{RefusesFile}
-use Rattle.boxglue_calls.specs.Private.MarkRows.{FitsIn, HasRowsOf, IsRefusal, outputs_of}
-use Rattle.boxglue_calls.specs.MarkTables.{AreMarkRows, HandsOverAll, HandsOverMarks, IsMarkTable, LacksRoom, MarkOutputs}
+use Rattle.boxglue_program.specs.declared.output.Output.{Output}
+use Rattle.boxglue_calls.specs.Buffers.{HandsOver}
+use Rattle.boxglue_calls.specs.Private.MarkFiles.{FitsIn, HandsOverFully, IsChecked, IsRefusal}
+use Rattle.boxglue_calls.specs.Private.MarkRows.{HasRowsFor, HoldsRows}
+use Rattle.boxglue_calls.specs.MarkTables.{AreMarkRows, HandsOverAll, LacksRoom, MarkOutputs, mark_outputs, no_units, page_rows}
 use Rattle.boxglue_calls.specs.Pages.{read_status}
 use Rattle.boxglue_calls.specs.declared.mark_table.DviMark.{DviMark}
 use Rattle.boxglue_calls.specs.declared.mark_table.DviPage.{DviPage}
 use Rattle.boxglue_calls.specs.declared.mark_table.MarkSizes.{MarkSizes}
-use Rattle.boxglue_calls.specs.declared.mark_table.MarkTable.{MarkTable}
-use Rattle.boxglue_calls.proofs.MarkRowLaws.{are_rows, length-pages, length-rows}
+use Rattle.boxglue_calls.proofs.MarkRowLaws.{length-pages, length-rows}
+use Rattle.boxglue_calls.proofs.WrittenParts.{holds_none}
 
-module _ (files : List NamedBytes) (bytes : List ℕ) where
-  -- What a call says of a table.
-  abbrev pub IsTableOf : MarkTable → Type 0
-  IsTableOf table = IsMarkTable files bytes (outputs_of table) (view_units table.units) table.accepted
+-- The tables of a checked file.
+module _ (files : List NamedBytes) (bytes : List ℕ) (units : UnitsOf) (s : Sights) (all : List MarkedPage) (checked : IsChecked files bytes units s all) (sizes : MarkSizes)
+    (pages_size : sizes.pages ≡ length all) (marks_size : sizes.marks ≡ length (marks_of all)) (text_size : sizes.text ≡ 0)
+    (units_is : view_units units ≡ record { num = sizes.num; den = sizes.den; mag = sizes.mag }) where
+  abbrev pub table : List Definition
+  table = definitions (token_instructions checked.file.frame.front ++ token_instructions checked.file.frame.tail)
 
-  abbrev pub TableFits : MarkTable → Type 0
-  TableFits table = FitsIn (length bytes) (outputs_of table)
-
-  -- The table of a file that was read.
-  module _ (read : ReadDvi) (from : IsReadFrom files bytes read.dvi) (widths : HasGlyphWidths (file_widths files) read.dvi.fonts read.fonts (marks_of read.dvi.pages))
-      (places : TextsStandAt bytes read.specials.items (texts_in (marks_of read.dvi.pages))) (room : HasRoomFor bytes read.dvi.pages) (table : MarkTable) (has : HasRowsOf read table) where
-    pub tabulated : IsTableOf table
-    tabulated =
-        let rows = are_rows bytes (file_widths files) read.dvi.fonts read.fonts read.specials.items (marks_of read.dvi.pages) places widths.widths in
-        let frame = from.pages.frame in
-        let given : AreMarkRows bytes (widths_of (file_widths files) (definitions (token_instructions frame.front ++ token_instructions frame.tail))) table.marks.items (marks_of read.dvi.pages) =
-        subst₂ (λ (ds : List Definition) (ms : List DviMark). AreMarkRows bytes (widths_of (file_widths files) ds) ms (marks_of read.dvi.pages)) (from.fonts frame) (sym has.marks_are) rows in
-        inl (
-          record { pages = read.dvi.pages; file = from.pages; rows_are = has.pages_are; marks_are = given; units_are = has.units_are ∙ from.units frame },
-          has.text_is,
-          has.accepted_is,
-        )
-
-    pub table_fits : TableFits table
-    table_fits =
-        let pages : length table.pages.items ≡ length read.dvi.pages = ap (λ (rows : List DviPage). length rows) has.pages_are ∙ length-pages 0 read.dvi.pages in
-        let marks : length table.marks.items ≡ length (marks_of read.dvi.pages) =
-        ap (λ (rows : List DviMark). length rows) has.marks_are ∙ length-rows read.fonts read.specials.items (marks_of read.dvi.pages) in
-        let text = ap (λ (x : List ℕ). length x) has.text_is in
-        let few = room.marks_fit in
-        let low = room.pages_fit in record { pages_fit = omega arith; marks_fit = omega arith; text_fits = omega arith }
-
-  -- The table of a file that is refused.
-  module _ (fault : DviFault) (broken : IsDviFault files bytes fault) (none : fault ≢ OutOfMemory → IsNoFile files bytes) (table : MarkTable) (refusal : IsRefusal fault table) where
-    pub refused : IsTableOf table
-    refused =
-        let refuses : RefusesFile files bytes table.text.items table.accepted =
+  handed_rows : (rows : List DviMark) → AreMarkRows bytes (widths_of (file_widths files) table) rows (marks_of all) → (old new : MarkOutputs) (status : ℕ)
+      → HandsOverAll old new (mark_outputs (page_rows 0 all) rows []) 0 status → HandsOverFully files bytes old new sizes status
+  handed_rows rows are old new status handed =
+      let pages : length (page_rows 0 all) ≡ length all = length-pages 0 all in
+      let marks : length rows ≡ length (marks_of all) = length-rows bytes (file_widths files) table rows (marks_of all) are in
+      let few = checked.room.marks_fit in
+      let low = checked.room.pages_fit in (
         record {
-          fault = fault;
-          other = refusal.other;
-          broken = broken;
-          none = none refusal.other;
-          text_is = refusal.text_is;
-          accepted_is = refusal.accepted_is;
-        } in
-        inr (refuses, refusal.pages_are, refusal.marks_are, refusal.units_are)
+          outputs = mark_outputs (page_rows 0 all) rows [];
+          accepted = true;
+          table = inl (record { pages = all; file = checked.file; rows_are = refl; marks_are = are; units_are = sym units_is ∙ checked.units_are }, refl, refl);
+          handed = handed;
+          pages_size = pages_size ∙ sym pages;
+          marks_size = marks_size ∙ sym marks;
+          text_size = text_size;
+        },
+        record { pages_fit = omega arith; marks_fit = omega arith; text_fits = omega arith },
+      )
 
-    pub refusal_fits : TableFits table
-    refusal_fits =
-        let pages = ap (λ (rows : List DviPage). length rows) refusal.pages_are in
-        let marks = ap (λ (rows : List DviMark). length rows) refusal.marks_are in
-        let short = refusal.text_short in record { pages_fit = omega arith; marks_fit = omega arith; text_fits = omega arith }
+  pub rows_lack : HasRowsFor (file_widths files) table s.bytes.now (marks_of all) → (pages : List DviPage) (marks : List DviMark) (text : List ℕ) (n m : ℕ) → n ≡ length all → m ≡ length (marks_of all)
+      → (length pages < n) ⊎ (length marks < m) → HandsOverFully files bytes (mark_outputs pages marks text) (mark_outputs pages marks text) sizes 4
+  rows_lack (rows, are) pages marks text n m n_is m_is few =
+      let here = subst (λ (b : List ℕ). AreMarkRows b (widths_of (file_widths files) table) rows (marks_of all)) checked.bytes_are are in
+      let pages_is : length (page_rows 0 all) ≡ length all = length-pages 0 all in
+      let marks_is : length rows ≡ length (marks_of all) = length-rows bytes (file_widths files) table rows (marks_of all) here in
+      handed_rows rows here (mark_outputs pages marks text) (mark_outputs pages marks text) 4 (inr (lacks rows pages_is marks_is few, refl, refl, refl, refl))
+    where
+      lacks : (rows : List DviMark) → length (page_rows 0 all) ≡ length all → length rows ≡ length (marks_of all) → (length pages < n) ⊎ (length marks < m)
+          → LacksRoom (mark_outputs pages marks text) (mark_outputs (page_rows 0 all) rows [])
+      lacks rows pages_is marks_is (inl few) = inl (omega arith)
+      lacks rows pages_is marks_is (inr few) = inr (inl (omega arith))
+
+  pub rows_handed : (pages pages_new : List DviPage) (marks marks_new : List DviMark) (text : List ℕ) → HoldsRows (file_widths files) table s.bytes.now (mark_outputs pages marks []) (mark_outputs pages_new marks_new []) all
+      → HandsOverFully files bytes (mark_outputs pages marks text) (mark_outputs pages_new marks_new text) sizes 0
+  rows_handed pages pages_new marks marks_new text has =
+      let here = subst (λ (b : List ℕ). AreMarkRows b (widths_of (file_widths files) table) has.rows (marks_of all)) checked.bytes_are has.are in
+      handed_rows has.rows here (mark_outputs pages marks text) (mark_outputs pages_new marks_new text) 0 (inl (has.pages, has.marks, holds_none text, refl))
+
+-- The line of a refusal.
+pub refusal_handed : (files : List NamedBytes) (bytes : List ℕ) (output : Output) (pages : List DviPage) (marks : List DviMark) (text text_new : List ℕ) (sizes : MarkSizes) (status : ℕ) → IsRefusal files bytes output
+    → HandsOver text text_new output.text.items 1 status → sizes.pages ≡ 0 → sizes.marks ≡ 0 → sizes.text ≡ length output.text.items
+    → no_units ≡ record { num = sizes.num; den = sizes.den; mag = sizes.mag }
+    → HandsOverFully files bytes (mark_outputs pages marks text) (mark_outputs pages marks text_new) sizes status
+refusal_handed files bytes output pages marks text text_new sizes status refusal handed pages_size marks_size text_size units =
+    let short = refusal.text_short in (
+      record {
+        outputs = mark_outputs [] [] output.text.items;
+        accepted = false;
+        table = inr (refusal.refuses, refl, refl, sym units);
+        handed = by_text handed;
+        pages_size = pages_size;
+        marks_size = marks_size;
+        text_size = text_size;
+      },
+      record { pages_fit = omega arith; marks_fit = omega arith; text_fits = short },
+    )
+  where
+    by_text : HandsOver text text_new output.text.items 1 status → HandsOverAll (mark_outputs pages marks text) (mark_outputs pages marks text_new) (mark_outputs [] [] output.text.items) (read_status false) status
+    by_text (inl (holds, is)) = inl (holds_none pages, holds_none marks, holds, is)
+    by_text (inr (few, same, is)) = inr (inr (inr few), refl, refl, same, is)
 
 -- The status of a file that was read is 0 or 1.
-pub done_small : (accepted : Bool) (done : ℕ) → done ≡ read_status accepted → done ≤ 1
+done_small : (accepted : Bool) (done : ℕ) → done ≡ read_status accepted → done ≤ 1
 done_small true done is = omega arith
 done_small false done is = omega arith
 
 -- The status of what is handed over is neither 2 nor 3.
-pub handed_loud : (old new outputs : MarkOutputs) (accepted : Bool) (status : ℕ) → HandsOverAll old new outputs (read_status accepted) status → (status ≡ 2) ⊎ (status ≡ 3) → ⊥
-handed_loud old new outputs accepted status (inl (pages, marks, text, is)) (inl two) = let small = done_small accepted (read_status accepted) refl in absurd (omega arith)
-handed_loud old new outputs accepted status (inl (pages, marks, text, is)) (inr three) = let small = done_small accepted (read_status accepted) refl in absurd (omega arith)
-handed_loud old new outputs accepted status (inr (few, pages, marks, text, is)) (inl two) = absurd (omega arith)
-handed_loud old new outputs accepted status (inr (few, pages, marks, text, is)) (inr three) = absurd (omega arith)
-
--- The outputs that are handed over, with their sizes.
-pub handed_marks : (files : List NamedBytes) (bytes : List ℕ) (old new : MarkOutputs) (sizes : MarkSizes) (status : ℕ) (table : MarkTable) → IsTableOf files bytes table
-    → HandsOverAll old new (outputs_of table) (read_status table.accepted) status
-    → sizes.pages ≡ length table.pages.items → sizes.marks ≡ length table.marks.items → sizes.text ≡ length table.text.items
-    → view_units table.units ≡ record { num = sizes.num; den = sizes.den; mag = sizes.mag } → HandsOverMarks files bytes old new sizes status
-handed_marks files bytes old new sizes status table is_table handed pages_size marks_size text_size units =
-    record {
-      outputs = outputs_of table;
-      accepted = table.accepted;
-      table = subst (λ (u : Units). IsMarkTable files bytes (outputs_of table) u table.accepted) units is_table;
-      handed = handed;
-      pages_size = pages_size;
-      marks_size = marks_size;
-      text_size = text_size;
-    }
+pub handed_loud : (files : List NamedBytes) (bytes : List ℕ) (old new : MarkOutputs) (sizes : MarkSizes) (status : ℕ) → HandsOverFully files bytes old new sizes status → (status ≡ 2) ⊎ (status ≡ 3) → ⊥
+handed_loud files bytes old new sizes status (h, fits) silent = by_status (done_small h.accepted (read_status h.accepted) refl) h.handed silent
+  where
+    by_status : read_status h.accepted ≤ 1 → HandsOverAll old new h.outputs (read_status h.accepted) status → (status ≡ 2) ⊎ (status ≡ 3) → ⊥
+    by_status small (inl (pages, marks, text, is)) (inl two) = absurd (omega arith)
+    by_status small (inl (pages, marks, text, is)) (inr three) = absurd (omega arith)
+    by_status small (inr (few, pages, marks, text, is)) (inl two) = absurd (omega arith)
+    by_status small (inr (few, pages, marks, text, is)) (inr three) = absurd (omega arith)
 
 -- The rooms that always suffice.
 lacks_none : (size : ℕ) (old outputs : MarkOutputs) → FitsIn size outputs → size / 46 ≤ length old.pages → size ≤ length old.marks → 64 ≤ length old.text → LacksRoom old outputs → ⊥
@@ -110,8 +112,10 @@ lacks_none size old outputs fits pages_room marks_room text_room (inl few) = let
 lacks_none size old outputs fits pages_room marks_room text_room (inr (inl few)) = let fit = fits.marks_fit in absurd (omega arith)
 lacks_none size old outputs fits pages_room marks_room text_room (inr (inr few)) = let fit = fits.text_fits in absurd (omega arith)
 
-pub rooms_suffice : (size : ℕ) (old new outputs : MarkOutputs) (done status : ℕ) → done ≤ 1 → FitsIn size outputs → HandsOverAll old new outputs done status
-    → size / 46 ≤ length old.pages → size ≤ length old.marks → 64 ≤ length old.text → status ≢ 4
-rooms_suffice size old new outputs done status small fits (inl (pages, marks, text, is)) pages_room marks_room text_room four = absurd (omega arith)
-rooms_suffice size old new outputs done status small fits (inr (few, same, marks_same, text_same, is)) pages_room marks_room text_room four =
-    lacks_none size old outputs fits pages_room marks_room text_room few
+pub rooms_suffice : (files : List NamedBytes) (bytes : List ℕ) (old new : MarkOutputs) (sizes : MarkSizes) (status : ℕ) → HandsOverFully files bytes old new sizes status
+    → length bytes / 46 ≤ length old.pages → length bytes ≤ length old.marks → 64 ≤ length old.text → status ≢ 4
+rooms_suffice files bytes old new sizes status (h, fits) pages_room marks_room text_room four = by_status (done_small h.accepted (read_status h.accepted) refl) h.handed
+  where
+    by_status : read_status h.accepted ≤ 1 → HandsOverAll old new h.outputs (read_status h.accepted) status → ⊥
+    by_status small (inl (pages, marks, text, is)) = absurd (omega arith)
+    by_status small (inr (few, pages, marks, text, is)) = lacks_none (length bytes) old h.outputs fits pages_room marks_room text_room few

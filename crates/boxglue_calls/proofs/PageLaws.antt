@@ -1,7 +1,7 @@
 -- What is handed over has a status that says so.
-use Rattle.std.proofs.Common.{◌≡◌, ◌⊎◌, List, ℕ, Bool, true, false, inl, inr, arith, ◌∙◌}
+use Rattle.std.proofs.Common.{◌≡◌, ◌⊎◌, List, ℕ, Bool, true, false, inl, inr, refl, arith, ◌∙◌}
 use Rattle.boxglue_calls.specs.Buffers.{HandsOver}
-use Rattle.boxglue_calls.specs.Pages.{read_status}
+use Rattle.boxglue_calls.specs.Pages.{HandsOverPages, read_status}
 
 -- The status of what is handed over is 0, 1 or 4.
 done_small : (accepted : Bool) (done : ℕ) → done ≡ read_status accepted → (done ≡ 0) ⊎ (done ≡ 1)
@@ -29,3 +29,11 @@ not_silent status (inr (inr a)) (inl b) = absurd (omega arith)
 not_silent status (inr (inr a)) (inr (inl b)) = absurd (omega arith)
 not_silent status (inr (inr a)) (inr (inr (inl b))) = absurd (omega arith)
 not_silent status (inr (inr a)) (inr (inr (inr b))) = absurd (omega arith)
+
+-- The same for a listing or a bitmap.
+pub pages_loud : (Is : (text : List ℕ) → (accepted : Bool) → Type 0) (old new : List ℕ) (size status : ℕ) → HandsOverPages Is old new size status → (status ≡ 2) ⊎ (status ≡ 3) → ⊥
+pages_loud Is old new size status h silent = not_silent status (handed_status old new h.text h.accepted (read_status h.accepted) status refl h.handed) (wider silent)
+  where
+    wider : (status ≡ 2) ⊎ (status ≡ 3) → (status ≡ 2) ⊎ ((status ≡ 3) ⊎ ((status ≡ 5) ⊎ (status ≡ 6)))
+    wider (inl two) = inl two
+    wider (inr three) = inr (inl three)

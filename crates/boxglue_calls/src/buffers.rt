@@ -1,6 +1,6 @@
 //! What goes into the buffers of a caller.
 
-ghost use Rattle.std.specs.Prelude.{◌≤◌, length};
+ghost use Rattle.std.specs.Prelude.{◌≡◌, ◌≤◌, ◌+◌, ◌++◌, drop, length, take};
 ghost use Rattle.boxglue_calls.specs.Buffers.{Holds, HandsOver, HandsOverBoth};
 
 use crate::status::BUFFER_TOO_SMALL;
@@ -11,6 +11,14 @@ pub(crate) fn put<T: Copy>(items: &[T], buffer: &mut [T])
     ensures { Holds buffer.old buffer.new items.now }
 {
     buffer[..items.len()].copy_from_slice(items);
+}
+
+/// Puts items into a buffer, after this number of others. It has room for all of them.
+pub(crate) fn put_after<T: Copy>(count: usize, items: &[T], buffer: &mut [T])
+    requires { count + length items.now ≤ length buffer.old }
+    ensures { buffer.new ≡ take count buffer.old ++ (items.now ++ drop (count + length items.now) buffer.old) }
+{
+    buffer[count..count + items.len()].copy_from_slice(items);
 }
 
 /// Hands an output over: it goes into the buffer, and the status is this one; or the buffer is too small, and nothing is written.

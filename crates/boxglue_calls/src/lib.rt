@@ -10,6 +10,8 @@ mod font_table;
 mod given;
 pub mod jobs;
 pub mod laws;
+mod listings;
+mod mark_rows;
 mod mark_table;
 mod pages;
 pub mod run_status;

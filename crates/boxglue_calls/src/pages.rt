@@ -1,6 +1,7 @@
 //! The pages of DVI files: their listing, and bitmaps of their rules.
 
-ghost use Rattle.std.specs.Prelude.{◌≡◌, ◌↔◌, ◌⊎◌, false, true, Err, IfOk, IsTrue, SomeIff};
+ghost use Rattle.std.specs.Prelude.{◌≡◌, ◌↔◌, ◌⊎◌, false, length, true, Err, IfOk, IsTrue, OnErr, SomeIff};
+ghost use Rattle.boxglue_calls.specs.Buffers.{HandsOver};
 ghost use Rattle.boxglue_calls.specs.Fonts.{are_named, files_of};
 ghost use Rattle.boxglue_calls.specs.Pages.{HandsOverPages, is_in_range, read_status};
 ghost use Rattle.boxglue_program.specs.Outputs.{IsListed, IsPainted, LacksPage};
@@ -9,8 +10,9 @@ ghost use Rattle.raster_core.specs.Sheets.{sheet_of};
 
 use crate::buffers::hand_over;
 use crate::given::{Font, are_named, font_files};
+use crate::listings::list_checked;
 use crate::status::{ACCEPTED, BAD_FONT_NAME, NO_SUCH_PAGE, OUT_OF_MEMORY, OUT_OF_RANGE, REFUSED};
-use boxglue_program::{Output, PaintFault, PaintOptions, list_text, paint_text};
+use boxglue_program::{CheckedDvi, Output, PaintFault, PaintOptions, paint_text, refusal};
 use std::alloc::{AllocError, Global};
 
 /// The status of a DVI file that was read.
@@ -20,17 +22,41 @@ pub(crate) fn file_status(accepted: bool) -> u32
     if accepted { ACCEPTED } else { REFUSED }
 }
 
-/// The listing of a DVI file with these fonts, which have names, or the line of its refusal.
-fn listed(alloc: Global, dvi: &[u8], fonts: &[Font<'_>]) -> Result<Output, AllocError>
+/// Hands a text over, and sets the size to its length.
+fn hand_over_output(output: &Output, text: &mut [u8], size: &mut usize) -> u32
+    ensures handed { HandsOver text.old text.new output.now.text.items (read_status output.now.accepted) result }
+    ensures size { size.new ≡ length output.now.text.items }
+{
+    *size = output.text.len();
+    hand_over(&output.text, text, file_status(output.accepted))
+}
+
+/// Hands over the listing of a DVI file with these fonts, which have names, or the line of its refusal.
+fn list_named(
+    alloc: Global,
+    dvi: &[u8],
+    fonts: &[Font<'_>],
+    text: &mut [u8],
+    size: &mut usize,
+) -> Result<u32, AllocError>
     requires { are_named fonts.now ≡ true }
-    ensures { IfOk result (λ output. IsListed (files_of fonts.now) dvi.now output.text.items output.accepted) }
+    ensures handed { IfOk result (HandsOverPages (IsListed (files_of fonts.now) dvi.now) text.old text.new size.new) }
+    ensures text { OnErr result (text.new ≡ text.old) }
+    ensures size { OnErr result (size.new ≡ size.old) }
 {
     let files = font_files(alloc, fonts)?;
-    list_text(alloc, dvi, &files)
+    match CheckedDvi::open(alloc, dvi, &files) {
+        Ok(checked) => list_checked(alloc, checked, text, size),
+        Err(fault) => {
+            let output = refusal(alloc, fault)?;
+            Ok(hand_over_output(&output, text, size))
+        }
+    }
 }
 
 /// Lists the marks of all pages of a DVI file with these fonts. The listing, or the line of the refusal, goes into `text`, and the number of its
-/// bytes into `size`.
+/// bytes into `size`. The file is checked, its listing is counted, and where it fits it is written piece by piece: no more memory is taken for a
+/// longer listing.
 ///
 /// Returns ACCEPTED or REFUSED, and then both are written; BUFFER_TOO_SMALL, and then `size` alone is written;
 /// OUT_OF_MEMORY or BAD_FONT_NAME, and then nothing is.
@@ -43,11 +69,8 @@ pub fn list(alloc: Global, dvi: &[u8], fonts: &[Font<'_>], text: &mut [u8], size
     if !are_named(fonts) {
         return BAD_FONT_NAME;
     }
-    match listed(alloc, dvi, fonts) {
-        Ok(output) => {
-            *size = output.text.len();
-            hand_over(&output.text, text, file_status(output.accepted))
-        }
+    match list_named(alloc, dvi, fonts, text, size) {
+        Ok(status) => status,
         Err(AllocError) => OUT_OF_MEMORY,
     }
 }

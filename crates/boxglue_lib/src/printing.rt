@@ -11,8 +11,8 @@ ghost use Rattle.boxglue_program.specs.Runs.{WritesFront};
 ghost use Rattle.boxglue_lib.specs.declared.printing.PrintFault.TheVariants.{OutOfMemory, Unwritten};
 
 use boxglue_program::{
-    Bitmap, CheckedDvi, CheckedLines, Dvi, FontFile, Output, PaintFault, PaintOptions, Unwritten,
-    page_bitmap, refusal, write_text,
+    Bitmap, CheckedDvi, CheckedLines, FontFile, Output, PaintFault, PaintOptions, Painting,
+    Unwritten, page_bitmap, refusal, write_text,
 };
 use std::alloc::{AllocError, Global};
 use std::io::Write;
@@ -138,18 +138,17 @@ pub fn paint_file<W: Write>(
     ensures missing { result ≡ Err PrintFault.NoSuchPage → LacksPage files.now dvi.now sheet.page }
     ensures found { LacksPage files.now dvi.now sheet.page → (result ≡ Err PrintFault.NoSuchPage) ⊎ (result ≡ Err PrintFault.OutOfMemory) }
 {
-    let opened = match Dvi::open(alloc, dvi, files) {
-        Ok(opened) => opened,
-        Err(fault) => {
-            let Output { text, accepted } = refusal(alloc, fault)?;
+    let painting = match page_bitmap(alloc, dvi, files, sheet) {
+        Ok(painting) => painting,
+        Err(PaintFault::OutOfMemory) => return Err(PrintFault::OutOfMemory),
+        Err(PaintFault::NoSuchPage) => return Err(PrintFault::NoSuchPage),
+    };
+    let bitmap = match painting {
+        Painting::Picture(bitmap) => bitmap,
+        Painting::Refusal(Output { text, accepted }) => {
             write_text(writer, &text)?;
             return Ok(accepted);
         }
-    };
-    let bitmap = match page_bitmap(alloc, &opened, sheet) {
-        Ok(bitmap) => bitmap,
-        Err(PaintFault::OutOfMemory) => return Err(PrintFault::OutOfMemory),
-        Err(PaintFault::NoSuchPage) => return Err(PrintFault::NoSuchPage),
     };
     let mut rows = Vec::with_capacity(alloc, PIECE)?;
     write_bitmap(&bitmap, &mut rows, writer)?;

@@ -2,17 +2,19 @@
 use Rattle.std.specs.Prelude.{◌≡◌, ◌≢◌, ◌⊎◌, ◌<◌, ◌-◌, ℕ, Bool, true, false, List, length, slice_get, Some}
 use Rattle.dvi_read.specs.Listing.{listing}
 use Rattle.dvi_ops.specs.File.{IsFile, MarkedPage}
-use Rattle.dvi_read.specs.Opened.{IsNoFile, Opened}
+use Rattle.dvi_read.specs.Opened.{IsNoFile}
 use Rattle.dvi_read.specs.Opening.{IsDviFault}
 use Rattle.dvi_read.specs.declared.fault.DviFault.{DviFault}
 use Rattle.dvi_read.specs.declared.fault.DviFault.TheVariants.{OutOfMemory}
-use Rattle.raster_core.specs.Pictures.{PixelGrid, painted_picture, white}
+use Rattle.raster_core.specs.Pictures.{painted_picture, white}
 use Rattle.raster_core.specs.Pixels.{is_covered, scale_of}
 use Rattle.raster_core.specs.PlainText.{pbm}
 use Rattle.raster_core.specs.Sheets.{Sheet}
 use Rattle.tfm_core.specs.FileWidths.{file_widths}
 use Rattle.tfm_core.specs.NamedBytes.{NamedBytes}
 use Rattle.boxglue_program.specs.Faults.{fault_line}
+use Rattle.boxglue_program.specs.declared.output.Painting.{Painting}
+use Rattle.boxglue_program.specs.declared.output.Painting.TheVariants.{Picture, Refusal}
 
 -- The bytes are a file, and the text lists its pages.
 pub record Lists (files : List NamedBytes) (bytes text : List ℕ) (accepted : Bool) : Type 0 where
@@ -40,12 +42,6 @@ pub record Paints (files : List NamedBytes) (bytes : List ℕ) (sheet : Sheet) (
       ≡ pbm (painted_picture (is_covered (scale_of file.frame.stop.units sheet.dpi) shown.marks) (white sheet.width sheet.height))
   pub accepted_is : accepted ≡ true
 
--- The picture is this page, counted from 1, of an opened file: its rules black, the rest white.
-pub record ShowsPage (dvi : Opened) (sheet : Sheet) (picture : PixelGrid) : Type 0 where
-  pub shown : MarkedPage
-  pub page_is : slice_get dvi.pages (sheet.page - 1) ≡ Some shown
-  pub picture_is : picture ≡ painted_picture (is_covered (scale_of dvi.units sheet.dpi) shown.marks) (white sheet.width sheet.height)
-
 -- The bytes are a file that has no such page.
 pub record LacksPage (files : List NamedBytes) (bytes : List ℕ) (page : ℕ) : Type 0 where
   pub pages : List MarkedPage
@@ -59,3 +55,8 @@ IsListed files bytes text accepted = Lists files bytes text accepted ⊎ Refuses
 -- The text that `paint` prints, and whether the file was accepted.
 abbrev pub IsPainted : List NamedBytes → List ℕ → Sheet → (text : List ℕ) → (accepted : Bool) → Type 0
 IsPainted files bytes sheet text accepted = Paints files bytes sheet text accepted ⊎ RefusesFile files bytes text accepted
+
+-- The picture of a page, from which its text is made; or the text of the file's refusal.
+abbrev pub IsPainting : List NamedBytes → List ℕ → Sheet → Painting → Type 0
+IsPainting files bytes sheet (Picture picture) = Paints files bytes sheet (pbm picture) true
+IsPainting files bytes sheet (Refusal output) = RefusesFile files bytes output.text.items output.accepted

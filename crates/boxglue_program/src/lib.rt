@@ -32,7 +32,7 @@ pub use fonts::{DefinedFonts, defined_fonts, fonts_text};
 pub use job_core::{Device, DeviceFault, FontFile, FontName, Fuse, Memory, Rest};
 pub use memory_run::run_memory;
 pub use outcome::Outcome;
-pub use output::{Output, PaintFault, list_text, page_bitmap, paint_text, refusal};
+pub use output::{Output, PaintFault, Painting, list_text, page_bitmap, paint_text, refusal};
 pub use raster_core::{Bitmap, PaintOptions, PbmText, ROW_TEXT};
 pub use refusals::{push_number, push_refusal_line, push_text, refusal_row};
 pub use run::{LinesRun, RunFault, WholeRun, run_lines, run_rest, run_script, run_whole};

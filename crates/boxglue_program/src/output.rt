@@ -1,18 +1,18 @@
 //! The listing of a DVI file and the bitmap of one of its pages.
 
-ghost use Rattle.std.specs.Prelude.{◌≡◌, ◌≢◌, ◌<◌, ◌↔◌, ◌⊎◌, false, length, Err, IfOk, IsTrue, OnOk};
+ghost use Rattle.std.specs.Prelude.{◌≡◌, ◌≢◌, ◌↔◌, ◌⊎◌, false, Err, IfOk, IsTrue, OnOk};
 ghost use Rattle.dvi_ops.specs.File.{AreUnits};
 ghost use Rattle.dvi_ops.specs.View.{units as units_of};
 ghost use Rattle.dvi_scan.specs.View.{marked_page};
 ghost use Rattle.boxglue_program.specs.Faults.{fault_line};
 ghost use Rattle.boxglue_program.specs.declared.output.PaintFault.TheVariants.{OutOfMemory};
-ghost use Rattle.boxglue_program.specs.Outputs.{IsListed, IsPainted, LacksPage, ShowsPage};
+ghost use Rattle.boxglue_program.specs.Outputs.{IsListed, IsPainted, IsPainting, LacksPage};
 ghost use Rattle.raster_core.specs.Pictures.{painted_picture, white};
 ghost use Rattle.raster_core.specs.Pixels.{is_covered, scale_of};
 
 use crate::faults::push_fault;
 use dvi_ops::Units;
-use dvi_read::{Dvi, DviFault};
+use dvi_read::{CheckedDvi, Dvi, DviFault};
 use dvi_scan::Page;
 use raster_core::{Bitmap, PaintOptions};
 use std::alloc::{AllocError, Global};
@@ -24,6 +24,13 @@ use thiserror::Error;
 pub struct Output {
     pub text: Vec<u8>,
     pub accepted: bool,
+}
+
+/// A page of a DVI file as a bitmap, or the text of the file's refusal.
+#[derive(Debug, Drop)]
+pub enum Painting {
+    Picture(Bitmap),
+    Refusal(Output),
 }
 
 /// Why nothing is painted.
@@ -107,25 +114,31 @@ fn painted_page(
     Ok(bitmap)
 }
 
-/// The bitmap of a page of an opened DVI file. The fault is NoSuchPage or OutOfMemory.
+/// The bitmap of a page of a DVI file with these metric files, or the text of the file's refusal. No mark of another page is kept. The whole file is
+/// checked before NoSuchPage is returned, which is the fault exactly where it is accepted and has fewer pages, unless memory is refused: then it
+/// is OutOfMemory.
 pub fn page_bitmap(
     alloc: Global,
-    opened: &Dvi<'_>,
+    dvi: &[u8],
+    files: &[FontFile],
     sheet: PaintOptions,
-) -> Result<Bitmap, PaintFault>
-    ensures ok { IfOk result (ShowsPage opened.now sheet) }
-    ensures missing { result ≡ Err PaintFault.NoSuchPage ↔ length opened.now.pages < sheet.page }
+) -> Result<Painting, PaintFault>
+    ensures ok { IfOk result (IsPainting files.now dvi.now sheet) }
+    ensures missing { result ≡ Err PaintFault.NoSuchPage → LacksPage files.now dvi.now sheet.page }
+    ensures found { LacksPage files.now dvi.now sheet.page → (result ≡ Err PaintFault.NoSuchPage) ⊎ (result ≡ Err PaintFault.OutOfMemory) }
 {
-    let index = sheet.page() as usize - 1;
-    if index >= opened.pages() {
+    let checked = match CheckedDvi::open(alloc, dvi, files) {
+        Ok(checked) => checked,
+        Err(fault) => return Ok(Painting::Refusal(refusal(alloc, fault)?)),
+    };
+    let units = checked.units();
+    let Some(page) = checked.page(alloc, sheet.page() as usize - 1)? else {
         return Err(PaintFault::NoSuchPage);
-    }
-    let shown = opened.page(index);
-    Ok(painted_page(alloc, shown, opened.units(), sheet)?)
+    };
+    Ok(Painting::Picture(painted_page(alloc, &page, units, sheet)?))
 }
 
-/// The bitmap of a page of a DVI file with these metric files, or the line of the file's refusal. The whole file is checked before NoSuchPage is
-/// returned, which is the fault exactly where it is accepted and has fewer pages, unless memory is refused: then it is OutOfMemory.
+/// The text of the bitmap of a page of a DVI file, or the line of the file's refusal, as `page_bitmap`.
 pub fn paint_text(
     alloc: Global,
     dvi: &[u8],
@@ -136,11 +149,11 @@ pub fn paint_text(
     ensures missing { result ≡ Err PaintFault.NoSuchPage → LacksPage files.now dvi.now sheet.page }
     ensures found { LacksPage files.now dvi.now sheet.page → (result ≡ Err PaintFault.NoSuchPage) ⊎ (result ≡ Err PaintFault.OutOfMemory) }
 {
-    let opened = match Dvi::open(alloc, dvi, files) {
-        Ok(opened) => opened,
-        Err(fault) => return Ok(refusal(alloc, fault)?),
+    let painting = page_bitmap(alloc, dvi, files, sheet)?;
+    let bitmap = match painting {
+        Painting::Picture(bitmap) => bitmap,
+        Painting::Refusal(output) => return Ok(output),
     };
-    let bitmap = page_bitmap(alloc, &opened, sheet)?;
     let mut text = Vec::new(alloc);
     bitmap.write_pbm(&mut text)?;
     Ok(Output {

@@ -1,12 +1,13 @@
 -- A file that was checked without keeping its marks: its pages are those of the file, and the fonts that were read have the widths of the files.
-use Rattle.std.proofs.Common.{◌≡◌, ◌≤◌, ◌-◌, ◌++◌, min, [], ◌∷◌, List, drop, length, take, ℕ, ℤ, Option, Some, None, append-nil, arith, refl, sym, ◌∙◌, ap, subst, inl, inr}
-use Rattle.std.specs.Prelude.{◌⊎◌, option_and_then}
+use Rattle.std.proofs.Common.{◌≡◌, ◌≤◌, ◌<◌, ◌+◌, ◌*◌, ◌-◌, ◌++◌, min, [], ◌∷◌, List, drop, length, slice_index, take, ℕ, ℤ, Option, Some, None, append-nil, arith, refl, sym, ◌∙◌, ap, subst, inl, inr}
+use Rattle.std.specs.Prelude.{◌⊎◌, IsSome, option_and_then}
+use Rattle.std.proofs.lemmas.List.{length-drop, length-take-le}
 use Rattle.std.specs.List.{AllByRecursion}
 use Rattle.scaled_core.proofs.EachOf.{all_weaker}
 use Rattle.scaled_core.specs.Mark.{Mark}
 use Rattle.dvi_ops.specs.Body.{instruction_acts, bounded_acts}
-use Rattle.dvi_ops.specs.File.{IsFile, MarkedPage}
-use Rattle.dvi_ops.specs.Fonts.{WidthsByName, font, selections, widths_of, width_in as width_of_font}
+use Rattle.dvi_ops.specs.File.{Frame, IsFile, MarkedPage}
+use Rattle.dvi_ops.specs.Fonts.{WidthsByName, definitions, font, selections, widths_of, width_in as width_of_font}
 use Rattle.dvi_ops.specs.Instruction.{Definition, Instruction, Postamble, Pre}
 use Rattle.dvi_ops.specs.Tokens.{Token, IsSpelled, token_instructions, token_bytes}
 use Rattle.dvi_ops.proofs.Frames.{begins}
@@ -20,7 +21,7 @@ use Rattle.dvi_scan.specs.Preamble.{HasPreamble}
 use Rattle.dvi_scan.specs.Reached.{IsReached, PlacesLeft, ReadSoFar}
 use Rattle.dvi_read.specs.Opening.{IsDviFault}
 use Rattle.dvi_read.specs.Private.OpeningParts.{HasPassed, IsFinishFault}
-use Rattle.dvi_read.specs.PageMarks.{read_width}
+use Rattle.dvi_read.specs.PageMarks.{HasGlyphWidths, HasRoomFor, IsGlyphWidth, marks_of, read_width}
 use Rattle.dvi_read.specs.ReadFonts.{AreSound, FontIsRead, HaveByteCodes, font_place, read_font_at, width_in}
 use Rattle.dvi_read.specs.SeenAhead.{HasRest}
 use Rattle.dvi_read.specs.Steps.{FontsAreRead, known_of, places_left, stand_of}
@@ -31,7 +32,8 @@ use Rattle.dvi_read.specs.declared.fault.DviFault.TheVariants as faults
 use Rattle.dvi_read.specs.declared.read_fonts.ReadFonts.{ReadFonts}
 use Rattle.dvi_read.specs.declared.walk.Walk.{Walk}
 use Rattle.dvi_read.proofs.FaultLemmas.{post_within}
-use Rattle.dvi_read.proofs.OpenLemmas.{finish_refused, opened}
+use Rattle.dvi_read.proofs.MarkLemmas.{least_of, least_written, more_widths, pass_bytes, pass_glyphs}
+use Rattle.dvi_read.proofs.OpenLemmas.{finish_refused, fonts_read, opened}
 use Rattle.dvi_read.proofs.SelectLemmas.{some_is}
 use Rattle.tfm_core.specs.FileWidths.{file_widths, width_at}
 use Rattle.tfm_core.specs.Fonts.{SizedFont}
@@ -47,9 +49,9 @@ same_read metrics table fonts f sound is_read c =
 
 -- The instructions after the preamble make the pages of the file.
 pub checked_rest : (metrics : WidthsByName) (ahead : List ℤ) (bytes : List ℕ) (stop : Postamble) (chain : List ℕ) (from post : ℕ) (s : ReadSoFar) (fonts : ReadFonts) (pages : List MarkedPage)
-    → post ≤ length bytes → HasPreamble bytes post stop from → IsReached metrics ahead bytes stop chain post s → s.pass ≡ Between pages → FontsAreRead fonts s.selected → AreSound metrics s.known fonts
+    → ((k : ℕ) → slice_index bytes k < 256) → post ≤ length bytes → HasPreamble bytes post stop from → IsReached metrics ahead bytes stop chain post s → s.pass ≡ Between pages → FontsAreRead fonts s.selected → AreSound metrics s.known fonts
     → HasRest bytes from post (min 1024 stop.stack_depth) fonts [] (Between []) pages
-checked_rest metrics ahead bytes stop chain from post s fonts pages high preamble r between read sound =
+checked_rest metrics ahead bytes stop chain from post s fonts pages small high preamble r between read sound =
     let within = preamble.within in
     let most : ℕ = min 1024 stop.stack_depth in
     let front : List ℕ = take from bytes in
@@ -74,7 +76,35 @@ checked_rest metrics ahead bytes stop chain from post s fonts pages high preambl
       passed = subst (λ (is : List Instruction). passes (bounded_acts (instruction_acts (read_width fonts))) most is (Between []) ≡ Some (Between pages)) body (passed ∙ ap (λ (p : PassStateView). Some p) between);
       read = subst (λ (is : List Instruction). FontsAreRead fonts (selections is)) body all_read;
       codes = sound.codes;
+      small = small;
     }
+
+-- The glyphs of the rest have widths.
+read_glyph : (metrics : WidthsByName) (table : List Definition) (fonts : ReadFonts) (f c : ℤ) → AreSound metrics table fonts → FontIsRead f fonts → IsSome (read_width fonts f c) → IsGlyphWidth metrics table fonts f c
+read_glyph metrics table fonts f c sound is_read some =
+    let (width, is) = some_is (read_width fonts f c) some in (width, is, same_read metrics table fonts f sound is_read c ∙ is)
+
+rest_widths : (metrics : WidthsByName) (table : List Definition) (bytes : List ℕ) (from post most : ℕ) (fonts : ReadFonts) (pages : List MarkedPage) → AreSound metrics table fonts
+    → HasRest bytes from post most fonts [] (Between []) pages → HasGlyphWidths metrics table fonts (marks_of pages)
+rest_widths metrics table bytes from post most fonts pages sound r =
+    record {
+      codes = sound.codes;
+      widths = pass_glyphs (IsGlyphWidth metrics table fonts) (λ f. FontIsRead f fonts) (read_width fonts) most (token_instructions r.rest) (Between []) (Between pages)
+          (λ f is_read c some. read_glyph metrics table fonts f c sound is_read some) (λ f at. absurd cc) r.read tt r.passed;
+    }
+
+-- The marks and the pages of the rest have room in the file.
+pub rest_room : (bytes : List ℕ) (from post most : ℕ) (fonts : ReadFonts) (pages : List MarkedPage) → HasRest bytes from post most fonts [] (Between []) pages → HasRoomFor bytes pages
+rest_room bytes from post most fonts pages r =
+    let takes = pass_bytes (read_width fonts) most (token_instructions r.rest) (Between []) (Between pages) r.passed in
+    let low = r.low in
+    let high = r.high in
+    let spelled = least_written r.rest r.spelled in
+    let whole : length (token_bytes r.rest) ≡ length (take (post - from) (drop from bytes)) = ap (λ (x : List ℕ). length x) r.whole in
+    let left = length-drop from bytes in
+    let taken = length-take-le (post - from) (drop from bytes) (omega arith) in
+    let few : length (marks_of pages) ≤ 0 + least_of (token_instructions r.rest) = takes.marks in
+    let pages_few : 46 * length pages ≤ 46 * 0 + least_of (token_instructions r.rest) = takes.pages in record { marks_fit = omega arith; pages_fit = omega arith }
 
 -- Where a walk without pages and marks is between pages, so is the whole state.
 pub bare_between : (p : PassStateView) (pages : List MarkedPage) → bare p ≡ Between pages → (all : List MarkedPage) × (p ≡ Between all)
@@ -101,13 +131,23 @@ module _ (files : List NamedBytes) (bytes : List ℕ) (post after last : ℕ) (s
       (finish_bare bytes post after last passed.pass (places_left walk) (known_of walk) fault
       (subst (λ (p : PassStateView). IsFinishFault bytes post after last p (places_left walk) (known_of walk) fault) passed.stand b))
 
-  pub checked_pages : (pages : List MarkedPage) (new : List Definition) → PagesHaveEnded (stand_of walk) (places_left walk) pages → ClosesTo bytes after (last - 5) (known_of walk) new
+  -- The widths of the glyphs.
+  pub checked_widths : (new : List Definition) (most : ℕ) (pages : List MarkedPage) → ClosesTo bytes after (last - 5) (known_of walk) new → HasRest bytes from post most walk.fonts [] (Between []) pages → (f : Frame bytes)
+      → HasGlyphWidths (file_widths files) (definitions (token_instructions f.front ++ token_instructions f.tail)) walk.fonts (marks_of pages)
+  checked_widths new most pages closes rest f =
+      let (tail, tail_is, new_is) = closes in
+      let all = fonts_read (file_widths files) passed.ahead bytes post after last stop chain (read_in passed.pass passed.selected walk) new passed.has.starts.chained.framed passed.has.reached closes f in
+      subst (λ (ds : List Definition). HasGlyphWidths (file_widths files) ds walk.fonts (marks_of pages)) (sym new_is ∙ all)
+      (more_widths (file_widths files) (known_of walk) (definitions (token_instructions tail)) walk.fonts (marks_of pages)
+      (rest_widths (file_widths files) (known_of walk) bytes from post most walk.fonts pages passed.sound rest))
+
+  pub checked_pages : (pages : List MarkedPage) (new : List Definition) → ((k : ℕ) → slice_index bytes k < 256) → PagesHaveEnded (stand_of walk) (places_left walk) pages → ClosesTo bytes after (last - 5) (known_of walk) new
       → (all : List MarkedPage) × IsFile (file_widths files) bytes all × HasRest bytes from post (min 1024 stop.stack_depth) walk.fonts [] (Between []) all
-  checked_pages pages new ended closes =
+  checked_pages pages new small ended closes =
       let (all, done) = bare_ended passed.pass (places_left walk) pages (subst (λ (p : PassStateView). PagesHaveEnded p (places_left walk) pages) passed.stand ended) in
       let has = passed.has in
       let high = post_within files bytes post after last stop chain has.starts.chained.framed in (
         all,
         opened files bytes post after last stop chain from passed.ahead (read_in passed.pass passed.selected walk) all new has done closes,
-        checked_rest (file_widths files) passed.ahead bytes stop chain from post (read_in passed.pass passed.selected walk) walk.fonts all high has.starts.preamble has.reached done.between passed.read passed.sound,
+        checked_rest (file_widths files) passed.ahead bytes stop chain from post (read_in passed.pass passed.selected walk) walk.fonts all small high has.starts.preamble has.reached done.between passed.read passed.sound,
       )

@@ -3,11 +3,13 @@ pub mod StepLemmas
 pub mod PointerLemmas
 pub mod WalkLemmas
 mod HeldLemmas
-mod SeenLemmas
+pub mod SeenLemmas
 mod SightLemmas
+pub mod AgainLemmas
 mod CheckedLemmas
 mod CharacterLemmas
 mod CheckedLinesLemmas
+mod OnePageLemmas
 mod MarkLines
 mod HeadLemmas
 pub mod MarkLemmas

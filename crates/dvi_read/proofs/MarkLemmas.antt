@@ -314,7 +314,7 @@ count_below (suc (suc (suc (suc (suc n))))) bytes high small = absurd (omega ari
 count_below n bytes high small = let h = short_below n bytes (omega arith) small in omega arith
 
 -- The text of a special is the end of the instruction.
-text_stands : (bytes : List ℕ) (at next : ℕ) (text : List ℕ) → ((k : ℕ) → slice_index bytes k < 256) → at < next → next ≤ length bytes → Spells (Do (Xxx text)) (take (next - at) (drop at bytes)) → TextStandsAt bytes (next - length text) text
+pub text_stands : (bytes : List ℕ) (at next : ℕ) (text : List ℕ) → ((k : ℕ) → slice_index bytes k < 256) → at < next → next ≤ length bytes → Spells (Do (Xxx text)) (take (next - at) (drop at bytes)) → TextStandsAt bytes (next - length text) text
 text_stands bytes at next text small forward within (n, count, low, high, is, len, big) =
     let front : List ℕ = (238 + n) ∷ count in
     let rest = length-drop at bytes in

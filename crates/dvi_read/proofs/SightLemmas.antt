@@ -1,15 +1,15 @@
 -- One instruction of a checked file: no rule is broken, no memory is refused, and what is seen of it comes next.
-use Rattle.std.proofs.Common.{◌≡◌, ◌≢◌, ◌≤◌, ◌<◌, ◌+◌, ◌-◌, ◌++◌, [], ◌∷◌, Bool, true, false, List, drop, length, map, reverse, take, vec_capacity, vec_items, vec_len, zero, suc, ℕ, ℤ, Option, Some, None, Result, Ok, Err, append-nil, arith, length-append, refl, sym, ◌∙◌, ap, ap₂, subst, subst₂, inl, inr}
+use Rattle.std.proofs.Common.{◌≡◌, ◌≢◌, ◌≤◌, ◌<◌, ◌+◌, ◌-◌, ◌++◌, [], ◌∷◌, Bool, true, false, List, drop, length, map, reverse, take, vec_capacity, vec_items, vec_len, zero, suc, ℕ, ℤ, Option, Some, None, Result, Ok, Err, append-nil, append_assoc, slice_index, arith, length-append, refl, sym, ◌∙◌, ap, ap₂, subst, subst₂, inl, inr}
 use Rattle.std.specs.Prelude.{◌⊎◌, IsSome, OnErr, option_and_then}
 use Rattle.std.specs.List.{AllByRecursion}
 use Rattle.std.specs.Option.{option_map, option_to_list}
 use Rattle.std.proofs.lemmas.List.{append_cancel_left, drop-drop, length-drop, length-map, length-take-le, take-take, take_at}
-use Rattle.scaled_core.specs.Mark.{Mark}
+use Rattle.scaled_core.specs.Mark.{Mark, Glyph, Rule, Special}
 use Rattle.scaled_core.proofs.EachOf.{all_back, all_front}
 use Rattle.dvi_ops.specs.Body.{Position, DviState, Acts, Widths, instruction_acts, bounded_acts, start}
 use Rattle.dvi_ops.specs.File.{MarkedPage}
 use Rattle.dvi_ops.specs.Fonts.{selection_of, selections}
-use Rattle.dvi_ops.specs.Instruction.{SetChar, PutChar, FontNum, Instruction, Do, Bop, Eop}
+use Rattle.dvi_ops.specs.Instruction.{SetChar, PutChar, FontNum, Xxx, Instruction, Do, Bop, Eop}
 use Rattle.dvi_ops.specs.Table.{Spells}
 use Rattle.dvi_ops.specs.View.{view}
 use Rattle.dvi_ops.specs.declared.body_op.BodyOp.TheVariants as bodies
@@ -33,17 +33,20 @@ use Rattle.dvi_scan.specs.declared.executing.PassFault.{PassFault}
 use Rattle.dvi_scan.specs.declared.executing.PassFault.TheVariants.{OutOfMemory, Broken}
 use Rattle.dvi_scan.specs.declared.page.DviState.{DviState as Standing}
 use Rattle.dvi_scan.specs.declared.page.Mark.{Mark as PassMark}
-use Rattle.dvi_read.specs.PageMarks.{marks_so_far, read_width}
+use Rattle.dvi_read.specs.PageMarks.{marks_of, marks_so_far, read_width, texts_in}
+use Rattle.dvi_read.specs.Private.PageMarks.{text_put}
+use Rattle.dvi_read.specs.Private.SeenTexts.{IsTextOf, ShowsTextOf}
 use Rattle.dvi_read.specs.ReadFonts.{FontIsRead, HasCurrent, HaveByteCodes, asked_width, code_in, font_place, read_font_at, width_in}
 use Rattle.dvi_read.specs.Private.ReadFonts.{Chooses}
 use Rattle.dvi_read.specs.Seen.{Seen, Counts, Marked, seen_of, seen_so_far}
-use Rattle.dvi_read.specs.SeenAhead.{HasRest, IsReady, IsSeenAfter, IsSeenAhead, ShowsFirst, standing}
+use Rattle.dvi_read.specs.SeenAhead.{EndsText, HasRest, TextEndsAt, IsReady, IsSeenAfter, IsSeenAhead, ShowsFirst, standing}
 use Rattle.dvi_read.specs.Steps.{FontsAreRead}
 use Rattle.dvi_read.specs.declared.read_fonts.ReadFonts.{ReadFonts}
+use Rattle.dvi_read.specs.declared.sights.Sight.{Sight}
 use Rattle.dvi_read.specs.declared.sights.Sight.TheVariants as sights
 use Rattle.dvi_read.specs.declared.sights.Sights.{Sights}
 use Rattle.dvi_read.proofs.HeldLemmas.{onto, turn_onto}
-use Rattle.dvi_read.proofs.MarkLemmas.{turn_adds}
+use Rattle.dvi_read.proofs.MarkLemmas.{text_stands, turn_adds}
 use Rattle.dvi_read.proofs.SeenLemmas.{Continues, counts_stay, end_turn, first_turn, idle_turn, more_marks, page_seen, rest_seen}
 use Rattle.dvi_read.proofs.StepLemmas.{current_next}
 use Rattle.tfm_core.specs.Fonts.{SizedFont}
@@ -209,6 +212,7 @@ module _ (bytes : List ℕ) (at post most : ℕ) (fonts : ReadFonts) (here : Pas
         passed = subst (λ (ts : List Token). passes (bounded_acts (instruction_acts (read_width fonts))) most (token_instructions ts) here ≡ Some (Between all)) same r.passed;
         read = subst (λ (ts : List Token). FontsAreRead fonts (selections (token_instructions ts))) same r.read;
         codes = r.codes;
+        small = r.small;
       }
 
   -- The pass goes on with it.
@@ -230,6 +234,7 @@ module _ (bytes : List ℕ) (at post most : ℕ) (fonts : ReadFonts) (here : Pas
         passed = later;
         read = all_back (λ f. FontIsRead f fonts) (selection_of i) (selections (token_instructions r.rest)) r.read;
         codes = r.codes;
+        small = r.small;
       })
 
   -- Nothing is left at the place of post.
@@ -320,6 +325,19 @@ module _ (i : Instruction) (s : Sights) (seen : List Seen) (a : IsSeenAfter (i �
       let (rest, seen_is, ahead) = then_seen false s.fonts s.page (a.pages ++ page ∷ []) a.marks [] s.fonts.current same_fonts after_is a.ready new_is in
       subst (λ (ss : List Seen). IsSeenAhead (record s { inside = false }) ss) (sym seen_is) ahead
 
+  -- The text of the mark that it makes is its own.
+  pub drawn_texts : (page : OpenPage) (found : Option PassMark) → s.inside ≡ true
+      → ((pages : List MarkedPage) (marks : List Mark) (after : PassStateView) → execute (bounded_acts (instruction_acts (read_width s.fonts))) s.most i (standing true pages marks s.page) ≡ Some after
+      → after ≡ standing true pages (marks ++ marks_in found) page) → texts_in (marks_in found) ≡ text_put i
+  drawn_texts page found within draws =
+      let opened : here ≡ standing true a.pages a.marks s.page = ap (λ (b : Bool). standing b a.pages a.marks s.page) within in
+      let turns = sym (ap (λ (p : PassStateView). execute (bounded_acts (instruction_acts (read_width s.fonts))) s.most i p) opened) ∙ turned.turns in
+      let adds = turn_adds (read_width s.fonts) s.most i (standing true a.pages a.marks s.page) turned.after turns in
+      let before : List Mark = marks_of a.pages ++ a.marks in
+      let whole : before ++ marks_in found ≡ before ++ adds.marks =
+      append_assoc (marks_of a.pages) a.marks (marks_in found) ∙ (sym (ap marks_so_far (draws a.pages a.marks turned.after turns)) ∙ adds.after) in
+      ap texts_in (append_cancel_left before (marks_in found) adds.marks whole) ∙ adds.texts
+
   -- The mark of an instruction comes next, if it makes one.
   pub drew : (fonts : ReadFonts) (page : OpenPage) (found shown : Option PassMark) (place : ℕ) → s.inside ≡ true → fonts ≡ record s.fonts { current = place } → page.counts ≡ s.page.counts → IsReady s.most fonts page
       → ((pages : List MarkedPage) (marks : List Mark) (after : PassStateView) → execute (bounded_acts (instruction_acts (read_width s.fonts))) s.most i (standing true pages marks s.page) ≡ Some after
@@ -351,6 +369,34 @@ module _ (i : Instruction) (s : Sights) (seen : List Seen) (a : IsSeenAfter (i �
           subst (λ (ss : List Seen). IsSeenAhead (record s { fonts = fonts; page = page }) ss) (sym all) ahead
       by_mark (Some mark) some =
           let (rest, seen_is, ahead) = next in (rest, seen_is ∙ ap (λ (o : Option PassMark). map Marked (marks_in o) ++ rest) some, ahead)
+
+-- The text of a special that is shown is that of the instruction, and ends where the instruction ends.
+put_is : (i : Instruction) (text : List ℕ) → text ∷ [] ≡ text_put i → i ≡ Do (Xxx text)
+put_is (Do (Xxx put)) text e = cc
+put_is i text e = absurd cc
+
+seen_text : (i : Instruction) (m : Mark) → texts_in (m ∷ []) ≡ text_put i → IsTextOf i m
+seen_text i (Glyph font code h v) e = tt
+seen_text i (Rule h v height width) e = tt
+seen_text i (Special h v text) e = put_is i text e
+
+pub text_shown : (i : Instruction) (found shown : Option PassMark) → texts_in (marks_in found) ≡ text_put i → found ≡ shown → ShowsTextOf i (option_map (λ mark. sights.Mark mark) shown)
+text_shown i found shown e is = by_mark shown (subst (λ (o : Option PassMark). texts_in (marks_in o) ≡ text_put i) is e)
+  where
+    by_mark : (o : Option PassMark) → texts_in (marks_in o) ≡ text_put i → ShowsTextOf i (option_map (λ mark. sights.Mark mark) o)
+    by_mark None e = tt
+    by_mark (Some mark) e = seen_text i (mark_of mark) e
+
+pub text_ends : (bytes : List ℕ) (at next : ℕ) (i : Instruction) (shown : Option Sight) → ((k : ℕ) → slice_index bytes k < 256) → at < next → next ≤ length bytes → Spells i (take (next - at) (drop at bytes))
+    → ShowsTextOf i shown → EndsText bytes next shown
+text_ends bytes at next i None small forward within spelled is = tt
+text_ends bytes at next i (Some (sights.Page counts)) small forward within spelled is = tt
+text_ends bytes at next i (Some (sights.Mark mark)) small forward within spelled is = by_mark (mark_of mark) is
+  where
+    by_mark : (m : Mark) → IsTextOf i m → TextEndsAt bytes next m
+    by_mark (Glyph font code h v) is = tt
+    by_mark (Rule h v height width) is = tt
+    by_mark (Special h v text) is = text_stands bytes at next text small forward within (subst (λ (i : Instruction). Spells i (take (next - at) (drop at bytes))) is spelled)
 
 -- At the place of post nothing is left to be seen.
 pub all_seen : (s : Sights) (seen : List Seen) → s.post ≤ s.at → IsSeenAhead s seen → (seen ≡ []) × IsSeenAhead s []

@@ -2,7 +2,9 @@
 pub mod GlyphHeads
 pub mod ListingParts
 pub mod OpeningParts
+pub mod PageAhead
 pub mod PageMarks
 pub mod ReadFonts
 pub mod Steps
 pub mod Walks
+pub mod SeenTexts

@@ -1,9 +1,9 @@
 -- What is still to be seen of a file that was checked (own).
 use Rattle.std.specs.Prelude.{◌≡◌, ◌≤◌, ◌<◌, ◌+◌, ◌-◌, ◌*◌, ◌^◌, ◌++◌, if◌then◌else◌, nat_lt, [], ◌∷◌, Bool, true, false, List, Option, Some, None}
-use Rattle.std.specs.Prelude.{drop, length, map, reverse, take, ℕ, ℤ}
+use Rattle.std.specs.Prelude.{drop, length, map, reverse, slice_index, take, ℕ, ℤ}
 use Rattle.std.specs.Borrow.{Bor}
 use Rattle.std.specs.List.{AllByRecursion}
-use Rattle.scaled_core.specs.Mark.{Mark}
+use Rattle.scaled_core.specs.Mark.{Mark, Special}
 use Rattle.dvi_ops.specs.Body.{instruction_acts, bounded_acts}
 use Rattle.dvi_ops.specs.File.{MarkedPage}
 use Rattle.dvi_ops.specs.Fonts.{selections}
@@ -13,8 +13,8 @@ use Rattle.dvi_scan.specs.Execution.{HasRoom}
 use Rattle.dvi_scan.specs.Pass.{PassStateView, Between, Inside, passes}
 use Rattle.dvi_scan.specs.View.{mark_of, spot_position, standing_state}
 use Rattle.dvi_scan.specs.declared.executing.OpenPage.{OpenPage}
-use Rattle.dvi_read.specs.Listing.{text_ahead}
-use Rattle.dvi_read.specs.PageMarks.{read_width}
+use Rattle.dvi_read.specs.Listing.{listing, text_ahead}
+use Rattle.dvi_read.specs.PageMarks.{TextStandsAt, read_width}
 use Rattle.dvi_read.specs.ReadFonts.{HasCurrent, HaveByteCodes}
 use Rattle.dvi_read.specs.Seen.{Seen, Counts, Marked, seen_lines, seen_of, seen_so_far}
 use Rattle.dvi_read.specs.Steps.{FontsAreRead}
@@ -42,6 +42,7 @@ pub record HasRest (bytes : List ℕ) (at post most : ℕ) (fonts : ReadFonts) (
   pub passed : passes (bounded_acts (instruction_acts (read_width fonts))) most (first ++ token_instructions rest) here ≡ Some (Between pages)
   pub read : FontsAreRead fonts (selections (first ++ token_instructions rest))
   pub codes : HaveByteCodes fonts
+  pub small : (k : ℕ) → slice_index bytes k < 256
 
 -- A checked file has these pages.
 abbrev pub HasCheckedPages : CheckedDvi → List MarkedPage → Type 0
@@ -71,6 +72,18 @@ pub record IsSeenAfter (first : List Instruction) (s : Sights) (seen : List Seen
 abbrev pub IsSeenAhead : Sights → List Seen → Type 0
 IsSeenAhead s seen = IsSeenAfter [] s seen
 
+-- These are all pages of the file, from the first one on.
+abbrev pub HasAllPages : Sights → List MarkedPage → Type 0
+HasAllPages s pages = HasRest s.bytes.now s.from s.post s.most s.fonts [] (Between []) pages
+
+-- The file is the same, and so are the fonts that were read; another one may be selected.
+pub record IsSameFile (old new : Sights) : Type 0 where
+  pub bytes : new.bytes ≡ old.bytes
+  pub from : new.from ≡ old.from
+  pub post : new.post ≡ old.post
+  pub most : new.most ≡ old.most
+  pub fonts : (place : ℕ) × (new.fonts ≡ record old.fonts { current = place })
+
 -- After an instruction: what is seen of it comes before what is still to be seen.
 abbrev pub ShowsFirst : List Seen → Sights → Option Sight → Type 0
 ShowsFirst seen new None = IsSeenAhead new seen
@@ -81,12 +94,26 @@ abbrev pub ShowsNext : List Seen → Sights → Option Sight → Type 0
 ShowsNext seen new None = (seen ≡ []) × IsSeenAhead new []
 ShowsNext seen new (Some sight) = ShowsFirst seen new (Some sight)
 
+-- The text of a special stands in the bytes, and ends at this place.
+abbrev pub TextEndsAt : List ℕ → (place : ℕ) → Mark → Type 0
+TextEndsAt bytes place (Special h v text) = TextStandsAt bytes (place - length text) text
+TextEndsAt bytes place mark = Unit {0}
+
+-- The same for what is seen, if it is a special.
+abbrev pub EndsText : List ℕ → (place : ℕ) → Option Sight → Type 0
+EndsText bytes place (Some (sights.Mark mark)) = TextEndsAt bytes place (mark_of mark)
+EndsText bytes place sight = Unit {0}
+
 -- The bytes of a listing that are still to come: the rest of a line that was begun, and the lines of what is still to be seen.
 pub record AreLinesAhead (l : CheckedLines) (text : List ℕ) : Type 0 where
   pub seen : List Seen
   pub ahead : IsSeenAhead l.sights seen
   pub text_is : text ≡ text_ahead l.text ++ seen_lines (l.before + 1) seen
   pub counted : l.before ≤ l.sights.at
+
+-- These are the bytes of the whole listing, from the first page on.
+abbrev pub HasAllLines : CheckedLines → (text : List ℕ) → Type 0
+HasAllLines l text = (pages : List MarkedPage) × HasAllPages l.sights pages × (text ≡ listing pages)
 
 -- These bytes come first of a listing, and the rest is still to come.
 abbrev pub GivesFirst : (text first : List ℕ) → CheckedLines → Type 0

@@ -2,7 +2,7 @@
 
 ghost use Rattle.std.specs.Prelude.{◌≡◌, ◌++◌, ◌+◌, ◌<◌, ◌≤◌, [], false, length, vec_capacity, vec_len, IsTrue, List, None, ℕ};
 ghost use Rattle.dvi_read.specs.Seen.{Seen, seen_lines};
-ghost use Rattle.dvi_read.specs.SeenAhead.{AreLinesAhead, GivesFirst, IsSeenAhead, lines_left};
+ghost use Rattle.dvi_read.specs.SeenAhead.{AreLinesAhead, GivesFirst, HasAllLines, IsSameFile, IsSeenAhead, lines_left};
 ghost use Rattle.dvi_read.specs.declared.part.TheConstants.{PART};
 
 use crate::lines::{put_counts, put_mark, put_text};
@@ -23,7 +23,8 @@ pub struct CheckedLines<'a> {
 impl<'a> CheckedLines<'a> {
     /// All lines of the listing of these pages.
     pub(crate) fn new(sights: Sights<'a>) -> CheckedLines<'a>
-        ensures { (seen : List Seen) → IsSeenAhead sights.entry seen → AreLinesAhead result (seen_lines 1 seen) }
+        ensures ahead { (seen : List Seen) → IsSeenAhead sights.entry seen → AreLinesAhead result (seen_lines 1 seen) }
+        ensures sights { result.sights ≡ sights.entry }
     {
         CheckedLines {
             text: None,
@@ -40,6 +41,7 @@ impl<'a> CheckedLines<'a> {
         ensures filled { IsTrue result → 0 < length part.new }
         ensures fewer { IsTrue result → lines_left self.new < lines_left self.old }
         ensures no_more { lines_left self.new ≤ lines_left self.old }
+        ensures same { IsSameFile self.old.sights self.new.sights }
     {
         if let Some(text) = self.text {
             self.text = put_text(text, part);
@@ -67,6 +69,7 @@ impl<'a> CheckedLines<'a> {
             → vec_len text.old < vec_len text.new }
         ensures fewer { vec_len text.old < vec_len text.new → lines_left self.new < lines_left self.old }
         ensures capacity { vec_capacity text.old ≤ vec_capacity text.new }
+        ensures same { IsSameFile self.old.sights self.new.sights }
     {
         let mut part = ListingPart::new();
         while text.capacity() - text.len() >= PART && self.next(&mut part) {
@@ -86,9 +89,22 @@ impl<'a> CheckedLines<'a> {
         ensures piece_not_empty { IsTrue result → 0 < length piece.new.items }
         ensures fewer { IsTrue result → lines_left self.new < lines_left self.old }
         ensures capacity { vec_capacity piece.old ≤ vec_capacity piece.new }
+        // Whatever the whole listing is, it stays so.
+        ensures all_lines { (text : List ℕ) → HasAllLines self.old text → HasAllLines self.new text }
     {
         piece.clear();
         self.fill(piece);
         !piece.is_empty()
+    }
+
+    /// Begins the listing again with its first line. It takes no memory.
+    pub fn rewind(&mut self)
+        requires { (text : List ℕ) × AreLinesAhead self.old text }
+        ensures ahead { (text : List ℕ) → HasAllLines self.old text → AreLinesAhead self.new text }
+        ensures all_lines { (text : List ℕ) → HasAllLines self.old text → HasAllLines self.new text }
+    {
+        self.text = None;
+        self.before = 0;
+        self.sights.rewind();
     }
 }

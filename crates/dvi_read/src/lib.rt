@@ -13,6 +13,7 @@ mod fault;
 pub mod file_laws;
 mod glyph_head;
 mod lines;
+mod one_page;
 mod opening;
 mod part;
 mod read_fonts;

@@ -1,6 +1,6 @@
 //! The pages of a checked file, seen one mark at a time (DVItype, 15).
 
-ghost use Rattle.std.specs.Prelude.{◌≡◌, ◌≢◌, ◌≤◌, ◌<◌, ◌^◌, ◌++◌, ◌∷◌, [], false, true, IfOk, IfSome, IsSome, List, None, Some, ℕ, ℤ};
+ghost use Rattle.std.specs.Prelude.{◌≡◌, ◌≢◌, ◌≤◌, ◌<◌, ◌-◌, ◌^◌, ◌++◌, ◌∷◌, [], false, length, true, IfOk, IfSome, IsSome, List, None, Some, ℕ, ℤ};
 ghost use Rattle.dvi_ops.specs.Body.{Acts, instruction_acts, bounded_acts};
 ghost use Rattle.dvi_ops.specs.File.{MarkedPage};
 ghost use Rattle.dvi_ops.specs.Fonts.{selection_of};
@@ -14,8 +14,9 @@ ghost use Rattle.dvi_scan.specs.Private.View.{marks_in};
 ghost use Rattle.dvi_read.specs.PageMarks.{read_width};
 ghost use Rattle.dvi_read.specs.ReadFonts.{HasCurrent, HaveByteCodes};
 ghost use Rattle.dvi_read.specs.Private.ReadFonts.{Chooses};
-ghost use Rattle.dvi_read.specs.Seen.{Seen};
-ghost use Rattle.dvi_read.specs.SeenAhead.{IsReady, IsSeenAfter, IsSeenAhead, ShowsFirst, ShowsNext, standing};
+ghost use Rattle.dvi_read.specs.Private.SeenTexts.{ShowsTextOf};
+ghost use Rattle.dvi_read.specs.Seen.{Seen, seen_of};
+ghost use Rattle.dvi_read.specs.SeenAhead.{EndsText, HasAllPages, IsReady, IsSameFile, IsSeenAfter, IsSeenAhead, ShowsFirst, ShowsNext, standing};
 ghost use Rattle.dvi_read.specs.Steps.{FontsAreRead};
 ghost use Rattle.dvi_read.specs.declared.read_fonts.ReadFonts.{ReadFonts};
 
@@ -38,6 +39,8 @@ pub enum Sight<'a> {
 #[derive(Drop)]
 pub struct Sights<'a> {
     pub(crate) bytes: &'a [u8],
+    /// The place after the preamble, where the pages begin.
+    pub(crate) from: usize,
     /// The place of post, where the pages end.
     pub(crate) post: usize,
     /// The greatest number of pushes that may be open at once.
@@ -184,8 +187,10 @@ impl<'a> Sights<'a> {
     fn take(&mut self, op: &Op<'a>) -> Option<Sight<'a>>
         requires { (seen : List Seen) × IsSeenAfter (view op.now ∷ []) self.old seen }
         ensures next { (seen : List Seen) → IsSeenAfter (view op.now ∷ []) self.old seen → ShowsFirst seen self.new result }
+        ensures text { ShowsTextOf (view op.now) result }
         ensures place { self.new.at ≡ self.old.at }
         ensures post { self.new.post ≡ self.old.post }
+        ensures same { IsSameFile self.old self.new }
     {
         if !self.inside {
             if !begin(op, &mut self.page) {
@@ -209,9 +214,11 @@ impl<'a> Sights<'a> {
         requires ahead { (seen : List Seen) × IsSeenAhead self.old seen }
         requires more { self.old.at < self.old.post }
         ensures next { (seen : List Seen) → IsSeenAhead self.old seen → ShowsFirst seen self.new result }
+        ensures text { EndsText self.old.bytes.now self.new.at result }
         ensures forward { self.old.at < self.new.at }
         ensures fits { self.new.at < 2 ^ 64 }
         ensures post { self.new.post ≡ self.old.post }
+        ensures same { IsSameFile self.old self.new }
     {
         let Ok((op, next)) = read_at(self.bytes, self.at, self.post) else {
             unreachable!()
@@ -225,10 +232,13 @@ impl<'a> Sights<'a> {
         requires { (seen : List Seen) × IsSeenAhead self.old seen }
         // It is the first of what is still to be seen; or nothing is.
         ensures next { (seen : List Seen) → IsSeenAhead self.old seen → ShowsNext seen self.new result }
+        // The text of a special ends in the file where the walk has come to.
+        ensures text { EndsText self.old.bytes.now self.new.at result }
         ensures forward { IsSome result → self.old.at < self.new.at }
         ensures stays { self.old.at ≤ self.new.at }
         ensures fits { self.new.at < 2 ^ 64 }
         ensures post { self.new.post ≡ self.old.post }
+        ensures same { IsSameFile self.old self.new }
     {
         while self.at < self.post {
             if let Some(sight) = self.step() {
@@ -236,5 +246,30 @@ impl<'a> Sights<'a> {
             }
         }
         None
+    }
+
+    /// Where the text of the special that was seen last begins in the file.
+    pub fn text_start(&self, text: &[u8]) -> usize
+        ensures { result ≡ self.now.at - length text.now }
+    {
+        self.at.saturating_sub(text.len())
+    }
+
+    /// The width of a character in the font of a number; None where no page selects that font, or it has no such character. It takes no memory.
+    pub fn width(&self, number: FontNumber, code: CharCode) -> Option<i32>
+        requires { HaveByteCodes self.now.fonts }
+        ensures { result ≡ read_width self.now.fonts number.value code.value }
+    {
+        self.fonts.width_by(number, code)
+    }
+
+    /// Begins again before the first page: all that was seen will be seen once more. It takes no memory.
+    pub fn rewind(&mut self)
+        requires { (seen : List Seen) × IsSeenAhead self.old seen }
+        ensures ahead { (pages : List MarkedPage) → HasAllPages self.old pages → IsSeenAhead self.new (seen_of pages) }
+        ensures same { IsSameFile self.old self.new }
+    {
+        self.at = self.from;
+        self.inside = false;
     }
 }

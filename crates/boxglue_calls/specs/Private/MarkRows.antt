@@ -1,80 +1,87 @@
--- The rows of marks, as the code makes them (own).
-use Rattle.std.specs.Prelude.{◌≡◌, ◌≢◌, ◌≤◌, ◌*◌, ◌^◌, ℕ, pos, List, [], ◌∷◌, false, true, if◌then◌else◌, length, nat_lt, unwrap_or}
-use Rattle.dvi_ops.specs.View.{units as view_units}
-use Rattle.dvi_read.specs.PageMarks.{marks_of, read_width}
-use Rattle.dvi_read.specs.declared.fault.DviFault.{DviFault}
-use Rattle.dvi_read.specs.declared.fault.DviFault.TheVariants.{Bad, OutOfMemory}
-use Rattle.dvi_read.specs.declared.opening.ReadDvi.{ReadDvi}
+-- The rows of pages and marks, as the code writes them (own).
+use Rattle.std.specs.Prelude.{◌≡◌, ◌≤◌, ◌<◌, ◌+◌, ◌-◌, ◌^◌, ◌++◌, ℕ, ℤ, pos, List, [], ◌∷◌, if◌then◌else◌, drop, length, nat_lt, take, unwrap_or}
+use Rattle.dvi_ops.specs.File.{MarkedPage}
+use Rattle.dvi_ops.specs.Fonts.{WidthsByName, widths_of}
+use Rattle.dvi_ops.specs.Instruction.{Definition}
+use Rattle.dvi_read.specs.PageMarks.{HasGlyphWidths, marks_of, read_width}
+use Rattle.dvi_read.specs.Seen.{Seen, Counts, Marked, seen_of}
+use Rattle.dvi_read.specs.SeenAhead.{IsSeenAhead}
 use Rattle.dvi_read.specs.declared.read_fonts.ReadFonts.{ReadFonts}
+use Rattle.dvi_read.specs.declared.sights.Sight.{Sight}
+use Rattle.dvi_read.specs.declared.sights.Sight.TheVariants as sights
+use Rattle.dvi_read.specs.declared.sights.Sights.{Sights}
+use Rattle.dvi_scan.specs.View.{mark_of}
 use Rattle.scaled_core.specs.Mark.{Mark, Glyph, Rule, Special}
-use Rattle.boxglue_program.specs.Faults.{fault_line}
-use Rattle.boxglue_calls.specs.MarkTables.{MarkOutputs, glyph_row, mark_outputs, no_units, page_rows, rule_row, special_row}
+use Rattle.boxglue_calls.specs.Buffers.{Holds}
+use Rattle.boxglue_calls.specs.MarkTables.{AreMarkRows, MarkOutputs, glyph_row, page_rows, rule_row, special_row}
+use Rattle.boxglue_calls.specs.declared.mark_rows.Written.{Written}
 use Rattle.boxglue_calls.specs.declared.mark_table.DviMark.{DviMark}
-use Rattle.boxglue_calls.specs.declared.mark_table.MarkTable.{MarkTable}
-
--- The first place, or 0 where there is none.
-abbrev pub first_place : List ℕ → ℕ
-first_place [] = 0
-first_place (place ∷ places) = place
-
--- The places after it.
-abbrev pub later_places : List ℕ → List ℕ
-later_places [] = []
-later_places (place ∷ places) = places
+use Rattle.boxglue_calls.specs.declared.mark_table.DviPage.{DviPage}
 
 -- A length as a number of 32 bits.
 abbrev pub size_of : ℕ → ℕ
 size_of n = if nat_lt n (2 ^ 32) then n else 0
 
--- The place of a broken rule, or 0 for another fault.
-abbrev pub place_of : DviFault → ℕ
-place_of (Bad bad) = bad.place
-place_of fault = 0
+-- The row of a mark, where a walk over the file has come to a place: there the text of a special ends.
+abbrev pub row_of : ReadFonts → (place : ℕ) → Mark → DviMark
+row_of fonts place (Glyph font code h v) = glyph_row font code h v (unwrap_or (read_width fonts font code) (pos 0))
+row_of fonts place (Rule h v height width) = rule_row h v height width
+row_of fonts place (Special h v text) = special_row h v (size_of (length text)) (place - length text)
 
--- The row of a mark, where these places are left for the texts of specials.
-abbrev pub row_of : ReadFonts → (places : List ℕ) → Mark → DviMark
-row_of fonts places (Glyph font code h v) = glyph_row font code h v (unwrap_or (read_width fonts font code) (pos 0))
-row_of fonts places (Rule h v height width) = rule_row h v height width
-row_of fonts places (Special h v text) = special_row h v (size_of (length text)) (first_place places)
+-- The number of pages among what is seen.
+abbrev pub pages_among : List Seen → ℕ
+pages_among [] = 0
+pages_among (Counts counts ∷ rest) = pages_among rest + 1
+pages_among (Marked mark ∷ rest) = pages_among rest
 
--- The places that are left after a mark.
-abbrev pub places_after : List ℕ → Mark → List ℕ
-places_after places (Special h v text) = later_places places
-places_after places mark = places
+-- The marks among what is seen.
+abbrev pub marks_among : List Seen → List Mark
+marks_among [] = []
+marks_among (Counts counts ∷ rest) = marks_among rest
+marks_among (Marked mark ∷ rest) = mark ∷ marks_among rest
 
--- The rows of marks, and the places that are left after them.
-abbrev pub mark_rows : ReadFonts → (places : List ℕ) → List Mark → List DviMark
-mark_rows fonts places [] = []
-mark_rows fonts places (mark ∷ marks) = row_of fonts places mark ∷ mark_rows fonts (places_after places mark) marks
+-- There are rows for these marks.
+abbrev pub HasRowsFor : WidthsByName → (table : List Definition) → (bytes : List ℕ) → List Mark → Type 0
+HasRowsFor metrics table bytes marks = (rows : List DviMark) × AreMarkRows bytes (widths_of metrics table) rows marks
 
-abbrev pub places_left : List ℕ → List Mark → List ℕ
-places_left places [] = places
-places_left places (mark ∷ marks) = places_left (places_after places mark) marks
+-- The buffers have a place for the row of what is seen next: a mark comes after a page.
+abbrev pub HasPlace : Sight → Written → MarkOutputs → Type 0
+HasPlace (sights.Page counts) w buffers = w.pages < length buffers.pages
+HasPlace (sights.Mark mark) w buffers =
+    (0 < w.pages) × (w.pages ≤ length buffers.pages) × (w.marks < length buffers.marks) × (w.row.marks ≤ w.marks)
 
--- A table has the rows of a file that was read, and its units.
-pub record HasRowsOf (read : ReadDvi) (table : MarkTable) : Type 0 where
-  pub pages_are : table.pages.items ≡ page_rows 0 read.dvi.pages
-  pub marks_are : table.marks.items ≡ mark_rows read.fonts read.specials.items (marks_of read.dvi.pages)
-  pub units_are : view_units table.units ≡ read.dvi.units
-  pub text_is : table.text.items ≡ []
-  pub accepted_is : table.accepted ≡ true
+-- One row of a page is written, after the others.
+pub record BeginsPage (counts : List ℤ) (old new : Written) (before after : List DviPage) : Type 0 where
+  pub row : new.row ≡ record { counts = counts; first_mark = old.marks; marks = 0 }
+  pub pages_count : new.pages ≡ old.pages + 1
+  pub marks_count : new.marks ≡ old.marks
+  pub written : after ≡ take old.pages before ++ ((new.row ∷ []) ++ drop (old.pages + 1) before)
 
--- A table has the line of a refusal alone.
-pub record IsRefusal (fault : DviFault) (table : MarkTable) : Type 0 where
-  pub other : fault ≢ OutOfMemory
-  pub pages_are : table.pages.items ≡ []
-  pub marks_are : table.marks.items ≡ []
-  pub units_are : view_units table.units ≡ no_units
-  pub text_is : table.text.items ≡ fault_line fault
-  pub text_short : length table.text.items ≤ 64
-  pub accepted_is : table.accepted ≡ false
+-- One row of a mark is written, after the others, and the last row of a page has one mark more.
+pub record AddsMark (mark : DviMark) (old new : Written) (before after : MarkOutputs) : Type 0 where
+  pub row : new.row ≡ record old.row { marks = old.row.marks + 1 }
+  pub pages_count : new.pages ≡ old.pages
+  pub marks_count : new.marks ≡ old.marks + 1
+  pub page_written : after.pages ≡ take (old.pages - 1) before.pages ++ ((new.row ∷ []) ++ drop (old.pages - 1 + 1) before.pages)
+  pub mark_written : after.marks ≡ take old.marks before.marks ++ ((mark ∷ []) ++ drop (old.marks + 1) before.marks)
 
--- The outputs for a file of this length fit into the rooms that always suffice.
-pub record FitsIn (size : ℕ) (outputs : MarkOutputs) : Type 0 where
-  pub pages_fit : 46 * length outputs.pages ≤ size
-  pub marks_fit : length outputs.marks ≤ size
-  pub text_fits : length outputs.text ≤ 64
+-- The row of what is seen is written.
+abbrev pub WritesSight : Sight → Sights → (old new : Written) → (before after : MarkOutputs) → Type 0
+WritesSight (sights.Page counts) s old new before after = BeginsPage counts old new before.pages after.pages × (after.marks ≡ before.marks)
+WritesSight (sights.Mark mark) s old new before after = AddsMark (row_of s.fonts s.at (mark_of mark)) old new before after
 
--- The outputs of a table.
-abbrev pub outputs_of : MarkTable → MarkOutputs
-outputs_of table = mark_outputs table.pages.items table.marks.items table.text.items
+-- The pages that are still to be seen, their glyphs have these widths, and the buffers have room for all rows.
+pub record CanBeWritten (metrics : WidthsByName) (table : List Definition) (s : Sights) (buffers : MarkOutputs)
+    (all : List MarkedPage) : Type 0 where
+  pub ahead : IsSeenAhead s (seen_of all)
+  pub widths : HasGlyphWidths metrics table s.fonts (marks_of all)
+  pub pages_fit : length all ≤ length buffers.pages
+  pub marks_fit : length (marks_of all) ≤ length buffers.marks
+
+-- The buffers hold the rows of these pages, and of their marks.
+pub record HoldsRows (metrics : WidthsByName) (table : List Definition) (bytes : List ℕ) (old new : MarkOutputs)
+    (all : List MarkedPage) : Type 0 where
+  pub pages : Holds old.pages new.pages (page_rows 0 all)
+  pub rows : List DviMark
+  pub are : AreMarkRows bytes (widths_of metrics table) rows (marks_of all)
+  pub marks : Holds old.marks new.marks rows

@@ -29,7 +29,7 @@ returns-in-Err-clause-listed g c =
 
 pub write_listing-requires-clause-ahead : goal.write_listing-requires-clause-ahead
 write_listing-requires-clause-ahead g c =
-    let (pages, file, has) = c.in-Ok.ensures.ok in (listing pages, c.in_ok-lines.ensures pages has)
+    let (pages, file, has) = c.in-Ok.ensures.ok in (listing pages, c.in_ok-lines.ensures.ahead pages has)
 
 pub returns-in_err-write_listing-clause-unwritten : goal.returns-in_err-write_listing-clause-unwritten
 returns-in_err-write_listing-clause-unwritten g c said =
@@ -37,7 +37,7 @@ returns-in_err-write_listing-clause-unwritten g c said =
       listing pages,
       true,
       inl (record { pages = pages; file = file; text_is = refl; accepted_is = refl }),
-      c.in_err-write_listing.ensures.front (listing pages) (c.in_ok-lines.ensures pages has),
+      c.in_err-write_listing.ensures.front (listing pages) (c.in_ok-lines.ensures.ahead pages has),
     )
 
 pub returns-clause-listed : goal.returns-clause-listed
@@ -45,5 +45,5 @@ returns-clause-listed g c =
     let (pages, file, has) = c.in-Ok.ensures.ok in (
       listing pages,
       inl (record { pages = pages; file = file; text_is = refl; accepted_is = refl }),
-      c.in_ok-write_listing.ensures.all (listing pages) (c.in_ok-lines.ensures pages has),
+      c.in_ok-write_listing.ensures.all (listing pages) (c.in_ok-lines.ensures.ahead pages has),
     )

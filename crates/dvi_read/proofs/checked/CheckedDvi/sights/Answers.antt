@@ -2,8 +2,8 @@
 use Rattle.std.proofs.Common.{◌≡◌, [], None, Some, refl, sym, ◌∙◌}
 use Rattle.dvi_read.proofs.checked.CheckedDvi.sights.Goals as goal
 
-pub returns : goal.returns
-returns c = λ pages has.
+pub returns-clause-ahead : goal.returns-clause-ahead
+returns-clause-ahead c = λ pages has.
     record {
       pages = [];
       marks = [];
@@ -12,3 +12,6 @@ returns c = λ pages has.
       ready = record { none = c.in_ok-page.ensures.none; room = c.in_ok-page.ensures.room; current = λ f e. (let none : None ≡ Some f = sym c.in_ok-page.ensures.font ∙ e in absurd cc) };
       seen_is = refl;
     }
+
+pub returns-clause-all : goal.returns-clause-all
+returns-clause-all c = λ pages has. has

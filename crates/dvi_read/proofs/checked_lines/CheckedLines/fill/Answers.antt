@@ -1,7 +1,8 @@
 -- One more line is appended, or none is left.
-use Rattle.std.proofs.Common.{◌≡◌, [], ◌++◌, List, ℕ, length, vec_items, vec_len, arith, ap, inr, refl, sym, ◌∙◌}
+use Rattle.std.proofs.Common.{◌≡◌, [], ◌++◌, List, ℕ, length, vec_items, vec_len, arith, ap, inl, inr, refl, sym, ◌∙◌}
 use Rattle.dvi_read.specs.SeenAhead.{lines_left}
 use Rattle.dvi_read.proofs.CheckedLinesLemmas.{below, not_above, nothing_filled, the_other, whole_next}
+use Rattle.dvi_read.proofs.AgainLemmas.{same_file, same_then}
 use Rattle.dvi_read.proofs.checked_lines.CheckedLines.fill.Goals as goal
 
 pub loop-self-preserved : goal.loop-self-preserved
@@ -25,6 +26,7 @@ loop-self-preserved c =
       grown = omega (arith, grown, c.in-Ok.ensures.len);
       capacity = omega (arith, held.capacity, c.in-Ok.ensures.capacity);
       less = not_above _ _ fewer;
+      same = same_then c.args.self.now.sights c.loop-self.self.sights c.next.new.self.sights held.same next.same;
       begun = inr (omega (arith, grown, c.in-Ok.ensures.len, size, some), fewer);
     }
 
@@ -40,3 +42,18 @@ returns-else-next-clause-filled c = λ lines first room some.
     let whole = ap (λ (bs : List ℕ). c.loop-self.text.items ++ bs) (sym none) ∙ same in
     (the_other c.loop-self.invariant.begun
     (λ text_is. nothing_filled c.args.text.now.items lines (ap (λ v. vec_items v ++ []) (sym text_is) ∙ whole) some)).0
+
+pub returns-else-next-clause-same : goal.returns-else-next-clause-same
+returns-else-next-clause-same c = same_then c.args.self.now.sights c.loop-self.self.sights c.next.new.self.sights c.loop-self.invariant.same c.if-next.ensures.same
+
+pub loop-self-init : goal.loop-self-init
+loop-self-init c =
+    record {
+      some = c.requires;
+      whole = λ lines first. (lines, refl, first);
+      grown = omega arith;
+      capacity = omega arith;
+      less = omega arith;
+      same = same_file c.args.self.now.sights;
+      begun = inl refl;
+    }

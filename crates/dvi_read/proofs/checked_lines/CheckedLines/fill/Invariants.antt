@@ -1,6 +1,6 @@
 -- The bytes so far and the rest are the whole.
 use Rattle.std.proofs.Common.{◌≡◌, ◌++◌, ◌⊎◌, ◌≤◌, ◌<◌, List, ℕ, vec_len, vec_capacity}
-use Rattle.dvi_read.specs.SeenAhead.{AreLinesAhead, lines_left}
+use Rattle.dvi_read.specs.SeenAhead.{AreLinesAhead, IsSameFile, lines_left}
 use Rattle.dvi_read.proofs.checked_lines.CheckedLines.fill.Given as goal
 
 abbrev pub invariant-loop-self : goal.invariant-loop-self
@@ -10,6 +10,7 @@ invariant-loop-self l = record {
   grown : vec_len l.initial.text ≤ vec_len l.text;
   capacity : vec_capacity l.initial.text ≤ vec_capacity l.text;
   less : lines_left l.self ≤ lines_left l.initial.self;
+  same : IsSameFile l.initial.self.sights l.self.sights;
   begun : (l.text ≡ l.initial.text) ⊎ ((vec_len l.initial.text < vec_len l.text) × (lines_left l.self < lines_left l.initial.self));
 }
 

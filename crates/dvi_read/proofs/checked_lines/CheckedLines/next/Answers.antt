@@ -4,6 +4,7 @@ use Rattle.dvi_read.specs.SeenAhead.{ShowsNext}
 use Rattle.dvi_read.specs.declared.sights.Sight.{Sight}
 use Rattle.dvi_read.proofs.CheckedLinesLemmas.{mark_fewer, mark_next, none_next, not_above, page_fewer, page_next, shown_within}
 use Rattle.dvi_read.proofs.NextLines.{line_there}
+use Rattle.dvi_read.proofs.AgainLemmas.{same_file}
 use Rattle.dvi_read.proofs.checked_lines.CheckedLines.next.Goals as goal
 
 pub returns-in_default-next_sight-clause-none : goal.returns-in_default-next_sight-clause-none
@@ -53,3 +54,6 @@ returns-in-Mark-clause-no_more c =
     not_above _ _
     (mark_fewer c.args.self.now c.next_sight.new.self c.put_mark-self.result c.next_sight.ensures.post (c.in-Some-next_sight.ensures.forward refl)
     (shown_within a.seen c.next_sight.new.self c.in-Some-next_sight.sight shows))
+
+pub returns-in-Some-clause-same : goal.returns-in-Some-clause-same
+returns-in-Some-clause-same c = same_file c.args.self.now.sights

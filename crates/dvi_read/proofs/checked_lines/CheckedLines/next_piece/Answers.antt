@@ -2,6 +2,7 @@
 use Rattle.std.proofs.Common.{◌≡◌, true, ◌++◌, List, ℕ, vec_len, arith, ap, sym, ◌∙◌}
 use Rattle.std.proofs.lemmas.Bool.{eqb-true}
 use Rattle.dvi_read.proofs.CheckedLinesLemmas.{is_true, no_items}
+use Rattle.dvi_read.proofs.AgainLemmas.{same_lines}
 use Rattle.dvi_read.proofs.checked_lines.CheckedLines.next_piece.Goals as goal
 
 pub returns-clause-all : goal.returns-clause-all
@@ -15,3 +16,6 @@ returns-clause-none c = λ empty text first.
     (λ some.
     let longer = c.fill.ensures.filled text first (omega (arith, c.clear.ensures.len, c.clear.ensures.capacity, c.requires.room)) some in
     omega (arith, longer, size))
+
+pub returns-clause-all_lines : goal.returns-clause-all_lines
+returns-clause-all_lines c = λ text all. same_lines c.args.self.now c.fill.new.self text c.fill.ensures.same all

@@ -1,6 +1,9 @@
 -- What an instruction shows is next; at the place of post nothing is left.
-use Rattle.std.proofs.Common.{arith, subst}
-use Rattle.dvi_read.specs.SeenAhead.{ShowsFirst}
+use Rattle.std.proofs.Common.{List, ℕ, Option, Some, arith, refl, subst, ◌∙◌}
+use Rattle.std.specs.Borrow.{Bor}
+use Rattle.dvi_read.specs.SeenAhead.{EndsText, ShowsFirst}
+use Rattle.dvi_read.specs.declared.sights.Sight.{Sight}
+use Rattle.dvi_read.proofs.AgainLemmas.{same_file, same_then}
 use Rattle.dvi_read.proofs.SightLemmas.{all_seen}
 use Rattle.dvi_read.proofs.sights.Sights.next_sight.Goals as goal
 
@@ -9,3 +12,26 @@ returns-in-Some-clause-next c = λ seen a. c.in-Some.ensures.next seen (c.loop-s
 
 pub returns-clause-next : goal.returns-clause-next
 returns-clause-next c = λ seen a. all_seen c.loop-self.self seen (omega arith) (c.loop-self.invariant.same seen a)
+
+pub returns-in-Some-clause-text : goal.returns-in-Some-clause-text
+returns-in-Some-clause-text c =
+    subst (λ (bytes : Bor (List ℕ)). EndsText bytes.now c.step.new.self.at (Some c.in-Some.sight)) c.loop-self.invariant.file.bytes c.in-Some.ensures.text
+
+pub returns-in-Some-clause-same : goal.returns-in-Some-clause-same
+returns-in-Some-clause-same c = same_then c.args.self.now c.loop-self.self c.step.new.self c.loop-self.invariant.file c.step.ensures.same
+
+pub loop-self-init : goal.loop-self-init
+loop-self-init c = record { ahead = c.requires; same = λ seen a. a; forward = omega arith; post = refl; file = same_file c.args.self.now }
+
+pub loop-self-preserved : goal.loop-self-preserved
+loop-self-preserved c =
+    let held = c.loop-self.invariant in
+    let step = c.step.ensures in
+    let (seen, a) = held.ahead in
+    record {
+      ahead = (seen, subst (λ (o : Option Sight). ShowsFirst seen c.step.new.self o) c.in_default.is (step.next seen a));
+      same = λ seen a. subst (λ (o : Option Sight). ShowsFirst seen c.step.new.self o) c.in_default.is (step.next seen (held.same seen a));
+      forward = omega (arith, held.forward, step.forward);
+      post = step.post ∙ held.post;
+      file = same_then c.args.self.now c.loop-self.self c.step.new.self held.file step.same;
+    }

@@ -1,6 +1,8 @@
 -- The next instruction is there, and it is taken.
+use Rattle.std.proofs.Common.{ℕ, arith, subst, sym}
 use Rattle.dvi_ops.specs.View.{view}
-use Rattle.dvi_read.proofs.SightLemmas.{now_read, one_there}
+use Rattle.dvi_read.specs.SeenAhead.{EndsText}
+use Rattle.dvi_read.proofs.SightLemmas.{now_read, one_there, text_ends}
 use Rattle.dvi_read.proofs.sights.Sights.step.Goals as goal
 
 pub unreachable-requires : goal.unreachable-requires
@@ -15,3 +17,16 @@ take-requires c =
 pub returns-clause-next : goal.returns-clause-next
 returns-clause-next c = λ seen a.
     let found = c.in-Ok.ensures in c.take.ensures.next seen (now_read c.args.self.now seen (view c.in-Ok.op) c.in-Ok.next found.after found.end_bounded found.found a)
+
+pub returns-clause-text : goal.returns-clause-text
+returns-clause-text c =
+    let s = c.args.self.now in
+    let (seen, a) = c.requires.ahead in
+    let found = c.in-Ok.ensures in
+    let high = a.rest.high in
+    subst (λ (n : ℕ). EndsText s.bytes.now n c.take.result) (sym c.take.ensures.place)
+    (text_ends s.bytes.now s.at c.in-Ok.next (view c.in-Ok.op) c.take.result a.rest.small found.after (omega (arith, found.end_bounded, high)) found.found c.take.ensures.text)
+
+pub returns-clause-same : goal.returns-clause-same
+returns-clause-same c =
+    let same = c.take.ensures.same in record { bytes = same.bytes; from = same.from; post = same.post; most = same.most; fonts = same.fonts }

@@ -3,7 +3,7 @@ use Rattle.std.proofs.Common.{rules, ◌≡◌, false, true, ap, refl}
 use Rattle.dvi_ops.specs.Body.{instruction_acts, bounded_acts}
 use Rattle.dvi_ops.specs.View.{view}
 use Rattle.dvi_read.specs.PageMarks.{read_width}
-use Rattle.dvi_read.proofs.SightLemmas.{began, draws_on, drew, ended, no_eop, read_first}
+use Rattle.dvi_read.proofs.SightLemmas.{began, drawn_texts, draws_on, drew, ended, no_eop, read_first, text_shown}
 use Rattle.dvi_read.proofs.sights.Sights.take.Goals as goal
 
 pub returns-then-not-self-clause-next : goal.returns-then-not-self-clause-next
@@ -33,10 +33,14 @@ returns-in-Some c =
     let within : s.inside ≡ true = search rules in
     let draw = c.draw.ensures in
     let (place, fonts) = draw.fonts in
+    let (seen, a) = c.requires in
+    let texts = drawn_texts (view c.args.op.now) s seen a c.draw.new.page c.draw.result within draw.draws in
     record {
       next = λ seen a. drew (view c.args.op.now) s seen a c.draw.new.fonts c.draw.new.page c.draw.result _ place within fonts draw.counts draw.ready draw.draws c.in-Some.is;
       place = refl;
+      text = text_shown (view c.args.op.now) c.draw.result _ texts c.in-Some.is;
       post = refl;
+      same = record { bytes = refl; from = refl; post = refl; most = refl; fonts = (place, fonts) };
     }
 
 pub returns-in-None : goal.returns-in-None
@@ -45,8 +49,24 @@ returns-in-None c =
     let within : s.inside ≡ true = search rules in
     let draw = c.draw.ensures in
     let (place, fonts) = draw.fonts in
+    let (seen, a) = c.requires in
+    let texts = drawn_texts (view c.args.op.now) s seen a c.draw.new.page c.draw.result within draw.draws in
     record {
       next = λ seen a. drew (view c.args.op.now) s seen a c.draw.new.fonts c.draw.new.page c.draw.result _ place within fonts draw.counts draw.ready draw.draws c.in-None.is;
       place = refl;
+      text = text_shown (view c.args.op.now) c.draw.result _ texts c.in-None.is;
       post = refl;
+      same = record { bytes = refl; from = refl; post = refl; most = refl; fonts = (place, fonts) };
     }
+
+pub returns-then-not-self-clause-same : goal.returns-then-not-self-clause-same
+returns-then-not-self-clause-same c =
+    let s = c.args.self.now in record { bytes = refl; from = refl; post = refl; most = refl; fonts = (s.fonts.current, refl) }
+
+pub returns-in-Eop-clause-same : goal.returns-in-Eop-clause-same
+returns-in-Eop-clause-same c =
+    let s = c.args.self.now in record { bytes = refl; from = refl; post = refl; most = refl; fonts = (s.fonts.current, refl) }
+
+pub returns-then-not-begin-clause-same : goal.returns-then-not-begin-clause-same
+returns-then-not-begin-clause-same c =
+    let s = c.args.self.now in record { bytes = refl; from = refl; post = refl; most = refl; fonts = (s.fonts.current, refl) }

@@ -1,0 +1,65 @@
+-- A file whose marks are read, as the code hands it over (own).
+use Rattle.std.specs.Prelude.{◌≡◌, ◌≢◌, ◌≤◌, ◌*◌, ◌++◌, ℕ, List, false, length}
+use Rattle.dvi_ops.specs.File.{IsFile, MarkedPage}
+use Rattle.dvi_ops.specs.Fonts.{definitions}
+use Rattle.dvi_ops.specs.Tokens.{token_instructions}
+use Rattle.dvi_ops.specs.View.{units as view_units}
+use Rattle.dvi_ops.specs.declared.op.Units.{Units as UnitsOf}
+use Rattle.dvi_read.specs.PageMarks.{HasGlyphWidths, HasRoomFor, marks_of}
+use Rattle.dvi_read.specs.Seen.{seen_of}
+use Rattle.dvi_read.specs.SeenAhead.{HasAllPages, IsSeenAhead}
+use Rattle.dvi_read.specs.declared.fault.DviFault.{DviFault}
+use Rattle.dvi_read.specs.declared.fault.DviFault.TheVariants.{Bad, OutOfMemory}
+use Rattle.dvi_read.specs.declared.sights.Sights.{Sights}
+use Rattle.tfm_core.specs.FileWidths.{file_widths}
+use Rattle.tfm_core.specs.NamedBytes.{NamedBytes}
+use Rattle.boxglue_program.specs.Faults.{fault_line}
+use Rattle.boxglue_program.specs.Outputs.{RefusesFile}
+use Rattle.boxglue_program.specs.declared.output.Output.{Output}
+use Rattle.boxglue_calls.specs.MarkTables.{HandsOverMarks, MarkOutputs}
+use Rattle.boxglue_calls.specs.declared.mark_table.MarkSizes.{MarkSizes}
+use Rattle.boxglue_calls.specs.declared.mark_table.ReadFile.{ReadFile}
+use Rattle.boxglue_calls.specs.declared.mark_table.ReadFile.TheVariants.{Checked, Refused}
+
+-- The place of a broken rule, or 0 for another fault.
+abbrev pub place_of : DviFault → ℕ
+place_of (Bad bad) = bad.place
+place_of fault = 0
+
+-- The bytes are a file of these pages, with these units; its pages are still to be seen, and its glyphs have the widths of the files.
+pub record IsChecked (files : List NamedBytes) (bytes : List ℕ) (units : UnitsOf) (s : Sights) (pages : List MarkedPage) : Type 0 where
+  pub file : IsFile (file_widths files) bytes pages
+  pub units_are : view_units units ≡ file.frame.stop.units
+  pub ahead : IsSeenAhead s (seen_of pages)
+  pub all : HasAllPages s pages
+  pub bytes_are : s.bytes.now ≡ bytes
+  pub widths : HasGlyphWidths (file_widths files) (definitions (token_instructions file.frame.front ++ token_instructions file.frame.tail)) s.fonts
+      (marks_of pages)
+  pub room : HasRoomFor bytes pages
+
+-- The line of a fault, which is not that of memory, is short.
+pub record IsShortRefusal (fault : DviFault) (output : Output) : Type 0 where
+  pub other : fault ≢ OutOfMemory
+  pub text_is : output.text.items ≡ fault_line fault
+  pub text_short : length output.text.items ≤ 64
+  pub accepted_is : output.accepted ≡ false
+
+-- The bytes are refused, and the line is short.
+pub record IsRefusal (files : List NamedBytes) (bytes : List ℕ) (output : Output) : Type 0 where
+  pub refuses : RefusesFile files bytes output.text.items false
+  pub text_short : length output.text.items ≤ 64
+
+-- A file that was checked or refused.
+abbrev pub IsReadFile : List NamedBytes → List ℕ → ReadFile → Type 0
+IsReadFile files bytes (Checked units s) = (pages : List MarkedPage) × IsChecked files bytes units s pages
+IsReadFile files bytes (Refused output) = IsRefusal files bytes output
+
+-- The outputs for a file of this length fit into the rooms that always suffice.
+pub record FitsIn (size : ℕ) (outputs : MarkOutputs) : Type 0 where
+  pub pages_fit : 46 * length outputs.pages ≤ size
+  pub marks_fit : length outputs.marks ≤ size
+  pub text_fits : length outputs.text ≤ 64
+
+-- The outputs for a file are handed over, and they fit into these rooms.
+abbrev pub HandsOverFully : List NamedBytes → (bytes : List ℕ) → (old new : MarkOutputs) → MarkSizes → (status : ℕ) → Type 0
+HandsOverFully files bytes old new sizes status = (handed : HandsOverMarks files bytes old new sizes status) × FitsIn (length bytes) handed.outputs
