@@ -11,9 +11,9 @@ use Rattle.dvi_ops.specs.Instruction.{Definition}
 use Rattle.dvi_read.proofs.AgainLemmas.{same_file, same_then}
 use Rattle.dvi_read.proofs.SeenLemmas.{more_marks, page_seen}
 use Rattle.dvi_read.specs.PageMarks.{HasGlyphWidths, IsGlyphWidth, OfGlyph, marks_of}
-use Rattle.dvi_read.specs.Seen.{Seen, Counts, Marked, seen_of}
+use Rattle.dvi_read.specs.Seen.{SeenItem, Counts, Marked, seen_of}
 use Rattle.dvi_read.specs.SeenAhead.{EndsText, IsSameFile, IsSeenAhead, ShowsNext, TextEndsAt}
-use Rattle.dvi_read.specs.declared.read_fonts.ReadFonts.{ReadFonts}
+use Rattle.dvi_read.specs.declared.fonts.ReadFonts.{ReadFonts}
 use Rattle.dvi_read.specs.declared.sights.Sight.{Sight}
 use Rattle.dvi_read.specs.declared.sights.Sight.TheVariants as sights
 use Rattle.dvi_read.specs.declared.sights.Sights.{Sights}
@@ -120,7 +120,7 @@ module _ (bytes : List ℕ) (metrics : WidthsByName) (table : List Definition) (
 -- What is written, and what is still to be seen.
 pub record IsWriting (metrics : WidthsByName) (table : List Definition) (first : Sights) (old new : MarkOutputs) (w : Written) (all : List MarkedPage) (s : Sights) : Type 0 where
   pub shown : List MarkedPage
-  pub rest : List Seen
+  pub rest : List SeenItem
   pub parts : seen_of all ≡ seen_of shown ++ rest
   pub ahead : IsSeenAhead s rest
   pub same : IsSameFile first s
@@ -152,29 +152,29 @@ module _ (metrics : WidthsByName) (table : List Definition) (first : Sights) (ol
   shown = writing.shown
 
   -- Where a page comes next, there is room for its row.
-  page_room : (counts : List ℤ) (later : List Seen) → writing.rest ≡ Counts counts ∷ later → length shown + 1 ≤ length old.pages
+  page_room : (counts : List ℤ) (later : List SeenItem) → writing.rest ≡ Counts counts ∷ later → length shown + 1 ≤ length old.pages
   page_room counts later is =
       let parts : length all ≡ length shown + (pages_among later + 1) =
       sym (pages_seen_in all)
-      ∙ (ap pages_among (writing.parts ∙ ap (λ (ss : List Seen). seen_of shown ++ ss) is)
+      ∙ (ap pages_among (writing.parts ∙ ap (λ (ss : List SeenItem). seen_of shown ++ ss) is)
       ∙ (pages-among (seen_of shown) (Counts counts ∷ later) ∙ ap (λ (n : ℕ). n + (pages_among later + 1)) (pages_seen_in shown))) in
       let fit = can.pages_fit in omega arith
 
   -- Where a mark comes next, it is one of all.
-  marks_parts : (mark : Mark) (later : List Seen) → writing.rest ≡ Marked mark ∷ later → marks_of all ≡ marks_of shown ++ (mark ∷ marks_among later)
+  marks_parts : (mark : Mark) (later : List SeenItem) → writing.rest ≡ Marked mark ∷ later → marks_of all ≡ marks_of shown ++ (mark ∷ marks_among later)
   marks_parts mark later is =
       sym (marks_seen_in all)
-      ∙ (ap marks_among (writing.parts ∙ ap (λ (ss : List Seen). seen_of shown ++ ss) is)
+      ∙ (ap marks_among (writing.parts ∙ ap (λ (ss : List SeenItem). seen_of shown ++ ss) is)
       ∙ (marks-among (seen_of shown) (Marked mark ∷ later) ∙ ap (λ (ms : List Mark). ms ++ (mark ∷ marks_among later)) (marks_seen_in shown)))
 
-  mark_room : (mark : Mark) (later : List Seen) → writing.rest ≡ Marked mark ∷ later → length (marks_of shown) + 1 ≤ length old.marks
+  mark_room : (mark : Mark) (later : List SeenItem) → writing.rest ≡ Marked mark ∷ later → length (marks_of shown) + 1 ≤ length old.marks
   mark_room mark later is =
       let parts : length (marks_of all) ≡ length (marks_of shown) + length (mark ∷ marks_among later) =
       ap (λ (ms : List Mark). length ms) (marks_parts mark later is) ∙ length-append (marks_of shown) (mark ∷ marks_among later) in
       let fit = can.marks_fit in omega arith
 
   -- Some page is open there.
-  opened : (mark : Mark) (later : List Seen) → writing.rest ≡ Marked mark ∷ later
+  opened : (mark : Mark) (later : List SeenItem) → writing.rest ≡ Marked mark ∷ later
       → (before : List MarkedPage) × (page : MarkedPage) × (shown ≡ before ++ page ∷ []) × (w.row ≡ page_row (length (marks_of before)) page)
   opened mark later is = by_last writing.has.last
     where
@@ -205,7 +205,7 @@ module _ (metrics : WidthsByName) (table : List Definition) (first : Sights) (ol
       (omega arith, omega arith, omega arith, omega arith)
 
   -- The glyph has its width in the fonts as they are now.
-  glyph_now : (new : Sights) (mark : Mark) (later : List Seen) → IsSameFile first new → writing.rest ≡ Marked mark ∷ later → OfGlyph (IsGlyphWidth metrics table new.fonts) mark
+  glyph_now : (new : Sights) (mark : Mark) (later : List SeenItem) → IsSameFile first new → writing.rest ≡ Marked mark ∷ later → OfGlyph (IsGlyphWidth metrics table new.fonts) mark
   glyph_now new mark later same is =
       let (place, fonts) = same.fonts in
       let each = subst (λ (ms : List Mark). AllByRecursion (OfGlyph (IsGlyphWidth metrics table first.fonts)) ms) (marks_parts mark later is) can.widths.widths in
@@ -221,8 +221,8 @@ module _ (metrics : WidthsByName) (table : List Definition) (first : Sights) (ol
         shown = shown ++ page ∷ [];
         rest = later;
         parts = writing.parts
-            ∙ (ap (λ (ss : List Seen). seen_of shown ++ ss) is
-            ∙ (sym (append_assoc (seen_of shown) (Counts counts ∷ []) later) ∙ ap (λ (ss : List Seen). ss ++ later) (sym (page_seen shown page))));
+            ∙ (ap (λ (ss : List SeenItem). seen_of shown ++ ss) is
+            ∙ (sym (append_assoc (seen_of shown) (Counts counts ∷ []) later) ∙ ap (λ (ss : List SeenItem). ss ++ later) (sym (page_seen shown page))));
         ahead = ahead;
         same = same_then first s new writing.same same;
         has = page_more first.bytes.now metrics table old mid after w w_new shown writing.has counts (page_room counts later is) begins marks;
@@ -235,14 +235,14 @@ module _ (metrics : WidthsByName) (table : List Definition) (first : Sights) (ol
       let ends : TextEndsAt first.bytes.now new.at m = subst (λ (bytes : Bor (List ℕ)). TextEndsAt bytes.now new.at m) writing.same.bytes text in
       let row = is_row first.bytes.now metrics table new.fonts new.at m (glyph_now new m later all_same is) ends in
       let seen : seen_of shown ++ (Marked m ∷ []) ≡ seen_of (before ++ next ∷ []) =
-      ap (λ (ss : List Seen). ss ++ (Marked m ∷ [])) (ap (λ (ps : List MarkedPage). seen_of ps) shown_is ∙ page_seen before page)
+      ap (λ (ss : List SeenItem). ss ++ (Marked m ∷ [])) (ap (λ (ps : List MarkedPage). seen_of ps) shown_is ∙ page_seen before page)
       ∙ (sym (more_marks before page.counts page.marks (m ∷ [])) ∙ sym (page_seen before next)) in
       record {
         shown = before ++ next ∷ [];
         rest = later;
         parts = writing.parts
-            ∙ (ap (λ (ss : List Seen). seen_of shown ++ ss) is
-            ∙ (sym (append_assoc (seen_of shown) (Marked m ∷ []) later) ∙ ap (λ (ss : List Seen). ss ++ later) seen));
+            ∙ (ap (λ (ss : List SeenItem). seen_of shown ++ ss) is
+            ∙ (sym (append_assoc (seen_of shown) (Marked m ∷ []) later) ∙ ap (λ (ss : List SeenItem). ss ++ later) seen));
         ahead = ahead;
         same = all_same;
         has = mark_more first.bytes.now metrics table old mid after w w_new shown writing.has (row_of new.fonts new.at m) m before page shown_is row_is (mark_room m later is) row adds;
@@ -251,7 +251,7 @@ module _ (metrics : WidthsByName) (table : List Definition) (first : Sights) (ol
   pub written_all : writing.rest ≡ [] → HoldsRows metrics table first.bytes.now old mid all
   written_all none =
       let whole : seen_of all ≡ seen_of shown =
-      writing.parts ∙ (ap (λ (ss : List Seen). seen_of shown ++ ss) none ∙ append-nil (seen_of shown)) in
+      writing.parts ∙ (ap (λ (ss : List SeenItem). seen_of shown ++ ss) none ∙ append-nil (seen_of shown)) in
       let is : shown ≡ all = sym (one_seen all shown whole) in
       record {
         pages = subst (λ (ps : List MarkedPage). Holds old.pages mid.pages (page_rows 0 ps)) is writing.has.pages;
@@ -261,21 +261,21 @@ module _ (metrics : WidthsByName) (table : List Definition) (first : Sights) (ol
       }
 
 -- The rows of the marks that were counted.
-pub record HasCounted (metrics : WidthsByName) (table : List Definition) (first : Sights) (seen : List Seen) (s : Sights) : Type 0 where
+pub record HasCounted (metrics : WidthsByName) (table : List Definition) (first : Sights) (seen : List SeenItem) (s : Sights) : Type 0 where
   pub done : List Mark
-  pub rest : List Seen
+  pub rest : List SeenItem
   pub ahead : IsSeenAhead s rest
   pub parts : marks_among seen ≡ done ++ marks_among rest
   pub rows : HasRowsFor metrics table first.bytes.now done
 
-pub counted_row : (metrics : WidthsByName) (table : List Definition) (first : Sights) (seen : List Seen) (s new : Sights) (sight : Sight) → HasGlyphWidths metrics table first.fonts (marks_among seen) → IsSameFile first s
+pub counted_row : (metrics : WidthsByName) (table : List Definition) (first : Sights) (seen : List SeenItem) (s new : Sights) (sight : Sight) → HasGlyphWidths metrics table first.fonts (marks_among seen) → IsSameFile first s
     → IsSameFile s new → EndsText s.bytes.now new.at (Some sight) → (c : HasCounted metrics table first seen s) → ShowsNext c.rest new (Some sight) → HasCounted metrics table first seen new
 counted_row metrics table first seen s new (sights.Page counts) widths before same text c (later, is, ahead) =
-    record { done = c.done; rest = later; ahead = ahead; parts = c.parts ∙ ap (λ (ss : List Seen). c.done ++ marks_among ss) is; rows = c.rows }
+    record { done = c.done; rest = later; ahead = ahead; parts = c.parts ∙ ap (λ (ss : List SeenItem). c.done ++ marks_among ss) is; rows = c.rows }
 counted_row metrics table first seen s new (sights.Mark mark) widths before same text c (later, is, ahead) =
     let m = mark_of mark in
     let (place, fonts) = (same_then first s new before same).fonts in
-    let parts : marks_among seen ≡ c.done ++ (m ∷ marks_among later) = c.parts ∙ ap (λ (ss : List Seen). c.done ++ marks_among ss) is in
+    let parts : marks_among seen ≡ c.done ++ (m ∷ marks_among later) = c.parts ∙ ap (λ (ss : List SeenItem). c.done ++ marks_among ss) is in
     let each = subst (λ (ms : List Mark). AllByRecursion (OfGlyph (IsGlyphWidth metrics table first.fonts)) ms) parts widths.widths in
     let here : OfGlyph (IsGlyphWidth metrics table first.fonts) m =
     (all_back (OfGlyph (IsGlyphWidth metrics table first.fonts)) c.done (m ∷ marks_among later) each).0 in
@@ -291,10 +291,10 @@ counted_row metrics table first seen s new (sights.Mark mark) widths before same
       rows = (rows ++ row_of new.fonts new.at m ∷ [], rows_more first.bytes.now metrics table rows c.done (row_of new.fonts new.at m) m are row);
     }
 
-pub counted_rows : (metrics : WidthsByName) (table : List Definition) (first : Sights) (seen : List Seen) (s : Sights) (c : HasCounted metrics table first seen s) → c.rest ≡ []
+pub counted_rows : (metrics : WidthsByName) (table : List Definition) (first : Sights) (seen : List SeenItem) (s : Sights) (c : HasCounted metrics table first seen s) → c.rest ≡ []
     → HasRowsFor metrics table first.bytes.now (marks_among seen)
 counted_rows metrics table first seen s c none =
-    let whole : marks_among seen ≡ c.done = c.parts ∙ (ap (λ (ss : List Seen). c.done ++ marks_among ss) none ∙ append-nil c.done) in
+    let whole : marks_among seen ≡ c.done = c.parts ∙ (ap (λ (ss : List SeenItem). c.done ++ marks_among ss) none ∙ append-nil c.done) in
     subst (λ (ms : List Mark). HasRowsFor metrics table first.bytes.now ms) (sym whole) c.rows
 
 -- The glyphs have their widths in the same file.
@@ -304,12 +304,12 @@ same_widths metrics table a b marks same has =
     subst (λ (f : ReadFonts). HasGlyphWidths metrics table f marks) (sym fonts) (record { codes = has.codes; widths = has.widths })
 
 -- One more row is counted.
-pub counted_next : (rest later : List Seen) (seen : Seen) (pages marks pages_new marks_new pages_all marks_all : ℕ) → rest ≡ seen ∷ later → pages + pages_among rest ≡ pages_all
+pub counted_next : (rest later : List SeenItem) (seen : SeenItem) (pages marks pages_new marks_new pages_all marks_all : ℕ) → rest ≡ seen ∷ later → pages + pages_among rest ≡ pages_all
     → marks + length (marks_among rest) ≡ marks_all → pages_new ≡ pages + pages_among (seen ∷ []) → marks_new ≡ marks + length (marks_among (seen ∷ []))
     → (pages_new + pages_among later ≡ pages_all) × (marks_new + length (marks_among later) ≡ marks_all)
 counted_next rest later (Counts counts) pages marks pages_new marks_new pages_all marks_all is have have_marks one one_mark =
     let size : pages_among rest ≡ pages_among later + 1 = ap pages_among is in
-    let marks_size : length (marks_among rest) ≡ length (marks_among later) = ap (λ (ss : List Seen). length (marks_among ss)) is in (omega arith, omega arith)
+    let marks_size : length (marks_among rest) ≡ length (marks_among later) = ap (λ (ss : List SeenItem). length (marks_among ss)) is in (omega arith, omega arith)
 counted_next rest later (Marked mark) pages marks pages_new marks_new pages_all marks_all is have have_marks one one_mark =
     let size : pages_among rest ≡ pages_among later = ap pages_among is in
-    let marks_size : length (marks_among rest) ≡ length (mark ∷ marks_among later) = ap (λ (ss : List Seen). length (marks_among ss)) is in (omega arith, omega arith)
+    let marks_size : length (marks_among rest) ≡ length (mark ∷ marks_among later) = ap (λ (ss : List SeenItem). length (marks_among ss)) is in (omega arith, omega arith)

@@ -4,7 +4,7 @@ ghost use Rattle.std.specs.Prelude.{◌≡◌, ◌≤◌, ℕ, List, length, vec
 ghost use Rattle.dvi_ops.specs.File.{MarkedPage};
 ghost use Rattle.dvi_read.specs.Listing.{listing};
 ghost use Rattle.dvi_read.specs.SeenAhead.{AreLinesAhead, HasAllLines, HasCheckedPages};
-ghost use Rattle.dvi_read.specs.declared.part.TheConstants.{PART};
+ghost use Rattle.dvi_read.specs.declared.listings.part.TheConstants.{PART};
 ghost use Rattle.boxglue_calls.specs.Buffers.{HandsOver, Holds};
 
 use crate::buffers::put_after;

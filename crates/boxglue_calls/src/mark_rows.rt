@@ -6,7 +6,7 @@ ghost use Rattle.dvi_ops.specs.Fonts.{WidthsByName};
 ghost use Rattle.dvi_ops.specs.Instruction.{Definition};
 ghost use Rattle.dvi_read.specs.PageMarks.{HasGlyphWidths};
 ghost use Rattle.dvi_read.specs.ReadFonts.{HaveByteCodes};
-ghost use Rattle.dvi_read.specs.Seen.{Seen};
+ghost use Rattle.dvi_read.specs.Seen.{SeenItem};
 ghost use Rattle.dvi_read.specs.SeenAhead.{IsSameFile, IsSeenAhead, sight_of};
 ghost use Rattle.dvi_scan.specs.View.{mark_of};
 ghost use Rattle.boxglue_calls.specs.MarkTables.{empty_row, mark_outputs};
@@ -48,13 +48,13 @@ fn count_sight(sight: &Sight<'_>, counts: &mut RowCounts)
 
 /// The numbers of pages and marks that are still to be seen. Each takes a byte of the file, so they fit.
 pub(crate) fn count_rows(sights: &mut Sights<'_>) -> RowCounts
-    requires { (seen : List Seen) × IsSeenAhead sights.old seen }
-    ensures pages { (seen : List Seen) → IsSeenAhead sights.old seen → result.pages ≡ pages_among seen }
-    ensures marks { (seen : List Seen) → IsSeenAhead sights.old seen → result.marks ≡ length (marks_among seen) }
+    requires { (seen : List SeenItem) × IsSeenAhead sights.old seen }
+    ensures pages { (seen : List SeenItem) → IsSeenAhead sights.old seen → result.pages ≡ pages_among seen }
+    ensures marks { (seen : List SeenItem) → IsSeenAhead sights.old seen → result.marks ≡ length (marks_among seen) }
     // There is a row for each mark.
-    ensures rows { (metrics : WidthsByName) (table : List Definition) (seen : List Seen) → IsSeenAhead sights.old seen
+    ensures rows { (metrics : WidthsByName) (table : List Definition) (seen : List SeenItem) → IsSeenAhead sights.old seen
         → HasGlyphWidths metrics table sights.old.fonts (marks_among seen) → HasRowsFor metrics table sights.old.bytes.now (marks_among seen) }
-    ensures ahead { (seen : List Seen) × IsSeenAhead sights.new seen }
+    ensures ahead { (seen : List SeenItem) × IsSeenAhead sights.new seen }
     ensures same { IsSameFile sights.old sights.new }
 {
     let mut counts = RowCounts { pages: 0, marks: 0 };

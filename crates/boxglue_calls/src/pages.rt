@@ -86,7 +86,7 @@ fn options(page: u32, dpi: u32, width: u32, height: u32) -> Option<PaintOptions>
 }
 
 /// The bitmap of a page of a DVI file with these fonts, which have names, or the line of the file's refusal.
-fn painted(
+fn bitmap_text(
     alloc: Global,
     dvi: &[u8],
     fonts: &[Font<'_>],
@@ -132,7 +132,7 @@ pub fn paint(
     let Some(sheet) = options(page, dpi, width, height) else {
         return OUT_OF_RANGE;
     };
-    match painted(alloc, dvi, fonts, sheet) {
+    match bitmap_text(alloc, dvi, fonts, sheet) {
         Ok(output) => {
             *size = output.text.len();
             hand_over(&output.text, text, file_status(output.accepted))

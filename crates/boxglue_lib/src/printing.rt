@@ -3,7 +3,7 @@
 ghost use Rattle.std.specs.Prelude.{◌≡◌, ◌≢◌, ◌≤◌, ◌⊎◌, ℕ, Bool, List, vec_capacity, Err, IfOk, OnErr, OnOk};
 ghost use Rattle.std.specs.Io.KnownBytes.{Appends, Keeps};
 ghost use Rattle.dvi_read.specs.SeenAhead.{AreLinesAhead};
-ghost use Rattle.dvi_read.specs.declared.part.TheConstants.{PART};
+ghost use Rattle.dvi_read.specs.declared.listings.part.TheConstants.{PART};
 ghost use Rattle.boxglue_program.specs.Outputs.{IsListed, IsPainted, LacksPage};
 ghost use Rattle.raster_core.specs.PlainText.{pbm};
 ghost use Rattle.raster_core.specs.declared.text.TheConstants.{ROW_TEXT};

@@ -21,7 +21,7 @@ use Rattle.dvi_read.proofs.FaultLemmas.{after_within, no_fault, no_front_fault}
 use Rattle.dvi_read.specs.Opened.{IsNoFile}
 use Rattle.dvi_read.specs.Opening.{BeforeThePages, StartsAt}
 use Rattle.dvi_read.specs.OpeningParts.{HasFront}
-use Rattle.dvi_read.specs.declared.before_pages.BeforePages.{BeforePages}
+use Rattle.dvi_read.specs.declared.check.before_pages.BeforePages.{BeforePages}
 use Rattle.dvi_read.specs.Faults.{of_frame}
 use Rattle.dvi_read.specs.declared.fault.DviFault.{DviFault}
 use Rattle.dvi_read.specs.declared.fault.DviFault.TheVariants.{OutOfMemory}

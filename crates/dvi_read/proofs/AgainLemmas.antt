@@ -4,10 +4,10 @@ use Rattle.std.specs.Borrow.{Bor}
 use Rattle.dvi_ops.specs.File.{MarkedPage}
 use Rattle.dvi_scan.specs.Pass.{Between}
 use Rattle.dvi_read.specs.Listing.{listing}
-use Rattle.dvi_read.specs.Seen.{Seen, seen_of}
+use Rattle.dvi_read.specs.Seen.{SeenItem, seen_of}
 use Rattle.dvi_read.specs.SeenAhead.{AreLinesAhead, HasAllLines, HasAllPages, HasRest, IsSameFile, IsSeenAhead}
-use Rattle.dvi_read.specs.declared.checked_lines.CheckedLines.{CheckedLines}
-use Rattle.dvi_read.specs.declared.read_fonts.ReadFonts.{ReadFonts}
+use Rattle.dvi_read.specs.declared.listings.checked_lines.CheckedLines.{CheckedLines}
+use Rattle.dvi_read.specs.declared.fonts.ReadFonts.{ReadFonts}
 use Rattle.dvi_read.specs.declared.sights.Sights.{Sights}
 use Rattle.dvi_read.proofs.SeenLemmas.{pages_seen}
 
@@ -42,7 +42,7 @@ pub same_lines : (old new : CheckedLines) (text : List ℕ) → IsSameFile old.s
 same_lines old new text same (pages, has, is) = (pages, same_pages old.sights new.sights pages same has, is)
 
 -- Before the first page nothing was seen.
-pub seen_again : (s : Sights) (seen : List Seen) (pages : List MarkedPage) → IsSeenAhead s seen → HasAllPages s pages → IsSeenAhead (record s { at = s.from; inside = false }) (seen_of pages)
+pub seen_again : (s : Sights) (seen : List SeenItem) (pages : List MarkedPage) → IsSeenAhead s seen → HasAllPages s pages → IsSeenAhead (record s { at = s.from; inside = false }) (seen_of pages)
 seen_again s seen pages a has = record { pages = []; marks = []; all = pages; rest = has; ready = a.ready; seen_is = refl }
 
 pub lines_again : (l : CheckedLines) (new : Sights) (text : List ℕ) (pages : List MarkedPage) → IsSeenAhead new (seen_of pages) → text ≡ listing pages

@@ -21,8 +21,8 @@ use Rattle.dvi_read.specs.PageMarks.{HasPlaces, TextsStandAt, marks_so_far, text
 use Rattle.dvi_read.specs.ReadFonts.{AreSound, FontIsRead, HasCurrent, IsCurrent, asked_width, selected_in}
 use Rattle.dvi_read.specs.Steps.{FontsAreRead, known_of, places_left, stand_of}
 use Rattle.dvi_read.specs.Private.Walks.{IsWalkedOver, bare}
-use Rattle.dvi_read.specs.declared.read_fonts.ReadFonts.{ReadFonts}
-use Rattle.dvi_read.specs.declared.walk.Walk.{Walk}
+use Rattle.dvi_read.specs.declared.fonts.ReadFonts.{ReadFonts}
+use Rattle.dvi_read.specs.declared.check.walk.Walk.{Walk}
 use Rattle.dvi_read.proofs.HeldLemmas.{walked_over_turn}
 use Rattle.dvi_read.proofs.StepLemmas.{width_of_read}
 

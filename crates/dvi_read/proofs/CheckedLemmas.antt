@@ -29,8 +29,8 @@ use Rattle.dvi_read.specs.Stops.{IsUnended, PagesHaveEnded}
 use Rattle.dvi_read.specs.Private.Walks.{bare, read_in}
 use Rattle.dvi_read.specs.declared.fault.DviFault.{DviFault}
 use Rattle.dvi_read.specs.declared.fault.DviFault.TheVariants as faults
-use Rattle.dvi_read.specs.declared.read_fonts.ReadFonts.{ReadFonts}
-use Rattle.dvi_read.specs.declared.walk.Walk.{Walk}
+use Rattle.dvi_read.specs.declared.fonts.ReadFonts.{ReadFonts}
+use Rattle.dvi_read.specs.declared.check.walk.Walk.{Walk}
 use Rattle.dvi_read.proofs.FaultLemmas.{post_within}
 use Rattle.dvi_read.proofs.MarkLemmas.{least_of, least_written, more_widths, pass_bytes, pass_glyphs}
 use Rattle.dvi_read.proofs.OpenLemmas.{finish_refused, fonts_read, opened}

@@ -7,9 +7,9 @@ use Rattle.std.proofs.lemmas.List.{append_cancel_left}
 use Rattle.dvi_scan.specs.View.{mark_of}
 use Rattle.dvi_scan.specs.declared.page.Mark.{Mark as PassMark}
 use Rattle.dvi_read.specs.Listing.{line, mark_line, text_ahead, text_line}
-use Rattle.dvi_read.specs.Seen.{Seen, seen_lines}
+use Rattle.dvi_read.specs.Seen.{SeenItem, seen_lines}
 use Rattle.dvi_read.specs.SeenAhead.{AreLinesAhead, GivesFirst, IsSeenAhead, ShowsNext, lines_left, text_left}
-use Rattle.dvi_read.specs.declared.checked_lines.CheckedLines.{CheckedLines}
+use Rattle.dvi_read.specs.declared.listings.checked_lines.CheckedLines.{CheckedLines}
 use Rattle.dvi_read.specs.declared.sights.Sight.{Sight}
 use Rattle.dvi_read.specs.declared.sights.Sight.TheVariants as sights
 use Rattle.dvi_read.specs.declared.sights.Sights.{Sights}
@@ -38,7 +38,7 @@ module _ (l : CheckedLines) (lines : List ℕ) (new : Sights) (none : l.text ≡
           let counted = a.counted in
           let later = seen_lines (l.before + 1 + 1) rest in (
             later,
-            seen_alone ∙ (ap (λ (ss : List Seen). seen_lines (l.before + 1) ss) seen_is ∙ ap (λ (bs : List ℕ). bs ++ later) (sym part_is)),
+            seen_alone ∙ (ap (λ (ss : List SeenItem). seen_lines (l.before + 1) ss) seen_is ∙ ap (λ (bs : List ℕ). bs ++ later) (sym part_is)),
             record { seen = rest; ahead = ahead; text_is = sym (ap (λ (t : Option (Bor (List ℕ))). text_ahead t ++ later) none); counted = omega arith },
           )
 
@@ -52,7 +52,7 @@ module _ (l : CheckedLines) (lines : List ℕ) (new : Sights) (none : l.text ≡
           let counted = a.counted in
           let later = seen_lines (l.before + 1) rest in (
             text_ahead left ++ later,
-            seen_alone ∙ (ap (λ (ss : List Seen). seen_lines (l.before + 1) ss) seen_is ∙ (ap (λ (bs : List ℕ). bs ++ later) whole ∙ append_assoc part (text_ahead left) later)),
+            seen_alone ∙ (ap (λ (ss : List SeenItem). seen_lines (l.before + 1) ss) seen_is ∙ (ap (λ (bs : List ℕ). bs ++ later) whole ∙ append_assoc part (text_ahead left) later)),
             record { seen = rest; ahead = ahead; text_is = refl; counted = omega arith },
           )
 
@@ -61,7 +61,7 @@ module _ (l : CheckedLines) (lines : List ℕ) (new : Sights) (none : l.text ≡
   none_next (nothing, ahead) forward =
       let counted = a.counted in
       let empty : text_ahead l.text ≡ [] = ap text_ahead none in (
-        seen_alone ∙ ap (λ (ss : List Seen). seen_lines (l.before + 1) ss) nothing,
+        seen_alone ∙ ap (λ (ss : List SeenItem). seen_lines (l.before + 1) ss) nothing,
         record { seen = []; ahead = ahead; text_is = sym (append-nil (text_ahead l.text) ∙ empty); counted = omega arith },
       )
 
@@ -116,7 +116,7 @@ nothing_filled old lines same some =
     let none : [] ≡ lines = append_cancel_left old [] lines same in let size : 0 ≡ length lines = ap (λ (bs : List ℕ). length bs) none in omega arith
 
 -- The place after what is shown is before post.
-pub shown_within : (seen : List Seen) (new : Sights) (found : Sight) → ShowsNext seen new (Some found) → new.at ≤ new.post
+pub shown_within : (seen : List SeenItem) (new : Sights) (found : Sight) → ShowsNext seen new (Some found) → new.at ≤ new.post
 shown_within seen new found (rest, seen_is, ahead) = ahead.rest.low
 
 -- Numbers, facts and lists in short.

@@ -28,11 +28,11 @@ use Rattle.dvi_read.specs.ReadFonts.{AreSound, FontIsRead, HasCurrent, IsCurrent
 use Rattle.dvi_read.specs.Steps.{FontsAreRead, known_of, places_left, so_far, stand_of}
 use Rattle.dvi_read.specs.Stops.{PageBytes, page_bytes, BreaksAt, BreaksPages, BreaksRule, InstructionAllocates, IsPagesFault, LacksRoom, LacksWidths, PassContinues, SelectsUnread}
 use Rattle.dvi_read.specs.Walks.{IsWalked}
-use Rattle.dvi_read.specs.Private.Walks.{IsBegun, IsWalkedOver, Reads, bare, held, read_in}
+use Rattle.dvi_read.specs.Private.Walks.{IsBegun, IsWalkedOver, Reads, bare, held_state, read_in}
 use Rattle.dvi_read.specs.declared.fault.DviFault.{DviFault}
 use Rattle.dvi_read.specs.declared.fault.DviFault.TheVariants as faults
-use Rattle.dvi_read.specs.declared.read_fonts.ReadFonts.{ReadFonts}
-use Rattle.dvi_read.specs.declared.walk.Walk.{Walk}
+use Rattle.dvi_read.specs.declared.fonts.ReadFonts.{ReadFonts}
+use Rattle.dvi_read.specs.declared.check.walk.Walk.{Walk}
 use Rattle.dvi_read.proofs.WalkLemmas.{walked_first}
 use Rattle.tfm_core.specs.FileWidths.{file_widths}
 use Rattle.tfm_core.specs.NamedBytes.{NamedBytes}
@@ -75,8 +75,8 @@ bare_onto pages marks (Inside [] counts more stack s) = refl
 bare_onto pages marks (Inside (page ∷ rest) counts more stack s) = refl
 
 -- Where an instruction is accepted in what a walk holds, it is accepted in the whole state, and the walk holds what it keeps of the state after it.
-pub held_turn : (keeps : Bool) (does : Acts) (most : ℕ) (i : Instruction) (p q : PassStateView) → execute does most i (held keeps p) ≡ Some q
-    → (r : PassStateView) × (execute does most i p ≡ Some r) × (held keeps r ≡ held keeps q)
+pub held_turn : (keeps : Bool) (does : Acts) (most : ℕ) (i : Instruction) (p q : PassStateView) → execute does most i (held_state keeps p) ≡ Some q
+    → (r : PassStateView) × (execute does most i p ≡ Some r) × (held_state keeps r ≡ held_state keeps q)
 held_turn true does most i p q e = (q, e, refl)
 held_turn false does most (Do Nop) (Between pages) q e = let same : Between [] ≡ q = cc in (Between pages, refl, ap bare same)
 held_turn false does most (Do (FontDef d)) (Between pages) q e = let same : Between [] ≡ q = cc in (Between pages, refl, ap bare same)
@@ -112,7 +112,7 @@ bare_breaks does most (Do leaf) (Between pages) cause b = absurd b
 bare_breaks does most i (Inside pages counts marks stack s) cause b = absurd b
 bare_breaks does most i (Between pages) cause b = absurd b
 
-held_breaks : (keeps : Bool) (does : Acts) (most : ℕ) (i : Instruction) (p : PassStateView) (cause : DviCause) → BreaksTurn does most i (held keeps p) cause → BreaksTurn does most i p cause
+held_breaks : (keeps : Bool) (does : Acts) (most : ℕ) (i : Instruction) (p : PassStateView) (cause : DviCause) → BreaksTurn does most i (held_state keeps p) cause → BreaksTurn does most i p cause
 held_breaks true does most i p cause b = b
 held_breaks false does most i p cause b = bare_breaks does most i p cause b
 
@@ -126,60 +126,60 @@ bare_room does most (Do leaf) (Between pages) b = absurd b
 bare_room does most i (Inside pages counts marks stack s) b = absurd b
 bare_room does most i (Between pages) b = absurd b
 
-held_room : (keeps : Bool) (does : Acts) (most : ℕ) (i : Instruction) (p : PassStateView) → TakesRoom does most i (held keeps p) → TakesRoom does most i p
+held_room : (keeps : Bool) (does : Acts) (most : ℕ) (i : Instruction) (p : PassStateView) → TakesRoom does most i (held_state keeps p) → TakesRoom does most i p
 held_room true does most i p b = b
 held_room false does most i p b = bare_room does most i p b
 
-held_goes : (keeps : Bool) (does : Acts) (most : ℕ) (i : Instruction) (p : PassStateView) → IsSome (execute does most i (held keeps p)) → IsSome (execute does most i p)
-held_goes keeps does most i p some = by_turn (execute does most i (held keeps p)) refl some
+held_goes : (keeps : Bool) (does : Acts) (most : ℕ) (i : Instruction) (p : PassStateView) → IsSome (execute does most i (held_state keeps p)) → IsSome (execute does most i p)
+held_goes keeps does most i p some = by_turn (execute does most i (held_state keeps p)) refl some
   where
-    by_turn : (o : Option PassStateView) → execute does most i (held keeps p) ≡ o → IsSome o → IsSome (execute does most i p)
+    by_turn : (o : Option PassStateView) → execute does most i (held_state keeps p) ≡ o → IsSome o → IsSome (execute does most i p)
     by_turn None e some = absurd cc
     by_turn (Some q) e some = let (r, turned, same) = held_turn keeps does most i p q e in subst (λ (o : Option PassStateView). IsSome o) (sym turned) refl
 
 -- The same for a fault of the pages.
 module _ (files : List NamedBytes) (part : PageBytes) (at : ℕ) (keeps : Bool) (pass : PassStateView) (selected : List ℤ) (walk : Walk) where
-  lacks_held : (i : Instruction) → LacksRoom files part.ahead (read_in (held keeps pass) selected walk) i → LacksRoom files part.ahead (read_in pass selected walk) i
+  lacks_held : (i : Instruction) → LacksRoom files part.ahead (read_in (held_state keeps pass) selected walk) i → LacksRoom files part.ahead (read_in pass selected walk) i
   lacks_held (Do (FontDef d)) b = b
   lacks_held (Do (FontNum f)) b = record { named = b.named; new = b.new; font = b.font; found = b.found; file = b.file }
   lacks_held i b = absurd b
 
-  rule_held : (i : Instruction) (cause : DviCause) → BreaksRule (file_widths files) part.ahead part.most at (read_in (held keeps pass) selected walk) i cause
+  rule_held : (i : Instruction) (cause : DviCause) → BreaksRule (file_widths files) part.ahead part.most at (read_in (held_state keeps pass) selected walk) i cause
       → BreaksRule (file_widths files) part.ahead part.most at (read_in pass selected walk) i cause
   rule_held i cause (inl b) = inl (held_breaks keeps (instruction_acts (widths_of (file_widths files) (known_of walk))) part.most i pass cause b)
   rule_held i cause (inr (on, b)) = inr (held_goes keeps (bounded_acts (instruction_acts (widths_of (file_widths files) (known_of walk)))) part.most i pass on, b)
 
-  at_held : (cause : DviCause) → BreaksAt (file_widths files) part at (read_in (held keeps pass) selected walk) cause → BreaksAt (file_widths files) part at (read_in pass selected walk) cause
+  at_held : (cause : DviCause) → BreaksAt (file_widths files) part at (read_in (held_state keeps pass) selected walk) cause → BreaksAt (file_widths files) part at (read_in pass selected walk) cause
   at_held cause (i, stands, b) = (i, stands, rule_held i cause b)
 
-  pages_held : (cause : DviCause) → BreaksPages (file_widths files) part at (read_in (held keeps pass) selected walk) cause → BreaksPages (file_widths files) part at (read_in pass selected walk) cause
+  pages_held : (cause : DviCause) → BreaksPages (file_widths files) part at (read_in (held_state keeps pass) selected walk) cause → BreaksPages (file_widths files) part at (read_in pass selected walk) cause
   pages_held Truncated b = b
   pages_held Opcode (inl b) = inl b
   pages_held Opcode (inr b) = inr (at_held Opcode b)
   pages_held cause b = at_held cause b
 
-  widths_held : (refusal : FontRefusal) → LacksWidths files part at (read_in (held keeps pass) selected walk) refusal → LacksWidths files part at (read_in pass selected walk) refusal
+  widths_held : (refusal : FontRefusal) → LacksWidths files part at (read_in (held_state keeps pass) selected walk) refusal → LacksWidths files part at (read_in pass selected walk) refusal
   widths_held refusal (f, stands, selects) =
       (f, stands, record { goes_on = held_goes keeps (bounded_acts (instruction_acts (widths_of (file_widths files) (known_of walk)))) part.most (Do (FontNum f)) pass selects.goes_on; unread = selects.unread })
 
-  allocates_held : (i : Instruction) → InstructionAllocates files part.ahead part.most (read_in (held keeps pass) selected walk) i → InstructionAllocates files part.ahead part.most (read_in pass selected walk) i
+  allocates_held : (i : Instruction) → InstructionAllocates files part.ahead part.most (read_in (held_state keeps pass) selected walk) i → InstructionAllocates files part.ahead part.most (read_in pass selected walk) i
   allocates_held i (inl b) = inl (held_room keeps (instruction_acts (widths_of (file_widths files) (known_of walk))) part.most i pass b)
   allocates_held i (inr (on, b)) = inr (held_goes keeps (bounded_acts (instruction_acts (widths_of (file_widths files) (known_of walk)))) part.most i pass on, lacks_held i b)
 
-  by_fault : (fault : DviFault) → IsPagesFault files part at (read_in (held keeps pass) selected walk) fault → IsPagesFault files part at (read_in pass selected walk) fault
+  by_fault : (fault : DviFault) → IsPagesFault files part at (read_in (held_state keeps pass) selected walk) fault → IsPagesFault files part at (read_in pass selected walk) fault
   by_fault faults.OutOfMemory (i, stands, b) = (i, stands, allocates_held i b)
   by_fault (faults.Bad bad) (place, b) = (place, pages_held bad.cause b)
   by_fault faults.NoFont b = widths_held refusals.NoFont b
   by_fault (faults.BadTfm cause) b = widths_held (refusals.BadTfm cause) b
   by_fault faults.DimensionTooLarge b = widths_held refusals.DimensionTooLarge b
 
-  pub fault_held : (fault : DviFault) → stand_of walk ≡ held keeps pass → IsPagesFault files part at (so_far selected walk) fault → IsPagesFault files part at (read_in pass selected walk) fault
+  pub fault_held : (fault : DviFault) → stand_of walk ≡ held_state keeps pass → IsPagesFault files part at (so_far selected walk) fault → IsPagesFault files part at (read_in pass selected walk) fault
   fault_held fault stand b = by_fault fault (subst (λ (p : PassStateView). IsPagesFault files part at (read_in p selected walk) fault) stand b)
 
 -- One more instruction of a walk that drops what it does not keep.
 pub walked_over_turn : (keeps : Bool) (metrics : WidthsByName) (ahead : List ℤ) (bytes : List ℕ) (stop : Postamble) (chain : List ℕ) (at next : ℕ) (old new : Walk) (i : Instruction) (q : PassStateView)
     → at ≤ next → next ≤ length bytes → (walked : IsWalkedOver keeps metrics ahead bytes stop chain at old) → Spells i (take (next - at) (drop at bytes))
-    → execute (bounded_acts (instruction_acts (widths_of metrics (known_of old)))) (min 1024 stop.stack_depth) i (held keeps walked.pass) ≡ Some q → stand_of new ≡ held keeps q
+    → execute (bounded_acts (instruction_acts (widths_of metrics (known_of old)))) (min 1024 stop.stack_depth) i (held_state keeps walked.pass) ≡ Some q → stand_of new ≡ held_state keeps q
     → after_bops (bop_place at i) (places_left old) ≡ Some (places_left new) → IsRightAfter (known_of old) i → known_of new ≡ known_of old ++ definitions_in i
     → AllByRecursion (HasWidths metrics (known_of old)) (selection_of i) → AllByRecursion (λ f. has_number ahead f ≡ true) (selection_of i) → FontsAreRead new.fonts (walked.selected ++ selection_of i)
     → AreSound metrics (known_of new) new.fonts → IsCurrent new.fonts new.stand → IsWalkedOver keeps metrics ahead bytes stop chain next new
@@ -200,14 +200,14 @@ walked_over_turn keeps metrics ahead bytes stop chain at next old new i q forwar
 
 -- The same for what the walk has read of it.
 pub walked_over_next : (keeps : Bool) (metrics : WidthsByName) (ahead : List ℤ) (bytes : List ℕ) (stop : Postamble) (chain : List ℕ) (at post next : ℕ) (old mid new : Walk) → post ≤ length bytes
-    → IsWalkedOver keeps metrics ahead bytes stop chain at old → Reads metrics (page_bytes ahead bytes (min 1024 stop.stack_depth) post) at old mid next → stand_of new ≡ held keeps (stand_of mid)
+    → IsWalkedOver keeps metrics ahead bytes stop chain at old → Reads metrics (page_bytes ahead bytes (min 1024 stop.stack_depth) post) at old mid next → stand_of new ≡ held_state keeps (stand_of mid)
     → selected_in new.stand ≡ selected_in mid.stand → new.fonts ≡ mid.fonts → known_of new ≡ known_of mid → places_left new ≡ places_left mid → IsWalkedOver keeps metrics ahead bytes stop chain next new
 walked_over_next keeps metrics ahead bytes stop chain at post next old mid new high walked reads stand chosen fonts known left =
     let steps = reads.steps in
     let forward = reads.forward in
     let within = reads.within in
     let does : Acts = bounded_acts (instruction_acts (widths_of metrics (known_of old))) in
-    let goes : execute does (min 1024 stop.stack_depth) reads.here (held keeps walked.pass) ≡ Some (stand_of mid) =
+    let goes : execute does (min 1024 stop.stack_depth) reads.here (held_state keeps walked.pass) ≡ Some (stand_of mid) =
     subst (λ (p : PassStateView). execute does (min 1024 stop.stack_depth) reads.here p ≡ Some (stand_of mid)) walked.stand steps.goes_on in
     walked_over_turn keeps metrics ahead bytes stop chain at next old new reads.here (stand_of mid) (omega arith) (omega arith) walked reads.spelled goes stand
     (steps.bop ∙ ap (λ (l : PlacesLeft). Some l) (sym left)) steps.right (known ∙ steps.known_is) steps.widths steps.named
@@ -223,7 +223,7 @@ pub walked_same : (keeps : Bool) (metrics : WidthsByName) (ahead : List ℤ) (by
 walked_same keeps metrics ahead bytes stop chain at old new same walked = subst (λ (walk : Walk). IsWalkedOver keeps metrics ahead bytes stop chain at walk) (sym same) walked
 
 -- A walk before the first page.
-held_first : (keeps : Bool) (p : PassStateView) → p ≡ Between [] → p ≡ held keeps p
+held_first : (keeps : Bool) (p : PassStateView) → p ≡ Between [] → p ≡ held_state keeps p
 held_first true p e = refl
 held_first false p e = e ∙ sym (ap bare e)
 
@@ -258,6 +258,6 @@ places_bare : (bytes : List ℕ) (p : PassStateView) → HasPlaces bytes [] (bar
 places_bare bytes (Between pages) = λ small. tt
 places_bare bytes (Inside pages counts marks stack s) = λ small. tt
 
-pub places_held : (keeps : Bool) (bytes old new : List ℕ) (p q : PassStateView) → new ≡ (if keeps then old else []) → q ≡ held keeps p → HasPlaces bytes old p → HasPlaces bytes new q
+pub places_held : (keeps : Bool) (bytes old new : List ℕ) (p q : PassStateView) → new ≡ (if keeps then old else []) → q ≡ held_state keeps p → HasPlaces bytes old p → HasPlaces bytes new q
 places_held true bytes old new p q places stand has = subst₂ (λ (ps : List ℕ) (p : PassStateView). HasPlaces bytes ps p) (sym places) (sym stand) has
 places_held false bytes old new p q places stand has = subst₂ (λ (ps : List ℕ) (p : PassStateView). HasPlaces bytes ps p) (sym places) (sym stand) (places_bare bytes p)

@@ -26,7 +26,7 @@ use Rattle.dvi_scan.specs.Reached.{IsReached, PlacesLeft, ReadSoFar}
 use Rattle.dvi_scan.specs.View.{marked_page}
 use Rattle.dvi_scan.specs.declared.executing.PassState.{PassState}
 use Rattle.dvi_scan.specs.declared.page.Page.{Page}
-use Rattle.dvi_read.specs.Opened.{Opened}
+use Rattle.dvi_read.specs.Opened.{OpenedFile}
 use Rattle.dvi_read.specs.PageMarks.{HasGlyphWidths, HasPlaces, HasRoomFor, IsGlyphWidth, OfGlyph, TextStandsAt, TextsStandAt, marks_of, marks_so_far, text_in, texts_in}
 use Rattle.dvi_read.specs.Private.PageMarks.{PutsSpecial, text_place, text_put}
 use Rattle.dvi_read.proofs.SelectLemmas.{some_is}
@@ -36,8 +36,8 @@ use Rattle.dvi_read.specs.Stops.{PagesHaveEnded, page_bytes}
 use Rattle.dvi_read.specs.Walks.{IsWalked}
 use Rattle.dvi_read.specs.Private.Walks.{IsBegun, StopsReading}
 use Rattle.dvi_read.specs.declared.fault.DviFault.TheVariants.{OutOfMemory}
-use Rattle.dvi_read.specs.declared.read_fonts.ReadFonts.{ReadFonts}
-use Rattle.dvi_read.specs.declared.walk.Walk.{Walk}
+use Rattle.dvi_read.specs.declared.fonts.ReadFonts.{ReadFonts}
+use Rattle.dvi_read.specs.declared.check.walk.Walk.{Walk}
 use Rattle.tfm_core.specs.FileWidths.{file_widths, width_at}
 use Rattle.tfm_core.specs.Fonts.{SizedFont}
 use Rattle.tfm_core.specs.NamedBytes.{NamedBytes}
@@ -488,10 +488,10 @@ special_fault files ahead bytes stop at post i old new stands puts steps selecte
     (i, stands, inl (takes_special (widths_of (file_widths files) (known_of old)) (min 1024 stop.stack_depth) i (stand_of old) (stand_of new) puts steps.goes_on))
 
 -- The same for what is kept of a file: its pages are those of the walk, and its definitions are those before post and after it.
-module _ (p : PassStateView) (left : PlacesLeft) (pages bounded_acts : List MarkedPage) (units : Units) (new : List Definition) (dvi : Opened) (ended : PagesHaveEnded p left pages) (same : bounded_acts ≡ pages)
+module _ (p : PassStateView) (left : PlacesLeft) (pages bounded_acts : List MarkedPage) (units : Units) (new : List Definition) (dvi : OpenedFile) (ended : PagesHaveEnded p left pages) (same : bounded_acts ≡ pages)
     (is : dvi ≡ record { units = units; pages = bounded_acts; fonts = new }) where
   pages_of_dvi : dvi.pages ≡ pages
-  pages_of_dvi = ap (λ (d : Opened). d.pages) is ∙ same
+  pages_of_dvi = ap (λ (d : OpenedFile). d.pages) is ∙ same
 
   marks_of_dvi : marks_so_far p ≡ marks_of dvi.pages
   marks_of_dvi = ap marks_so_far ended.between ∙ ap marks_of (sym pages_of_dvi)
@@ -499,7 +499,7 @@ module _ (p : PassStateView) (left : PlacesLeft) (pages bounded_acts : List Mark
   pub kept_widths : (metrics : WidthsByName) (bytes : List ℕ) (from to : ℕ) (known : List Definition) (fonts read : ReadFonts) → HasGlyphWidths metrics known fonts (marks_so_far p)
       → ClosesTo bytes from to known new → read ≡ fonts → HasGlyphWidths metrics dvi.fonts read (marks_of dvi.pages)
   kept_widths metrics bytes from to known fonts read has (tail, closes, new_is) fonts_are =
-      let table : known ++ definitions (token_instructions tail) ≡ dvi.fonts = sym (ap (λ (d : Opened). d.fonts) is ∙ new_is) in
+      let table : known ++ definitions (token_instructions tail) ≡ dvi.fonts = sym (ap (λ (d : OpenedFile). d.fonts) is ∙ new_is) in
       let all = subst (λ (ms : List Mark). HasGlyphWidths metrics known fonts ms) marks_of_dvi has in
       let more = more_widths metrics known (definitions (token_instructions tail)) fonts (marks_of dvi.pages) all in
       subst₂ (λ (ds : List Definition) (fonts : ReadFonts). HasGlyphWidths metrics ds fonts (marks_of dvi.pages)) table (sym fonts_are) more

@@ -6,7 +6,7 @@ use Rattle.scaled_core.specs.Mark.{Mark}
 use Rattle.dvi_ops.specs.File.{MarkedPage}
 use Rattle.dvi_scan.specs.View.{mark_of}
 use Rattle.dvi_scan.specs.declared.page.Mark.{Mark as PassMark}
-use Rattle.dvi_read.specs.Seen.{Seen, Marked, seen_of}
+use Rattle.dvi_read.specs.Seen.{SeenItem, Marked, seen_of}
 use Rattle.dvi_read.specs.SeenAhead.{IsSeenAhead, ShowsNext}
 use Rattle.dvi_read.specs.Private.PageAhead.{IsInPage, ShowsMark}
 use Rattle.dvi_read.specs.declared.sights.Sight.{Sight}
@@ -20,7 +20,7 @@ mark_first [] (page ∷ pages) new mark (rest, is, ahead) = absurd cc
 mark_first (first ∷ marks) pages new mark (rest, is, ahead) =
     let same : first ≡ mark_of mark = cc in
     let left : map Marked marks ++ seen_of pages ≡ rest = cc in
-    (marks, ap (λ (m : Mark). m ∷ marks) same, subst (λ (seen : List Seen). IsSeenAhead new seen) (sym left) ahead)
+    (marks, ap (λ (m : Mark). m ∷ marks) same, subst (λ (seen : List SeenItem). IsSeenAhead new seen) (sym left) ahead)
 
 -- The counts are those of the next page, and the open one had no more marks.
 pub record BeginsNext (marks : List Mark) (pages : List MarkedPage) (new : Sights) (counts : List ℤ) : Type 0 where
@@ -41,7 +41,7 @@ page_first [] (page ∷ pages) new counts (rest, is, ahead) =
       rest = pages;
       pages_are = refl;
       counts_are = cc;
-      inside = subst (λ (seen : List Seen). IsSeenAhead new seen) (sym left) ahead;
+      inside = subst (λ (seen : List SeenItem). IsSeenAhead new seen) (sym left) ahead;
     }
 page_first (first ∷ marks) pages new counts (rest, is, ahead) = absurd cc
 
@@ -96,7 +96,7 @@ module _ (s new : Sights) (asked : Option MarkedPage) (left : ℕ) (before : IsB
   ended is = let (none, no_page) = none_first before.marks before.rest is in sym before.asked_is ∙ ap (λ (ps : List MarkedPage). slice_get ps left) no_page
 
 -- A sight is before the place of post.
-pub fewer : (old new : Sights) (seen : List Seen) (found : Sight) → new.post ≡ old.post → old.at < new.at → ShowsNext seen new (Some found) → new.post - new.at < old.post - old.at
+pub fewer : (old new : Sights) (seen : List SeenItem) (found : Sight) → new.post ≡ old.post → old.at < new.at → ShowsNext seen new (Some found) → new.post - new.at < old.post - old.at
 fewer old new seen found post forward (rest, is, ahead) = by_numbers old.at new.at old.post new.post post forward ahead.rest.low
   where
     by_numbers : (at next post later : ℕ) → later ≡ post → at < next → next ≤ later → later - next < post - at

@@ -19,7 +19,7 @@ use Rattle.dvi_scan.specs.Passed.{file_framing, IsFramed}
 use Rattle.dvi_scan.specs.Reached.{IsReached, IsTail, PlacesLeft, ReadSoFar, before_pages}
 use Rattle.dvi_scan.proofs.PassedLemmas.{frame_parts, passed_file}
 use Rattle.dvi_scan.proofs.ReachedLemmas.{reached_end, reached_first}
-use Rattle.dvi_read.specs.Opened.{Opened, GivesPages, HasFontsOf, HasUnitsOf, IsExact, IsNoFile, IsReadFrom}
+use Rattle.dvi_read.specs.Opened.{OpenedFile, GivesPages, HasFontsOf, HasUnitsOf, IsExact, IsNoFile, IsReadFrom}
 use Rattle.dvi_read.specs.Opening.{HasPages, IsDviFault, IsFrontFault, IsStray, StartsAt, ForPlaces, InTheChain, AtPost, AfterPost, ForDefinitions}
 use Rattle.dvi_read.specs.Private.OpeningParts.{IsFinishFault}
 use Rattle.dvi_read.proofs.FaultLemmas.{after_within, no_fault, post_within}
@@ -106,15 +106,15 @@ read_from files bytes post after last stop chain from ahead seen pages new has e
     }
 
 -- The clauses for a whole result.
-pub pages_open : (files : List NamedBytes) (bytes : List ℕ) (result : Result Opened DviFault) → IfOk result (IsReadFrom files bytes) → IfOk result (λ dvi. IsFile (file_widths files) bytes dvi.pages)
+pub pages_open : (files : List NamedBytes) (bytes : List ℕ) (result : Result OpenedFile DviFault) → IfOk result (IsReadFrom files bytes) → IfOk result (λ dvi. IsFile (file_widths files) bytes dvi.pages)
 pages_open files bytes (Ok dvi) read = read.pages
 pages_open files bytes (Err fault) read = tt
 
-pub units_open : (files : List NamedBytes) (bytes : List ℕ) (result : Result Opened DviFault) → IfOk result (IsReadFrom files bytes) → IfOk result (HasUnitsOf bytes)
+pub units_open : (files : List NamedBytes) (bytes : List ℕ) (result : Result OpenedFile DviFault) → IfOk result (IsReadFrom files bytes) → IfOk result (HasUnitsOf bytes)
 units_open files bytes (Ok dvi) read = read.units
 units_open files bytes (Err fault) read = tt
 
-pub fonts_open : (files : List NamedBytes) (bytes : List ℕ) (result : Result Opened DviFault) → IfOk result (IsReadFrom files bytes) → IfOk result (HasFontsOf bytes)
+pub fonts_open : (files : List NamedBytes) (bytes : List ℕ) (result : Result OpenedFile DviFault) → IfOk result (IsReadFrom files bytes) → IfOk result (HasFontsOf bytes)
 fonts_open files bytes (Ok dvi) read = read.fonts
 fonts_open files bytes (Err fault) read = tt
 
@@ -130,13 +130,13 @@ pub not_opened : {A E : Type 0} (r : Result A E) (e : E) (P : A → Type 0) → 
 not_opened (Ok x) e P given = absurd given
 not_opened (Err y) e P given = tt
 
-exactly : (files : List NamedBytes) (bytes : List ℕ) (result : Result Opened DviFault) (pages : List MarkedPage) → IfOk result (IsReadFrom files bytes) → IfErr result (IsDviFault files bytes)
+exactly : (files : List NamedBytes) (bytes : List ℕ) (result : Result OpenedFile DviFault) (pages : List MarkedPage) → IfOk result (IsReadFrom files bytes) → IfErr result (IsDviFault files bytes)
     → IsFile (file_widths files) bytes pages → GivesPages pages result
 exactly files bytes (Ok dvi) pages read bad f = one_list_of_pages (file_widths files) bytes dvi.pages pages read.pages f
 exactly files bytes (Err faults.OutOfMemory) pages read bad f = refl
 exactly files bytes (Err fault) pages read bad f = absurd (no_fault files bytes fault pages (λ e. absurd cc) bad f)
 
-pub exact_open : (files : List NamedBytes) (bytes : List ℕ) (result : Result Opened DviFault) → IfOk result (IsReadFrom files bytes) → IfErr result (IsDviFault files bytes) → IsExact files bytes result
+pub exact_open : (files : List NamedBytes) (bytes : List ℕ) (result : Result OpenedFile DviFault) → IfOk result (IsReadFrom files bytes) → IfErr result (IsDviFault files bytes) → IsExact files bytes result
 exact_open files bytes result read bad = λ pages f. exactly files bytes result pages read bad f
 
 -- A fault after post.

@@ -2,7 +2,7 @@
 use Rattle.std.proofs.Common.{◌≡◌, ℕ, ◌+◌, ◌-◌, ◌≤◌, ◌++◌, List, Option, None, Some, length, drop, ap, sym, ◌∙◌, arith}
 use Rattle.std.proofs.Math.Seq.{drop-append_seam}
 use Rattle.std.proofs.lemmas.List.{drop-drop}
-use Rattle.dvi_read.specs.declared.part.NumberEnd.{NumberEnd}
+use Rattle.dvi_read.specs.declared.listings.part.NumberEnd.{NumberEnd}
 use Rattle.dvi_read.specs.Private.ListingParts.{IsEnded}
 
 pub end_stays : (old new : List ℕ) (begin begin' : ℕ) (ended : Option NumberEnd) → begin' ≤ begin → drop begin new ≡ drop begin old → IsEnded old begin ended

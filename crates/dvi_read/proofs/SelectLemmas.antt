@@ -13,7 +13,7 @@ use Rattle.dvi_scan.specs.Reached.{has_number}
 use Rattle.dvi_scan.proofs.FontLemmas.{defined_more, has_definition, some_definition}
 use Rattle.dvi_read.specs.Faults.{of_font}
 use Rattle.dvi_read.specs.ReadFonts.{AreSound, HasWidthsAt, FontIsRead, read_font_at, font_place}
-use Rattle.dvi_read.specs.declared.read_fonts.ReadFonts.{ReadFonts}
+use Rattle.dvi_read.specs.declared.fonts.ReadFonts.{ReadFonts}
 use Rattle.dvi_read.specs.Steps.{IsSelectFault, Selects}
 use Rattle.dvi_scan.specs.Widths.{HasBytes, IsFontRefusal}
 use Rattle.dvi_scan.specs.declared.widths.FontRefusal.{FontRefusal}

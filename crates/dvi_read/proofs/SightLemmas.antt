@@ -38,10 +38,10 @@ use Rattle.dvi_read.specs.Private.PageMarks.{text_put}
 use Rattle.dvi_read.specs.Private.SeenTexts.{IsTextOf, ShowsTextOf}
 use Rattle.dvi_read.specs.ReadFonts.{FontIsRead, HasCurrent, HaveByteCodes, asked_width, code_in, font_place, read_font_at, width_in}
 use Rattle.dvi_read.specs.Private.ReadFonts.{Chooses}
-use Rattle.dvi_read.specs.Seen.{Seen, Counts, Marked, seen_of, seen_so_far}
+use Rattle.dvi_read.specs.Seen.{SeenItem, Counts, Marked, seen_of, seen_so_far}
 use Rattle.dvi_read.specs.SeenAhead.{EndsText, HasRest, TextEndsAt, IsReady, IsSeenAfter, IsSeenAhead, ShowsFirst, standing}
 use Rattle.dvi_read.specs.Steps.{FontsAreRead}
-use Rattle.dvi_read.specs.declared.read_fonts.ReadFonts.{ReadFonts}
+use Rattle.dvi_read.specs.declared.fonts.ReadFonts.{ReadFonts}
 use Rattle.dvi_read.specs.declared.sights.Sight.{Sight}
 use Rattle.dvi_read.specs.declared.sights.Sight.TheVariants as sights
 use Rattle.dvi_read.specs.declared.sights.Sights.{Sights}
@@ -247,7 +247,7 @@ module _ (bytes : List ℕ) (at post most : ℕ) (fonts : ReadFonts) (here : Pas
       let passed : Some here ≡ Some (Between all) = subst (λ (ts : List Token). passes (bounded_acts (instruction_acts (read_width fonts))) most (token_instructions ts) here ≡ Some (Between all)) no_tokens r.passed in cc
 
 -- One instruction of a file.
-module _ (i : Instruction) (s : Sights) (seen : List Seen) (a : IsSeenAfter (i ∷ []) s seen) where
+module _ (i : Instruction) (s : Sights) (seen : List SeenItem) (a : IsSeenAfter (i ∷ []) s seen) where
   abbrev pub here : PassStateView
   here = standing s.inside a.pages a.marks s.page
 
@@ -255,9 +255,9 @@ module _ (i : Instruction) (s : Sights) (seen : List Seen) (a : IsSeenAfter (i �
   turned = goes_on s.bytes.now s.at s.post s.most s.fonts here a.all i a.rest
 
   -- What is known after it, where it shows something new.
-  pub then_seen : (inside : Bool) (fonts : ReadFonts) (page : OpenPage) (pages : List MarkedPage) (marks : List Mark) (new : List Seen) (place : ℕ) → fonts ≡ record s.fonts { current = place }
+  pub then_seen : (inside : Bool) (fonts : ReadFonts) (page : OpenPage) (pages : List MarkedPage) (marks : List Mark) (new : List SeenItem) (place : ℕ) → fonts ≡ record s.fonts { current = place }
       → turned.after ≡ standing inside pages marks page → IsReady s.most fonts page → seen_so_far (standing inside pages marks page) ≡ seen_so_far here ++ new
-      → (rest : List Seen) × (seen ≡ new ++ rest) × IsSeenAhead (record s { inside = inside; fonts = fonts; page = page }) rest
+      → (rest : List SeenItem) × (seen ≡ new ++ rest) × IsSeenAhead (record s { inside = inside; fonts = fonts; page = page }) rest
   then_seen inside fonts page pages marks new place same after_is ready new_is =
       let later = subst (λ (p : PassStateView). passes (bounded_acts (instruction_acts (read_width s.fonts))) s.most (token_instructions a.rest.rest) p ≡ Some (Between a.all)) after_is turned.later in
       let (rest, seen_is, rest_is) = rest_seen (bounded_acts (instruction_acts (read_width s.fonts))) s.most (token_instructions a.rest.rest) here (standing inside pages marks page) a.all new seen later a.seen_is new_is in (
@@ -309,7 +309,7 @@ module _ (i : Instruction) (s : Sights) (seen : List Seen) (a : IsSeenAfter (i �
       let turns = sym (ap (λ (p : PassStateView). execute (bounded_acts (instruction_acts (read_width s.fonts))) s.most i p) closed) ∙ turned.turns in
       let after_is : turned.after ≡ here = sym (idle_turn (bounded_acts (instruction_acts (read_width s.fonts))) s.most i a.pages turned.after other turns) ∙ sym closed in
       let (rest, seen_is, ahead) = then_seen s.inside s.fonts s.page a.pages a.marks [] s.fonts.current same_fonts after_is a.ready (sym (append-nil (seen_so_far here))) in
-      subst (λ (page : OpenPage). IsSeenAhead (record s { page = page }) seen) (sym same) (subst (λ (ss : List Seen). IsSeenAhead s ss) (sym seen_is) ahead)
+      subst (λ (page : OpenPage). IsSeenAhead (record s { page = page }) seen) (sym same) (subst (λ (ss : List SeenItem). IsSeenAhead s ss) (sym seen_is) ahead)
 
   -- A page ends.
   pub ended : s.inside ≡ true → i ≡ Eop → IsSeenAhead (record s { inside = false }) seen
@@ -323,7 +323,7 @@ module _ (i : Instruction) (s : Sights) (seen : List Seen) (a : IsSeenAfter (i �
       let new_is : seen_of (a.pages ++ page ∷ []) ≡ seen_so_far here ++ [] =
       page_seen a.pages page ∙ (sym (ap seen_so_far opened) ∙ sym (append-nil (seen_so_far here))) in
       let (rest, seen_is, ahead) = then_seen false s.fonts s.page (a.pages ++ page ∷ []) a.marks [] s.fonts.current same_fonts after_is a.ready new_is in
-      subst (λ (ss : List Seen). IsSeenAhead (record s { inside = false }) ss) (sym seen_is) ahead
+      subst (λ (ss : List SeenItem). IsSeenAhead (record s { inside = false }) ss) (sym seen_is) ahead
 
   -- The text of the mark that it makes is its own.
   pub drawn_texts : (page : OpenPage) (found : Option PassMark) → s.inside ≡ true
@@ -359,14 +359,14 @@ module _ (i : Instruction) (s : Sights) (seen : List Seen) (a : IsSeenAfter (i �
           ∙ (ap (λ (cs : List ℤ). (seen_of a.pages ++ (Counts cs ∷ map Marked a.marks)) ++ map Marked (marks_in found)) counts
           ∙ ap (λ (p : PassStateView). seen_so_far p ++ map Marked (marks_in found)) (sym opened)))
 
-      next : (rest : List Seen) × (seen ≡ map Marked (marks_in found) ++ rest) × IsSeenAhead (record s { fonts = fonts; page = page }) rest
+      next : (rest : List SeenItem) × (seen ≡ map Marked (marks_in found) ++ rest) × IsSeenAhead (record s { fonts = fonts; page = page }) rest
       next = then_seen s.inside fonts page a.pages (a.marks ++ marks_in found) (map Marked (marks_in found)) place same after_is ready new_is
 
       by_mark : (o : Option PassMark) → found ≡ o → ShowsFirst seen (record s { fonts = fonts; page = page }) (option_map (λ mark. sights.Mark mark) o)
       by_mark None none =
           let (rest, seen_is, ahead) = next in
           let all : seen ≡ rest = seen_is ∙ ap (λ (o : Option PassMark). map Marked (marks_in o) ++ rest) none in
-          subst (λ (ss : List Seen). IsSeenAhead (record s { fonts = fonts; page = page }) ss) (sym all) ahead
+          subst (λ (ss : List SeenItem). IsSeenAhead (record s { fonts = fonts; page = page }) ss) (sym all) ahead
       by_mark (Some mark) some =
           let (rest, seen_is, ahead) = next in (rest, seen_is ∙ ap (λ (o : Option PassMark). map Marked (marks_in o) ++ rest) some, ahead)
 
@@ -399,16 +399,16 @@ text_ends bytes at next i (Some (sights.Mark mark)) small forward within spelled
     by_mark (Special h v text) is = text_stands bytes at next text small forward within (subst (λ (i : Instruction). Spells i (take (next - at) (drop at bytes))) is spelled)
 
 -- At the place of post nothing is left to be seen.
-pub all_seen : (s : Sights) (seen : List Seen) → s.post ≤ s.at → IsSeenAhead s seen → (seen ≡ []) × IsSeenAhead s []
+pub all_seen : (s : Sights) (seen : List SeenItem) → s.post ≤ s.at → IsSeenAhead s seen → (seen ≡ []) × IsSeenAhead s []
 all_seen s seen past a =
     let here = standing s.inside a.pages a.marks s.page in
     let last = none_left s.bytes.now s.at s.post s.most s.fonts here a.all past a.rest in
     let whole : seen_of a.all ++ seen ≡ seen_of a.all ++ [] =
     sym (a.seen_is ∙ ap (λ (p : PassStateView). seen_so_far p ++ seen) last) ∙ sym (append-nil (seen_of a.all)) in
-    let none : seen ≡ [] = append_cancel_left (seen_of a.all) seen [] whole in (none, subst (λ (ss : List Seen). IsSeenAhead s ss) none a)
+    let none : seen ≡ [] = append_cancel_left (seen_of a.all) seen [] whole in (none, subst (λ (ss : List SeenItem). IsSeenAhead s ss) none a)
 
 -- What is known where an instruction was read.
-pub now_read : (s : Sights) (seen : List Seen) (i : Instruction) (next : ℕ) → s.at < next → next ≤ s.post → Spells i (take (next - s.at) (drop s.at s.bytes.now)) → IsSeenAhead s seen
+pub now_read : (s : Sights) (seen : List SeenItem) (i : Instruction) (next : ℕ) → s.at < next → next ≤ s.post → Spells i (take (next - s.at) (drop s.at s.bytes.now)) → IsSeenAhead s seen
     → IsSeenAfter (i ∷ []) (record s { at = next }) seen
 now_read s seen i next forward within spelled a =
     record {
@@ -421,11 +421,11 @@ now_read s seen i next forward within spelled a =
     }
 
 -- Some instruction is there before the place of post.
-pub one_there : (s : Sights) (seen : List Seen) → s.at < s.post → IsSeenAhead s seen → ((i : Instruction) → StandsAt s.bytes.now s.at s.post i → ⊥) → ⊥
+pub one_there : (s : Sights) (seen : List SeenItem) → s.at < s.post → IsSeenAhead s seen → ((i : Instruction) → StandsAt s.bytes.now s.at s.post i → ⊥) → ⊥
 one_there s seen below a none = some_there s.bytes.now s.at s.post s.most s.fonts (standing s.inside a.pages a.marks s.page) a.all below a.rest none
 
 -- In an open page the pass goes on with the instruction that was read.
-pub draws_on : (i : Instruction) (s : Sights) (seen : List Seen) → s.inside ≡ true → IsSeenAfter (i ∷ []) s seen
+pub draws_on : (i : Instruction) (s : Sights) (seen : List SeenItem) → s.inside ≡ true → IsSeenAfter (i ∷ []) s seen
     → (pages : List MarkedPage) × (marks : List Mark) × (after : PassStateView) × (execute (bounded_acts (instruction_acts (read_width s.fonts))) s.most i (standing true pages marks s.page) ≡ Some after)
 draws_on i s seen within a =
     let here = standing s.inside a.pages a.marks s.page in
@@ -434,5 +434,5 @@ draws_on i s seen within a =
     (a.pages, a.marks, turned.after, sym (ap (λ (p : PassStateView). execute (bounded_acts (instruction_acts (read_width s.fonts))) s.most i p) opened) ∙ turned.turns)
 
 -- The font that the instruction selects was read.
-pub read_first : (i : Instruction) (s : Sights) (seen : List Seen) → IsSeenAfter (i ∷ []) s seen → FontsAreRead s.fonts (selection_of i)
+pub read_first : (i : Instruction) (s : Sights) (seen : List SeenItem) → IsSeenAfter (i ∷ []) s seen → FontsAreRead s.fonts (selection_of i)
 read_first i s seen a = all_front (λ f. FontIsRead f s.fonts) (selection_of i) (selections (token_instructions a.rest.rest)) a.rest.read

@@ -21,13 +21,13 @@ use Rattle.dvi_scan.proofs.FontLemmas.{current_of, turn_font}
 use Rattle.dvi_scan.proofs.WidthLemmas.{one_width}
 use Rattle.dvi_read.specs.ReadFonts.{AreSound, HasCurrent, IsCurrent, FontIsRead, asked_width, code_in, selected_in, width_in}
 use Rattle.dvi_read.specs.Private.ReadFonts.{Chooses}
-use Rattle.dvi_read.specs.declared.read_fonts.ReadFonts.{ReadFonts}
+use Rattle.dvi_read.specs.declared.fonts.ReadFonts.{ReadFonts}
 use Rattle.dvi_read.specs.Steps.{FontsAreRead, LacksFont, IsWalkStep, StopsStep, known_of, so_far, stand_of}
 use Rattle.dvi_read.specs.Private.Steps.{BreaksNote, BreaksPass, LacksNote, Notes, PassesOn}
 use Rattle.dvi_read.specs.Stops.{BreaksRest, PassContinues, FontIsUnread, LacksRoom, LacksMemoryForFont}
 use Rattle.dvi_read.specs.declared.fault.StepFault.{StepFault}
 use Rattle.dvi_read.specs.declared.fault.StepFault.TheVariants.{OutOfMemory, Broken, Refused}
-use Rattle.dvi_read.specs.declared.walk.Walk.{Walk}
+use Rattle.dvi_read.specs.declared.check.walk.Walk.{Walk}
 use Rattle.dvi_read.proofs.SelectLemmas.{not_read, sound_more}
 use Rattle.tfm_core.specs.FileWidths.{file_widths}
 use Rattle.tfm_core.specs.Fonts.{SizedFont}

@@ -7,7 +7,7 @@ use Rattle.std.specs.List.{flat_map, enumerate_from}
 use Rattle.scaled_core.specs.Mark.{Mark, Glyph, Rule, Special}
 use Rattle.dvi_ops.specs.File.{MarkedPage}
 use Rattle.dvi_scan.specs.View.{mark_of, marked_page}
-use Rattle.dvi_read.specs.declared.ahead.Lines.{Lines}
+use Rattle.dvi_read.specs.declared.listings.lines.Lines.{Lines}
 
 -- A line: its first words, then numbers in decimal with a space before each, and a line feed.
 unfoldable pub line : List ℕ → List ℤ → List ℕ

@@ -10,26 +10,26 @@ use Rattle.tfm_core.specs.FileWidths.{file_widths}
 use Rattle.tfm_core.specs.NamedBytes.{NamedBytes}
 
 -- The units of a file, its pages in order, and the definitions of its fonts.
-pub record Opened : Type 0 where
+pub record OpenedFile : Type 0 where
   pub units : Units
   pub pages : List MarkedPage
   pub fonts : List Definition
 
 -- The units are those of the postamble, and so those of the preamble.
-abbrev pub HasUnitsOf : List ℕ → Opened → Type 0
+abbrev pub HasUnitsOf : List ℕ → OpenedFile → Type 0
 HasUnitsOf bytes dvi = (f : Frame bytes) → dvi.units ≡ f.stop.units
 
 -- The definitions are those of the whole file, in order: before post and after it.
-abbrev pub HasFontsOf : List ℕ → Opened → Type 0
+abbrev pub HasFontsOf : List ℕ → OpenedFile → Type 0
 HasFontsOf bytes dvi = (f : Frame bytes) → dvi.fonts ≡ definitions (token_instructions f.front ++ token_instructions f.tail)
 
 -- A call gives exactly these pages, or memory was refused.
-abbrev pub GivesPages : List MarkedPage → Result Opened DviFault → Type 0
+abbrev pub GivesPages : List MarkedPage → Result OpenedFile DviFault → Type 0
 GivesPages pages (Ok dvi) = dvi.pages ≡ pages
 GivesPages pages (Err fault) = fault ≡ OutOfMemory
 
 -- Whatever the pages of these bytes with these font files are, a call gives exactly them, or memory was refused.
-abbrev pub IsExact : List NamedBytes → List ℕ → Result Opened DviFault → Type 0
+abbrev pub IsExact : List NamedBytes → List ℕ → Result OpenedFile DviFault → Type 0
 IsExact files bytes result = (pages : List MarkedPage) → IsFile (file_widths files) bytes pages → GivesPages pages result
 
 -- With these font files the bytes are no file, whatever the pages.
@@ -37,7 +37,7 @@ abbrev pub IsNoFile : List NamedBytes → List ℕ → Type 0
 IsNoFile files bytes = (pages : List MarkedPage) → IsFile (file_widths files) bytes pages → ⊥
 
 -- The result of reading a file: these are its pages, its units and its fonts (own).
-pub record IsReadFrom (files : List NamedBytes) (bytes : List ℕ) (dvi : Opened) : Type 0 where
+pub record IsReadFrom (files : List NamedBytes) (bytes : List ℕ) (dvi : OpenedFile) : Type 0 where
   pub pages : IsFile (file_widths files) bytes dvi.pages
   pub units : HasUnitsOf bytes dvi
   pub fonts : HasFontsOf bytes dvi

@@ -2,7 +2,7 @@
 use Rattle.std.specs.Prelude.{List, ℕ}
 use Rattle.dvi_ops.specs.View.{postamble}
 use Rattle.dvi_read.specs.Opening.{StartsAt}
-use Rattle.dvi_read.specs.declared.before_pages.BeforePages.{BeforePages}
+use Rattle.dvi_read.specs.declared.check.before_pages.BeforePages.{BeforePages}
 
 -- The parts that are found before the pages.
 abbrev pub HasFront : List ℕ → BeforePages → Type 0

@@ -8,7 +8,7 @@ use Rattle.dvi_ops.specs.Fonts.{WidthsByName, font}
 use Rattle.dvi_ops.specs.Instruction.{Definition, SetChar, PutChar, Instruction, Do}
 use Rattle.dvi_scan.specs.declared.executing.PassState.{PassState}
 use Rattle.dvi_scan.specs.declared.executing.PassState.TheVariants.{Between, Inside}
-use Rattle.dvi_read.specs.declared.read_fonts.ReadFonts.{ReadFonts}
+use Rattle.dvi_read.specs.declared.fonts.ReadFonts.{ReadFonts}
 use Rattle.tfm_core.specs.FileWidths.{width_at}
 use Rattle.tfm_core.specs.Fonts.{SizedFont}
 

@@ -16,17 +16,17 @@ use Rattle.dvi_scan.specs.declared.executing.OpenPage.{OpenPage}
 use Rattle.dvi_read.specs.Listing.{listing, text_ahead}
 use Rattle.dvi_read.specs.PageMarks.{TextStandsAt, read_width}
 use Rattle.dvi_read.specs.ReadFonts.{HasCurrent, HaveByteCodes}
-use Rattle.dvi_read.specs.Seen.{Seen, Counts, Marked, seen_lines, seen_of, seen_so_far}
+use Rattle.dvi_read.specs.Seen.{SeenItem, Counts, Marked, seen_lines, seen_of, seen_so_far}
 use Rattle.dvi_read.specs.Steps.{FontsAreRead}
-use Rattle.dvi_read.specs.declared.checked.CheckedDvi.{CheckedDvi}
-use Rattle.dvi_read.specs.declared.checked_lines.CheckedLines.{CheckedLines}
-use Rattle.dvi_read.specs.declared.read_fonts.ReadFonts.{ReadFonts}
+use Rattle.dvi_read.specs.declared.check.checked_dvi.CheckedDvi.{CheckedDvi}
+use Rattle.dvi_read.specs.declared.listings.checked_lines.CheckedLines.{CheckedLines}
+use Rattle.dvi_read.specs.declared.fonts.ReadFonts.{ReadFonts}
 use Rattle.dvi_read.specs.declared.sights.Sight.{Sight}
 use Rattle.dvi_read.specs.declared.sights.Sight.TheVariants as sights
 use Rattle.dvi_read.specs.declared.sights.Sights.{Sights}
 
 -- What a value of the code represents.
-abbrev pub sight_of : Sight → Seen
+abbrev pub sight_of : Sight → SeenItem
 sight_of (sights.Page counts) = Counts counts
 sight_of (sights.Mark mark) = Marked (mark_of mark)
 
@@ -60,7 +60,7 @@ pub record IsReady (most : ℕ) (fonts : ReadFonts) (page : OpenPage) : Type 0 w
   pub current : (f : ℤ) → page.state.font ≡ Some f → HasCurrent f fonts
 
 -- What is still to be seen, where the instructions of `first` were read, but not taken.
-pub record IsSeenAfter (first : List Instruction) (s : Sights) (seen : List Seen) : Type 0 where
+pub record IsSeenAfter (first : List Instruction) (s : Sights) (seen : List SeenItem) : Type 0 where
   pub pages : List MarkedPage
   pub marks : List Mark
   pub all : List MarkedPage
@@ -69,7 +69,7 @@ pub record IsSeenAfter (first : List Instruction) (s : Sights) (seen : List Seen
   pub seen_is : seen_of all ≡ seen_so_far (standing s.inside pages marks s.page) ++ seen
 
 -- What is still to be seen.
-abbrev pub IsSeenAhead : Sights → List Seen → Type 0
+abbrev pub IsSeenAhead : Sights → List SeenItem → Type 0
 IsSeenAhead s seen = IsSeenAfter [] s seen
 
 -- These are all pages of the file, from the first one on.
@@ -85,12 +85,12 @@ pub record IsSameFile (old new : Sights) : Type 0 where
   pub fonts : (place : ℕ) × (new.fonts ≡ record old.fonts { current = place })
 
 -- After an instruction: what is seen of it comes before what is still to be seen.
-abbrev pub ShowsFirst : List Seen → Sights → Option Sight → Type 0
+abbrev pub ShowsFirst : List SeenItem → Sights → Option Sight → Type 0
 ShowsFirst seen new None = IsSeenAhead new seen
-ShowsFirst seen new (Some sight) = (rest : List Seen) × (seen ≡ sight_of sight ∷ rest) × IsSeenAhead new rest
+ShowsFirst seen new (Some sight) = (rest : List SeenItem) × (seen ≡ sight_of sight ∷ rest) × IsSeenAhead new rest
 
 -- What comes next of what is still to be seen; or nothing is.
-abbrev pub ShowsNext : List Seen → Sights → Option Sight → Type 0
+abbrev pub ShowsNext : List SeenItem → Sights → Option Sight → Type 0
 ShowsNext seen new None = (seen ≡ []) × IsSeenAhead new []
 ShowsNext seen new (Some sight) = ShowsFirst seen new (Some sight)
 
@@ -106,7 +106,7 @@ EndsText bytes place sight = Unit {0}
 
 -- The bytes of a listing that are still to come: the rest of a line that was begun, and the lines of what is still to be seen.
 pub record AreLinesAhead (l : CheckedLines) (text : List ℕ) : Type 0 where
-  pub seen : List Seen
+  pub seen : List SeenItem
   pub ahead : IsSeenAhead l.sights seen
   pub text_is : text ≡ text_ahead l.text ++ seen_lines (l.before + 1) seen
   pub counted : l.before ≤ l.sights.at

@@ -14,11 +14,11 @@ use Rattle.dvi_scan.specs.Reached.{HasWidths, PlacesLeft, ReadSoFar, after_bops,
 use Rattle.dvi_scan.specs.Execution.{pass_at}
 use Rattle.dvi_scan.specs.View.{marked_page}
 use Rattle.dvi_read.specs.ReadFonts.{AreSound, HasCurrent, IsCurrent, FontIsRead, font_place}
-use Rattle.dvi_read.specs.declared.read_fonts.ReadFonts.{ReadFonts}
+use Rattle.dvi_read.specs.declared.fonts.ReadFonts.{ReadFonts}
 use Rattle.dvi_read.specs.Stops.{BreaksRule, FontIsUnread, SelectsUnread, InstructionAllocates}
 use Rattle.dvi_read.specs.declared.fault.StepFault.{StepFault}
 use Rattle.dvi_read.specs.declared.fault.StepFault.TheVariants.{OutOfMemory, Broken, Refused}
-use Rattle.dvi_read.specs.declared.walk.Walk.{Walk}
+use Rattle.dvi_read.specs.declared.check.walk.Walk.{Walk}
 use Rattle.tfm_core.specs.FileWidths.{file_widths}
 use Rattle.tfm_core.specs.NamedBytes.{NamedBytes}
 

@@ -6,7 +6,7 @@ use Rattle.dvi_ops.specs.Instruction.{Postamble}
 use Rattle.dvi_scan.specs.Reached.{IsReached}
 use Rattle.dvi_read.specs.ReadFonts.{AreSound, IsCurrent}
 use Rattle.dvi_read.specs.Steps.{FontsAreRead, known_of, so_far}
-use Rattle.dvi_read.specs.declared.walk.Walk.{Walk}
+use Rattle.dvi_read.specs.declared.check.walk.Walk.{Walk}
 
 -- A walk has come to a place: the instructions before it are right, the walk has their pages and fonts, and each selected font was read.
 pub record IsWalked (metrics : WidthsByName) (ahead : List ℤ) (bytes : List ℕ) (stop : Postamble) (chain : List ℕ) (at : ℕ)

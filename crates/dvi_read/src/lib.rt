@@ -1,44 +1,25 @@
-//! The reader of DVI files, the half over `dvi_scan` (one idea, cut for the prover): `Dvi::open` checks a whole file, and its pages are those of the
-//! file definition. `read_dvi` also gives the widths of their glyphs and the places of their specials.
+//! The reader of DVI files, the half over `dvi_scan` (one idea, cut for the prover), in five rooms.
 //!
-//! `walk_pages` passes over the instructions of all pages up to post, with the fonts that are selected. `listing` is the text of the pages and their
-//! marks, line by line, and `Lines` gives it piece by piece.
+//! `check` walks over the instructions of all pages and so checks a whole file: `Dvi::open` keeps its pages, which are those of the file definition,
+//! `read_dvi` also the widths of their glyphs and the places of their specials, `CheckedDvi::open` no mark. `sights` walks over a checked file once
+//! more, and hands out what is seen. `listings` has the text of pages, at once or in pieces; `fonts` the fonts that were read; `fault` why a file is
+//! refused.
 #![tactic(auto)]
 
-mod ahead;
-mod before_pages;
-mod checked;
-mod checked_lines;
+mod check;
 mod fault;
-pub mod file_laws;
-mod glyph_head;
-mod lines;
-mod one_page;
-mod opening;
-mod part;
-mod read_fonts;
-mod reading;
-mod selecting;
+mod fonts;
+mod listings;
 mod sights;
-mod stepping;
-mod text;
-mod walk;
-pub mod walk_laws;
-mod walking;
 
-pub use ahead::Lines;
-pub use before_pages::{BeforePages, find_front};
-pub use checked::CheckedDvi;
-pub use checked_lines::CheckedLines;
+pub use check::{
+    BeforePages, CheckedDvi, Dvi, ReadDvi, Source, Walk, find_front, pages_end, read_dvi, step,
+    walk_pages,
+};
 pub use dvi_scan::{Mark, Page};
-pub use fault::{DviFault, StepFault};
-pub use lines::hexadecimal_digit;
-pub use opening::{Dvi, ReadDvi, read_dvi};
-pub use part::PART;
-pub use read_fonts::{CharCode, ReadFonts, width_asked, width_of};
-pub use selecting::select;
+pub use fault::{
+    DviFault, StepFault, no_fault_is_in_a_file, no_walk_stops_in_a_file, pointers_are_wrong,
+};
+pub use fonts::{CharCode, ReadFonts, select, width_asked, width_of};
+pub use listings::{CheckedLines, Lines, PART, hexadecimal_digit, listing};
 pub use sights::{Sight, Sights};
-pub use stepping::step;
-pub use text::listing;
-pub use walk::{Source, Walk};
-pub use walking::{pages_end, walk_pages};

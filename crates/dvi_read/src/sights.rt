@@ -15,12 +15,14 @@ ghost use Rattle.dvi_read.specs.PageMarks.{read_width};
 ghost use Rattle.dvi_read.specs.ReadFonts.{HasCurrent, HaveByteCodes};
 ghost use Rattle.dvi_read.specs.Private.ReadFonts.{Chooses};
 ghost use Rattle.dvi_read.specs.Private.SeenTexts.{ShowsTextOf};
-ghost use Rattle.dvi_read.specs.Seen.{Seen, seen_of};
+ghost use Rattle.dvi_read.specs.Seen.{SeenItem, seen_of};
 ghost use Rattle.dvi_read.specs.SeenAhead.{EndsText, HasAllPages, IsReady, IsSameFile, IsSeenAfter, IsSeenAhead, ShowsFirst, ShowsNext, standing};
 ghost use Rattle.dvi_read.specs.Steps.{FontsAreRead};
-ghost use Rattle.dvi_read.specs.declared.read_fonts.ReadFonts.{ReadFonts};
+ghost use Rattle.dvi_read.specs.declared.fonts.ReadFonts.{ReadFonts};
 
-use crate::read_fonts::{CharCode, ReadFonts, width_asked};
+pub(crate) mod one_page;
+
+use crate::fonts::{CharCode, ReadFonts, width_asked};
 use dvi_ops::{BodyOp, Op};
 use dvi_scan::{DviState, FontNumber, Mark, OpenPage, Position, read_at};
 use smallvec::SmallVec;
@@ -185,8 +187,8 @@ fn draw<'a>(
 impl<'a> Sights<'a> {
     /// Takes an instruction, and returns what is seen of it.
     fn take(&mut self, op: &Op<'a>) -> Option<Sight<'a>>
-        requires { (seen : List Seen) × IsSeenAfter (view op.now ∷ []) self.old seen }
-        ensures next { (seen : List Seen) → IsSeenAfter (view op.now ∷ []) self.old seen → ShowsFirst seen self.new result }
+        requires { (seen : List SeenItem) × IsSeenAfter (view op.now ∷ []) self.old seen }
+        ensures next { (seen : List SeenItem) → IsSeenAfter (view op.now ∷ []) self.old seen → ShowsFirst seen self.new result }
         ensures text { ShowsTextOf (view op.now) result }
         ensures place { self.new.at ≡ self.old.at }
         ensures post { self.new.post ≡ self.old.post }
@@ -211,9 +213,9 @@ impl<'a> Sights<'a> {
 
     /// Takes the next instruction, and returns what is seen of it.
     fn step(&mut self) -> Option<Sight<'a>>
-        requires ahead { (seen : List Seen) × IsSeenAhead self.old seen }
+        requires ahead { (seen : List SeenItem) × IsSeenAhead self.old seen }
         requires more { self.old.at < self.old.post }
-        ensures next { (seen : List Seen) → IsSeenAhead self.old seen → ShowsFirst seen self.new result }
+        ensures next { (seen : List SeenItem) → IsSeenAhead self.old seen → ShowsFirst seen self.new result }
         ensures text { EndsText self.old.bytes.now self.new.at result }
         ensures forward { self.old.at < self.new.at }
         ensures fits { self.new.at < 2 ^ 64 }
@@ -229,9 +231,9 @@ impl<'a> Sights<'a> {
 
     /// What is seen next; None after all marks of all pages. It takes no memory.
     pub fn next_sight(&mut self) -> Option<Sight<'a>>
-        requires { (seen : List Seen) × IsSeenAhead self.old seen }
+        requires { (seen : List SeenItem) × IsSeenAhead self.old seen }
         // It is the first of what is still to be seen; or nothing is.
-        ensures next { (seen : List Seen) → IsSeenAhead self.old seen → ShowsNext seen self.new result }
+        ensures next { (seen : List SeenItem) → IsSeenAhead self.old seen → ShowsNext seen self.new result }
         // The text of a special ends in the file where the walk has come to.
         ensures text { EndsText self.old.bytes.now self.new.at result }
         ensures forward { IsSome result → self.old.at < self.new.at }
@@ -265,7 +267,7 @@ impl<'a> Sights<'a> {
 
     /// Begins again before the first page: all that was seen will be seen once more. It takes no memory.
     pub fn rewind(&mut self)
-        requires { (seen : List Seen) × IsSeenAhead self.old seen }
+        requires { (seen : List SeenItem) × IsSeenAhead self.old seen }
         ensures ahead { (pages : List MarkedPage) → HasAllPages self.old pages → IsSeenAhead self.new (seen_of pages) }
         ensures same { IsSameFile self.old self.new }
     {

@@ -4,9 +4,9 @@ use Rattle.dvi_ops.specs.File.{MarkedPage}
 use Rattle.dvi_ops.specs.Fonts.{WidthsByName, widths_of}
 use Rattle.dvi_ops.specs.Instruction.{Definition}
 use Rattle.dvi_read.specs.PageMarks.{HasGlyphWidths, marks_of, read_width}
-use Rattle.dvi_read.specs.Seen.{Seen, Counts, Marked, seen_of}
+use Rattle.dvi_read.specs.Seen.{SeenItem, Counts, Marked, seen_of}
 use Rattle.dvi_read.specs.SeenAhead.{IsSeenAhead}
-use Rattle.dvi_read.specs.declared.read_fonts.ReadFonts.{ReadFonts}
+use Rattle.dvi_read.specs.declared.fonts.ReadFonts.{ReadFonts}
 use Rattle.dvi_read.specs.declared.sights.Sight.{Sight}
 use Rattle.dvi_read.specs.declared.sights.Sight.TheVariants as sights
 use Rattle.dvi_read.specs.declared.sights.Sights.{Sights}
@@ -29,13 +29,13 @@ row_of fonts place (Rule h v height width) = rule_row h v height width
 row_of fonts place (Special h v text) = special_row h v (size_of (length text)) (place - length text)
 
 -- The number of pages among what is seen.
-abbrev pub pages_among : List Seen → ℕ
+abbrev pub pages_among : List SeenItem → ℕ
 pages_among [] = 0
 pages_among (Counts counts ∷ rest) = pages_among rest + 1
 pages_among (Marked mark ∷ rest) = pages_among rest
 
 -- The marks among what is seen.
-abbrev pub marks_among : List Seen → List Mark
+abbrev pub marks_among : List SeenItem → List Mark
 marks_among [] = []
 marks_among (Counts counts ∷ rest) = marks_among rest
 marks_among (Marked mark ∷ rest) = mark ∷ marks_among rest

@@ -1,7 +1,7 @@
 -- The parts of a listing (own).
 use Rattle.std.specs.Prelude.{◌≡◌, ◌≤◌, [], ◌∷◌, ◌++◌, List, ℕ, ℤ, Option, Some, None, codes, drop}
 use Rattle.std.specs.Fmt.{signed_decimal}
-use Rattle.dvi_read.specs.declared.part.NumberEnd.{NumberEnd}
+use Rattle.dvi_read.specs.declared.listings.part.NumberEnd.{NumberEnd}
 
 -- The end of a line: a number in decimal, with a space before it, and a line feed.
 abbrev pub decimal_line_end : ℤ → List ℕ

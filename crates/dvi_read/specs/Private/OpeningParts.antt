@@ -14,7 +14,7 @@ use Rattle.dvi_read.specs.Stops.{PagesHaveEnded, IsUnended}
 use Rattle.dvi_read.specs.declared.fault.DviFault.{DviFault}
 use Rattle.dvi_read.specs.declared.fault.DviFault.TheVariants.{Bad, OutOfMemory}
 use Rattle.dvi_read.specs.Private.Walks.{bare, read_in}
-use Rattle.dvi_read.specs.declared.walk.Walk.{Walk}
+use Rattle.dvi_read.specs.declared.check.walk.Walk.{Walk}
 use Rattle.tfm_core.specs.FileWidths.{file_widths}
 use Rattle.tfm_core.specs.NamedBytes.{NamedBytes}
 

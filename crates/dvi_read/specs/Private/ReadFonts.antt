@@ -1,7 +1,7 @@
 -- The rest of `ReadFonts`, which no public contract reaches (own).
 use Rattle.std.specs.Prelude.{◌≡◌}
 use Rattle.dvi_ops.specs.Instruction.{FontNum, Instruction, Do}
-use Rattle.dvi_read.specs.declared.read_fonts.ReadFonts.{ReadFonts}
+use Rattle.dvi_read.specs.declared.fonts.ReadFonts.{ReadFonts}
 use Rattle.dvi_read.specs.ReadFonts.{HasCurrent}
 
 -- A selection selects its font. Any other instruction leaves the fonts unchanged.

@@ -15,7 +15,7 @@ use Rattle.dvi_read.specs.Private.ReadFonts.{Chooses}
 use Rattle.dvi_read.specs.Stops.{BreaksRest, FontIsUnread}
 use Rattle.dvi_read.specs.declared.fault.StepFault.{StepFault}
 use Rattle.dvi_read.specs.declared.fault.StepFault.TheVariants.{OutOfMemory, Broken, Refused}
-use Rattle.dvi_read.specs.declared.walk.Walk.{Walk}
+use Rattle.dvi_read.specs.declared.check.walk.Walk.{Walk}
 use Rattle.tfm_core.specs.NamedBytes.{NamedBytes}
 use Rattle.dvi_read.specs.Steps.{LacksFont, stand_of, known_of, places_left}
 

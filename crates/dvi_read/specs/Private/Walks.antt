@@ -11,7 +11,7 @@ use Rattle.dvi_read.specs.ReadFonts.{AreSound, IsCurrent}
 use Rattle.dvi_read.specs.Steps.{FontsAreRead, IsWalkStep, known_of, places_left, so_far, stand_of}
 use Rattle.dvi_read.specs.Stops.{PageBytes, IsPagesFault}
 use Rattle.dvi_read.specs.declared.fault.DviFault.{DviFault}
-use Rattle.dvi_read.specs.declared.walk.Walk.{Walk}
+use Rattle.dvi_read.specs.declared.check.walk.Walk.{Walk}
 use Rattle.tfm_core.specs.NamedBytes.{NamedBytes}
 
 -- One instruction was read and accepted.
@@ -43,9 +43,9 @@ bare (Between pages) = Between []
 bare (Inside pages counts marks stack s) = Inside [] counts [] stack s
 
 -- What a walk holds of the state of the pass: all of it, or none of the pages and the marks.
-abbrev pub held : (keeps : Bool) → PassStateView → PassStateView
-held true p = p
-held false p = bare p
+abbrev pub held_state : (keeps : Bool) → PassStateView → PassStateView
+held_state true p = p
+held_state false p = bare p
 
 -- What was read of a file, from the state of the pass, the selected fonts and a walk, which has the rest.
 abbrev pub read_in : PassStateView → (selected : List ℤ) → Walk → ReadSoFar
@@ -58,7 +58,7 @@ pub record IsWalkedOver (keeps : Bool) (metrics : WidthsByName) (ahead : List �
   pub selected : List ℤ
   pub pass : PassStateView
   pub reached : IsReached metrics ahead bytes stop chain at (read_in pass selected walk)
-  pub stand : stand_of walk ≡ held keeps pass
+  pub stand : stand_of walk ≡ held_state keeps pass
   pub read : FontsAreRead walk.fonts selected
   pub sound : AreSound metrics (known_of walk) walk.fonts
   pub current : IsCurrent walk.fonts walk.stand

@@ -1,7 +1,7 @@
 -- The bytes that were counted and those still to come are all.
 use Rattle.std.proofs.Common.{◌≡◌, ◌≤◌, ◌+◌, List, ℕ, length, vec_capacity}
 use Rattle.dvi_read.specs.SeenAhead.{AreLinesAhead, HasAllLines, lines_left}
-use Rattle.dvi_read.specs.declared.part.TheConstants.{PART}
+use Rattle.dvi_read.specs.declared.listings.part.TheConstants.{PART}
 use Rattle.boxglue_calls.proofs.listings.listing_size.Given as goal
 
 abbrev pub invariant-loop-piece : goal.invariant-loop-piece

@@ -1,7 +1,7 @@
 -- The bytes that were written and those still to come are all.
 use Rattle.std.proofs.Common.{◌≡◌, ◌≤◌, ◌++◌, List, ℕ, length, vec_capacity}
 use Rattle.dvi_read.specs.SeenAhead.{AreLinesAhead, lines_left}
-use Rattle.dvi_read.specs.declared.part.TheConstants.{PART}
+use Rattle.dvi_read.specs.declared.listings.part.TheConstants.{PART}
 use Rattle.boxglue_calls.specs.Buffers.{Holds}
 use Rattle.boxglue_calls.proofs.listings.write_listing.Given as goal
 

@@ -1,7 +1,7 @@
 -- One more row is counted, or nothing is left.
 use Rattle.std.proofs.Common.{◌≡◌, [], List, Option, ap, arith, length, refl, subst}
 use Rattle.dvi_read.proofs.AgainLemmas.{same_file, same_then}
-use Rattle.dvi_read.specs.Seen.{Seen}
+use Rattle.dvi_read.specs.Seen.{SeenItem}
 use Rattle.dvi_read.specs.SeenAhead.{ShowsNext, sight_of}
 use Rattle.dvi_read.specs.declared.sights.Sight.{Sight}
 use Rattle.boxglue_calls.specs.Private.MarkRows.{marks_among, pages_among}
@@ -58,7 +58,7 @@ pub returns-clause-marks : goal.returns-clause-marks
 returns-clause-marks c = λ seen first.
     let (rest, now, pages, marks) = c.loop-sight.invariant.begun seen first in
     let (none, ahead) = subst (λ (o : Option Sight). ShowsNext rest c.next_sight.new.self o) c.in_default.is (c.next_sight.ensures.next rest now) in
-    let left : length (marks_among rest) ≡ 0 = ap (λ (ss : List Seen). length (marks_among ss)) none in omega (arith, marks, left)
+    let left : length (marks_among rest) ≡ 0 = ap (λ (ss : List SeenItem). length (marks_among ss)) none in omega (arith, marks, left)
 
 pub returns-clause-rows : goal.returns-clause-rows
 returns-clause-rows c = λ metrics table seen first widths.

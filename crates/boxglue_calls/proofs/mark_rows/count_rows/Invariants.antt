@@ -3,7 +3,7 @@ use Rattle.std.proofs.Common.{◌≡◌, ◌≤◌, ◌+◌, ◌-◌, List, leng
 use Rattle.dvi_ops.specs.Fonts.{WidthsByName}
 use Rattle.dvi_ops.specs.Instruction.{Definition}
 use Rattle.dvi_read.specs.PageMarks.{HasGlyphWidths}
-use Rattle.dvi_read.specs.Seen.{Seen}
+use Rattle.dvi_read.specs.Seen.{SeenItem}
 use Rattle.dvi_read.specs.SeenAhead.{IsSameFile, IsSeenAhead}
 use Rattle.boxglue_calls.specs.Private.MarkRows.{marks_among, pages_among}
 use Rattle.boxglue_calls.proofs.RowSteps.{HasCounted}
@@ -11,10 +11,10 @@ use Rattle.boxglue_calls.proofs.mark_rows.count_rows.Given as goal
 
 abbrev pub invariant-loop-sight : goal.invariant-loop-sight
 invariant-loop-sight l = record {
-  some : (seen : List Seen) × IsSeenAhead l.sights seen;
-  begun : (seen : List Seen) → IsSeenAhead l.initial.sights seen → (rest : List Seen) × IsSeenAhead l.sights rest × (l.counts.pages + pages_among rest ≡ pages_among seen)
+  some : (seen : List SeenItem) × IsSeenAhead l.sights seen;
+  begun : (seen : List SeenItem) → IsSeenAhead l.initial.sights seen → (rest : List SeenItem) × IsSeenAhead l.sights rest × (l.counts.pages + pages_among rest ≡ pages_among seen)
       × (l.counts.marks + length (marks_among rest) ≡ length (marks_among seen));
-  rows : (metrics : WidthsByName) (table : List Definition) (seen : List Seen) → IsSeenAhead l.initial.sights seen → HasGlyphWidths metrics table l.initial.sights.fonts (marks_among seen)
+  rows : (metrics : WidthsByName) (table : List Definition) (seen : List SeenItem) → IsSeenAhead l.initial.sights seen → HasGlyphWidths metrics table l.initial.sights.fonts (marks_among seen)
       → HasCounted metrics table l.initial.sights seen l.sights;
   few : l.counts.pages + l.counts.marks ≤ l.sights.at;
   same : IsSameFile l.initial.sights l.sights;

@@ -2,7 +2,7 @@
 use Rattle.std.proofs.Common.{◌≡◌, ◌≤◌, ◌++◌, ℕ, List, vec_capacity}
 use Rattle.std.specs.Io.KnownBytes.{Appends}
 use Rattle.dvi_read.specs.SeenAhead.{AreLinesAhead, lines_left}
-use Rattle.dvi_read.specs.declared.part.TheConstants.{PART}
+use Rattle.dvi_read.specs.declared.listings.part.TheConstants.{PART}
 use Rattle.boxglue_lib.proofs.printing.write_listing.Given as goal
 
 abbrev pub invariant-loop-writer : goal.invariant-loop-writer

@@ -1,13 +1,13 @@
 -- What is still to be seen is the same as at the beginning: nothing was seen on the way.
 use Rattle.std.proofs.Common.{◌≡◌, ◌≤◌, ◌-◌, List}
-use Rattle.dvi_read.specs.Seen.{Seen}
+use Rattle.dvi_read.specs.Seen.{SeenItem}
 use Rattle.dvi_read.specs.SeenAhead.{IsSameFile, IsSeenAhead}
 use Rattle.dvi_read.proofs.sights.Sights.next_sight.Given as goal
 
 abbrev pub invariant-loop-self : goal.invariant-loop-self
 invariant-loop-self l = record {
-  ahead : (seen : List Seen) × IsSeenAhead l.self seen;
-  same : (seen : List Seen) → IsSeenAhead l.initial.self seen → IsSeenAhead l.self seen;
+  ahead : (seen : List SeenItem) × IsSeenAhead l.self seen;
+  same : (seen : List SeenItem) → IsSeenAhead l.initial.self seen → IsSeenAhead l.self seen;
   forward : l.initial.self.at ≤ l.self.at;
   post : l.self.post ≡ l.initial.self.post;
   file : IsSameFile l.initial.self l.self;

@@ -1,5 +1,0 @@
-use Rattle.dvi_read.proofs.FaultLemmas.{no_fault}
-use Rattle.dvi_read.proofs.file_laws.no_fault_is_in_a_file.Goals as goal
-
-pub returns : goal.returns
-returns c = no_fault

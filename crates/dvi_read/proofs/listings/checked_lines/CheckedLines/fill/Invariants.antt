@@ -1,0 +1,18 @@
+-- The bytes so far and the rest are the whole.
+use Rattle.std.proofs.Common.{◌≡◌, ◌++◌, ◌⊎◌, ◌≤◌, ◌<◌, List, ℕ, vec_len, vec_capacity}
+use Rattle.dvi_read.specs.SeenAhead.{AreLinesAhead, IsSameFile, lines_left}
+use Rattle.dvi_read.proofs.listings.checked_lines.CheckedLines.fill.Given as goal
+
+abbrev pub invariant-loop-self : goal.invariant-loop-self
+invariant-loop-self l = record {
+  some : (lines : List ℕ) × AreLinesAhead l.self lines;
+  whole : (lines : List ℕ) → AreLinesAhead l.initial.self lines → (rest : List ℕ) × (l.text.items ++ rest ≡ l.initial.text.items ++ lines) × AreLinesAhead l.self rest;
+  grown : vec_len l.initial.text ≤ vec_len l.text;
+  capacity : vec_capacity l.initial.text ≤ vec_capacity l.text;
+  less : lines_left l.self ≤ lines_left l.initial.self;
+  same : IsSameFile l.initial.self.sights l.self.sights;
+  begun : (l.text ≡ l.initial.text) ⊎ ((vec_len l.initial.text < vec_len l.text) × (lines_left l.self < lines_left l.initial.self));
+}
+
+abbrev pub decreases-loop-self : goal.decreases-loop-self
+decreases-loop-self l = lines_left l.self

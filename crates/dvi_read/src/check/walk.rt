@@ -1,0 +1,269 @@
+//! The walk over the pages of a file, from the preamble to post (DVItype, 15 and 18), and its state.
+
+ghost use Rattle.std.specs.Prelude.{◌≡◌, ◌++◌, ◌+◌, ◌≤◌, ◌<◌, if◌then◌else◌, [], false, length, map, min, pos, true, IfErr, IfOk, List, OnErr, OnOk};
+ghost use Rattle.std.specs.Prelude.{Some, ℕ, ℤ};
+ghost use Rattle.std.specs.List.{AllByRecursion};
+ghost use Rattle.dvi_ops.specs.Body.{place_after};
+ghost use Rattle.dvi_ops.specs.File.{max_pushes};
+ghost use Rattle.dvi_ops.specs.Fonts.{IsFontSize, WidthsByName};
+ghost use Rattle.dvi_ops.specs.Instruction.{Across, By, Postamble};
+ghost use Rattle.dvi_ops.specs.View.{postamble, view};
+ghost use Rattle.dvi_scan.specs.Reached.{IsReached, before_pages};
+ghost use Rattle.dvi_scan.specs.Drawing.{reached_position};
+ghost use Rattle.dvi_scan.specs.View.{marked_page, spot_position};
+ghost use Rattle.dvi_read.specs.PageMarks.{HasPlaces, marks_so_far};
+ghost use Rattle.dvi_read.specs.Private.PageMarks.{PutsSpecial, text_place};
+ghost use Rattle.dvi_read.specs.ReadFonts.{AreSound, HaveByteCodes, IsCurrent, asked_width, selected_in};
+ghost use Rattle.dvi_read.specs.Steps.{known_of, places_left, stand_of};
+ghost use Rattle.dvi_read.specs.Stops.{page_bytes, PagesHaveEnded, IsUnended, IsWalkFault};
+ghost use Rattle.dvi_read.specs.Walks.{IsWalked};
+ghost use Rattle.dvi_read.specs.Private.Walks.{IsBegun, IsWalkedOver, Reads, StopsReading, held_state};
+ghost use Rattle.tfm_core.specs.FileWidths.{file_widths};
+
+use crate::check::instruction::step;
+use crate::fault::DviFault;
+use crate::fonts::{CharCode, ReadFonts};
+use dvi_ops::{BodyOp, Op};
+use dvi_scan::{
+    BadDvi, DviCause, FileEnd, KnownFonts, NumbersAhead, OpenPage, Page, PassState, read_at,
+};
+use std::alloc::{AllocError, Global};
+use tfm_core::FontFile;
+
+/// The input of a walk.
+#[derive(Clone, Copy)]
+pub struct Source<'s, 'a> {
+    /// The bytes of the file.
+    pub bytes: &'a [u8],
+    /// The metric files.
+    pub files: &'s [FontFile],
+    /// The numbers of fonts that are defined after post.
+    pub ahead: &'s NumbersAhead,
+    /// The places of the parts of the file, and the operands of post.
+    pub ending: &'s FileEnd,
+}
+
+/// The state of a walk over the pages of a file: the state of the pass; the finished pages; the known definitions; the fonts that were read; the
+/// places of the chain that are still to come, the last one first; and whether one before them was missed, because no bop was there.
+#[derive(Drop)]
+pub struct Walk<'a> {
+    pub stand: PassState<'a>,
+    pub done: Vec<Page<'a>>,
+    pub known: KnownFonts<'a>,
+    pub fonts: ReadFonts,
+    pub left: Vec<usize>,
+    pub missed: bool,
+}
+
+/// Appends the place of the text of a special, which is the end of its instruction. Another instruction has none.
+fn push_text_place(op: &Op<'_>, next: usize, specials: &mut Vec<usize>) -> Result<(), AllocError>
+    ensures ok { OnOk result (specials.new.items ≡ specials.old.items ++ text_place next (view op.now)) }
+    ensures memory { OnErr result (PutsSpecial (view op.now)) }
+{
+    if let Op::Body(BodyOp::Xxx(text)) = *op {
+        specials.push(next.saturating_sub(text.len()))?;
+    }
+    Ok(())
+}
+
+/// Reads the instruction at a place before post, processes it, and returns the place after it. The place of the text of a special is added to
+/// `specials`.
+fn read_step<'a>(
+    alloc: Global,
+    source: &Source<'_, 'a>,
+    at: usize,
+    walk: &mut Walk<'a>,
+    specials: &mut Vec<usize>,
+) -> Result<usize, DviFault>
+    requires low { at < source.now.ending.now.post }
+    requires high { source.now.ending.now.post ≤ length source.now.bytes.now }
+    requires sizes { AllByRecursion (λ d. IsFontSize d.size) (known_of walk.old) }
+    requires sound { AreSound (file_widths source.now.files.now) (known_of walk.old) walk.old.fonts }
+    requires current { IsCurrent walk.old.fonts walk.old.stand }
+    ensures ok { IfOk result (Reads (file_widths source.now.files.now)
+        (page_bytes source.now.ahead.now.keys source.now.bytes.now (min max_pushes (postamble source.now.ending.now.stop).stack_depth)
+        source.now.ending.now.post)
+        at walk.old walk.new) }
+    ensures bad { IfErr result (StopsReading source.now.files.now
+        (page_bytes source.now.ahead.now.keys source.now.bytes.now (min max_pushes (postamble source.now.ending.now.stop).stack_depth)
+        source.now.ending.now.post)
+        at walk.old) }
+    ensures specials { HasPlaces source.now.bytes.now specials.old.items (stand_of walk.old)
+        → OnOk result (HasPlaces source.now.bytes.now specials.new.items (stand_of walk.new)) }
+{
+    let (op, next) = match read_at(source.bytes, at, source.ending.post) {
+        Ok(found) => found,
+        Err(fault) => {
+            return Err(DviFault::Bad(BadDvi {
+                place: at,
+                cause: DviCause::from(fault),
+            }));
+        }
+    };
+    match step(alloc, source, at, &op, walk) {
+        Ok(()) => {
+            push_text_place(&op, next, specials)?;
+            Ok(next)
+        }
+        Err(fault) => Err(fault.at(at)),
+    }
+}
+
+/// A walk before the first page.
+fn walk_start<'a>(alloc: Global, left: Vec<usize>) -> Walk<'a>
+    ensures { IsBegun left.items result }
+{
+    Walk {
+        stand: PassState::Between,
+        done: Vec::new(alloc),
+        known: KnownFonts::new(alloc),
+        fonts: ReadFonts::new(alloc),
+        left,
+        missed: false,
+    }
+}
+
+/// Drops the pages that have ended, the marks so far and the places of specials, unless they are kept.
+fn release(keeps: bool, walk: &mut Walk<'_>, specials: &mut Vec<usize>)
+    ensures stand { stand_of walk.new ≡ held_state keeps (stand_of walk.old) }
+    ensures selected { selected_in walk.new.stand ≡ selected_in walk.old.stand }
+    ensures fonts { walk.new.fonts ≡ walk.old.fonts }
+    ensures known { known_of walk.new ≡ known_of walk.old }
+    ensures left { places_left walk.new ≡ places_left walk.old }
+    ensures specials { specials.new.items ≡ (if keeps then specials.old.items else []) }
+{
+    if keeps {
+        return;
+    }
+    specials.clear();
+    walk.done.clear();
+    if let PassState::Inside(page) = &mut walk.stand {
+        page.marks.clear();
+    }
+}
+
+/// Moves an open page over a character of one byte, where its font has a width for it and the place stays in range. Its mark is not kept. Returns
+/// whether it did.
+fn pass_in_page(fonts: &ReadFonts, byte: u8, page: &mut OpenPage<'_>) -> bool
+    requires { HaveByteCodes fonts.now }
+    ensures passed { result ≡ true → (f : ℤ) × (width : ℤ) × (page.old.state.font ≡ Some f) × (asked_width fonts.now (Some (pos byte)) ≡ Some width)
+        × (Some (spot_position page.new.state.place) ≡ reached_position (place_after Across (By width) (spot_position page.old.state.place))) }
+    ensures rest { page.new ≡ record page.old { state = record page.old.state { place = page.new.state.place } } }
+    ensures same { result ≡ false → page.new ≡ page.old }
+{
+    if page.state.font.is_none() {
+        return false;
+    }
+    let code = CharCode {
+        value: i32::from(byte),
+    };
+    let Some(width) = fonts.width(code) else {
+        return false;
+    };
+    let Some(place) = page.state.place.right(width) else {
+        return false;
+    };
+    page.state.place = place;
+    true
+}
+
+/// Passes over a character of one byte in an open page, in a walk that keeps no mark. Returns whether it did.
+fn pass_character(keeps: bool, source: &Source<'_, '_>, at: usize, walk: &mut Walk<'_>) -> bool
+    requires low { at < source.now.ending.now.post }
+    requires high { source.now.ending.now.post ≤ length source.now.bytes.now }
+    requires codes { HaveByteCodes walk.old.fonts }
+    ensures passed { result ≡ true → (metrics : WidthsByName) (ahead : List ℤ) (stop : Postamble) (chain : List ℕ)
+        → IsWalkedOver keeps metrics ahead source.now.bytes.now stop chain at walk.old
+        → IsWalkedOver keeps metrics ahead source.now.bytes.now stop chain (at + 1) walk.new }
+    ensures marks { marks_so_far (stand_of walk.new) ≡ marks_so_far (stand_of walk.old) }
+    ensures same { result ≡ false → walk.new ≡ walk.old }
+{
+    let byte = source.bytes[at];
+    if keeps || byte >= 128 {
+        return false;
+    }
+    match &mut walk.stand {
+        PassState::Inside(page) => pass_in_page(&walk.fonts, byte, page),
+        PassState::Between => false,
+    }
+}
+
+/// Walks over the pages of a file, as `walk_pages`, and keeps their marks or drops them as they come.
+pub(crate) fn walk_over<'a>(
+    alloc: Global,
+    source: &Source<'_, 'a>,
+    from: usize,
+    left: Vec<usize>,
+    keeps: bool,
+) -> Result<(Walk<'a>, Vec<usize>), DviFault>
+    requires low { from ≤ source.now.ending.now.post }
+    requires high { source.now.ending.now.post ≤ length source.now.bytes.now }
+    requires reached { IsReached (file_widths source.now.files.now) source.now.ahead.now.keys source.now.bytes.now
+        (postamble source.now.ending.now.stop) left.items from (before_pages left.items) }
+    ensures ok { IfOk result (λ found. IsWalkedOver keeps (file_widths source.now.files.now) source.now.ahead.now.keys source.now.bytes.now
+        (postamble source.now.ending.now.stop) left.items source.now.ending.now.post found.0) }
+    ensures specials { IfOk result (λ found. HasPlaces source.now.bytes.now found.1.items (stand_of found.0)) }
+    ensures bad { IfErr result (IsWalkFault source.now.files.now source.now.ahead.now.keys source.now.bytes.now (postamble source.now.ending.now.stop)
+        left.items source.now.ending.now.post) }
+{
+    let mut walk = walk_start(alloc, left);
+    let mut specials = Vec::new(alloc);
+    let mut at = from;
+    while at < source.ending.post {
+        if pass_character(keeps, source, at, &mut walk) {
+            at += 1;
+        } else {
+            at = read_step(alloc, source, at, &mut walk, &mut specials)?;
+            release(keeps, &mut walk, &mut specials);
+        }
+    }
+    Ok((walk, specials))
+}
+
+/// Walks over the pages of a file, from the place after the preamble up to post. `left` has the places of the pages, the last one first (DVItype, 15
+/// and 18). The width of a character is that of the first definition of its font. It returns the places of the texts of specials, in order, beside
+/// the walk. It takes memory for pages, marks, places, definitions and fonts.
+///
+/// The fault is Bad with the first broken rule and its place; NoFont, BadTfm or DimensionTooLarge for a selected font without widths; or OutOfMemory.
+pub fn walk_pages<'a>(
+    alloc: Global,
+    source: &Source<'_, 'a>,
+    from: usize,
+    left: Vec<usize>,
+) -> Result<(Walk<'a>, Vec<usize>), DviFault>
+    requires low { from ≤ source.now.ending.now.post }
+    requires high { source.now.ending.now.post ≤ length source.now.bytes.now }
+    requires reached { IsReached (file_widths source.now.files.now) source.now.ahead.now.keys source.now.bytes.now
+        (postamble source.now.ending.now.stop) left.items from (before_pages left.items) }
+    // All instructions before post are right, and the walk has their pages and fonts.
+    ensures ok { IfOk result (λ found. IsWalked (file_widths source.now.files.now) source.now.ahead.now.keys source.now.bytes.now
+        (postamble source.now.ending.now.stop) left.items source.now.ending.now.post found.0) }
+    // Each text of a special stands at its place.
+    ensures specials { IfOk result (λ found. HasPlaces source.now.bytes.now found.1.items (stand_of found.0)) }
+    // All instructions before the place of a fault are right, and the rule that it names is broken there.
+    ensures bad { IfErr result (IsWalkFault source.now.files.now source.now.ahead.now.keys source.now.bytes.now (postamble source.now.ending.now.stop)
+        left.items source.now.ending.now.post) }
+{
+    walk_over(alloc, source, from, left, true)
+}
+
+/// Tests that no page is open at the place of post, where the fault is Opcode, and that a bop was at each place of the chain, where the fault is
+/// Pointer. Both faults are at the place of post.
+pub fn pages_end(walk: &Walk<'_>, post: usize) -> Result<(), BadDvi>
+    ensures ok { OnOk result (PagesHaveEnded (stand_of walk.now) (places_left walk.now) (map marked_page walk.now.done.items)) }
+    ensures bad { IfErr result (IsUnended (stand_of walk.now) (places_left walk.now) post) }
+{
+    if let PassState::Inside(_) = walk.stand {
+        return Err(BadDvi {
+            place: post,
+            cause: DviCause::Opcode,
+        });
+    }
+    if walk.missed || !walk.left.is_empty() {
+        return Err(BadDvi {
+            place: post,
+            cause: DviCause::Pointer,
+        });
+    }
+    Ok(())
+}

@@ -1,0 +1,179 @@
+//! The fonts that were read, the selection of a font, and the widths of characters (DVItype, 18; TFtoPL, 11).
+
+ghost use Rattle.std.specs.Prelude.{◌≡◌, ◌++◌, ◌∷◌, [], false, length, option_map, true, ℕ, None, OnErr, OnOk, Some, ◌⊎◌, IfErr, IfSome};
+ghost use Rattle.std.specs.BTreeMap.{IsEmpty, Updates};
+ghost use Rattle.std.specs.Ordering.{int_cmp};
+ghost use Rattle.dvi_scan.specs.Widths.{HasBytes};
+ghost use Rattle.dvi_ops.specs.View.{view, definition};
+ghost use Rattle.dvi_read.specs.PageMarks.{read_width};
+ghost use Rattle.dvi_read.specs.ReadFonts.{AreUnchanged, HaveByteCodes, asked_width, code_in, selected_font, font_place, width_in, AreSound};
+ghost use Rattle.tfm_core.specs.FileWidths.{width_at, file_widths};
+ghost use Rattle.std.specs.List.{AllByRecursion};
+ghost use Rattle.dvi_ops.specs.Fonts.{IsFontSize, first_definition_of};
+ghost use Rattle.dvi_scan.specs.Reached.{has_number};
+ghost use Rattle.dvi_read.specs.Steps.{IsSelectFault, Selects};
+
+use crate::check::walk::Source;
+use crate::fault::StepFault;
+use dvi_ops::{BodyOp, FontDefinition, Op};
+use dvi_scan::{DviCause, FontNumber, KnownFonts, NumbersAhead, is_ahead, read_font};
+use std::alloc::{AllocError, Global};
+use std::collections::BTreeMap;
+use tfm_core::Font;
+
+/// The fonts that were read, in the order of their first selections; the place of each number among them; and the place of the font that was selected
+/// last.
+///
+/// A number is searched only at a selection, in time logarithmic in the count of fonts. A character takes its width from the font at `current`,
+/// without a search.
+#[derive(Drop)]
+pub struct ReadFonts {
+    pub all: Vec<Font>,
+    pub places: BTreeMap<i32, usize>,
+    pub current: usize,
+}
+
+/// The number of a character.
+#[derive(Clone, Copy, Debug, PartialEq, Eq)]
+pub struct CharCode {
+    pub value: i32,
+}
+
+/// The width of a character in scaled points; None exactly where the font has no such character (TFtoPL, 11). It takes no memory.
+pub fn width_of(font: &Font, code: CharCode) -> Option<i32>
+    requires { HasBytes font.now }
+    ensures { result ≡ width_at font.now code.value }
+{
+    let code = u8::try_from(code.value).ok()?;
+    let size = font.glyph(code)?;
+    Some(size.width.get())
+}
+
+impl ReadFonts {
+    /// No fonts.
+    pub(crate) fn new(alloc: Global) -> ReadFonts
+        ensures all { result.all.items ≡ [] }
+        ensures places { IsEmpty result.places }
+    {
+        ReadFonts {
+            all: Vec::new(alloc),
+            places: BTreeMap::new(alloc),
+            current: 0,
+        }
+    }
+
+    /// Selects the font of a number, if it was read before, and returns whether it was. It takes no memory.
+    pub(crate) fn choose(&mut self, number: FontNumber) -> bool
+        ensures yes { result ≡ true → (place : ℕ) × (font_place number.value self.old ≡ Some place)
+            × (self.new ≡ record self.old { current = place }) }
+        ensures no { result ≡ false → (font_place number.value self.old ≡ None) × (self.new ≡ self.old) }
+    {
+        match self.places.get(&number.value) {
+            Some(place) => {
+                self.current = *place;
+                true
+            }
+            None => false,
+        }
+    }
+
+    /// Adds the font of a number, and selects it. It takes memory for both.
+    pub(crate) fn add(&mut self, number: FontNumber, font: Font) -> Result<(), AllocError>
+        ensures places { OnOk result (Updates int_cmp self.old.places self.new.places number.value (Some (length self.old.all.items))) }
+        ensures all { OnOk result (self.new.all.items ≡ self.old.all.items ++ font ∷ []) }
+        ensures current { OnOk result (self.new.current ≡ length self.old.all.items) }
+        ensures err { OnErr result (AreUnchanged self.old self.new) }
+    {
+        self.all.reserve(1)?;
+        let place = self.all.len();
+        self.places.insert(number.value, place)?;
+        self.all.push(font).unwrap();
+        self.current = place;
+        Ok(())
+    }
+
+    /// The width of a character in the font of a number; None where that font was not read, or has no such character. It takes no memory, and time
+    /// logarithmic in the count of fonts.
+    pub fn width_by(&self, number: FontNumber, code: CharCode) -> Option<i32>
+        requires { HaveByteCodes self.now }
+        ensures { result ≡ read_width self.now number.value code.value }
+    {
+        let place = self.places.get(&number.value)?;
+        let font = self.all.get(*place)?;
+        width_of(font, code)
+    }
+
+    /// The width of a character in the font that was selected last; None where there is no font or no such character. It takes no memory.
+    pub(crate) fn width(&self, code: CharCode) -> Option<i32>
+        requires { HaveByteCodes self.now }
+        ensures { result ≡ width_in (selected_font self.now) code.value }
+    {
+        let font = self.all.get(self.current)?;
+        width_of(font, code)
+    }
+}
+
+/// The character that an instruction sets or puts, if it does one of both.
+fn code_of(op: &Op<'_>) -> Option<CharCode>
+    ensures { option_map (λ code. code.value) result ≡ code_in (view op.now) }
+{
+    match *op {
+        Op::Body(BodyOp::SetChar(value)) => Some(CharCode { value }),
+        Op::Body(BodyOp::PutChar(value)) => Some(CharCode { value }),
+        _ => None,
+    }
+}
+
+/// The width of the character that an instruction sets or puts, in the font that was selected last. It takes no memory. A new page leaves `current`
+/// as it is: the page begins without a font, and no width is needed before its first selection.
+pub fn width_asked(fonts: &ReadFonts, op: &Op<'_>) -> Option<i32>
+    requires { HaveByteCodes fonts.now }
+    ensures { result ≡ asked_width fonts.now (code_in (view op.now)) }
+{
+    let code = code_of(op)?;
+    fonts.width(code)
+}
+
+/// The first definition of a number, where the number is also defined after post.
+fn definition_in<'f, 'a>(
+    ahead: &NumbersAhead,
+    known: &'f KnownFonts<'a>,
+    number: FontNumber,
+) -> Option<&'f FontDefinition<'a>>
+    ensures font_defined { IfSome result (λ font. (has_number ahead.now.keys number.value ≡ true)
+        × (first_definition_of number.value known.now ≡ Some (definition font.now))) }
+    ensures none { result ≡ None → (first_definition_of number.value known.now ≡ None) ⊎ (has_number ahead.now.keys number.value ≡ false) }
+{
+    if !is_ahead(ahead, number) {
+        return None;
+    }
+    known.get(number)
+}
+
+/// Selects the font of a number, and reads it where it was not read before. The fault is Font where no definition of the number is before the
+/// selection, or none is after post. It is a refusal of the font where no metric file with the name in its first definition is given, or the file is
+/// bad; or OutOfMemory.
+pub fn select(
+    alloc: Global,
+    source: &Source<'_, '_>,
+    known: &KnownFonts<'_>,
+    fonts: &mut ReadFonts,
+    number: FontNumber,
+) -> Result<(), StepFault>
+    requires sizes { AllByRecursion (λ d. IsFontSize d.size) known.now }
+    requires sound { AreSound (file_widths source.now.files.now) known.now fonts.old }
+    ensures ok { OnOk result (Selects (file_widths source.now.files.now) source.now.ahead.now.keys known.now number.value fonts.old fonts.new) }
+    // Memory is refused only for a font that was not read before and whose file exists and breaks no rule that needs no table.
+    ensures bad { IfErr result (IsSelectFault source.now.files.now source.now.ahead.now.keys known.now fonts.old number.value) }
+    ensures unchanged { OnErr result (AreUnchanged fonts.old fonts.new) }
+{
+    let Some(font) = definition_in(source.ahead, known, number) else {
+        return Err(StepFault::Broken(DviCause::Font));
+    };
+    if fonts.choose(number) {
+        return Ok(());
+    }
+    let read = read_font(alloc, source.files, font)?;
+    fonts.add(number, read)?;
+    Ok(())
+}
