@@ -1,4 +1,4 @@
--- The results of the passes over a list of instructions (own; the clause `reused` of `reuse` connects them with `reused`).
+-- The results of the passes over a list of instructions (own; the clause `reused` of `reuse` connects them with `reused_body`).
 use Rattle.std.specs.Prelude.{◌≡◌, ◌+◌, ◌++◌, [], ◌∷◌, List, length, map, reverse, take, drop, if◌then◌else◌, ℕ, ℤ, zero, suc, Bool, true, false}
 use Rattle.std.specs.Prelude.{Option, Some, None, ◌||◌}
 use Rattle.std.specs.List.{list_any}

@@ -2,6 +2,7 @@
 use Rattle.std.proofs.Common.{true, inl, inr, refl}
 use Rattle.dvi_read.specs.Listing.{listing}
 use Rattle.boxglue_program.proofs.PrintLemmas.{refuses}
+use Rattle.boxglue_lib.proofs.EndLemmas.{keeps_same}
 use Rattle.boxglue_lib.proofs.printing.list_file.Goals as goal
 
 pub returns-in_err-write_text-in-Err-clause-unwritten : goal.returns-in_err-write_text-in-Err-clause-unwritten
@@ -47,3 +48,6 @@ returns-clause-listed g c =
       inl (record { pages = pages; file = file; text_is = refl; accepted_is = refl }),
       c.in_ok-write_listing.ensures.all (listing pages) (c.in_ok-lines.ensures.ahead pages has),
     )
+
+pub returns-in_err-piece-clause-silent : goal.returns-in_err-piece-clause-silent
+returns-in_err-piece-clause-silent g c = λ _. keeps_same (g.W.Write.contents c.args.writer.now)
