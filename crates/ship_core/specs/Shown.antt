@@ -31,7 +31,7 @@ abbrev pub ShowsItsMarks : Type 0
 ShowsItsMarks =
     (widths : Widths) (held : MoveRegisters) (page : ShippedPage) → is_huge page ≡ false → EachLeaf (HasWidth widths) page.box_node.list
     → (last : DviState) × (meaning (bounded_acts (instruction_acts widths)) (body_of page) (state_at (pos 0) (pos 0) held None)
-        ≡ Some (marks_of_page page, last))
+    ≡ Some (marks_of_page page, last))
 
 -- Each instruction of the body of a page can be written, where the texts of its specials have fewer than 2^32 bytes in total.
 abbrev pub CanBeWritten : Type 0
