@@ -435,7 +435,7 @@ void boxglue_job_free(struct boxglue_job *job);
 static inline const char *boxglue_status_text(uint32_t status) {
     switch (status) {
     case BOXGLUE_ACCEPTED: return "accepted";
-    case BOXGLUE_REFUSED: return "refused: the text says why";
+    case BOXGLUE_REFUSED: return "refused: the text, or a reply, says why";
     case BOXGLUE_OUT_OF_MEMORY: return "out of memory";
     case BOXGLUE_BAD_FONT_NAME: return "the name of a font has not 1 to 255 bytes";
     case BOXGLUE_BUFFER_TOO_SMALL: return "a buffer is too small: the sizes say what is needed";

@@ -6,13 +6,14 @@ import os
 import re
 import shutil
 import subprocess
+import sys
 import tempfile
 from functools import partial
 
 from steps.examples import Wrong, characters, commands, require, run, shown_on_pages
 from steps.plain_font import metric_file
 
-TITLE = "docs/AUTHORS.md: its commands, and the pages of examples/layout; docs/TOUR.md; the times of README.md"
+TITLE = "docs/AUTHORS.md: its commands, the pages and the client of examples/layout; docs/TOUR.md; the times of README.md"
 NEEDS_PROGRAM = True
 LIMIT = 120
 # The first word of a block that is a script, and not commands of the shell.
@@ -174,6 +175,32 @@ def outcome(programs, root):
     return None
 
 
+# A client over asking.py: more commands than a pipe holds answers to, then a bad line.
+CLIENT = """
+import sys
+sys.path.insert(0, "examples/layout")
+from asking import Session
+session = Session("out/asking.dvi", [])
+print(len(session.ask("hbox into 0", *["kern 0pt"] * 39999)), flush=True)
+session.ask("end", "kern 1")
+"""
+
+
+def asking(programs, root):
+    """asking.py gives any number of commands, and ends at a bad line."""
+    for program in programs:
+        with tempfile.TemporaryDirectory(prefix="boxglue-asking-") as folder:
+            room = Room(root, program, folder)
+            os.mkdir(f"{folder}/out")
+            try:
+                ran = subprocess.run([sys.executable, "-c", CLIENT], cwd=folder, env={"PATH": f"{folder}/bin"}, capture_output=True, text=True, timeout=LIMIT)
+            except subprocess.TimeoutExpired:
+                return f"{os.path.basename(room.program)}: a client of 40,000 commands stands still"
+            if (ran.returncode, ran.stdout, ran.stderr) != (1, "40000\n", "kern 1: refused 2 BadScript 40002 Dimension\n"):
+                return f"{os.path.basename(room.program)}: a client says {(ran.stderr or ran.stdout)[-200:]!r}"
+    return None
+
+
 def times(root):
     """README.md rounds to whole minutes how long its first command takes, and to whole hours how long the proofs do."""
     gate, readme = content(f"{root}/docs/GATE.md"), content(f"{root}/README.md")
@@ -189,3 +216,4 @@ def cases(programs, root):
     yield "README.md", partial(times, root)
     yield "AUTHORS.md", partial(outcome, programs, root)
     yield "TOUR.md", partial(tour, programs, root)
+    yield "asking.py", partial(asking, programs, root)

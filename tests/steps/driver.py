@@ -137,7 +137,7 @@ def lines_of(part, count, result, seconds):
     """The line of a part, and one for each reason why cases did not pass."""
     how = "FAILED" if result.failed else "ok" if result.passed else "skipped"
     more = f", {len(result.skipped)} skipped" if result.skipped else ""
-    yield f"{how:8}{part.name:16}{seconds:5.0f} s  {result.passed} of {count}{more}"
+    yield f"{how:8}{part.name:21}{seconds:5.0f} s  {result.passed} of {count}{more}"
     for what, found in (("FAILED", result.failed), ("skipped", result.skipped)):
         for why in dict.fromkeys(why for _, why in found):
             names = [name for name, its in found if its == why]
@@ -172,7 +172,7 @@ def main(root, given):
     parser, words = words_of(given)
     parts = chosen(parser, words, root)
     if words.list:
-        print("".join(f"{it.name:16}{it.title}\n" for it in sorted(parts, key=lambda it: it.name)), end="")
+        print("".join(f"{it.name:21}{it.title}\n" for it in sorted(parts, key=lambda it: it.name)), end="")
         return 0
     if words.gate and not (words.program and words.rows and words.library):
         parser.error("--gate needs --program, --rows and --library")

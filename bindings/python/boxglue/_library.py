@@ -86,7 +86,7 @@ def library_path() -> str:
     for path in (named, f"{here}/libboxglue.so", f"{here}/../../../crates/boxglue_c/out/libboxglue.so"):
         if path and (os.path.exists(path) or path == named):
             return os.path.abspath(path)
-    raise BoxglueError("there is no libboxglue.so: make it with bindings/build, or name it in BOXGLUE_LIBRARY")
+    raise BoxglueError("there is no libboxglue.so: make it with bindings/build, or with bindings/build --unproved in a minute, or name it in BOXGLUE_LIBRARY")
 
 
 def shown_version(number: int) -> str:
@@ -155,7 +155,11 @@ def given_fonts(given: Fonts) -> tuple[Any, int]:
         raise TypeError(f"fonts must be a mapping or pairs, not {type(given).__name__}")
     pairs = list(given.items() if isinstance(given, Mapping) else given)
     array = (Font * max(len(pairs), 1))()
-    for at, (name, metrics) in enumerate(pairs):
+    for at, pair in enumerate(pairs):
+        try:
+            name, metrics = pair
+        except (TypeError, ValueError):
+            raise TypeError(f"a font must be a pair of its name and the bytes of its metric file, not {pair!r:.40}") from None
         array[at] = Font(*sized(text_of(name, "the name of a font")), *sized(data_of(metrics, "a metric file")))
     if not pairs:
         array[0] = Font(b"", 0, b"", 0)

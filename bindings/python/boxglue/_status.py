@@ -27,7 +27,7 @@ class Status(enum.IntEnum):
 
 _TEXTS = {
     Status.ACCEPTED: "accepted",
-    Status.REFUSED: "refused: the text says why",
+    Status.REFUSED: "refused: the text, or a reply, says why",
     Status.OUT_OF_MEMORY: "out of memory",
     Status.BAD_FONT_NAME: "the name of a font has not 1 to 255 bytes",
     Status.BUFFER_TOO_SMALL: "a buffer is too small: the sizes say what is needed",
@@ -106,4 +106,5 @@ _ERRORS: dict[int, type[BoxglueError]] = {
 
 def fail(status: int) -> NoReturn:
     """Raises what a status means that has no result."""
-    raise _ERRORS.get(status, BoxglueError)(Status(status).text)
+    # A job of this package always has a handle: it has no job once it is closed.
+    raise _ERRORS.get(status, BoxglueError)("the job is closed" if status == Status.NO_JOB else Status(status).text)

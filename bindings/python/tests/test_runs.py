@@ -74,6 +74,10 @@ class Fonts(unittest.TestCase):
         self.assertTrue(boxglue.run(TEXT, pairs).accepted)
         gc.collect()
 
+    def test_fonts_that_are_no_pairs(self):
+        for wrong in (["plain"], [7], [("plain",)]):
+            self.assertRaisesRegex(TypeError, "a font must be a pair", boxglue.run, TEXT, wrong)
+
     def test_bad_names(self):
         for name in ("", "n" * 256):
             for call in (boxglue.run, boxglue.listing, boxglue.paint):

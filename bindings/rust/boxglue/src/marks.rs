@@ -3,6 +3,7 @@
 use crate::buffers::{buffer, given, text};
 use crate::{Error, Font};
 use boxglue_sys as sys;
+use std::fmt;
 
 /// The units of a DVI file: a DVI unit is `num / den` times 10^-7 metres, enlarged by `mag / 1000`. All three are positive.
 #[derive(Clone, Copy, Debug, PartialEq, Eq)]
@@ -89,12 +90,20 @@ fn mark_of<'m>(row: &sys::boxglue_mark, dvi: &'m [u8]) -> Mark<'m> {
 }
 
 /// What a DVI file shows: its pages and their marks. The texts of specials stay in the bytes of the file.
-#[derive(Clone, Debug)]
+#[derive(Clone)]
 pub struct Document<'a> {
     dvi: &'a [u8],
     pages: Vec<sys::boxglue_page>,
     marks: Vec<sys::boxglue_mark>,
     units: Units,
+}
+
+// A file may have millions of marks, so a message has their number alone.
+impl fmt::Debug for Document<'_> {
+    fn fmt(&self, out: &mut fmt::Formatter<'_>) -> fmt::Result {
+        let (pages, marks) = (self.pages.len(), self.marks.len());
+        out.debug_struct("Document").field("pages", &pages).field("marks", &marks).field("units", &self.units).finish()
+    }
 }
 
 impl Document<'_> {
