@@ -1,7 +1,8 @@
 #!/usr/bin/env python3
-"""Compares boxglue with TeX's programs: bench/trials/outside.py [--boxglue PROGRAM] [--folder FOLDER] [--notes N] [--seeds N] [PART ..], all parts if none is named.
+"""Compares boxglue with TeX's programs: bench/trials/outside.py [--boxglue PROGRAM] [--by WAY] [--folder FOLDER] [--notes N] [--seeds N] [PART ..], all parts if none is named.
 
 Each part prints one line of counts and differences, and below it the causes that are known, and the first N of the others; or which tools it lacks, and then the status is 1.
+With `--by session` scripts are given to `boxglue session` line by line; with `--by library` all but `large` goes through the package for Python: replies, marks, fonts and bitmaps.
 Everything random has a fixed seed. The inputs and outputs stay in FOLDER, if one is named. It needs Debian's packages texlive-base, texlive-latex-base, dvipng, ghostscript and poppler-utils;
 with texlive-fonts-recommended, texlive-latex-recommended, texlive-pictures and texlive-extra-utils it has more metric files and documents. docs/EVIDENCE.md has the results."""
 
@@ -14,19 +15,20 @@ import sys
 import tempfile
 import time
 from collections import Counter
-from fractions import Fraction
-from math import ceil
 
 HERE = os.path.dirname(os.path.abspath(__file__))
 sys.path.insert(1, os.path.dirname(HERE))
 import inputs  # noqa: E402 (after the path)
 from outside_documents import DOCUMENTS  # noqa: E402
+from outside_files import black_pixels, drawn, dvipng_rules, fonts, large, other_fonts, painted, random_files, sheets  # noqa: E402
 from outside_fonts import TREES, damaged, metrics  # noqa: E402
-from outside_pages import Tally, black, by_boxglue, by_dvitype  # noqa: E402
-from outside_random import boxes, pages, paragraphs, splits  # noqa: E402
+from outside_pages import Tally, black, by_dvitype  # noqa: E402
+from outside_random import boxes, long_paragraphs, long_script, pages, paragraphs, splits  # noqa: E402
+from outside_ways import LibraryWork, SessionWork  # noqa: E402
 from outside_work import Work  # noqa: E402
 
 EXAMPLES = os.path.join(HERE, "../../examples")
+LIBRARY = os.path.join(HERE, "../../crates/boxglue_c/out/libboxglue.so")
 
 
 # Files of TeX.
@@ -48,7 +50,7 @@ def documents(work):
     for name in list(made):
         work.run("dvicopy", name, "copy_" + name)
         made += ["copy_" + name] if os.path.exists(work.path("copy_" + name)) else []
-    tally, notes, without_metrics = Tally(), [], []
+    tally, notes, without_metrics, defined = Tally(), [], [], 0
     for name in made:
         theirs = by_dvitype(name, work.folder)
         fonts = work.fonts(sorted({font for font, _ in theirs.fonts.values()}))
@@ -56,12 +58,13 @@ def documents(work):
             without_metrics.append(name)
             continue
         notes += ["%s: dvitype: %s" % (name, it) for it in theirs.complaints]
-        ours = by_boxglue(work.program, name, work.folder, fonts)
+        ours = work.listing(name, fonts)
         if ours.pages is None:
             notes.append("%s: %s" % (name, ours.complaints[0]))
         else:
             tally.pages(name, ours.pages, theirs.pages)
-    line = "documents: %d files, not accepted or warned of %d; %s" % (len(made) - len(without_metrics), len(notes), tally.shown())
+            notes, defined = notes + other_fonts(work, name, theirs, fonts), defined + len(theirs.fonts)
+    line = "documents: %d files with %d fonts, not accepted, warned of, or with other units or fonts %d; %s" % (len(made) - len(without_metrics), defined, len(notes), tally.shown())
     causes = Counter({"documents that are not made here: " + ", ".join(missing): len(missing), "files with fonts whose metric files are not here: " + ", ".join(without_metrics): len(without_metrics)})
     work.show(line, +causes, notes + tally.notes)
 
@@ -109,20 +112,6 @@ def readers(work):
     work.show(line, causes, notes)
 
 
-def painted(rules, dots, side):
-    """The rows of a page of rules in scaled points, as numbers whose bits are 1 where it is black."""
-    unit = Fraction(25400000 * dots, 254000 * 473628672)
-    rows = [0] * side
-    for rule in rules:
-        # No place is negative here.
-        column, row = (int(amount * unit + Fraction(1, 2)) for amount in (rule.h, rule.v))
-        high, wide = (ceil(amount * unit) for amount in rule.what)
-        last = min(column + wide, side)
-        for y in range(max(row - high + 1, 0), min(row + 1, side)):
-            rows[y] |= (1 << side - min(column, side)) - (1 << side - last)
-    return rows
-
-
 DOTS = (72, 100, 144, 150, 300, 600)
 
 
@@ -132,9 +121,7 @@ def paint(work):
     parts, notes = [], []
     for dots in DOTS:
         side = 7 * dots
-        text = work.run(work.program, "paint", "--page", "1", "--dpi", str(dots), "--width", str(side), "--height", str(side), "paint.ours.dvi")[1]
-        digits = text.split("\n", 2)[2].replace("\n", "")
-        ours = [int(digits[i * side:(i + 1) * side], 2) for i in range(side)]
+        ours = work.bitmap("paint.ours.dvi", 1, dots, side)
         work.run("dvipng", "-q", "-D", str(dots), "-T", "7in,7in", "-o", "paint.png", "paint.ours.dvi")
         width, theirs = black(work.path("paint.png"))
         if (width, len(theirs)) != (side, side):
@@ -144,8 +131,10 @@ def paint(work):
         by_formula = painted(by_dvitype("paint.ours.dvi", work.folder).pages[0].marks, dots, side)
         if by_formula != ours:
             notes.append("%d dpi: not what FORMATS.md says" % dots)
-        differ = sum(bin(one ^ other).count("1") for one, other in zip(ours, theirs))
-        parts.append("%d of %d at %d dpi (black %d and %d)" % (differ, side * side, dots, sum(bin(it).count("1") for it in ours), sum(bin(it).count("1") for it in theirs)))
+        if drawn(dvipng_rules("paint.ours.dvi", work.folder, dots)[0], side) != theirs:
+            notes.append("%d dpi: dvipng rounds otherwise" % dots)
+        differ = black_pixels(map(int.__xor__, ours, theirs))
+        parts.append("%d of %d at %d dpi (black %d and %d)" % (differ, side * side, dots, black_pixels(ours), black_pixels(theirs)))
     work.show("paint: 1600 rules, pixels that differ from dvipng's: " + ", ".join(parts), {}, notes)
 
 
@@ -157,15 +146,23 @@ PARTS = {
     "splits": (splits, "tex dvitype kpsewhich"),
     "paragraphs": (paragraphs, "tex dvitype kpsewhich"),
     "pages": (pages, "tex dvitype kpsewhich"),
-    "documents": (documents, "tex latex dvitype dvicopy kpsewhich"),
+    "long_script": (long_script, "tex dvitype kpsewhich"),
+    "long_paragraphs": (long_paragraphs, "tex dvitype kpsewhich"),
+    "fonts": (fonts, "tex dvitype tftopl"),
+    "documents": (documents, "tex latex dvitype dvicopy tftopl kpsewhich"),
+    "random_files": (random_files, "dvitype"),
     "readers": (readers, "dvitype dvips gs dvipdfmx pdftoppm dvipng kpsewhich"),
     "paint": (paint, "dvitype dvipng"),
+    "sheets": (sheets, "dvitype dvipng"),
+    "large": (large, "dvitype kpsewhich"),
 }
 
 
 def main():
     parser = argparse.ArgumentParser(description=__doc__, formatter_class=argparse.RawDescriptionHelpFormatter)
     parser.add_argument("--boxglue", default=os.environ.get("BOXGLUE", os.path.join(HERE, "../../crates/boxglue/out/boxglue")))
+    parser.add_argument("--by", choices=("program", "session", "library"), default="program", metavar="WAY", help="program, session or library")
+    parser.add_argument("--library", default=LIBRARY, help="the shared object that bindings/build makes")
     parser.add_argument("--folder", help="a folder for all inputs and outputs, else one that is removed")
     parser.add_argument("--notes", type=int, default=5, metavar="N", help="how many differences of a part are shown")
     parser.add_argument("--seeds", type=int, metavar="N", help="of random work the first N seeds of a part alone")
@@ -180,7 +177,8 @@ def main():
     with tempfile.TemporaryDirectory() as room:
         folder = os.path.abspath(words.folder or room)
         os.makedirs(folder, exist_ok=True)
-        work = Work(words.boxglue, folder, words.notes, words.seeds)
+        given = words.boxglue, folder, words.notes, words.seeds
+        work = LibraryWork(words.library, *given) if words.by == "library" else SessionWork(*given) if words.by == "session" else Work(*given)
         for part in parts:
             start, (compare, tools) = time.monotonic(), PARTS[part]
             lacks = [it for it in tools.split() if shutil.which(it) is None]

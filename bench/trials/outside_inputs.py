@@ -204,12 +204,14 @@ class Pair:
 
     def paragraph(self, number, pieces, kinds):
         """A paragraph in the open vertical list. TeX says in its log which one it was and how many lines it has; its trace is before that.
-        It is `loose` where a break near its end may leave no items for a line."""
+        It is `loose` where a line may have no items: between a place and a later one are glue, kerns and penalties alone."""
         self.add("par", "\\noindent")
         chosen = [self.chance.pick(kinds) for _ in range(pieces)]
         for kind in chosen:
             self.piece(kind)
-        self.used["loose"] = len(chosen) > 1 and {"skip", "kern", "penalty"}.issuperset(chosen[-2:])
+        dropped = [it in ("skip", "kern", "penalty") for it in chosen] + [True]
+        places = [it == "penalty" or (it, after) == ("kern", "skip") for it, after in zip(chosen, chosen[1:] + ["end"])] + [True]
+        self.used["loose"] = any(dropped[at - 1] and dropped[at] and places[at] for at in range(1, len(chosen))) or len(chosen) > 1 and all(dropped[-3:])
         self.add("end", "\\par\\count250=\\prevgraf\\immediate\\write-1{@paragraph %d \\the\\count250}" % number)
         self.paragraphs.append((number, len(self.box), dict(self.used)))
 
@@ -273,6 +275,7 @@ def boxes(seed, count):
 KINDS = {
     "rules": ("rule", "rule", "rule", "skip", "skip", "skip", "skip", "kern", "penalty", "special", "box"),
     "text": ("text",) * 12 + ("skip", "penalty", "special", "rule", "kern", "box"),
+    "long": ("text",) * 12 + ("skip", "penalty", "special", "rule", "kern"),
 }
 
 
@@ -286,6 +289,24 @@ def paragraphs(seed, count, kinds):
         pair.add("vbox into 1", "\\setbox1=\\vbox{")
         pair.first_lines()
         pair.paragraph(number, pair.chance.pick((1, 2, 5, 10, 20)) * (2 if kinds == "rules" else 1), KINDS[kinds])
+        pair.asked("end", "}\\saybox1", number)
+        pair.ship(1, number)
+    return pair
+
+
+def long_paragraphs(seed, count):
+    """Paragraphs of hundreds and thousands of places, each a page of its own. Lines are so wide that the height of the box fits.
+    There is no box, and the tolerance takes every line that is not overfull, so that few are in pass 3."""
+    pair = Pair(seed)
+    pair.tex.append("\\tracingparagraphs1 ")
+    for number in range(count):
+        pair.paragraph_parameters()
+        pair.hsize, pair.used["tolerance"] = pair.dimen(260, 900), 10000
+        pair.set("hsize", pair.hsize)
+        pair.set("tolerance", 10000)
+        pair.add("vbox into 1", "\\setbox1=\\vbox{")
+        pair.first_lines()
+        pair.paragraph(number, pair.chance.pick((100, 300, 800, 1600)), KINDS["long"])
         pair.asked("end", "}\\saybox1", number)
         pair.ship(1, number)
     return pair

@@ -6,26 +6,28 @@ import subprocess
 import zlib
 from collections import Counter, namedtuple
 
-# A mark is a glyph (what: font and code), a rule (what: height and width) or a special (what: its text).
-Mark = namedtuple("Mark", "kind what h v")
+# A mark is a glyph (what: font and code), a rule (what: height and width) or a special (what: its text). The width of a glyph is there where the reader says it.
+Mark = namedtuple("Mark", "kind what h v width", defaults=(None,))
 Page = namedtuple("Page", "counts marks")
 
 STEP = re.compile(r"\d+: ([a-z]+)(\d*) ?(.*)")
-RIGHT = re.compile(r"\bh:=-?\d+[+-]\d+=(-?\d+)")
+RIGHT = re.compile(r"\bh:=-?\d+([+-]\d+)=(-?\d+)")
 DOWN = re.compile(r"\bv:=-?\d+[+-]\d+=(-?\d+)")
 SAVED = re.compile(r"level \d+:\(h=(-?\d+),v=(-?\d+),")
 RULE = re.compile(r"height (-?\d+), width (-?\d+)")
 FONT = re.compile(r"Font (\d+): (.+?)(?: scaled \d+)?---loaded at size (\d+) DVI units")
+MOST_TEXT = 1 << 28
+UNITS = re.compile(r"numerator/denominator=(\d+)/(\d+)\nmagnification=(\d+);")
 COMPLAINT = re.compile(r"!|invalid|not loaded|beware|Bad DVI")
 # A mark outside the greatest sizes of post is no fault: a box may be wider than its width. dvitype says the same of TeX's file.
-OUTSIDE = re.compile(r"warning: \|[hv]\|>")
+OUTSIDE = re.compile(r"warning: \|[hv]\|>\d+!")
 
 
 class Reading:
-    """The pages of a file, its fonts by their numbers (name and size), and what the reader complained of."""
+    """The pages of a file, its fonts by their numbers (name and size), what the reader complained of, and the units (numerator, denominator, magnification) where it says them."""
 
-    def __init__(self, pages, fonts, complaints):
-        self.pages, self.fonts, self.complaints = pages, fonts, complaints
+    def __init__(self, pages, fonts, complaints, units=None):
+        self.pages, self.fonts, self.complaints, self.units = pages, fonts, complaints, units
 
     def named(self):
         """The same pages with the name and the size of a font in the place of its number, since two writers number fonts differently."""
@@ -38,17 +40,22 @@ class Reading:
 def by_dvitype(path, folder):
     """A reading by dvitype, from its text at level 4. It says each new h and v, so nothing is added up here."""
     # With ten stars dvitype says all ten counts of a page.
-    done = subprocess.run(["dvitype", "-output-level=4", "-page-start=" + ".".join("*" * 10), path], cwd=folder, stdin=subprocess.DEVNULL, stdout=subprocess.PIPE, stderr=subprocess.STDOUT)
+    words = ["dvitype", "-output-level=4", "-page-start=" + ".".join("*" * 10), path]
+    with subprocess.Popen(words, cwd=folder, stdin=subprocess.DEVNULL, stdout=subprocess.PIPE, stderr=subprocess.STDOUT) as done:
+        text = done.stdout.read(MOST_TEXT).decode("latin-1")
+        # After the end of a file dvitype reads zeros, so a special may have as many as its length says.
+        if len(text) == MOST_TEXT:
+            done.kill()
     pages, fonts, complaints = [], {}, []
     h = v = 0
     font, marks = None, []
-    for line in done.stdout.decode("latin-1").split("\n"):
+    for line in text.split("\n"):
         # Lines in brackets repeat the letters of a line of text.
         if line.startswith("["):
             continue
         step = STEP.match(line)
         name, number, rest = step.groups() if step else (None, None, None)
-        if name != "xxx" and COMPLAINT.search(line) and not OUTSIDE.search(line):
+        if name != "xxx" and COMPLAINT.search(OUTSIDE.sub("", line)):
             complaints.append(line)
         if name == "beginning":
             counts = [int(it) for it in rest.split()[2].split(".")]
@@ -78,12 +85,15 @@ def by_dvitype(path, folder):
         if saved:
             h, v = map(int, saved.groups())
         if right:
-            h = int(right[1])
+            h = int(right[2])
+        if right and name in ("set", "setchar"):
+            marks[-1] = marks[-1]._replace(width=int(right[1]))
         if down:
             v = int(down[1])
     if done.returncode:
         complaints.append("status %d" % done.returncode)
-    return Reading(pages, fonts, complaints)
+    units = UNITS.search(text)
+    return Reading(pages, fonts, complaints, units and tuple(map(int, units.groups())))
 
 
 def unescaped(text):
@@ -136,6 +146,9 @@ class Tally:
         same = True
         for one, other in zip(ours.marks, theirs.marks):
             self.seen[one.kind] += 1
+            if None not in (one.width, other.width):
+                self.seen["width"] += 1
+                self.far["width"] += one.width != other.width
             away = max(abs(one.h - other.h), abs(one.v - other.v))
             if away == 1:
                 self.near[one.kind] += 1
@@ -157,7 +170,7 @@ class Tally:
 
     def shown(self):
         def counts(counter):
-            return ", ".join("%d %s%s" % (counter[kind], kind, "" if counter[kind] == 1 else "s") for kind in ("page", "glyph", "rule", "special") if counter[kind]) or "nothing"
+            return ", ".join("%d %s%s" % (counter[kind], kind, "" if counter[kind] == 1 else "s") for kind in ("page", "glyph", "width", "rule", "special") if counter[kind]) or "nothing"
 
         return "%s; 1 sp off: %s; otherwise: %s" % (counts(self.seen), counts(self.near), counts(self.far))
 

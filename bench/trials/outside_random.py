@@ -5,10 +5,14 @@ import sys
 from collections import Counter
 
 import outside_inputs
-from outside_pages import Tally, by_boxglue, by_dvitype
+from outside_pages import Tally, by_dvitype
 
 # TeX takes no list of breaks of more demerits.
 MOST_DEMERITS = 2 ** 30 - 1
+
+
+# TeX: The Program, 837, takes off from a line what is dropped after its first place, up to the next box, also where the line ends before that.
+LOOSE = "paragraphs with a line without items, which TeX measures by the glue that is dropped after it"
 
 
 class Compared:
@@ -36,7 +40,7 @@ def run_pair(work, name, pair, found):
             unequal.append((paragraph, "%s, line %d: %s and %s" % (name, line, answers[line], answer)))
     ours, other = by_dvitype(name + ".ours.dvi", work.folder), by_dvitype(name + ".dvi", work.folder)
     found.unequal += ["%s: dvitype: %s" % (name, it) for it in ours.complaints]
-    listing = by_boxglue(work.program, name + ".ours.dvi", work.folder, fonts)
+    listing = work.listing(name + ".ours.dvi", fonts)
     found.listed.pages(name, listing.pages or [], ours.pages)
     return answers, {page.counts[0]: page for page in ours.named()}, {page.counts[0]: page for page in other.named()}, unequal
 
@@ -76,6 +80,15 @@ def splits(work):
         _, ours, theirs, unequal = run_pair(work, "splits%d" % seed, pair, found)
         alike(found, "splits%d" % seed, ours, theirs, unequal)
     said(work, "splits", found)
+
+
+def long_script(work):
+    """The same in one script, which is read in many blocks."""
+    found = Compared()
+    pair = outside_inputs.splits(11, 1500)
+    _, ours, theirs, unequal = run_pair(work, "long_script", pair, found)
+    alike(found, "long_script", ours, theirs, unequal)
+    said(work, "long_script (%d lines)" % len(pair.box), found)
 
 
 VIA = re.compile(r"@\S* ?via @@(\d+) b=(\*|\d+) p=(-?\d+) d=(\*|-?\d+)")
@@ -127,6 +140,9 @@ def judged(answer, trace, used, found, where):
     if total > MOST_DEMERITS:
         found.causes["paragraphs above 2^30 - 1 demerits, which TeX does not take"] += 1
         return False
+    if used["loose"] and decided > attempt:
+        found.causes[LOOSE] += 1
+        return False
     if decided != attempt:
         found.unequal.append("%s: %s; TeX: pass %d" % (where, answer, attempt))
         return False
@@ -138,7 +154,7 @@ def judged(answer, trace, used, found, where):
     if total != trace.total and forced and (total - trace.total - missing) in [used["adjdemerits"] * count for count in range(len(forced) + 1)]:
         found.causes["totals without the demerits of a line to a forced place, which TeX leaves out in its last pass where one list reaches it"] += 1
     elif total > trace.total and used["loose"]:
-        found.causes["paragraphs with a line without items at the end, which TeX measures with the stretch of parfillskip"] += 1
+        found.causes[LOOSE] += 1
         return False
     elif total != trace.total or lines != len(trace.chain) or lines != trace.lines:
         found.unequal.append("%s: %s; TeX: lines %d, demerits %d" % (where, answer, trace.lines, trace.total))
@@ -146,11 +162,20 @@ def judged(answer, trace, used, found, where):
 
 
 def paragraphs(work):
-    """Random paragraphs of rules and of text, with first lines of their own width; the pass, the demerits, and the places of all marks."""
+    """Random paragraphs of rules and of text, with first lines of their own width."""
+    broken(work, "paragraphs", (outside_inputs.paragraphs(seed, 100, "rules" if seed % 2 else "text") for seed in work.seeds(40)))
+
+
+def long_paragraphs(work):
+    """Random paragraphs of text of up to 8,192 places."""
+    broken(work, "long_paragraphs", (outside_inputs.long_paragraphs(seed, 10) for seed in work.seeds(6)))
+
+
+def broken(work, part, pairs):
+    """What came out of paragraphs that are pages of their own: the pass, the demerits, and the places of all marks."""
     found = Compared()
-    for seed in work.seeds(40):
-        name = "paragraphs%d" % seed
-        pair = outside_inputs.paragraphs(seed, 100, "rules" if seed % 2 else "text")
+    for seed, pair in enumerate(pairs, 1):
+        name = "%s%d" % (part, seed)
         answers, ours, theirs, unequal = run_pair(work, name, pair, found)
         traced = traces(work.text(name + ".log"))
         without = [number for number, line, used in pair.paragraphs if not judged(answers[line], traced[number], used, found, "%s, paragraph %d" % (name, number))]
@@ -160,7 +185,7 @@ def paragraphs(work):
             found.causes["paragraphs with equal demerits and other breaks"] += 1
             found.ties.append("%s, paragraph %d: equal demerits, other breaks" % (name, number))
         alike(found, name, ours, theirs, unequal, without + ties)
-    said(work, "paragraphs", found)
+    said(work, part, found)
 
 
 def pages(work):

@@ -4,6 +4,8 @@ import os
 import re
 import subprocess
 
+from outside_pages import by_boxglue
+
 # Lines of a log are not cut.
 LONG_LINES = dict(os.environ, max_print_line="1000000", SOURCE_DATE_EPOCH="0")
 
@@ -40,6 +42,21 @@ class Work:
         self.put(name + ".box", script)
         text = self.run(self.program, "typeset", name + ".ours.dvi", *fonts, stdin=script)[1]
         return {int(number): answer for number, answer in re.findall(r"^(\d+): (.*)$", text, re.M)}
+
+    def listing(self, path, fonts):
+        """The pages of a DVI file."""
+        return by_boxglue(self.program, path, self.folder, fonts)
+
+    def bitmap(self, path, page, dots, side):
+        """The rows of the bitmap of a page, a square of so many pixels, as numbers whose bits are 1 where it is black."""
+        text = self.run(self.program, "paint", "--page", str(page), "--dpi", str(dots), "--width", str(side), "--height", str(side), path)[1]
+        digits = text.split("\n", 2)[2].replace("\n", "")
+        return [int(digits[i * side:(i + 1) * side], 2) for i in range(side)]
+
+    def units_and_fonts(self, path, _fonts):
+        """The units of a DVI file (numerator, denominator, magnification), and its fonts: number, name, size, design size and check sum of each."""
+        units, *lines = [line.split() for line in self.run(self.program, "fonts", path)[1].splitlines()]
+        return tuple(map(int, units[1:])), [(int(it[1]), it[2], int(it[3]), int(it[4]), int(it[5], 16)) for it in lines]
 
     def tex(self, name, text, program="tex"):
         self.put(name + ".tex", text)
