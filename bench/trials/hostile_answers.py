@@ -38,10 +38,12 @@ def refusal_pattern(numbers):
 
 REPLIES = {word: re.compile("(?:%s|%s)" % (answer, refusal_pattern(numbers))) for word, (answer, numbers) in COMMANDS.items()}
 END = re.compile(r"end: (?:pages (\d+) bytes (\d+)|%s)" % refusal_pattern((17, 1, 18)))
+BAD_LINE = re.compile(r"refused 2 BadScript (\d+) (%s)" % SCRIPT_CAUSES)
 BAD_SCRIPT = re.compile(r"refused 2 BadScript (\d+) (?:%s)\n" % SCRIPT_CAUSES)
 READING_REFUSED = re.compile(r"refused (?:1 OutOfMemory|20 BadDvi (\d+) (?:%s)|4 NoFont|5 BadTfm (?:%s)|3 DimensionTooLarge)\n" % (FILE_CAUSES, FONT_CAUSES))
 MARK = re.compile(rb"glyph -?\d+ -?\d+ -?\d+ -?\d+|rule -?\d+ -?\d+ [1-9]\d* [1-9]\d*|special -?\d+ -?\d+ (?:[ -\[\]-~]|\\[0-9a-f][0-9a-f])*")
 PAGE = re.compile(rb"page (\d+) counts(?: -?\d+){10}")
+FONTS = re.compile(rb"units [1-9]\d* [1-9]\d* [1-9]\d*\n(?:font -?\d+ (?:[!-\[\]-~]|\\(?:[0-9a-f]{2})?)+ [1-9]\d* -?\d+ [0-9a-f]{8}(?: (?:[!-\[\]-~]|\\[0-9a-f]{2})+)?\n)*")
 HEX = re.compile(rb"(?:(?:[0-9a-f]{32}\n)*(?:(?:[0-9a-f]{2}){1,15}\n)?)")
 ONE_MESSAGE = re.compile(rb"boxglue: (?:(cannot (?:read|write)) |not NAME=TFM: |name given twice: |no such page)[^\0]*\n", re.S)
 HELP = re.compile(rb"(?:error: |[^\n]*\n\nUsage: boxglue)", re.S)
@@ -78,11 +80,15 @@ def command_lines(script):
 
 
 def check_replies(script, replies):
-    """Each command has one reply, and it is one that this command has."""
+    """Each command has one reply, and it is one that this command has; a bad line of a session has its refusal."""
     commands = list(command_lines(script))
     require(len(commands) == len(replies), "%d commands have %d replies", len(commands), len(replies))
     shipped = 0
     for (number, word), reply in zip(commands, replies):
+        bad = BAD_LINE.fullmatch(reply)
+        if bad:
+            require(int(bad[1]) == number, "line %d is answered %r", number, reply)
+            continue
         at, _, text = reply.partition(": ")
         require(at == str(number) and word in REPLIES and REPLIES[word].fullmatch(text), "line %d, %s, is answered %r", number, word, reply)
         if text.startswith("shipped"):
@@ -91,9 +97,9 @@ def check_replies(script, replies):
     return shipped
 
 
-def check_run(script, output):
-    """Checks the answers to a script. Returns what came of it: bad, refused, accepted; the pages and bytes that the end says, or None; and what comes after the answers."""
-    bad = BAD_SCRIPT.fullmatch(output.decode("latin-1"))
+def check_run(script, output, is_session=False):
+    """Checks the answers to a script, of a session also those to bad lines. Returns what came of it: bad, refused, accepted; the pages and bytes that the end says, or None; and what comes after the answers."""
+    bad = None if is_session else BAD_SCRIPT.fullmatch(output.decode("latin-1"))
     if bad:
         require(1 <= int(bad[1]) <= script.count(b"\n") + 1, "the bad line is %s", bad[1])
         return "bad", None, b""
@@ -106,7 +112,8 @@ def check_run(script, output):
     require(said, "the end is %r", end)
     replies = head.decode("latin-1").split("\n") if head else []
     shipped = check_replies(script, replies)
-    refused = b": refused " in output
+    require(is_session or not any(map(BAD_LINE.fullmatch, replies)), "one line alone is bad: %r", output[:200])
+    refused = b"refused " in output
     require(not said[1] or int(said[1]) == shipped, "%d pages were shipped, and the end says %r", shipped, end)
     return "refused" if refused else "accepted", (int(said[1]), int(said[2])) if said[1] else None, rest
 
@@ -132,18 +139,26 @@ def check_bitmap(output):
     require(1 <= width <= 10000 and 1 <= height <= 10000 and output[head.end():].replace(b"1", b"0") == row * height, "a bitmap of %d by %d has %d bytes", width, height, len(output))
 
 
-def check_reading(ran, length, paints):
-    """Checks a `list` or a `paint` of a file of this length, or of any. Returns what came of it."""
+def check_fonts(output):
+    """Checks the form of what `fonts` prints."""
+    require(FONTS.fullmatch(output), "the fonts are %r", output[:200])
+
+
+CHECKS = {b"list": check_listing, b"paint": check_bitmap, b"fonts": check_fonts}
+
+
+def check_reading(ran, length, command):
+    """Checks a `list`, a `paint` or a `fonts` of a file of this length, or of any. Returns what came of it."""
     refused = READING_REFUSED.fullmatch(ran.output.decode("latin-1"))
     if refused:
         require(ran.status == 1 and not ran.errors, "refused with status %d, %r", ran.status, ran.errors[:200])
         require(not refused[1] or length is None or int(refused[1]) <= length, "the place is %s of %s", refused[1], length)
         return ran.output.split()[2].decode()
     if ran.errors == b"boxglue: no such page\n":
-        require(paints and ran.status == 2 and not ran.output, "no such page, with status %d and %r", ran.status, ran.output[:200])
+        require(command == b"paint" and ran.status == 2 and not ran.output, "no such page, with status %d and %r", ran.status, ran.output[:200])
         return "no such page"
     require(ran.status == 0 and not ran.errors, "status %d, %r", ran.status, ran.errors[:200])
-    check_bitmap(ran.output) if paints else check_listing(ran.output)
+    CHECKS[command](ran.output)
     return "accepted"
 
 

@@ -11,22 +11,25 @@ import sys
 ROOT = os.path.dirname(os.path.dirname(os.path.dirname(os.path.abspath(__file__))))
 sys.path[:0] = [ROOT + "/tests", ROOT + "/bench"]
 from steps.dvi_writer import Font, Page, dvi_file  # noqa: E402
+from steps.every_instruction import every_instruction  # noqa: E402
 from steps.large_inputs import TINY  # noqa: E402
 from steps.library_inputs import case_script, font_files  # noqa: E402
 from steps.plain_font import metric_file  # noqa: E402
 from generator import HOSTILE_SEEDS, Chance, changed, changed_metrics, framed, sheet  # noqa: E402
 from hostile_scripts import changed_script, large_script, random_script  # noqa: E402
+from hostile_sessions import ODD_OUTS, WHOLE, Talk  # noqa: E402
 
 # Twenty inputs have these kinds, and so has each next twenty.
-KINDS = ("script",) * 7 + ("dvi",) * 6 + ("metrics",) * 3 + ("words",) * 4
+KINDS = ("script",) * 5 + ("session",) * 2 + ("dvi",) * 6 + ("metrics",) * 3 + ("words",) * 4
 LONGEST_GOOD = 20_000
 
 
 class Input:
-    """A run: its kind and the way it was made, its words, what standard input gives, and the files of its folder. `script` is what it runs, `out` where its file goes."""
+    """A run: its kind and the way it was made, its words, what standard input gives, and the files of its folder. `script` is what it runs, `out` where its file goes; `talk`
+    is how a session is written to."""
 
-    def __init__(self, kind, way, words, given=b"", files=None, script=None, out=None):
-        self.kind, self.way, self.words, self.given, self.files, self.script, self.out = kind, way, words, given, files or {}, script, out
+    def __init__(self, kind, way, words, given=b"", files=None, script=None, out=None, talk=None):
+        self.kind, self.way, self.words, self.given, self.files, self.script, self.out, self.talk = kind, way, words, given, files or {}, script, out, talk
 
 
 class Good:
@@ -49,6 +52,8 @@ class Good:
                 self.files.append((data, fonts))
         for path in sorted(glob.glob(ROOT + "/tests/program/*/files/*.dvi")):
             self.files.append((self.read(path), {"tiny": TINY}))
+        # As many as a twentieth, since it has each instruction in all sizes of its number.
+        self.files += [(every_instruction(), {"tiny": TINY})] * (len(self.files) // 20)
 
     @staticmethod
     def read(path):
@@ -72,7 +77,8 @@ def font_paths(fonts):
 
 # Scripts
 
-def script_input(chance, good):
+def any_script(chance, good):
+    """A script, and the way it was made."""
     way = chance.pick(("bytes",) + ("changed",) * 6 + ("bytes changed",) + ("commands",) * 7)
     if way == "changed" and chance.one_in(60):
         way = "large"
@@ -84,19 +90,37 @@ def script_input(chance, good):
         script = changed(chance, chance.pick(good.scripts), chance.pick(good.scripts))[1]
     else:
         script = {"changed": lambda: changed_script(chance, good), "commands": lambda: random_script(chance), "large": lambda: large_script(chance)}[way]()
+    return way, script
+
+
+def script_input(chance, good):
+    way, script = any_script(chance, good)
     if chance.one_in(4):
         return Input("script", way, [], script, script=script)
     fonts = {"tiny": TINY, "plain": good.fonts["plain"], **good.fonts_of(script)}
     return Input("script", way, ["typeset", "out.dvi", *font_words(fonts)], script, font_paths(fonts), script, "out.dvi")
 
 
+# Sessions
+
+def session_input(chance, good):
+    """A session with a script; where all of it is written, its file may be one that cannot be made."""
+    _, script = any_script(chance, good)
+    talk = Talk(chance, script)
+    out = chance.pick(ODD_OUTS) if talk.way in WHOLE and chance.one_in(15) else "out.dvi"
+    fonts = {"tiny": TINY, "plain": good.fonts["plain"], **good.fonts_of(script)}
+    return Input("session", talk.way, ["session", out, *font_words(fonts)], script, font_paths(fonts), script, out, talk)
+
+
 # DVI files
 
 def reading(chance, kind, way, data, fonts):
-    """`list` of a file, or `paint` of a page of it."""
+    """`list` of a file, `fonts` of it, or `paint` of a page of it."""
     words = ["list"]
     if chance.one_in(4):
         words = ["paint", *[it for pair in zip(("--page", "--dpi", "--width", "--height"), sheet(chance)) for it in pair]]
+    elif chance.one_in(5):
+        return Input(kind, way, ["fonts", "f.dvi"], files={"f.dvi": data, **font_paths(fonts)})
     return Input(kind, way, [*words, "f.dvi", *font_words(fonts)], files={"f.dvi": data, **font_paths(fonts)})
 
 
@@ -141,7 +165,7 @@ def odd_word(chance):
     if way == 2:
         return b"n" * chance.pick((254, 255, 256)) + b"=tiny.tfm"
     if way == 3:
-        return chance.pick(("--help", "-h", "-V", "--version", "--", "help", "list", "paint", "typeset", "--page", "-p", "--dpi=", "-hV", "---", "--no", "lists", "TYPESET")).encode()
+        return chance.pick(("--help", "-h", "-V", "--version", "--", "help", "list", "paint", "typeset", "session", "fonts", "--page", "-p", "--dpi=", "-hV", "---", "--no", "lists", "TYPESET")).encode()
     if way == 4:
         return chance.pick((b"--page=", b"--dpi=", b"--width=", b"--height=")) + chance.pick(ODD_NUMBERS).encode()
     return chance.pick(ODD_PAIRS if way < 7 else ODD_PATHS).encode()
@@ -152,9 +176,10 @@ def words_input(chance, good):
     data, fonts = chance.pick(good.files)
     script = chance.pick(good.scripts) if chance.one_in(2) else random_script(chance)
     files = {"f.dvi": data, "script": script, "tiny.tfm": TINY, **font_paths(fonts)}
-    way = chance.pick(("typeset", "list", "paint", "any"))
-    pairs = [it.encode() for it in (font_words(fonts) if way != "typeset" else font_words(good.fonts_of(script)))]
-    path = (chance.pick(ODD_PATHS) if chance.one_in(3) else "/dev/full" if chance.one_in(100) else "out.dvi" if way == "typeset" else "f.dvi").encode()
+    way = chance.pick(("typeset", "typeset", "session", "list", "list", "fonts", "paint", "paint", "any"))
+    runs = way in ("typeset", "session")
+    pairs = [it.encode() for it in ([] if way == "fonts" else font_words(good.fonts_of(script) if runs else fonts))]
+    path = (chance.pick(ODD_PATHS) if chance.one_in(3) else "/dev/full" if chance.one_in(100) else "out.dvi" if runs else "f.dvi").encode()
     words = [way.encode(), path, *pairs]
     if way == "paint":
         numbers = [chance.pick(ODD_NUMBERS) if chance.one_in(4) else chance.pick(("1", "2", "30")) for _ in range(4)]
@@ -168,13 +193,13 @@ def words_input(chance, good):
         del words[chance.below(len(words))]
     if chance.one_in(200):
         words += [b"n%d=tiny.tfm" % at for at in range(chance.below(2000))]
-    if way == "typeset":
+    if runs:
         files.update({it + ".tfm": font for it, font in good.fonts_of(script).items()})
-    out = next((it.decode("latin-1") for it in words[1:] if it != b"--"), None) if words[:1] == [b"typeset"] else None
+    out = next((os.fsdecode(it) for it in words[1:] if it != b"--"), None) if words[:1] in ([b"typeset"], [b"session"]) else None
     return Input("words", way, words, script, files, script, out)
 
 
-MAKERS = {"script": script_input, "dvi": dvi_input, "metrics": metrics_input, "words": words_input}
+MAKERS = {"script": script_input, "session": session_input, "dvi": dvi_input, "metrics": metrics_input, "words": words_input}
 
 
 def input_of(number, good):

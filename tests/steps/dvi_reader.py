@@ -1,5 +1,5 @@
 """A reader of DVI files, independent of the product: from docs/FORMATS.md, sections 4 to 7, alone. It gives the listing of a file, or the line of its
-refusal."""
+refusal; and the fonts that it defines."""
 import functools
 from dataclasses import dataclass
 from typing import NamedTuple
@@ -227,6 +227,43 @@ TAKES = {
     "xxx": Reader.special, "fnt_def": Reader.define,
 }
 INSIDE = {*TAKES} - {"bop"}
+
+
+def word_of(name):
+    """A name or an area as one word of `fonts`."""
+    return "".join(chr(byte) if 33 <= byte <= 126 and byte != 92 else f"\\{byte:02x}" for byte in name)
+
+
+def definitions_after(data):
+    """The definitions after post, in order: the number, and the fields from the check sum on. Raises Refused."""
+    reader, found = Reader(data, {}), []
+    place, end = reader.front.post + POST_SIZE, reader.front.end
+    reader.walk(place, end, OUTSIDE)
+    while place < end:
+        it = instruction_at(data, place, end)
+        found += [(it.number, data[it.rest:it.end])] if it.name == "fnt_def" else []
+        place = it.end
+    return found
+
+
+def parts_of(fields):
+    """The fields of a definition: its area, its name, its size, its design size, and its check sum."""
+    area = 14 + fields[12]
+    return fields[14:area], fields[area:], signed(fields[4:8]), signed(fields[8:12]), fields[:4]
+
+
+def fonts_of_file(data):
+    """Reads the fonts of a file. Returns the text that `fonts` prints, and whether the file is accepted."""
+    try:
+        definitions = definitions_after(data)
+    except Refused as refusal:
+        return f"refused {refusal}\n".encode(), False
+    post = front_of(data).post
+    lines = [f"units {' '.join(str(signed(data[at:at + 4])) for at in range(post + 5, post + 17, 4))}"]
+    for number, fields in definitions:
+        area, name, size, design_size, check_sum = parts_of(fields)
+        lines.append(f"font {number} {word_of(name) or chr(92)} {size} {design_size} {check_sum.hex()} {word_of(area)}".rstrip())
+    return "".join(f"{it}\n" for it in lines).encode(), True
 
 
 def list_file(data, fonts):

@@ -1,7 +1,7 @@
 """The scripts of tests/growths, and their answers if no growth is refused.
 
-NAME.box is the script. NAME.answers are the answers, written by hand. The pages below follow from docs/FORMATS.md, section 8; their
-bytes are made by the writer of the tests."""
+NAME.box is the script. NAME.answers are the answers, written by hand; long scripts are made here. The pages below follow from
+docs/FORMATS.md, section 8; their bytes are made by the writer of the tests."""
 from dataclasses import dataclass
 
 from steps.dvi_writer import Font, Page, down, dvi_file, put_rule, right, select, set_char, set_rule, special
@@ -53,9 +53,20 @@ PAGES = {
         Page([special(b"d"), SPECIALS, down(PT), special(b"e")]),
         Page([special(b"f"), down(10 * PT), put_rule(PT, PT)]),
     ], 10, 2),
+    "columns_of_characters": ([Page([
+        [down(5 * PT), select(0), A, B], [down(19 * PT), A, B], [down(53 * PT // 2), A, B], [down(81 * PT // 2), A, B],
+    ], new_fonts=(AT_10PT,))], 43, 10),
+    "many_lines": ([Page(ONE_RULE), Page(ONE_RULE)], 1, 1),
+    "a_long_line": ([Page([down(PT), special(b"s" * 65535), RULE])], 1, 1),
 }
 FONTS = ("tiny=tiny.tfm",)
-WITH_FONTS = ("lig_and_kern_words", "fonts_in_nested_boxes")
+WITH_FONTS = ("lig_and_kern_words", "fonts_in_nested_boxes", "columns_of_characters")
+# Scripts that are made here, by pairs of a command and its answer: so many lines that they are kept in two blocks, and a line of two readings of a session.
+OPEN, RULE_ROWS = ("hbox into 0", "ok"), (("rule 1pt 1pt 0pt", "ok"), ("end", "packed 1.0pt 1.0pt 0.0pt badness 0"))
+MADE = {
+    "many_lines": (OPEN, *RULE_ROWS, ("ship 0", "shipped 1"), *[("void 1", "ok")] * 8192, OPEN, *RULE_ROWS, ("ship 0", "shipped 2")),
+    "a_long_line": (OPEN, ("special " + "s" * 65535, "ok"), *RULE_ROWS, ("ship 0", "shipped 1")),
+}
 # The files that are read: those of the shorter scripts of the same names, without the pages after the first.
 ONE_RULE_FILE = dvi_file([Page(ONE_RULE)], PT, PT).data
 NESTED_BOXES_FILE = dvi_file([Page(NESTED_BOXES, new_fonts=(AT_10PT, AT_20PT))], 15 * PT, 25 * PT).data
@@ -64,6 +75,11 @@ BLANK, BLACK = b"P1\n3 3\n000\n000\n000\n", b"P1\n3 3\n000\n100\n000\n"
 LISTING = (
     b"page 1 counts 0 0 0 0 0 0 0 0 0 0\nglyph 0 99 0 655360\nglyph 1 98 327680 655360\nglyph 1 99 983040 655360\n"
 )
+# A file of some pieces of what is read, and a listing of some pieces of what is printed.
+RULES_FILE = dvi_file([Page([down(PT), *[part for _ in range(3000) for part in (put_rule(PT, PT), right(3 * PT), down(3 * PT))]], (number, *[0] * 9)) for number in (1, 2)], PT, PT).data
+RULES = "".join(f"page {number} counts {number} 0 0 0 0 0 0 0 0 0\n" + "".join(f"rule {3 * PT * at} {PT + 3 * PT * at} {PT} {PT}\n" for at in range(3000)) for number in (1, 2)).encode()
+SHEET = ("paint", "--page", "1", "--dpi", "72", "--width", "300", "--height", "300", "f.dvi")
+WHITE_SHEET = b"P1\n300 300\n" + (4 * (b"0" * 70 + b"\n") + b"0" * 20 + b"\n") * 300
 NESTED_FONTS = b"units 25400000 473628672 1000\nfont 0 tiny 655360 655360 00000000\nfont 1 tiny 1310720 655360 00000000\n"
 # By name: the words, the DVI file, and the output.
 READINGS = {
@@ -72,9 +88,13 @@ READINGS = {
     "list_fonts_in_nested_boxes": (("list", "f.dvi", *FONTS), NESTED_BOXES_FILE, LISTING),
     "fonts_in_nested_boxes_by_name": (("fonts", "f.dvi"), NESTED_BOXES_FILE, NESTED_FONTS),
     "paint_fonts_in_nested_boxes": ((*PAINT, *FONTS), NESTED_BOXES_FILE, BLANK),
+    "list_pages_of_rules": (("list", "f.dvi"), RULES_FILE, RULES),
+    "paint_a_wide_sheet": ((*SHEET, *FONTS), NESTED_BOXES_FILE, WHITE_SHEET),
 }
 # Commands of many growths, by script and line: copies that run out halfway. Each must have met more than one refused growth.
-HALFWAY = {"fonts_in_nested_boxes": {14: "copy 0", 15: "unhcopy 0"}, "specials": {10: "copy 0", 11: "unhcopy 0"}}
+HALFWAY = {
+    "fonts_in_nested_boxes": {14: "copy 0", 15: "unhcopy 0"}, "specials": {10: "copy 0", 11: "unhcopy 0"}, "columns_of_characters": {13: "unvcopy 1"},
+}
 
 
 @dataclass(frozen=True)
@@ -90,13 +110,17 @@ class Script:
 
 
 def read_script(name, root, task):
-    """A script of tests/growths, which is run to a file by `typeset` or `session`, or without a task on a device in memory."""
-    with open(f"{root}/tests/growths/{name}.box", encoding="ascii") as it:
-        lines = tuple(it.read().splitlines())
-    with open(f"{root}/tests/growths/{name}.answers", "rb") as it:
-        answers = it.read()
+    """A script of tests/growths, or one that is made here, which is run to a file by `typeset` or `session`, or without a task on a device in memory."""
     pages, height, width = PAGES[name]
     file = dvi_file(pages, int(height * PT), width * PT)
+    if name in MADE:
+        lines, end = tuple(command for command, _ in MADE[name]), f"end: pages {len(pages)} bytes {len(file.data)}\n"
+        answers = ("".join(f"{number}: {answer}\n" for number, (_, answer) in enumerate(MADE[name], 1)) + end).encode()
+    else:
+        with open(f"{root}/tests/growths/{name}.box", encoding="ascii") as it:
+            lines = tuple(it.read().splitlines())
+        with open(f"{root}/tests/growths/{name}.answers", "rb") as it:
+            answers = it.read()
     words = (task, "out.dvi", *(FONTS if name in WITH_FONTS else ())) if task else ()
     return Script(name, words, lines, answers, int(b": refused " in answers), file.data, file.page_ends)
 

@@ -15,7 +15,8 @@ from steps.texts import last_lines
 TITLE = "the library for C: each growth refused, random bytes as inputs, random pieces on jobs"
 PROGRAM = "library"
 NEEDS_PROGRAM = True
-SCRIPTS = "one_rule_page.box two_boxes.box text.box page_of_text.box ruled_table.box fonts_in_nested_boxes bad_script specials_that_are_copied_and_unboxed".split()
+SCRIPTS = """one_rule_page.box two_boxes.box text.box page_of_text.box ruled_table.box nested_lists.box fonts_in_nested_boxes a_font_of_two_pages bad_script
+    specials_that_are_copied_and_unboxed""".split()
 LINES = 3
 RANDOM, RANDOM_PIECES = "page_of_text.box", "text.box"
 STRINGS = 1000

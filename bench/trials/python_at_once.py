@@ -1,0 +1,277 @@
+#!/usr/bin/env python3
+"""Uses the package for Python from many threads and processes at once: python_at_once.py WAY WORKERS ROUNDS SCRIPT TFM, as callers_at_once.py runs it.
+
+  threads    threads run all calls, and the lines of one job that they share
+  pools      pools by fork, spawn and forkserver: results, and refusals that are raised, come back as they are here
+  parts      a process with a job that is half done forks; it and its children make the other half
+  ends       children end inside calls: os._exit, sys.exit, SIGKILL, a daemon thread inside a call at the end; the next pool works
+  interrupts an exception comes at any moment of calls on a job: no byte of its file is lost or comes twice
+  copies     pickles of all protocols, copies and deep copies of what calls give; a job refuses all of them
+  views      tables as memoryviews, after all that they came from is dropped
+
+All that comes is compared with what one thread got before."""
+
+import concurrent.futures
+import copy
+import gc
+import multiprocessing
+import os
+import pickle
+import random
+import signal
+import subprocess
+import sys
+import threading
+import time
+
+import boxglue
+
+LINES, COPIED = 5, 20
+BAD = "hbox into 0\nrule 1pt 1pt 0pt\nend\nship 7\n"
+MAKES = ("import os, sys, threading, time, boxglue\nscript, fonts = open(sys.argv[1]).read(), {'cmr10': open(sys.argv[2], 'rb').read()}\n"
+         "inside = threading.Event()\ndef calls():\n    while True:\n        job = boxglue.Job(fonts)\n        inside.set()\n        job.commands(script)\n        job.finish()\n        job.take()\n"
+         "threading.Thread(target=calls, daemon=True).start()\ninside.wait()\ntime.sleep(float(sys.argv[3]))\n")
+ENDS = {"os._exit": ("os._exit(3)\n", 3), "sys.exit": ("sys.exit(4)\n", 4), "the end": ("", 0), "an exception": ("raise SystemError\n", 1), "SIGKILL": ("os.kill(os.getpid(), 9)\n", -9)}
+
+
+def require(holds, why):
+    if not holds:
+        raise AssertionError(why)
+
+
+class Given:
+    """A script and its fonts, and what one thread got of them."""
+
+    def __init__(self, script, metrics):
+        with open(script, encoding="ascii") as it:
+            self.script = it.read()
+        with open(metrics, "rb") as it:
+            self.fonts = {"cmr10": it.read()}
+        lines = self.script.splitlines(keepends=True)
+        self.pieces = ["".join(lines[at:at + LINES]) for at in range(0, len(lines), LINES)]
+        self.wanted = all_calls(self.script, self.fonts)
+
+    @property
+    def dvi(self):
+        return self.wanted[0].dvi
+
+
+def all_calls(script, fonts):
+    """What each call gives."""
+    ran = boxglue.run(script, fonts)
+    return ran, boxglue.listing(ran.dvi, fonts), boxglue.marks(ran.dvi, fonts), boxglue.fonts(ran.dvi), boxglue.paint(ran.dvi, fonts, width=40, height=30)
+
+
+def rest_of(job, pieces):
+    """The bytes that a job hands over for pieces of its script and its end."""
+    found = b""
+    for piece in pieces:
+        job.commands(piece)
+        found += job.take()
+    job.finish()
+    return found + job.take()
+
+
+def run_job(given):
+    with boxglue.Job(given.fonts) as job:
+        return rest_of(job, given.pieces)
+
+
+def in_threads(count, call):
+    """Makes a call in so many threads, and raises what one of them raised."""
+    with concurrent.futures.ThreadPoolExecutor(count) as pool:
+        for it in [pool.submit(call) for _ in range(count)]:
+            it.result()
+
+
+def threads(given, workers, rounds):
+    def calls():
+        for _ in range(rounds):
+            require(all_calls(given.script, given.fonts) == given.wanted, "a thread got something else")
+            require(run_job(given) == given.dvi, "a job of a thread made another file")
+    in_threads(workers, calls)
+    with boxglue.Job() as job:
+        taken = []
+
+        def share():
+            for _ in range(rounds):
+                job.commands("hbox into 0\nrule 1pt 1pt 0pt\nend\n")
+                job.commands("copy 0\nmeasure 0\n")
+                taken.append(job.take())
+        in_threads(workers, share)
+        found = job.commands("measure 0\n").replies[0]
+    require(found.line == workers * rounds * 5 + 1 and found.width == 65536 and not b"".join(taken), "the lines of a shared job are counted as %r" % found)
+
+
+def worked(words):
+    """What a worker of a pool makes: results, or a refusal that it raises."""
+    number, script, fonts = words
+    if number % 7 == 3:
+        boxglue.run(BAD).check()
+    return number, all_calls(script, fonts)
+
+
+def pools(given, workers, rounds):
+    for method in ("fork", "spawn", "forkserver"):
+        with concurrent.futures.ProcessPoolExecutor(workers, multiprocessing.get_context(method)) as pool:
+            asked = [pool.submit(worked, (number, given.script, given.fonts)) for number in range(rounds)]
+            for number, it in enumerate(asked):
+                refusal = it.exception()
+                require((str(refusal) == "line 4: refused 21 VoidBox") if number % 7 == 3 else it.result() == (number, given.wanted), "%s: result %d is another" % (method, number))
+
+
+def waited(child):
+    """The status of a child, negative for a signal."""
+    return os.waitstatus_to_exitcode(os.waitpid(child, 0)[1])
+
+
+def parts(given, workers, rounds):
+    half = len(given.pieces) // 2
+    for _ in range(max(rounds // 10, 1)):
+        with boxglue.Job(given.fonts) as job:
+            first = b""
+            for piece in given.pieces[:half]:
+                job.commands(piece)
+                first += job.take()
+            children = []
+            for _ in range(workers):
+                child = os.fork()
+                if not child:
+                    os._exit(0 if first + rest_of(job, given.pieces[half:]) == given.dvi else 1)
+                children.append(child)
+            require(first + rest_of(job, given.pieces[half:]) == given.dvi, "the parent made another file")
+            require(not any(map(waited, children)), "a child made another file")
+
+
+def stay(given, moment):
+    """Calls for ever, in a process that a signal ends."""
+    signal.signal(signal.SIGALRM, lambda *_: os._exit(5))
+    signal.setitimer(signal.ITIMER_REAL, moment)
+    while True:
+        run_job(given)
+
+
+def ends(given, workers, rounds):
+    chance = random.Random(1)
+    for round_ in range(rounds):
+        name = [*ENDS][round_ % len(ENDS)]
+        code, status = ENDS[name]
+        words = [sys.executable, "-c", MAKES + code, *sys.argv[4:6], str(chance.random() / 50)]
+        ran = subprocess.run(words, capture_output=True, timeout=60)
+        require(ran.returncode == status and (name == "an exception" or not ran.stderr), "%s: status %d, %r" % (name, ran.returncode, ran.stderr[-500:]))
+        child = os.fork()
+        if not child:
+            stay(given, 0.0001 + chance.random() / 50)
+        require(waited(child) == 5, "a child that a handler ended")
+    for method in ("fork", "spawn"):
+        with concurrent.futures.ProcessPoolExecutor(workers, multiprocessing.get_context(method)) as pool:
+            asked = [pool.submit(worked, (0, given.script, given.fonts)) for _ in range(50)]
+            while not getattr(pool, "_processes", None):
+                time.sleep(0.001)
+            os.kill(next(iter(pool._processes)), signal.SIGKILL)
+            failed = {type(it.exception()).__name__ for it in asked} - {"NoneType"}
+            require(failed <= {"BrokenProcessPool"}, "a pool whose worker was ended raised %r" % failed)
+        with concurrent.futures.ProcessPoolExecutor(workers, multiprocessing.get_context(method)) as pool:
+            require(pool.submit(worked, (0, given.script, given.fonts)).result() == (0, given.wanted), "the next pool gave something else")
+
+
+class Interrupt(Exception):
+    """What comes at any moment."""
+
+
+class Alarm:
+    """Raises Interrupt at a moment of a call, at most once each time."""
+
+    def __init__(self):
+        self.armed, self.came, self.chance = False, 0, random.Random(2)
+        signal.signal(signal.SIGALRM, self.ring)
+
+    def ring(self, *_):
+        if self.armed:
+            self.armed, self.came = False, self.came + 1
+            raise Interrupt
+
+    def interrupt(self, call):
+        """Makes a call. Returns whether it came to its end."""
+        try:
+            self.armed = True
+            signal.setitimer(signal.ITIMER_REAL, 1e-6 + self.chance.random() ** 3 / 1000)
+            call()
+            self.armed = False
+            return True
+        except Interrupt:
+            return False
+
+
+def interrupts(given, _workers, rounds):
+    alarm = Alarm()
+    for _ in range(rounds):
+        taken, known = [], 0
+        with boxglue.Job(given.fonts) as job:
+            for piece in given.pieces:
+                is_run = False
+                while not is_run:
+                    alarm.interrupt(lambda: taken.append(job.take()))
+                    alarm.interrupt(lambda: job.commands(piece))
+                    # The number of the next line tells whether the piece was run.
+                    line = job.commands("measure 9\n").replies[0].line
+                    is_run, known = line - 1 > known, line
+            job.finish().check()
+            while not alarm.interrupt(lambda: taken.append(job.take())):
+                pass
+            taken.append(job.take())
+        require(b"".join(taken) == given.dvi, "of the file %d bytes were taken, and not %d" % (len(b"".join(taken)), len(given.dvi)))
+    print("%d exceptions came" % alarm.came)
+
+
+def equal_copies(one):
+    """All copies of an object."""
+    yield from (pickle.loads(pickle.dumps(one, protocol)) for protocol in range(2, pickle.HIGHEST_PROTOCOL + 1))
+    yield from (copy.copy(one), copy.deepcopy(one))
+
+
+def copies(given, _workers, rounds):
+    ran, _, document, fonts, bitmap = given.wanted
+    refused = boxglue.run(BAD)
+    things = [ran, ran.replies, *ran.replies[:COPIED], document, document.pages, document.marks, document.marks[::3], *document.pages[:COPIED], *document.marks[:COPIED], *fonts, bitmap,
+              refused, *refused.refusals, boxglue.OutOfMemory("x"), boxglue.NoSuchPage("x"), boxglue.BadFontName("x"), boxglue.NoJob("x"), document.units]
+    for _ in range(max(rounds // 50, 1)):
+        for one in things:
+            for other in equal_copies(one):
+                is_same = str(other) == str(one) and type(other) is type(one) if isinstance(one, Exception) and not isinstance(one, boxglue.Refused) else other == one
+                require(is_same, "%r has another copy" % (one,))
+    job = boxglue.Job(given.fonts)
+    for way in (copy.copy, copy.deepcopy, *(lambda it, protocol=protocol: pickle.dumps(it, protocol) for protocol in range(pickle.HIGHEST_PROTOCOL + 1))):
+        try:
+            way(job)
+        except TypeError:
+            continue
+        require(False, "a job was copied")
+    require(rest_of(job, given.pieces) == given.dvi, "a job that refused to be copied made another file")
+
+
+def views(given, workers, rounds):
+    def calls():
+        for _ in range(rounds):
+            document = boxglue.marks(given.dvi, given.fonts)
+            rows, some, one = document.marks.rows, document.pages[0].marks[1:].rows, document.marks[0]
+            replies = boxglue.run(given.script, given.fonts).replies[3:9].rows
+            del document
+            gc.collect(0)
+            require(bytes(rows) == bytes(given.wanted[2].marks.rows) and one == given.wanted[2].marks[0], "a view is another")
+            require(bytes(some) == bytes(given.wanted[2].pages[0].marks[1:].rows), "a view of a part is another")
+            require(bytes(replies) == bytes(given.wanted[0].replies[3:9].rows), "a view of replies is another")
+    in_threads(workers, calls)
+
+
+WAYS = {it.__name__: it for it in (threads, pools, parts, ends, interrupts, copies, views)}
+
+
+def main():
+    way, workers, rounds, script, metrics = sys.argv[1:]
+    WAYS[way](Given(script, metrics), int(workers), int(rounds))
+    print("%s: %s workers, %s rounds, %d bytes of a file" % (way, workers, rounds, len(Given(script, metrics).dvi)))
+
+
+if __name__ == "__main__":
+    main()
