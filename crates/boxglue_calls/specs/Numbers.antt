@@ -2,7 +2,7 @@
 use Rattle.std.specs.Prelude.{◌+◌, ◌-◌, ◌^◌, ◌==◌, ◌||◌, ℕ, Bool, if◌then◌else◌, List, length, map, filter, min, slice_index}
 use Rattle.boxglue_script.specs.declared.script.Line.{Line}
 
--- The number of a line of a piece, where the pieces before it have this many lines. The greatest number of the machine is the last.
+-- The number of a line of a piece, where the pieces before it have this many lines. Lines after 2^64 - 1 have that number too.
 abbrev pub number_after : (before number : ℕ) → ℕ
 number_after before number = min (before + number) (2 ^ 64 - 1)
 

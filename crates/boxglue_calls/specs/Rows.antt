@@ -68,7 +68,7 @@ split_row front badness None = record (row_of_kind 9) { box_sizes = size_numbers
 split_row front badness (Some rest) =
     record (row_of_kind 9) { box_sizes = size_numbers front; badness = badness; has_rest = 1; rest = size_numbers rest }
 
--- The row of an answer, without the number of its line. The greatest number of missing characters stands for more too.
+-- The row of an answer, without the number of its line. Missing characters are counted up to 2^32 - 1.
 abbrev pub answer_row : Answer → ReplyRow
 answer_row Done = row_of_kind 0
 answer_row (Packed sizes badness) = record (row_of_kind 3) { box_sizes = size_numbers sizes; badness = badness }

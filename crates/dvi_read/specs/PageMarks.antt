@@ -23,7 +23,7 @@ text_in mark = []
 abbrev pub texts_in : List Mark → List (List ℕ)
 texts_in marks = flat_map text_in marks
 
--- A text stands in the bytes from a place on. Its length is one of four bytes (DVItype, 15).
+-- A text stands in the bytes from a place on. Its length fits the four bytes of xxx4, the longest form (DVItype, 15).
 pub record TextStandsAt (bytes : List ℕ) (place : ℕ) (text : List ℕ) : Type 0 where
   pub within : place + length text ≤ length bytes
   pub short : length text < 2 ^ 32

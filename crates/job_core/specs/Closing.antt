@@ -6,7 +6,7 @@ use Rattle.dvi_write.specs.Closing.{IsClosedFor}
 use Rattle.job_machine.specs.Machine.{Machine}
 use Rattle.job_core.specs.Jobs.{JobView, Represents}
 
--- If the end succeeds, the bytes that the device has taken are closed for the pages of each machine that the job represented, unless there are none
+-- If the end succeeds, the bytes that the device reports are closed for the pages of each machine that the job represented, unless there are none
 -- (own).
 abbrev pub ClosesFile : JobView → Result Summary Refusal → JobView → Type 0
 ClosesFile old result new =

@@ -25,16 +25,16 @@ pub record IsDone (files : List NamedBytes) (commands : List Command) (replies :
   pub last : Machine
   pub finished : Finishes machine run.failed result last ended.failed
   pub over : ended.state ≡ last.state
-  -- If the end succeeds, the device has taken a DVI file of exactly the pages of that machine, with the widths that the font files give,
-  -- and the summary has its length, even if the device does not report what it took.
+  -- If the end succeeds, and the device reports what it took, this is a DVI file of exactly the pages of that machine, with the widths that the
+  -- font files give. The summary has the length of the file, even if the device does not report.
   pub file : (metrics : WidthsByName) → GivesFiles metrics files
       → OnOk result (IfSome ended.bytes_written (λ bytes. IsFileOfPages metrics bytes machine.pages))
   pub size : IfOk result (λ summary. IfSome ended.bytes_written (λ bytes. summary.bytes ≡ length bytes))
   pub count : IfOk result (λ summary. summary.bytes ≡ length (whole machine.state.fonts machine.pages))
   -- The file ends as one of these pages does, and each font that it defines is the machine's font in the slot of its number.
   pub closed : machine.pages ≢ [] → OnOk result (IfSome ended.bytes_written (λ bytes. IsClosedFor machine.state.fonts bytes machine.pages))
-  -- If the job is over, whatever failed, the device has taken that file or a beginning of it. If it failed in a `ship`, it has taken a beginning of
-  -- the file with the page of that command.
+  -- If the job is over, whatever failed, what the device reports is that file or a beginning of it. If the device failed in a `ship`, it is a
+  -- beginning of the file with the page of that command.
   pub sent : last.state.over ≡ true → HasSent last ended.bytes_written
-  -- Whatever failed, the device has taken all bytes of the pages that were shipped.
+  -- Whatever failed, what the device reports begins with all bytes of the pages that were shipped.
   pub held : HasPages last ended.bytes_written

@@ -14,8 +14,8 @@ abbrev pub GivesFiles : WidthsByName → List NamedBytes → Type 0
 GivesFiles metrics files = (name : List ℕ) (size : ℤ) (widths : ℤ → Option ℤ) → file_widths files name size ≡ Some widths
     → metrics name size ≡ Some widths
 
--- If the end succeeds, the device has taken a DVI file of exactly the pages of each machine that the job represented, with the widths that
--- the job's own font files give.
+-- If the end succeeds, and the device reports what it took, this is a DVI file of exactly the pages of each machine that the job represented, with
+-- the widths that the job's own font files give.
 abbrev pub FilesPages : JobView → Result Summary Refusal → JobView → Type 0
 FilesPages old result new =
     (m : Machine) (metrics : WidthsByName) → Represents old m → GivesFiles metrics m.state.files
