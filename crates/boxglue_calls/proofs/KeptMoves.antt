@@ -6,11 +6,10 @@ use Rattle.job_machine.specs.declared.replies.Refusal.{Refusal}
 use Rattle.job_machine.specs.declared.replies.Refusal.TheVariants as refusals
 use Rattle.job_machine.specs.declared.replies.Summary.{Summary}
 use Rattle.job_machine.specs.Reply.{Reply}
-use Rattle.dvi_device.specs.Written.{GrowsByFront}
 use Rattle.dvi_write.specs.Layout.{whole}
 use Rattle.job_machine.specs.Machine.{Machine}
 use Rattle.dvi_write.specs.Writing.{GoesOn}
-use Rattle.job_core.specs.Jobs.{JobView, Represents, RunsTo, FinishesTo, before_writing, writing_of}
+use Rattle.job_core.specs.Jobs.{JobView, Represents, RunsTo, FinishesTo, IsProperFrontOf, writing_of}
 use Rattle.job_core.specs.Shown.{FilesPages}
 use Rattle.job_core.specs.Closing.{ClosesFile}
 use Rattle.boxglue_script.specs.declared.script.Line.{Line}
@@ -88,7 +87,7 @@ abbrev pub ended_job : (old new : KeptState) (job : JobView) (end : Result Summa
     → IfOk end (λ summary. (m : Machine) → Represents old.job m → IfSome job.bytes_written (λ bytes. summary.bytes ≡ length bytes))
     → IfOk end (λ summary. (m : Machine) → Represents old.job m → summary.bytes ≡ length (whole m.state.fonts m.pages))
     → IfOk end (λ summary. summary.bytes < 2 ^ 31)
-    → (end ≡ Err refusals.Device → (m : Machine) → Represents old.job m → GrowsByFront (before_writing old.job.bytes_written) job.bytes_written (whole m.state.fonts m.pages))
+    → (end ≡ Err refusals.Device → (m : Machine) → Represents old.job m → IfSome job.bytes_written (λ bytes. IsProperFrontOf bytes (whole m.state.fonts m.pages)))
     → GoesOn (writing_of old.job) (writing_of job)
     → new.job ≡ job → new.lines ≡ old.lines → new.taken ≡ old.taken → EndsJob old new
 ended_job old new job end finished same idle dvi closed file size count small part goes job_is lines_is taken_is = record {
@@ -102,7 +101,7 @@ ended_job old new job end finished same idle dvi closed file size count small pa
   size = subst (λ (j : JobView). IfOk end (λ summary. (m : Machine) → Represents old.job m → IfSome j.bytes_written (λ bytes. summary.bytes ≡ length bytes))) (sym job_is) size;
   count = count;
   small = small;
-  part = subst (λ (j : JobView). end ≡ Err refusals.Device → (m : Machine) → Represents old.job m → GrowsByFront (before_writing old.job.bytes_written) j.bytes_written (whole m.state.fonts m.pages))
+  part = subst (λ (j : JobView). end ≡ Err refusals.Device → (m : Machine) → Represents old.job m → IfSome j.bytes_written (λ bytes. IsProperFrontOf bytes (whole m.state.fonts m.pages)))
       (sym job_is) part;
   goes_on = subst (λ (j : JobView). GoesOn (writing_of old.job) (writing_of j)) (sym job_is) goes;
   lines = lines_is;

@@ -4,11 +4,10 @@ use Rattle.job_machine.specs.declared.replies.Refusal.{Refusal}
 use Rattle.job_machine.specs.declared.replies.Refusal.TheVariants as refusals
 use Rattle.job_machine.specs.declared.replies.Summary.{Summary}
 use Rattle.job_machine.specs.Reply.{Reply}
-use Rattle.dvi_device.specs.Written.{GrowsByFront}
 use Rattle.dvi_write.specs.Layout.{whole}
 use Rattle.job_machine.specs.Machine.{Machine}
 use Rattle.dvi_write.specs.Writing.{GoesOn}
-use Rattle.job_core.specs.Jobs.{Represents, RunsTo, FinishesTo, before_writing, writing_of}
+use Rattle.job_core.specs.Jobs.{Represents, RunsTo, FinishesTo, IsProperFrontOf, writing_of}
 use Rattle.job_core.specs.Shown.{FilesPages}
 use Rattle.job_core.specs.Closing.{ClosesFile}
 use Rattle.boxglue_script.specs.declared.cause.Cause.{Cause}
@@ -84,7 +83,7 @@ pub record EndsJob (old new : KeptState) : Type 0 where
   pub count : IfOk end (λ summary. (m : Machine) → Represents old.job m → summary.bytes ≡ length (whole m.state.fonts m.pages))
   pub small : IfOk end (λ summary. summary.bytes < 2 ^ 31)
   pub part : end ≡ Err refusals.Device → (m : Machine) → Represents old.job m
-      → GrowsByFront (before_writing old.job.bytes_written) new.job.bytes_written (whole m.state.fonts m.pages)
+      → IfSome new.job.bytes_written (λ bytes. IsProperFrontOf bytes (whole m.state.fonts m.pages))
   pub goes_on : GoesOn (writing_of old.job) (writing_of new.job)
   pub lines : new.lines ≡ old.lines
   pub taken : new.taken ≡ old.taken

@@ -160,46 +160,42 @@ up_to_end text [] answers old now none before =
 up_to_end text (byte ∷ rest) answers old now none before = absurd (omega (arith, none))
 
 -- The lines up to the rest were run, and then it stopped.
-pub stops_after : (text rest answers : List ℕ) (old now : DialogView) (new : JobView) → RunsUpTo text rest old answers now → new ≡ now.job → StopsIn text old answers new
+pub stops_after : (text rest answers : List ℕ) (old now new : DialogView) → RunsUpTo text rest old answers now → new ≡ now → StopsIn text old answers new
 stops_after text rest answers old now new before same = record {
   whole = before.whole;
   rest = rest;
   split = before.split;
   ends = before.ends;
-  middle = now;
-  ran = before.ran;
-  job = same;
+  ran = subst (λ (d : DialogView). AnswersLines old (lines before.whole) answers d) (sym same) before.ran;
 }
 
 -- All lines were run, and then it stopped.
-pub stops_at_end : (text answers : List ℕ) (old now : DialogView) (new : JobView) → AnswersLines old (lines text) answers now → new ≡ now.job → StopsIn text old answers new
+pub stops_at_end : (text answers : List ℕ) (old now new : DialogView) → AnswersLines old (lines text) answers now → new ≡ now → StopsIn text old answers new
 stops_at_end text answers old now new ran same =
-    record { whole = text; rest = []; split = sym (append-nil text); ends = inr refl; middle = now; ran = ran; job = same }
+    record { whole = text; rest = []; split = sym (append-nil text); ends = inr refl; ran = subst (λ (d : DialogView). AnswersLines old (lines text) answers d) (sym same) ran }
 
 whole_text : (text whole rest : List ℕ) → IsWhole text → text ≡ whole ++ rest → IsWhole whole ⊎ (rest ≡ []) → IsWhole whole
 whole_text text whole rest all split (inl ends) = ends
 whole_text text whole rest all split (inr none) = subst IsWhole (split ∙ (ap (λ (l : List ℕ). whole ++ l) none ∙ append-nil whole)) all
 
 -- What follows whole lines in which it stopped.
-pub stops_further : (text more answers : List ℕ) (old : DialogView) (new : JobView) → IsWhole text → StopsIn text old answers new → StopsIn (text ++ more) old answers new
+pub stops_further : (text more answers : List ℕ) (old new : DialogView) → IsWhole text → StopsIn text old answers new → StopsIn (text ++ more) old answers new
 stops_further text more answers old new all stops = record {
   whole = stops.whole;
   rest = stops.rest ++ more;
   split = ap (λ (l : List ℕ). l ++ more) stops.split ∙ append_assoc stops.whole stops.rest more;
   ends = inl (whole_text text stops.whole stops.rest all stops.split stops.ends);
-  middle = stops.middle;
   ran = stops.ran;
-  job = stops.job;
 }
 
 -- Nothing of a text was run.
-pub stops_at_once : (text : List ℕ) (old : DialogView) → StopsIn text old [] old.job
-stops_at_once text old = record { whole = []; rest = text; split = refl; ends = inl (inl refl); middle = old; ran = none_answered old; job = refl }
+pub stops_at_once : (text : List ℕ) (old : DialogView) → StopsIn text old [] old
+stops_at_once text old = record { whole = []; rest = text; split = refl; ends = inl (inl refl); ran = none_answered old }
 
 -- All whole lines were run, and what follows was not kept.
-pub stops_at_rest : (whole rest answers : List ℕ) (old now : DialogView) → IsWhole whole → AnswersLines old (lines whole) answers now → StopsIn (whole ++ rest) old answers now.job
+pub stops_at_rest : (whole rest answers : List ℕ) (old now : DialogView) → IsWhole whole → AnswersLines old (lines whole) answers now → StopsIn (whole ++ rest) old answers now
 stops_at_rest whole rest answers old now ends ran =
-    record { whole = whole; rest = rest; split = refl; ends = inl ends; middle = now; ran = ran; job = refl }
+    record { whole = whole; rest = rest; split = refl; ends = inl ends; ran = ran }
 
 -- A text was written to a client that reads, or a beginning of it.
 pub told : {A E : Type 0} (r : Result A E) (ok : Bool) (old new : Option (List ℕ)) (text : List ℕ) → ok ≡ is_ok r → OnOk r (Appends old new text) → OnErr r (WritesFront old new text) → IsSent true ok old new text

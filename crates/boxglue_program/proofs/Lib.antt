@@ -1,4 +1,3 @@
-pub mod SentParts
 pub mod RunLaws
 pub mod OutcomeLaws
 pub mod SessionLaws

@@ -4,7 +4,6 @@ use Rattle.std.specs.Prelude.{is_ok, if◌then◌else◌, Contains, IfSome, Resu
 use Rattle.std.specs.Io.KnownBytes.{Consumes}
 use Rattle.std.specs.Str.Lines.{lines}
 use Rattle.std.proofs.lemmas.List.{append-nil}
-use Rattle.job_core.specs.Jobs.{JobView}
 use Rattle.boxglue_script.specs.SaidLines.{IsWhole}
 use Rattle.boxglue_program.specs.Sessions.{IsSent, DialogView, AnswersLines, SessionView, Exchanges, LacksRoom, StopsIn}
 use Rattle.boxglue_program.specs.Private.Dialogs.{IsCut}
@@ -48,20 +47,20 @@ none_taken (Err e) kept more piece whole rest dialog reads old split none is = t
 
 -- Memory was refused before a line was run.
 pub stopped_at_once : {A E : Type 0} (r : Result A E) (text : List ℕ) (dialog : DialogView) (reads : Bool) (old : Option (List ℕ))
-    → OnErr r ((answers : List ℕ) × StopsIn text dialog answers dialog.job × IsSent reads reads old old answers)
+    → OnErr r ((answers : List ℕ) × StopsIn text dialog answers dialog × IsSent reads reads old old answers)
 stopped_at_once (Ok x) text dialog reads old = tt
 stopped_at_once (Err e) text dialog reads old = ([], stops_at_once text dialog, sent_none reads old)
 
 -- Memory was refused at one of the whole lines.
-pub stopped_within : {A E : Type 0} (r : Result A E) (kept piece whole rest text : List ℕ) (dialog : DialogView) (job : JobView) (reads now : Bool)
+pub stopped_within : {A E : Type 0} (r : Result A E) (kept piece whole rest text : List ℕ) (dialog last : DialogView) (reads now : Bool)
     (old new : Option (List ℕ)) → Cut kept piece whole rest text
-    → (answers : List ℕ) × StopsIn text dialog answers job × IsSent reads now old new answers
-    → OnErr r ((answers : List ℕ) × StopsIn (kept ++ piece) dialog answers job × IsSent reads now old new answers)
-stopped_within (Ok x) kept piece whole rest text dialog job reads now old new cut stops = tt
-stopped_within (Err e) kept piece whole rest text dialog job reads now old new cut (answers, stops, sent) = (
+    → (answers : List ℕ) × StopsIn text dialog answers last × IsSent reads now old new answers
+    → OnErr r ((answers : List ℕ) × StopsIn (kept ++ piece) dialog answers last × IsSent reads now old new answers)
+stopped_within (Ok x) kept piece whole rest text dialog last reads now old new cut stops = tt
+stopped_within (Err e) kept piece whole rest text dialog last reads now old new cut (answers, stops, sent) = (
   answers,
-  subst (λ (l : List ℕ). StopsIn l dialog answers job) (text_and_rest kept piece whole rest text cut)
-      (stops_further text rest answers dialog job (text_whole kept piece whole rest text cut) stops),
+  subst (λ (l : List ℕ). StopsIn l dialog answers last) (text_and_rest kept piece whole rest text cut)
+      (stops_further text rest answers dialog last (text_whole kept piece whole rest text cut) stops),
   sent,
 )
 
@@ -86,11 +85,11 @@ lines_taken (Err e) kept piece whole rest text cleared more dialog new reads now
 pub stopped_at_rest : {A E : Type 0} (r : Result A E) (kept piece whole rest text : List ℕ) (dialog new : DialogView) (reads now : Bool)
     (old after : Option (List ℕ)) → Cut kept piece whole rest text
     → (answers : List ℕ) × AnswersLines dialog (lines text) answers new × IsSent reads now old after answers
-    → OnErr r ((answers : List ℕ) × StopsIn (kept ++ piece) dialog answers new.job × IsSent reads now old after answers)
+    → OnErr r ((answers : List ℕ) × StopsIn (kept ++ piece) dialog answers new × IsSent reads now old after answers)
 stopped_at_rest (Ok x) kept piece whole rest text dialog new reads now old after cut ran = tt
 stopped_at_rest (Err e) kept piece whole rest text dialog new reads now old after cut (answers, ran, sent) = (
   answers,
-  subst (λ (l : List ℕ). StopsIn l dialog answers new.job) (text_and_rest kept piece whole rest text cut)
+  subst (λ (l : List ℕ). StopsIn l dialog answers new) (text_and_rest kept piece whole rest text cut)
       (stops_at_rest text rest answers dialog new (text_whole kept piece whole rest text cut) ran),
   sent,
 )
@@ -121,10 +120,6 @@ piece_exchanged old was new piece before after same (whole, answers, split, ends
     subst (λ (s : SessionView). Exchanges s piece new before after) same
     (record { whole = whole; split = split; ends = ends; rest = rest; answers = answers; ran = ran; sent = sent; left = left })
 
--- A result is not both.
-pub not_both : {A E : Type 0} (r : Result A E) (x : A) (e : E) → r ≡ Ok x → r ≡ Err e → ⊥
-not_both r x e ok err = cc
-
 -- One reading brought nothing.
 pub nothing_exchanged : (old was : SessionView) (before : Option (List ℕ)) → was ≡ old → (Contains was.kept 10 → ⊥)
     → Exchanges old [] was before before
@@ -134,7 +129,7 @@ nothing_exchanged old was before same rest =
 
 -- Memory was refused after a piece was read.
 pub room_lacked : (old was new : SessionView) (piece : List ℕ) (before after : Option (List ℕ)) → was ≡ old
-    → (answers : List ℕ) × StopsIn (was.kept ++ piece) was.dialog answers new.dialog.job × IsSent was.reads new.reads before after answers
-    → LacksRoom old piece new before after
-room_lacked old was new piece before after same (answers, stops, sent) =
-    subst (λ (s : SessionView). LacksRoom s piece new before after) same (record { answers = answers; stops = stops; sent = sent })
+    → (answers : List ℕ) × StopsIn (was.kept ++ piece) was.dialog answers new.dialog × IsSent was.reads new.reads before after answers
+    → new.kept ≡ [] → new.left + length piece ≡ was.left → LacksRoom old piece new before after
+room_lacked old was new piece before after same (answers, stops, sent) none left =
+    subst (λ (s : SessionView). LacksRoom s piece new before after) same (record { answers = answers; stops = stops; sent = sent; kept = none; left = left })

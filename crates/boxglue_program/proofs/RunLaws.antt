@@ -12,23 +12,21 @@ use Rattle.dvi_device.specs.Pasts.{Past, Differs, KeepsPast, no_past}
 use Rattle.dvi_device.specs.Seen.{DeviceView, device_view}
 use Rattle.dvi_device.specs.Resumed.{RestState, written_by, began_by, past_by, GoesOnAs, PassesOn}
 use Rattle.dvi_device.proofs.PastLaws.{no_difference}
-use Rattle.dvi_write.specs.Layout.{unfinished_file, whole}
+use Rattle.dvi_write.specs.Layout.{whole}
 use Rattle.job_core.specs.Shown.{GivesFiles, FilesPages}
 use Rattle.job_core.specs.Closing.{ClosesFile}
 use Rattle.job_machine.specs.Machine.{Machine, first_machine}
-use Rattle.job_core.specs.Jobs.{JobView, due_bytes, Represents, KeepsTo, RunsTo, FinishesTo}
+use Rattle.job_core.specs.Jobs.{JobView, IsProperFrontOf, due_bytes, Represents, KeepsTo, RunsTo, FinishesTo}
 use Rattle.job_core.proofs.Moves.{runs_more}
 use Rattle.dvi_device.specs.Held.{MemoryState, new_memory}
 use Rattle.job_machine.proofs.RunLaws.{files_kept}
-use Rattle.job_core.proofs.Endings.{said}
 use Rattle.job_core.proofs.RestsOfFiles.{beginning, completed, rest_completed, passed_on}
 use Rattle.job_core.proofs.LosslessRuns.{run_rises, end_rises, run_kept, end_kept}
 use Rattle.std.proofs.lemmas.List.{append-nil, length-append}
 use Rattle.std.proofs.Math.Seq.{take-append_seam}
 use Rattle.boxglue_script.specs.declared.script.Line.{Line}
 use Rattle.boxglue_program.specs.Texts.{hexadecimal_text, answer_line, answer_lines}
-use Rattle.boxglue_program.specs.Runs.{commands_of, line_numbers, IsProperFrontOf, WasRun, RanOn, IsUntouched, IsAnswered, IsUnanswered, RanScript, RefusedScript, IsAnsweredInMemory, IsUnansweredInMemory, CompletesFile, IsAnswerOfRest, RanOverRest, IsAnsweredOverRest, IsUnansweredOverRest}
-use Rattle.boxglue_program.proofs.SentParts.{sent_part, pages_held}
+use Rattle.boxglue_program.specs.Runs.{commands_of, line_numbers, WasRun, RanOn, IsUntouched, IsAnswered, IsUnanswered, RanScript, RefusedScript, IsAnsweredInMemory, IsUnansweredInMemory, CompletesFile, IsAnswerOfRest, RanOverRest, IsAnsweredOverRest, IsUnansweredOverRest}
 
 pub on_err : {A E : Type 0} {P : Type 0} (r : Result A E) → is_err r ≡ true → OnErr r P → P
 on_err (Ok x) e h = absurd (cc)
@@ -76,9 +74,9 @@ was_run files commands replies end job run done holds runs finishes dvi file siz
       count = count_at end run middle.0 middle.2 count;
       closed = closed middle.0 middle.2;
       front = λ e. part e middle.0 middle.2;
-      part = λ over. sent_part last.0 done.bytes_written (last.2.sent over);
-      held = pages_held last.0 done.bytes_written last.2.held;
-      sent = λ running. said done.bytes_written done.bytes_written (unfinished_file last.0.state.fonts last.0.pages) (λ bytes. bytes ≡ unfinished_file last.0.state.fonts last.0.pages) (last.2.written running).bytes_written refl;
+      part = last.2.sent;
+      held = last.2.held;
+      sent = λ running. (last.2.written running).bytes_written;
     }
 
 -- What its device made of the bytes that it was to meet.

@@ -8,7 +8,6 @@ use Rattle.std.proofs.lemmas.List.{append-nil}
 use Rattle.job_machine.specs.declared.replies.Refusal.{Refusal}
 use Rattle.job_machine.specs.declared.replies.Summary.{Summary}
 use Rattle.tfm_core.specs.NamedBytes.{NamedBytes}
-use Rattle.job_core.specs.Jobs.{JobView}
 use Rattle.boxglue_program.specs.Texts.{end_line}
 use Rattle.boxglue_program.specs.Sessions.{IsSent, DialogView, AnswersLines, EndsRun, SessionView, Exchanges, LacksRoom, StopsIn, IsNewSession, EndsSession, RanSession, LacksSessionMemory, IsUnreadable, IsCutOff}
 use Rattle.boxglue_program.specs.declared.session.SessionFault.{SessionFault}
@@ -57,6 +56,16 @@ session_finished old was outcome accepted reads written k failed bytes_written r
       record { answers = answers; middle = middle; ran = ran; end = end; run = run; answer_is = refl; accepted_is = fine },
       sent,
     )
+
+-- Memory was refused before a session was finished.
+pub session_unfinished : (old was : SessionView) (ended : DialogView) (outcome : Result Bool SessionFault) (reads written : Bool) (k : ℕ)
+    (bytes_written before after : Option (List ℕ)) (answers : List ℕ)
+    → was ≡ old → outcome ≡ Err OutOfMemory → k ≡ ended.job.failed → bytes_written ≡ ended.job.bytes_written → written ≡ reads
+    → StopsIn was.kept was.dialog answers ended → IsSent was.reads reads before after answers
+    → IfErr outcome (λ fault. (fault ≡ OutOfMemory) × (answers : List ℕ) × (last : DialogView) × StopsIn old.kept old.dialog answers last
+    × IsSent old.reads written before after answers × (k ≡ last.job.failed) × (bytes_written ≡ last.job.bytes_written))
+session_unfinished old was ended outcome reads written k bytes_written before after answers same is count bytes told stops sent =
+    rw (is, told, ← same) (refl, answers, ended, stops, sent, count, bytes)
 
 -- What a session that is going on has read, run and sent.
 pub record InSession (start now : SessionView) (input left before after : Option (List ℕ)) : Type 0 where
@@ -123,22 +132,22 @@ pub run_unfinished : (files : List NamedBytes) (n k : ℕ) (start now last : Ses
     (input left rest before middle between after bytes_written : Option (List ℕ)) (outcome : Result Bool SessionFault) (written : Bool)
     → IsNewSession files n start → InSession start now input left before middle
     → (last ≡ now) × Consumes left rest [] × IsAtEnd rest × Keeps middle between
-    → IfErr outcome (λ fault. (fault ≡ OutOfMemory) × (answers : List ℕ) × (job : JobView) × StopsIn last.kept last.dialog answers job
-    × IsSent last.reads written between after answers × (k ≡ job.failed) × (bytes_written ≡ job.bytes_written))
+    → IfErr outcome (λ fault. (fault ≡ OutOfMemory) × (answers : List ℕ) × (ended : DialogView) × StopsIn last.kept last.dialog answers ended
+    × IsSent last.reads written between after answers × (k ≡ ended.job.failed) × (bytes_written ≡ ended.job.bytes_written))
     → outcome ≡ Err OutOfMemory → (text answer : List ℕ) × Consumes input rest text × LacksSessionMemory text files n k bytes_written answer
     × IsSent true written before after answer
 run_unfinished files n k start now last input left rest before middle between after bytes_written (Ok accepted) written new so_far at_end lacks
     wants = absurd (cc)
 run_unfinished files n k start now last input left rest before middle between after bytes_written (Err fault) written new so_far
-    (same, none, end, kept) (is, others, job, stops, sent, count, bytes) wants =
-    let stops_now : StopsIn now.kept now.dialog others job = subst (λ (s : SessionView). StopsIn s.kept s.dialog others job) same stops in
+    (same, none, end, kept) (is, others, ended, stops, sent, count, bytes) wants =
+    let stops_now : StopsIn now.kept now.dialog others ended = subst (λ (s : SessionView). StopsIn s.kept s.dialog others ended) same stops in
     let sent_now : IsSent now.reads written between after others =
     subst (λ (s : SessionView). IsSent s.reads written between after others) same sent in
     rw (count, bytes) (
       so_far.text,
       so_far.answers ++ others,
       all_read start now input left rest before middle so_far none,
-      inr (session_stopped files n start now so_far.text so_far.text now.kept so_far.answers others before middle job new so_far.done
+      inr (session_stopped files n start now so_far.text so_far.text now.kept so_far.answers others before middle ended new so_far.done
           so_far.done.split stops_now),
       all_sent files n start now input left before middle after written others new so_far
           (kept_sent now.reads written middle between after others kept sent_now),
@@ -147,8 +156,8 @@ run_unfinished files n k start now last input left rest before middle between af
 -- Memory is the only thing that finishing a session may lack.
 pub finished_or_refused : (last : SessionView) (k : ℕ) (between after bytes_written : Option (List ℕ)) (outcome : Result Bool SessionFault)
     (written : Bool)
-    → IfErr outcome (λ fault. (fault ≡ OutOfMemory) × (answers : List ℕ) × (job : JobView) × StopsIn last.kept last.dialog answers job
-    × IsSent last.reads written between after answers × (k ≡ job.failed) × (bytes_written ≡ job.bytes_written))
+    → IfErr outcome (λ fault. (fault ≡ OutOfMemory) × (answers : List ℕ) × (ended : DialogView) × StopsIn last.kept last.dialog answers ended
+    × IsSent last.reads written between after answers × (k ≡ ended.job.failed) × (bytes_written ≡ ended.job.bytes_written))
     → outcome ≡ Err Unreadable → ⊥
 finished_or_refused last k between after bytes_written (Ok accepted) written lacks is = cc
 finished_or_refused last k between after bytes_written (Err fault) written lacks is = two_faults (sym lacks.0 ∙ same_fault is)
@@ -190,7 +199,7 @@ run_lacks_room files n k start now last input left rest before middle after byte
       so_far.answers ++ lacks.answers,
       Consumes-trans input left rest so_far.text piece so_far.read consumed,
       inr (session_stopped files n start now so_far.text (so_far.text ++ piece) (now.kept ++ piece) so_far.answers lacks.answers before middle
-          last.dialog.job new so_far.done split lacks.stops),
+          last.dialog new so_far.done split lacks.stops),
       all_sent files n start now input left before middle after last.reads lacks.answers new so_far lacks.sent,
     )
 
@@ -237,3 +246,15 @@ pub run_not_begun : (files : List NamedBytes) (n k : ℕ) (input before bytes_wr
     × IsSent true true before before answer
 run_not_begun files n k input before bytes_written same silent =
     ([], [], Consumes-nil input, inl (record { silent = silent; failed_is = same }, refl, refl), sent_none true before)
+
+-- A session that stops for a fault has the past that its device had at the beginning.
+pub began_stays : (start now new : SessionView) (input left rest before middle after : Option (List ℕ)) (fault : SessionFault)
+    → InSession start now input left before middle
+    → (fault ≡ OutOfMemory → (piece : List ℕ) × Consumes left rest piece × LacksRoom now piece new middle after)
+    → (fault ≡ Unreadable → (new ≡ now) × (lost : List ℕ) × Consumes left rest lost × (length lost ≤ 65536)
+    × (lost ≢ [] → now.left < length lost) × Keeps middle after)
+    → new.dialog.job.began ≡ start.dialog.job.began
+began_stays start now new input left rest before middle after OutOfMemory so_far memory unread =
+    let (piece, read, lacks) = memory refl in lacks.stops.ran.goes_on.began ∙ so_far.done.ran.goes_on.began
+began_stays start now new input left rest before middle after Unreadable so_far memory unread =
+    ap (λ (s : SessionView). s.dialog.job.began) (unread refl).0 ∙ so_far.done.ran.goes_on.began

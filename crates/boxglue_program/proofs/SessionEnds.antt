@@ -128,18 +128,18 @@ stopped_after files n start all whole rest answers middle job new split ends ran
 
 -- It stopped somewhere in what followed.
 pub session_stopped : (files : List NamedBytes) (n : ℕ) (start now : SessionView) (text all more answers others : List ℕ)
-    (before after : Option (List ℕ)) (job : JobView)
+    (before after : Option (List ℕ)) (last : DialogView)
     → IsNewSession files n start → (done : DoneSoFar start now text answers before after) → all ≡ done.whole ++ more
-    → StopsIn more now.dialog others job
-    → StoppedSession all files n job.failed job.bytes_written (answers ++ others)
-session_stopped files n start now text all more answers others before after job new done is stops =
-    stopped_after files n start all (done.whole ++ stops.whole) stops.rest (answers ++ others) stops.middle job new
+    → StopsIn more now.dialog others last
+    → StoppedSession all files n last.job.failed last.job.bytes_written (answers ++ others)
+session_stopped files n start now text all more answers others before after last new done is stops =
+    stopped_after files n start all (done.whole ++ stops.whole) stops.rest (answers ++ others) last last.job new
     (is ∙ (ap (λ (l : List ℕ). done.whole ++ l) stops.split ∙ sym (append_assoc done.whole stops.whole stops.rest)))
     (ends_on done.whole stops.whole stops.rest done.ends stops.ends)
-    (same_answered start.dialog stops.middle (lines done.whole ++ lines stops.whole) (lines (done.whole ++ stops.whole)) (answers ++ others)
+    (same_answered start.dialog last (lines done.whole ++ lines stops.whole) (lines (done.whole ++ stops.whole)) (answers ++ others)
     (lines_joined done.whole stops.whole done.ends)
-    (answered_both start.dialog now.dialog stops.middle (lines done.whole) (lines stops.whole) answers others done.ran stops.ran))
-    stops.job
+    (answered_both start.dialog now.dialog last (lines done.whole) (lines stops.whole) answers others done.ran stops.ran))
+    refl
 
 -- It stopped between two readings.
 pub session_cut_off : (files : List NamedBytes) (n : ℕ) (start now : SessionView) (text answers : List ℕ) (before after : Option (List ℕ))

@@ -16,7 +16,7 @@ use Rattle.dvi_device.specs.Resumed.{PassesOn}
 use Rattle.dvi_ops.specs.Fonts.{WidthsByName}
 use Rattle.dvi_write.specs.Layout.{unfinished_file, whole}
 use Rattle.dvi_write.specs.Shippable.{IsFileOfPages}
-use Rattle.job_core.specs.Jobs.{due_bytes}
+use Rattle.job_core.specs.Jobs.{IsProperFrontOf, IsSentPart, due_bytes}
 use Rattle.job_core.specs.Shown.{GivesFiles}
 use Rattle.dvi_write.specs.Closing.{IsClosedFor}
 use Rattle.dvi_device.specs.Held.{MemoryState, new_memory}
@@ -40,17 +40,6 @@ line_numbers lines = map (λ line. line.number) lines
 -- Nothing was refused.
 abbrev pub is_accepted : List Reply → Result Summary Refusal → Bool
 is_accepted replies end = list_all is_ok replies && is_ok end
-
--- The bytes are a proper beginning of others: not all of them.
-abbrev pub IsProperFrontOf : List ℕ → List ℕ → Type 0
-IsProperFrontOf front whole = (n : ℕ) × (n < length whole) × (front ≡ take n whole)
-
--- What a job that is over has sent. If no page was being sent: the file of its machine's pages or a proper beginning of it. If the device failed in a
--- `ship`: a proper beginning of the file up to the eop of the page of that command.
-abbrev pub IsSentPart : Machine → List ℕ → Type 0
-IsSentPart m bytes =
-    ((m.flight ≡ []) × ((bytes ≡ whole m.state.fonts m.pages) ⊎ IsProperFrontOf bytes (whole m.state.fonts m.pages)))
-    ⊎ ((m.flight ≢ []) × IsProperFrontOf bytes (unfinished_file m.state.fonts (m.pages ++ m.flight)))
 
 -- A new job with these font files ran these commands with these replies, and was then finished with this end. The count of failures of its device
 -- went from n to k, and the device then reported these bytes. If the end succeeded, they are a DVI file of exactly the machine's pages, by the

@@ -82,21 +82,21 @@ pub record Exchanges (old : SessionView) (piece : List ℕ) (new : SessionView) 
   pub sent : IsSent old.reads new.reads before after answers
   pub left : new.left + length piece ≡ old.left
 
--- Some lines of a text were run, and these are their answers. Nothing of what follows them was run.
-pub record StopsIn (text : List ℕ) (old : DialogView) (answers : List ℕ) (new : JobView) : Type 0 where
+-- Some lines of a text were run, and these are their answers. Nothing of what follows them was run or counted.
+pub record StopsIn (text : List ℕ) (old : DialogView) (answers : List ℕ) (new : DialogView) : Type 0 where
   pub whole : List ℕ
   pub rest : List ℕ
   pub split : text ≡ whole ++ rest
   pub ends : IsWhole whole ⊎ (rest ≡ [])
-  pub middle : DialogView
-  pub ran : AnswersLines old (lines whole) answers middle
-  pub job : new ≡ middle.job
+  pub ran : AnswersLines old (lines whole) answers new
 
--- Memory was refused after a piece was read.
+-- Memory was refused after a piece was read. What was not run of it is lost, with the bytes that were kept.
 pub record LacksRoom (old : SessionView) (piece : List ℕ) (new : SessionView) (before after : Option (List ℕ)) : Type 0 where
   pub answers : List ℕ
-  pub stops : StopsIn (old.kept ++ piece) old.dialog answers new.dialog.job
+  pub stops : StopsIn (old.kept ++ piece) old.dialog answers new.dialog
   pub sent : IsSent old.reads new.reads before after answers
+  pub kept : new.kept ≡ []
+  pub left : new.left + length piece ≡ old.left
 
 -- A session that was begun with these font files on a device that had failed n times.
 pub record IsNewSession (files : List NamedBytes) (n : ℕ) (new : SessionView) : Type 0 where

@@ -71,7 +71,8 @@ impl<D: Device> Dialog<D> {
         ensures ok { OnOk result ((text : List ℕ) × (answers.new.items ≡ answers.old.items ++ text)
             × AnswersLines (dialog_of self.old.job self.old.lines self.old.accepted) (line.now ∷ []) text
             (dialog_of self.new.job self.new.lines self.new.accepted)) }
-        ensures unchanged { OnErr result (self.new.job ≡ self.old.job) }
+        ensures unchanged { OnErr result (dialog_of self.new.job self.new.lines self.new.accepted
+            ≡ dialog_of self.old.job self.old.lines self.old.accepted) }
         ensures cut { OnErr result (answers.new.items ≡ answers.old.items) }
         ensures counted { self.new.lines ≤ self.old.lines + 1 }
     {
@@ -86,7 +87,8 @@ impl<D: Device> Dialog<D> {
         ensures ended { IfOk result (λ accepted. (end : Result ASummary ARefusal)
             × EndsRun self.old.job end self.new.job.failed self.new.job.bytes_written
             × (answers.new.items ≡ answers.old.items ++ end_line end) × (accepted ≡ (self.old.accepted && is_ok end))) }
-        ensures none { OnErr result (self.new.job ≡ self.old.job) }
+        ensures none { OnErr result (dialog_of self.new.job self.new.lines self.new.accepted
+            ≡ dialog_of self.old.job self.old.lines self.old.accepted) }
         ensures cut { OnErr result (answers.new.items ≡ answers.old.items) }
         ensures goes_on { GoesOn (writing_of self.old.job) (writing_of self.new.job) }
     {
@@ -151,7 +153,8 @@ impl Outbox {
             × Sends (outbox_of self.old.waiting.items self.old.reads) (outbox_of self.new.waiting.items self.new.reads) (W.contents writer.old)
             (W.contents writer.new) answers) }
         ensures stopped { OnErr result ((answers : List ℕ)
-            × StopsIn text.now (dialog_of dialog.old.job dialog.old.lines dialog.old.accepted) answers dialog.new.job
+            × StopsIn text.now (dialog_of dialog.old.job dialog.old.lines dialog.old.accepted) answers
+            (dialog_of dialog.new.job dialog.new.lines dialog.new.accepted)
             × Sends (outbox_of self.old.waiting.items self.old.reads) (outbox_of self.new.waiting.items self.new.reads) (W.contents writer.old)
             (W.contents writer.new) answers) }
         ensures counted { dialog.new.lines ≤ dialog.old.lines + length text.now }
@@ -180,7 +183,8 @@ impl Outbox {
             (dialog_of dialog.new.job dialog.new.lines dialog.new.accepted)
             × IsSent self.old.reads self.new.reads (W.contents writer.old) (W.contents writer.new) answers) }
         ensures stopped { OnErr result ((answers : List ℕ)
-            × StopsIn text.now (dialog_of dialog.old.job dialog.old.lines dialog.old.accepted) answers dialog.new.job
+            × StopsIn text.now (dialog_of dialog.old.job dialog.old.lines dialog.old.accepted) answers
+            (dialog_of dialog.new.job dialog.new.lines dialog.new.accepted)
             × IsSent self.old.reads self.new.reads (W.contents writer.old) (W.contents writer.new) answers) }
         ensures emptied { self.new.waiting.items ≡ [] }
         ensures counted { dialog.new.lines ≤ dialog.old.lines + length text.now }
@@ -205,7 +209,8 @@ impl Outbox {
             × IsSent self.old.reads self.new.reads (W.contents writer.old) (W.contents writer.new) (answers ++ end_line end)
             × (accepted ≡ (middle.accepted && is_ok end)) × GoesOn (writing_of middle.job) (writing_of dialog.new.job)) }
         ensures stopped { OnErr result ((answers : List ℕ)
-            × StopsIn text.now (dialog_of dialog.old.job dialog.old.lines dialog.old.accepted) answers dialog.new.job
+            × StopsIn text.now (dialog_of dialog.old.job dialog.old.lines dialog.old.accepted) answers
+            (dialog_of dialog.new.job dialog.new.lines dialog.new.accepted)
             × IsSent self.old.reads self.new.reads (W.contents writer.old) (W.contents writer.new) answers) }
     {
         self.answer(dialog, text, writer)?;
@@ -223,8 +228,9 @@ impl Outbox {
             × EndsRun dialog.old.job end dialog.new.job.failed dialog.new.job.bytes_written
             × IsSent self.old.reads self.new.reads (W.contents writer.old) (W.contents writer.new) (end_line end)
             × (accepted ≡ (dialog.old.accepted && is_ok end))) }
-        ensures none { OnErr result ((dialog.new.job ≡ dialog.old.job) × IsSent self.old.reads self.new.reads (W.contents writer.old)
-            (W.contents writer.new) []) }
+        ensures none { OnErr result ((dialog_of dialog.new.job dialog.new.lines dialog.new.accepted
+            ≡ dialog_of dialog.old.job dialog.old.lines dialog.old.accepted)
+            × IsSent self.old.reads self.new.reads (W.contents writer.old) (W.contents writer.new) []) }
         ensures goes_on { GoesOn (writing_of dialog.old.job) (writing_of dialog.new.job) }
     {
         let ended = dialog.finish(&mut self.waiting);

@@ -134,7 +134,8 @@ fn take_piece<D: Device, W: Write>(
         (dialog_of dialog.new.job dialog.new.lines dialog.new.accepted)
         × IsSent outbox.old.reads outbox.new.reads (W.contents writer.old) (W.contents writer.new) answers) }
     ensures stopped { OnErr result ((answers : List ℕ)
-        × StopsIn (kept.old.items ++ piece.now) (dialog_of dialog.old.job dialog.old.lines dialog.old.accepted) answers dialog.new.job
+        × StopsIn (kept.old.items ++ piece.now) (dialog_of dialog.old.job dialog.old.lines dialog.old.accepted) answers
+        (dialog_of dialog.new.job dialog.new.lines dialog.new.accepted)
         × IsSent outbox.old.reads outbox.new.reads (W.contents writer.old) (W.contents writer.new) answers) }
     ensures emptied { outbox.new.waiting.items ≡ [] }
     ensures rest { Contains kept.new.items 10 → ⊥ }
@@ -156,8 +157,8 @@ impl<D: Device> Session<D> {
     ghost use Rattle.std.specs.Io.KnownBytes.{Consumes, IsAtEnd, Keeps};
     ghost use Rattle.dvi_device.specs.Seen.{device_view};
     ghost use Rattle.dvi_write.specs.Writing.{IsDeviceOf, IsMadeOver};
-    ghost use Rattle.job_core.specs.Jobs.{JobView, writing_of};
-    ghost use Rattle.boxglue_program.specs.Sessions.{EndsSession, Exchanges, IsNewSession, IsSent, LacksRoom, StopsIn};
+    ghost use Rattle.job_core.specs.Jobs.{writing_of};
+    ghost use Rattle.boxglue_program.specs.Sessions.{DialogView, EndsSession, Exchanges, IsNewSession, IsSent, LacksRoom, StopsIn};
 
     /// A new session with these font files, which may read `limit` bytes in all. The device must have reported no byte yet. If memory is refused, the
     /// error is the device, unchanged.
@@ -197,7 +198,8 @@ impl<D: Device> Session<D> {
     ///
     /// Once the writer does not take an answer, nothing more is written, and the lines are run without answers.
     ///
-    /// Errors: Unreadable if the call fails, or if more bytes came than may still be read; nothing was run then. OutOfMemory for a refused growth.
+    /// Errors: Unreadable if the call fails, or if more bytes came than may still be read; nothing was run then. OutOfMemory for a refused growth:
+    /// some of the lines were run and answered, and all other bytes that came are lost, those that were kept among them.
     pub fn exchange<R: Read, W: Write>(
         &mut self,
         reader: &mut R,
@@ -225,16 +227,18 @@ impl<D: Device> Session<D> {
         }
         self.left -= count;
         let piece = &self.buffer[..count];
-        match take_piece(
+        let ran = take_piece(
             &mut self.dialog,
             &mut self.outbox,
             &mut self.kept,
             piece,
             writer,
-        ) {
-            Ok(()) => Ok(Reading::More),
-            Err(_) => Err(SessionFault::OutOfMemory),
+        );
+        if ran.is_err() {
+            self.kept.clear();
+            return Err(SessionFault::OutOfMemory);
         }
+        Ok(Reading::More)
     }
 
     /// Ends the session at the end of its input: runs a last line without a line feed, finishes the job, and writes the last answers.
@@ -242,9 +246,9 @@ impl<D: Device> Session<D> {
         ensures ended { IfOk result.outcome (λ accepted. (answer : List ℕ)
             × EndsSession self (D.failed result.device) (D.bytes_written result.device) answer accepted
             × IsSent self.reads result.written (W.contents writer.old) (W.contents writer.new) answer) }
-        ensures memory { IfErr result.outcome (λ fault. (fault ≡ SessionFault.OutOfMemory) × (answers : List ℕ) × (job : JobView)
-            × StopsIn self.kept self.dialog answers job × IsSent self.reads result.written (W.contents writer.old) (W.contents writer.new) answers
-            × (D.failed result.device ≡ job.failed) × (D.bytes_written result.device ≡ job.bytes_written)) }
+        ensures memory { IfErr result.outcome (λ fault. (fault ≡ SessionFault.OutOfMemory) × (answers : List ℕ) × (last : DialogView)
+            × StopsIn self.kept self.dialog answers last × IsSent self.reads result.written (W.contents writer.old) (W.contents writer.new) answers
+            × (D.failed result.device ≡ last.job.failed) × (D.bytes_written result.device ≡ last.job.bytes_written)) }
         ensures made { (D.past result.device).made ≡ self.dialog.job.began.made }
     {
         let Session {

@@ -3,7 +3,7 @@ use Rattle.std.proofs.Common.{◌≡◌, ℕ, ◌+◌, ◌*◌, ◌≤◌, ◌<�
 use Rattle.std.specs.Prelude.{pos, zero, suc, nat_le, nat_lt, if◌then◌else◌, IfSome}
 use Rattle.std.specs.List.{AllByRecursion}
 use Rattle.std.proofs.lemmas.List.{length-replicate}
-use Rattle.dvi_ops.specs.Instruction.{Instruction, Post, PostPost}
+use Rattle.dvi_ops.specs.Instruction.{Post, PostPost}
 use Rattle.dvi_ops.specs.Layout.{bytes_of, define, padding_after}
 use Rattle.dvi_ops.specs.Spelling.{spelling}
 use Rattle.dvi_ops.proofs.Layouts.{length-bytes_of-append}
@@ -12,9 +12,7 @@ use Rattle.node_core.specs.Nodes.{box_count, box_text}
 use Rattle.node_core.specs.declared.limits.TheConstants.{MAX_PAGES, MAX_SHIPPED_NODES, MAX_SHIPPED_TEXT}
 use Rattle.page_core.specs.Marks.{ShippedPage, is_huge}
 use Rattle.tfm_core.specs.NamedBytes.{NamedBytes}
-use Rattle.dvi_write.specs.declared.fault.WriteFault.{WriteFault}
 use Rattle.dvi_write.specs.declared.fault.WriteFault.TheVariants.{JobOver, TooManyPages, TooMuchShipped, TooMuchSpecial, HugePage}
-use Rattle.tfm_core.specs.declared.slots.LoadedFont.{LoadedFont}
 use Rattle.tfm_core.specs.Slots.{Slots, IsDefinable, AreDefinable}
 use Rattle.dvi_write.specs.Sheets.{definitions_of, in_rising_order}
 use Rattle.dvi_write.specs.Layout.{unfinished_file, whole}

@@ -1,6 +1,7 @@
 -- The end of a job and of its machine.
 use Rattle.std.proofs.Common.{◌+◌, ◌≡◌, ◌≢◌, inl, inr, ℕ, Bool, true, false, List, [], length, Option, Some, None, Ok, Err, refl, ap, subst, sym, ◌∙◌}
 use Rattle.std.specs.Prelude.{◌==◌, not, IfSome}
+use Rattle.std.proofs.lemmas.Option.{IfSome_then}
 use Rattle.job_machine.specs.declared.replies.Refusal.TheVariants.{OutOfMemory, Device, JobOver, ListsOpen}
 use Rattle.job_machine.specs.declared.replies.Summary.{Summary}
 use Rattle.dvi_device.specs.Written.{written_then, GrowsByFront}
@@ -21,10 +22,11 @@ use Rattle.job_state.specs.JobStateView.{JobStateView, state_of}
 use Rattle.job_state.specs.Private.Loaded.{AreLoaded}
 use Rattle.job_state.proofs.LoadedFonts.{loaded_in, widths-loaded}
 use Rattle.tfm_core.specs.NamedBytes.{NamedBytes}
-use Rattle.job_core.specs.Jobs.{JobView, writing_of, before_writing, due_bytes, Represents, FinishesTo}
+use Rattle.job_core.specs.Jobs.{JobView, writing_of, IsProperFrontOf, due_bytes, Represents, FinishesTo}
 use Rattle.job_core.specs.Private.Sound.{view_of}
 use Rattle.job_core.specs.Shown.{GivesFiles}
-use Rattle.job_core.proofs.Moves.{stops, due_landed, written_on, grows_on}
+use Rattle.job_core.proofs.FreshDevices.{before_writing, said, said_part, writer_has}
+use Rattle.job_core.proofs.Moves.{stops, due_landed}
 
 -- If the job is not over and no list is open, no check refuses the end.
 pub may_finish : (s : State) → s.over ≡ false → not (length s.nest == 0) ≡ false → first_refusal (finish_checks s) ≡ None
@@ -32,7 +34,7 @@ may_finish s running closed = rw (running, closed) refl
 
 -- A job that is not over has written the pages of the machine that it represents.
 pub has_written : (old : JobView) (m : Machine) → Represents old m → old.state.over ≡ false → HasWritten m.state.fonts (before_writing old.bytes_written) (writing_of old) m.pages
-has_written old m holds running = holds.written (sym (ap (λ (s : State). s.over) holds.state) ∙ running)
+has_written old m holds running = writer_has old m running (holds.written (sym (ap (λ (s : State). s.over) holds.state) ∙ running))
 
 -- It has written them with the fonts that it has.
 pub has_written_by : (old : JobView) (m : Machine) (fonts : Slots) → Represents old m → old.state.over ≡ false → fonts ≡ old.state.fonts → HasWritten fonts (before_writing old.bytes_written) (writing_of old) m.pages
@@ -48,14 +50,22 @@ true_and_false t f = cc
 
 -- What the device reports after the end of a file, by the fonts of the machine.
 pub sent_by : (old : JobView) (m : Machine) (fonts : Slots) (bytes_written : Option (List ℕ)) → Represents old m → fonts ≡ old.state.fonts → bytes_written ≡ written_then (before_writing old.bytes_written) (whole fonts m.pages)
-    → bytes_written ≡ written_then (before_writing old.bytes_written) (whole m.state.fonts m.pages)
-sent_by old m fonts bytes_written holds same sent = subst (λ (f : Slots). bytes_written ≡ written_then (before_writing old.bytes_written) (whole f m.pages)) (fonts_are old m fonts holds same) sent
+    → IfSome bytes_written (λ bytes. bytes ≡ whole m.state.fonts m.pages)
+sent_by old m fonts bytes_written holds same sent =
+    said old.bytes_written bytes_written (whole fonts m.pages) (λ bytes. bytes ≡ whole m.state.fonts m.pages) sent (ap (λ (f : Slots). whole f m.pages) (fonts_are old m fonts holds same))
 
 pub part_by : (old : JobView) (m : Machine) (fonts : Slots) (bytes_written : Option (List ℕ)) → Represents old m → old.state.over ≡ false → fonts ≡ old.state.fonts → old.so_far.pages ≢ 0
-    → GrowsByFront old.bytes_written bytes_written (last_bytes fonts old.so_far) → GrowsByFront (before_writing old.bytes_written) bytes_written (whole m.state.fonts m.pages)
+    → GrowsByFront old.bytes_written bytes_written (last_bytes fonts old.so_far) → IfSome bytes_written (λ bytes. IsProperFrontOf bytes (whole m.state.fonts m.pages))
 part_by old m fonts bytes_written holds running same some since =
     let part = ended_part fonts (before_writing old.bytes_written) bytes_written (writing_of old) m.pages (has_written_by old m fonts holds running same) some since in
-    subst (λ (f : Slots). GrowsByFront (before_writing old.bytes_written) bytes_written (whole f m.pages)) (fonts_are old m fonts holds same) part
+    subst (λ (f : Slots). IfSome bytes_written (λ bytes. IsProperFrontOf bytes (whole f m.pages))) (fonts_are old m fonts holds same) (said_part old.bytes_written bytes_written (whole fonts m.pages) part)
+
+-- The number of bytes, by the fonts of the machine.
+pub count_by : (old : JobView) (m : Machine) (fonts : Slots) (count : ℕ) → Represents old m → fonts ≡ old.state.fonts → count ≡ length (whole fonts m.pages) → count ≡ length (whole m.state.fonts m.pages)
+count_by old m fonts count holds same is = is ∙ ap (λ (f : Slots). length (whole f m.pages)) (fonts_are old m fonts holds same)
+
+pub size_by : (bytes_written new : Option (List ℕ)) (all : List ℕ) (count : ℕ) → new ≡ written_then (before_writing bytes_written) all → count ≡ length all → IfSome new (λ bytes. count ≡ length bytes)
+size_by bytes_written new all count is size = said bytes_written new all (λ bytes. count ≡ length bytes) is size
 
 -- What the device made of the end of a file, by the fonts of the machine.
 pub kept_by : (old : JobView) (m : Machine) (fonts : Slots) (began new past : Past) → Represents old m → fonts ≡ old.state.fonts → new ≡ began → KeepsPast began (whole fonts m.pages) past
@@ -108,13 +118,13 @@ pub finished :
     → ((m : Machine) → Represents old m → summary.pages ≡ length m.pages)
     → new.failed ≡ old.failed
     → ((more : List ℕ) × (new.bytes_written ≡ written_then old.bytes_written more))
-    → ((m : Machine) → Represents old m → new.bytes_written ≡ written_then (before_writing old.bytes_written) (whole m.state.fonts m.pages))
+    → ((m : Machine) → Represents old m → IfSome new.bytes_written (λ bytes. bytes ≡ whole m.state.fonts m.pages))
     → ((m : Machine) → Represents old m → KeepsPast new.began (whole m.state.fonts m.pages) new.past)
     → FinishesTo old (Ok summary) new
 finished old new summary may goes counts fails grows sent keeps m holds = (
   stopped_machine m,
   Finished summary refl (accepted old m holds may) (counts m holds) refl fails,
-  stops old new m m.flight holds goes grows (inl (none_flies old m holds may, inl (written_on old.bytes_written new.bytes_written (whole m.state.fonts m.pages) (sent m holds))))
+  stops old new m m.flight holds goes grows (IfSome_then new.bytes_written (sent m holds) (λ bytes is. inl (none_flies old m holds may, inl is)))
       (ended_past old new m holds may (keeps m holds)),
 )
 
@@ -129,13 +139,13 @@ pub losing :
     → new.state ≡ record (old.state) { over = true }
     → new.failed ≡ old.failed + 1
     → ((more : List ℕ) × (new.bytes_written ≡ written_then old.bytes_written more))
-    → ((m : Machine) → Represents old m → GrowsByFront (before_writing old.bytes_written) new.bytes_written (whole m.state.fonts m.pages))
+    → ((m : Machine) → Represents old m → IfSome new.bytes_written (λ bytes. IsProperFrontOf bytes (whole m.state.fonts m.pages)))
     → ((m : Machine) → Represents old m → KeepsPast new.began (whole m.state.fonts m.pages) new.past)
     → FinishesTo old (Err Device) new
 losing old new may running some goes fails grows part keeps m holds = (
   stopped_machine m,
   LostDevice refl (accepted old m holds may) (some_pages old m holds running some) refl fails,
-  stops old new m m.flight holds goes grows (inl (none_flies old m holds may, inr (grows_on old.bytes_written new.bytes_written (whole m.state.fonts m.pages) (part m holds))))
+  stops old new m m.flight holds goes grows (IfSome_then new.bytes_written (part m holds) (λ bytes front. inl (none_flies old m holds may, inr front)))
       (ended_past old new m holds may (keeps m holds)),
 )
 
@@ -143,11 +153,6 @@ losing old new may running some goes fails grows part keeps m holds = (
 pub stopped : (kept : JobStateView) (w now : Writing) → now.so_far ≡ w.so_far → now.over ≡ true → (view_of kept now).state ≡ record ((view_of kept w).state) { over = true }
 stopped kept w now same over =
     ap (λ (x : ProgressView). state_of kept x.load x.pages now.over) same ∙ ap (λ over. state_of kept w.so_far.load w.so_far.pages over) over
-
--- What a device reports that had reported nothing before.
-pub said : (bytes_written new : Option (List ℕ)) (bytes : List ℕ) (P : List ℕ → Type 0) → new ≡ written_then (before_writing bytes_written) bytes → P bytes → IfSome new P
-said None new bytes P is holds = rw is tt
-said (Some bytes_written) new bytes P is holds = rw is holds
 
 -- Metrics that give what the font files give also give the fonts of the job.
 gives_fonts : (metrics : WidthsByName) (files : List NamedBytes) (fonts : Slots) → AreLoaded files fonts → GivesFiles metrics files → GivesFonts metrics fonts

@@ -1,3 +1,4 @@
+pub mod FreshDevices
 pub mod Moves
 pub mod Endings
 pub mod PageFonts

@@ -1,6 +1,7 @@
 -- How a job and the machine that it represents move together.
-use Rattle.std.proofs.Common.{◌≡◌, ℕ, ◌+◌, Bool, true, false, List, [], ◌∷◌, ◌++◌, take, Option, Some, None, Err, refl, ap, sym, ◌∙◌, subst, inr, arith, append-nil, append_assoc}
-use Rattle.std.specs.Prelude.{◌≢◌, Ok, is_none, if◌then◌else◌, IfOk, IfErr}
+use Rattle.std.proofs.Common.{◌≡◌, ℕ, ◌+◌, Bool, true, false, List, [], ◌∷◌, ◌++◌, Option, Some, None, Err, refl, ap, sym, ◌∙◌, subst, inr, arith, append-nil}
+use Rattle.std.specs.Prelude.{◌≢◌, Ok, is_none, if◌then◌else◌, IfOk, IfErr, IfSome}
+use Rattle.std.proofs.lemmas.Option.{IfSome_then}
 use Rattle.node_core.specs.declared.tree.BoxNode.{BoxNode}
 use Rattle.job_machine.specs.declared.command.Command.{Command}
 use Rattle.job_machine.specs.declared.command.Command.TheVariants.{Ship}
@@ -9,10 +10,8 @@ use Rattle.job_machine.specs.declared.replies.Refusal.{Refusal}
 use Rattle.job_machine.specs.declared.replies.Refusal.TheVariants.{OutOfMemory, Device, JobOver}
 use Rattle.job_machine.specs.Reply.{Reply}
 use Rattle.page_core.specs.Marks.{ShippedPage}
-use Rattle.tfm_core.specs.Slots.{Slots}
-use Rattle.dvi_device.specs.Written.{written_then, GrowsByFront}
+use Rattle.dvi_device.specs.Written.{written_then, IsFrontOf}
 use Rattle.dvi_device.specs.Pasts.{Past, past_after, KeepsPast}
-use Rattle.dvi_device.proofs.Tellings.{grown-grown}
 use Rattle.dvi_device.proofs.PastLaws.{keeps_taken}
 use Rattle.dvi_write.specs.Layout.{unfinished_file, whole}
 use Rattle.dvi_write.specs.Writing.{Writing, HasWritten}
@@ -24,9 +23,10 @@ use Rattle.job_machine.specs.Answers.{answer_of}
 use Rattle.job_machine.specs.Effects.{state_after_command, new_pages}
 use Rattle.job_machine.specs.Machine.{Machine, reply_by, reply_to, state_by, state_after, step, stopped_machine, lost_machine}
 use Rattle.job_machine.specs.Runs.{IsShip, MayRunOutOfMemory, early_checks, StepsTo, Replies, LacksMemory, LosesDevice, Run}
-use Rattle.job_core.specs.Jobs.{JobView, writing_of, before_writing, HasPages, HasSent, due_bytes, Represents, KeepsTo, RunsTo}
+use Rattle.job_core.specs.Jobs.{JobView, writing_of, IsProperFrontOf, IsSentPart, HasWrittenPages, due_bytes, Represents, KeepsTo, RunsTo}
 use Rattle.job_core.specs.Private.Jobs.{AppendsPagesOf, pages_after}
 use Rattle.job_core.specs.Private.Sound.{IsSound, IsBoundedFile, view_of}
+use Rattle.job_core.proofs.FreshDevices.{before_writing, begins, begins_on, writer_has, job_has}
 use Rattle.job_state.specs.Loaded.{GivesNumbersFor}
 use Rattle.job_state.specs.JobStateView.{JobStateView, state_of, before_shipping}
 use Rattle.job_machine.proofs.Refusals.{counted_fault}
@@ -42,38 +42,8 @@ with_fonts : (s : State) (command : Command) (refused : Option Refusal) → firs
 with_fonts s command (Some refusal) is before w pages written = written
 with_fonts s command None is before w pages written = written_with_more s.fonts (state_after_command s command).fonts before w pages (stays_loaded s command is) written
 
--- What a device had reported before it took bytes.
-before_writing-written_then : (bytes_written : Option (List ℕ)) (bytes : List ℕ) → before_writing (written_then (before_writing bytes_written) bytes) ≡ before_writing bytes_written
-before_writing-written_then None bytes = refl
-before_writing-written_then (Some bytes_written) bytes = refl
-
--- What a device had reported before its bytes is the same by what it reports now.
-written_before : (fonts : Slots) (bytes_written : Option (List ℕ)) (w : Writing) (pages : List ShippedPage) → HasWritten fonts (before_writing bytes_written) w pages → HasWritten fonts (before_writing w.bytes_written) w pages
-written_before fonts bytes_written w pages written =
-    subst (λ before. HasWritten fonts before w pages) (sym (ap before_writing written.bytes_written ∙ before_writing-written_then bytes_written (unfinished_file fonts pages))) written
-
 pub true_or_false : {b : Bool} → b ≡ true → b ≡ false → ⊥
 true_or_false t f = cc
-
--- What was reported before is the same after the device took bytes.
-pub written_on : (bytes_written new : Option (List ℕ)) (bytes : List ℕ) → new ≡ written_then (before_writing bytes_written) bytes → new ≡ written_then (before_writing new) bytes
-written_on bytes_written new bytes is =
-    let same : before_writing new ≡ before_writing bytes_written = ap before_writing is ∙ before_writing-written_then bytes_written bytes in is ∙ ap (λ (before : Option (List ℕ)). written_then before bytes) (sym same)
-
-pub grows_on : (bytes_written new : Option (List ℕ)) (bytes : List ℕ) → GrowsByFront (before_writing bytes_written) new bytes → GrowsByFront (before_writing new) new bytes
-grows_on bytes_written new bytes (n, less, is) = (n, less, written_on bytes_written new (take n bytes) is)
-
--- A device that takes more bytes keeps the pages that it has.
-has_pages_on : (m : Machine) (old new : Option (List ℕ)) → HasPages m old → ((more : List ℕ) × (new ≡ written_then old more)) → HasPages m new
-has_pages_on m old new (first, is) (last, goes) =
-    let pages = unfinished_file m.state.fonts m.pages in
-    let taken : new ≡ written_then (before_writing old) ((pages ++ first) ++ last) =
-    goes ∙ (ap (λ (bytes_written : Option (List ℕ)). written_then bytes_written last) is ∙ grown-grown (before_writing old) (pages ++ first) last) in
-    (first ++ last, written_on old new (pages ++ (first ++ last)) (taken ∙ ap (written_then (before_writing old)) (append_assoc pages first last)))
-
--- A device that has reported exactly the pages has the pages.
-pub has_pages : (m : Machine) (bytes_written : Option (List ℕ)) → bytes_written ≡ written_then (before_writing bytes_written) (unfinished_file m.state.fonts m.pages) → HasPages m bytes_written
-has_pages m bytes_written is = ([], is ∙ ap (written_then (before_writing bytes_written)) (sym (append-nil (unfinished_file m.state.fonts m.pages))))
 
 -- The machine after a command, by its refusal.
 abbrev step_by : Machine → Command → Option Refusal → Machine
@@ -84,17 +54,23 @@ over_refuses : (s : State) (command : Command) → s.over ≡ true → first_ref
 over_refuses s command over = ap (λ over. if over then Some JobOver else first_refusal (own_checks s command)) over
 
 -- A machine that is over stays, and so does what was sent.
-sent_stays : (m : Machine) (command : Command) (old new : Option (List ℕ)) → m.state.over ≡ true → new ≡ old → HasSent m old → HasSent (step m command) new
+sent_stays : (m : Machine) (command : Command) (old new : Option (List ℕ)) → m.state.over ≡ true → new ≡ old → IfSome old (IsSentPart m) → IfSome new (IsSentPart (step m command))
 sent_stays m command old new over same sent =
-    subst (λ (r : Option Refusal). HasSent (step_by m command r) new) (sym (over_refuses m.state command over)) (subst (HasSent m) (sym same) sent)
+    subst (λ (r : Option Refusal). IfSome new (IsSentPart (step_by m command r))) (sym (over_refuses m.state command over))
+    (subst (λ (bytes_written : Option (List ℕ)). IfSome bytes_written (IsSentPart m)) (sym same) sent)
+
+-- All bytes of the machine's pages.
+abbrev pages_of : Machine → List ℕ
+pages_of m = unfinished_file m.state.fonts m.pages
 
 -- The device has the pages of the next machine: until the job is over it has reported exactly them, and then nothing changes.
 next_has_pages : (m : Machine) (command : Command) (old new : Option (List ℕ)) (over : Bool) → m.state.over ≡ over
-    → (m.state.over ≡ false → new ≡ written_then (before_writing new) (unfinished_file (step m command).state.fonts (step m command).pages))
-    → (m.state.over ≡ true → new ≡ old) → HasPages m old → HasPages (step m command) new
-next_has_pages m command old new false runs exact stays held = has_pages (step m command) new (exact runs)
+    → (m.state.over ≡ false → IfSome new (λ bytes. bytes ≡ pages_of (step m command)))
+    → (m.state.over ≡ true → new ≡ old) → IfSome old (λ bytes. IsFrontOf (pages_of m) bytes) → IfSome new (λ bytes. IsFrontOf (pages_of (step m command)) bytes)
+next_has_pages m command old new false runs exact stays held = begins (pages_of (step m command)) new (exact runs)
 next_has_pages m command old new true over exact stays held =
-    subst (λ (r : Option Refusal). HasPages (step_by m command r) new) (sym (over_refuses m.state command over)) (subst (HasPages m) (sym (stays over)) held)
+    subst (λ (r : Option Refusal). IfSome new (λ bytes. IsFrontOf (pages_of (step_by m command r)) bytes)) (sym (over_refuses m.state command over))
+    (subst (λ (bytes_written : Option (List ℕ)). IfSome bytes_written (λ bytes. IsFrontOf (pages_of m) bytes)) (sym (stays over)) held)
 
 -- A device has met the bytes of the next machine, until the job is over; and then nothing changes.
 next_past : (m : Machine) (command : Command) (old new began : Past) (over : Bool) → m.state.over ≡ over
@@ -116,10 +92,10 @@ pub replied :
     → KeepsTo old command reply new
 replied old new command reply says goes writes stays fails began m holds =
     let on = subst (λ (s : State). s.over ≡ false → AppendsPagesOf s command (writing_of old) (writing_of new)) holds.state writes in
-    let written : m.state.over ≡ false → HasWritten (state_after m.state command).fonts (before_writing new.bytes_written) (writing_of new) (pages_after m.state m.pages command) =
-    λ ran. written_before (state_after m.state command).fonts old.bytes_written (writing_of new) (pages_after m.state m.pages command)
+    let written : m.state.over ≡ false → HasWrittenPages new (step m command) =
+    λ ran. job_has old.bytes_written new (step m command)
     (with_fonts m.state command (first_refusal (checks m.state command)) refl (before_writing old.bytes_written) (writing_of new) (pages_after m.state m.pages command)
-    (on ran (before_writing old.bytes_written) m.pages (holds.written ran))) in
+    (on ran (before_writing old.bytes_written) m.pages (writer_has old m (ap (λ (s : State). s.over) holds.state ∙ ran) (holds.written ran)))) in
     let same : m.state.over ≡ true → (new.bytes_written ≡ old.bytes_written) × (new.past ≡ old.past) = λ over. stays (ap (λ (s : State). s.over) holds.state ∙ over) in (
       step m command,
       Replies (says ∙ ap (λ s. reply_to s command) holds.state) refl fails,
@@ -171,7 +147,7 @@ over_replies old command over = refuses old command JobOver (ap (λ over. if ove
 -- A job that is stopped represents the stopped machine.
 pub stops : (old new : JobView) (m : Machine) (flight : List ShippedPage) → Represents old m → new.state ≡ record (old.state) { over = true }
     → ((more : List ℕ) × (new.bytes_written ≡ written_then old.bytes_written more))
-    → HasSent (record (stopped_machine m) { flight = flight }) new.bytes_written → KeepsPast new.began (due_bytes (record (stopped_machine m) { flight = flight })) new.past
+    → IfSome new.bytes_written (IsSentPart (record (stopped_machine m) { flight = flight })) → KeepsPast new.began (due_bytes (record (stopped_machine m) { flight = flight })) new.past
     → Represents new (record (stopped_machine m) { flight = flight })
 stops old new m flight holds goes grows sent past =
     record {
@@ -179,7 +155,7 @@ stops old new m flight holds goes grows sent past =
       count = holds.count;
       written = λ running. absurd (true_or_false refl running);
       none = λ running. absurd (true_or_false refl running);
-      held = has_pages_on m old.bytes_written new.bytes_written holds.held grows;
+      held = begins_on (pages_of m) old.bytes_written new.bytes_written holds.held grows;
       sent = λ over. sent;
       past = past;
     }
@@ -209,15 +185,15 @@ pub losing_page :
     → new.state ≡ record (old.state) { over = true }
     → new.failed ≡ old.failed + 1
     → ((more : List ℕ) × (new.bytes_written ≡ written_then old.bytes_written more))
-    → ((m : Machine) → Represents old m → GrowsByFront (before_writing old.bytes_written) new.bytes_written (unfinished_file m.state.fonts (m.pages ++ new_pages m.state (Ship r))))
+    → ((m : Machine) → Represents old m → IfSome new.bytes_written (λ bytes. IsProperFrontOf bytes (unfinished_file m.state.fonts (m.pages ++ new_pages m.state (Ship r)))))
     → ((m : Machine) → Represents old m → KeepsPast new.began (unfinished_file m.state.fonts (m.pages ++ new_pages m.state (Ship r))) new.past)
     → KeepsTo old (Ship r) (Err Device) new
 losing_page old new r accepted goes fails grows part keeps m holds =
     let s = m.state in
     let taken : first_refusal (checks s (Ship r)) ≡ None = sym (ap (λ s. first_refusal (checks s (Ship r))) holds.state) ∙ accepted in
-    let sent = grows_on old.bytes_written new.bytes_written (unfinished_file s.fonts (m.pages ++ new_pages s (Ship r))) (part m holds) in
+    let sent : IfSome new.bytes_written (IsSentPart (lost_machine m (Ship r))) = IfSome_then new.bytes_written (part m holds) (λ bytes front. inr (some_page s r taken, front)) in
     let past = subst (λ (bytes : List ℕ). KeepsPast new.began bytes new.past) (due_flying m (new_pages s (Ship r)) (some_page s r taken)) (keeps m holds) in
-    (lost_machine m (Ship r), LosesDevice refl tt taken refl fails, stops old new m (new_pages s (Ship r)) holds goes grows (inr (some_page s r taken, sent)) past)
+    (lost_machine m (Ship r), LosesDevice refl tt taken refl fails, stops old new m (new_pages s (Ship r)) holds goes grows sent past)
 
 -- What was written stays after a command that ships nothing.
 pub goes_on_without : (old new : JobView) (command : Command) → (IsShip command → ⊥) → new.state ≡ state_after old.state command → new.so_far ≡ old.so_far → new.bytes_written ≡ old.bytes_written

@@ -11,7 +11,7 @@ use Rattle.dvi_device.specs.Pasts.{Past, Differs, KeepsPast}
 use Rattle.dvi_device.specs.Resumed.{PassesOn}
 use Rattle.dvi_device.proofs.PastLaws.{no_difference}
 use Rattle.dvi_write.specs.Layout.{whole}
-use Rattle.job_machine.specs.Machine.{Machine, stopped_machine}
+use Rattle.job_machine.specs.Machine.{Machine}
 use Rattle.job_machine.specs.Runs.{Finishes, Finished, Refuses, WantsMemory, LostDevice}
 use Rattle.job_machine.proofs.Refusals.{device_counted}
 use Rattle.job_core.specs.Jobs.{JobView, due_bytes, Represents, FinishesTo}

@@ -1,6 +1,6 @@
 -- A ship: the writer takes a page, or refuses it, as the machine does.
 use Rattle.std.proofs.Common.{◌≡◌, ℕ, ◌+◌, Bool, true, false, inl, inr, List, [], ◌∷◌, ◌++◌, Option, Some, None, Ok, Err, refl, ap, sym, ◌∙◌, subst}
-use Rattle.std.specs.Prelude.{◌≢◌, ◌⊎◌, ℤ, if◌then◌else◌, is_none, nat_le, nat_lt, slice_set}
+use Rattle.std.specs.Prelude.{◌≢◌, ◌⊎◌, ℤ, IfSome, if◌then◌else◌, is_none, nat_le, nat_lt, slice_set}
 use Rattle.std.specs.Option.{option_map}
 use Rattle.node_core.specs.declared.tree.BoxNode.{BoxNode}
 use Rattle.node_core.specs.Loads.{Load, load_with_box}
@@ -31,9 +31,10 @@ use Rattle.job_machine.specs.Effects.{state_after_command, new_pages}
 use Rattle.job_machine.specs.Machine.{Machine, reply_by, state_by}
 use Rattle.job_state.specs.JobStateView.{JobStateView, state_of, before_shipping}
 use Rattle.job_state.proofs.SizedGlyphs.{sized_held}
-use Rattle.job_core.specs.Jobs.{Represents, KeepsTo, before_writing}
+use Rattle.job_core.specs.Jobs.{Represents, KeepsTo, IsProperFrontOf}
 use Rattle.job_core.specs.Private.Jobs.{AppendsPagesOf}
 use Rattle.job_core.specs.Private.Sound.{IsSound, IsBoundedFile, write_refusal, view_of}
+use Rattle.job_core.proofs.FreshDevices.{before_writing, said_part}
 use Rattle.job_core.proofs.Moves.{replied, refuses, lacking, losing_page, true_or_false}
 use Rattle.job_core.proofs.Endings.{has_written, stopped}
 use Rattle.job_core.proofs.PageFonts.{shippable}
@@ -174,8 +175,9 @@ module _ (kept : JobStateView) (w : Writing) (r : ℕ) (b : BoxNode) (page : Shi
   -- What the device reports if it failed.
   pub part_of : (new : Writing) → w.over ≡ false
       → ((before : Option (List ℕ)) (pages : List ShippedPage) → HasWritten kept.fonts before w pages → GrowsByFront before new.bytes_written (unfinished_file kept.fonts (pages ++ page ∷ [])))
-      → (m : Machine) → Represents (view_of kept w) m → GrowsByFront (before_writing w.bytes_written) new.bytes_written (unfinished_file m.state.fonts (m.pages ++ new_pages m.state (Ship r)))
-  part_of new running part = by_machine (GrowsByFront (before_writing w.bytes_written) new.bytes_written) running (part (before_writing w.bytes_written))
+      → (m : Machine) → Represents (view_of kept w) m → IfSome new.bytes_written (λ bytes. IsProperFrontOf bytes (unfinished_file m.state.fonts (m.pages ++ new_pages m.state (Ship r))))
+  part_of new running part = by_machine (λ all. IfSome new.bytes_written (λ bytes. IsProperFrontOf bytes all)) running
+      (λ pages written. said_part w.bytes_written new.bytes_written (unfinished_file kept.fonts (pages ++ page ∷ [])) (part (before_writing w.bytes_written) pages written))
 
   -- What it then makes of the bytes that it was to meet.
   past_of : (new : Writing) → w.over ≡ false → new.began ≡ w.began

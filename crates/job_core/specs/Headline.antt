@@ -1,5 +1,6 @@
 -- A job from its beginning to its end (own).
 use Rattle.std.specs.Prelude.{◌≡◌, ◌≢◌, [], true, List, length, Result, IfOk, OnOk, IfSome}
+use Rattle.dvi_device.specs.Written.{IsFrontOf}
 use Rattle.dvi_ops.specs.Fonts.{WidthsByName}
 use Rattle.job_machine.specs.declared.command.Command.{Command}
 use Rattle.job_machine.specs.declared.replies.Refusal.{Refusal}
@@ -8,9 +9,9 @@ use Rattle.job_machine.specs.Reply.{Reply}
 use Rattle.tfm_core.specs.NamedBytes.{NamedBytes}
 use Rattle.job_machine.specs.Machine.{Machine, first_machine}
 use Rattle.job_machine.specs.Runs.{Run, Finishes}
-use Rattle.job_core.specs.Jobs.{JobView, HasPages, HasSent}
+use Rattle.job_core.specs.Jobs.{JobView, IsSentPart}
 use Rattle.dvi_write.specs.Closing.{IsClosedFor}
-use Rattle.dvi_write.specs.Layout.{whole}
+use Rattle.dvi_write.specs.Layout.{unfinished_file, whole}
 use Rattle.dvi_write.specs.Shippable.{IsFileOfPages}
 use Rattle.job_core.specs.Shown.{GivesFiles}
 
@@ -35,6 +36,6 @@ pub record IsDone (files : List NamedBytes) (commands : List Command) (replies :
   pub closed : machine.pages ≢ [] → OnOk result (IfSome ended.bytes_written (λ bytes. IsClosedFor machine.state.fonts bytes machine.pages))
   -- If the job is over, whatever failed, what the device reports is that file or a beginning of it. If the device failed in a `ship`, it is a
   -- beginning of the file with the page of that command.
-  pub sent : last.state.over ≡ true → HasSent last ended.bytes_written
+  pub sent : last.state.over ≡ true → IfSome ended.bytes_written (IsSentPart last)
   -- Whatever failed, what the device reports begins with all bytes of the pages that were shipped.
-  pub held : HasPages last ended.bytes_written
+  pub held : IfSome ended.bytes_written (λ bytes. IsFrontOf (unfinished_file last.state.fonts last.pages) bytes)

@@ -4,13 +4,12 @@ ghost use Rattle.std.specs.Prelude.{◌≡◌, ◌≢◌, ◌<◌, ◌+◌, ◌^
 ghost use Rattle.job_machine.specs.declared.command.Command.TheVariants as commands;
 ghost use Rattle.job_machine.specs.declared.replies.Refusal.{Refusal};
 ghost use Rattle.job_machine.specs.Reply.{Reply as AReply};
-ghost use Rattle.dvi_device.specs.Written.{GrowsByFront};
 ghost use Rattle.dvi_write.specs.Layout.{unfinished_file, whole};
 ghost use Rattle.job_state.specs.JobStateView.{before_shipping};
 ghost use Rattle.job_machine.specs.Effects.{new_pages};
 ghost use Rattle.job_machine.specs.Machine.{Machine, first_machine};
 ghost use Rattle.dvi_write.specs.Writing.{GoesOn};
-ghost use Rattle.job_core.specs.Jobs.{Represents, KeepsTo, RunsTo, FinishesTo, before_writing};
+ghost use Rattle.job_core.specs.Jobs.{Represents, KeepsTo, RunsTo, FinishesTo, IsProperFrontOf};
 ghost use Rattle.job_core.specs.Private.Sound.{IsSound, IsBoundedFile, write_refusal, view_of};
 ghost use Rattle.job_core.specs.Shown.{FilesPages};
 ghost use Rattle.job_core.specs.Closing.{ClosesFile};
@@ -54,8 +53,8 @@ fn ship_page<D: Device>(
     ensures sound { IsSound (before_shipping kept.new) }
     ensures bounded { writer.new.over ≡ false → IsBoundedFile kept.new.fonts writer.new }
     ensures part { result ≡ Err Refusal.Device → (m : Machine) → Represents (view_of kept.old writer.old) m
-        → GrowsByFront (before_writing writer.old.bytes_written) writer.new.bytes_written
-        (unfinished_file m.state.fonts (m.pages ++ new_pages m.state (commands.Ship register))) }
+        → IfSome writer.new.bytes_written
+        (λ bytes. IsProperFrontOf bytes (unfinished_file m.state.fonts (m.pages ++ new_pages m.state (commands.Ship register)))) }
     ensures goes_on { GoesOn writer.old writer.new }
 {
     let Some(box_node) = kept.box_in(register) else {
@@ -101,13 +100,12 @@ impl<D: Device> Job<D> {
     ghost use Rattle.job_machine.specs.Effects.{new_pages};
     ghost use Rattle.job_machine.specs.Machine.{Machine, first_machine};
     ghost use Rattle.dvi_write.specs.Layout.{unfinished_file, whole};
-    ghost use Rattle.dvi_device.specs.Written.{GrowsByFront};
     ghost use Rattle.job_machine.specs.declared.command.Command.TheVariants as commands;
     ghost use Rattle.job_machine.specs.declared.replies.Refusal.{Refusal};
     ghost use Rattle.job_machine.specs.Reply.{Reply as AReply};
     ghost use Rattle.dvi_device.specs.Seen.{device_view};
     ghost use Rattle.dvi_write.specs.Writing.{GoesOn, IsDeviceOf, IsMadeOver};
-    ghost use Rattle.job_core.specs.Jobs.{Represents, KeepsTo, RunsTo, FinishesTo, before_writing, writing_of};
+    ghost use Rattle.job_core.specs.Jobs.{Represents, KeepsTo, RunsTo, FinishesTo, IsProperFrontOf, writing_of};
     ghost use Rattle.job_core.specs.Shown.{FilesPages};
     ghost use Rattle.job_core.specs.Closing.{ClosesFile};
 
@@ -140,8 +138,8 @@ impl<D: Device> Job<D> {
         ensures same { IfErr result (λ refusal. refusal ≢ Refusal.Device → self.new ≡ self.old) }
         ensures idle { self.old.state.over ≡ true → self.new ≡ self.old }
         ensures part { result ≡ Err Refusal.Device → (m : Machine) → Represents self.old m
-            → GrowsByFront (before_writing self.old.bytes_written) self.new.bytes_written
-            (unfinished_file m.state.fonts (m.pages ++ new_pages m.state command.now)) }
+            → IfSome self.new.bytes_written
+            (λ bytes. IsProperFrontOf bytes (unfinished_file m.state.fonts (m.pages ++ new_pages m.state command.now))) }
         ensures goes_on { GoesOn (writing_of self.old) (writing_of self.new) }
     {
         if self.writer.is_over() {
@@ -193,7 +191,7 @@ impl<D: Device> Job<D> {
         ensures count { IfOk result (λ summary. (m : Machine) → Represents self.old m → summary.bytes ≡ length (whole m.state.fonts m.pages)) }
         ensures small { IfOk result (λ summary. summary.bytes < 2 ^ 31) }
         ensures part { result ≡ Err Refusal.Device → (m : Machine) → Represents self.old m
-            → GrowsByFront (before_writing self.old.bytes_written) self.new.bytes_written (whole m.state.fonts m.pages) }
+            → IfSome self.new.bytes_written (λ bytes. IsProperFrontOf bytes (whole m.state.fonts m.pages)) }
         ensures goes_on { GoesOn (writing_of self.old) (writing_of self.new) }
     {
         if self.writer.is_over() {

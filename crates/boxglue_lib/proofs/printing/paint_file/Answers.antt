@@ -1,13 +1,12 @@
 -- A picture that was made is of a page that is there; where memory is refused, nothing was written.
 use Rattle.std.proofs.Common.{◌≡◌, ◌⊎◌, inl, inr, Ok, Err}
 use Rattle.std.specs.Prelude.{Result}
-use Rattle.boxglue_program.proofs.PieceLaws.{not_both}
 use Rattle.boxglue_lib.proofs.EndLemmas.{keeps_same}
 use Rattle.boxglue_lib.proofs.printing.paint_file.Goals as goal
 
 neither : {A E : Type 0} (r : Result A E) (x : A) (d e : E) → r ≡ Ok x → (r ≡ Err d) ⊎ (r ≡ Err e) → ⊥
-neither r x d e is (inl same) = not_both r x d is same
-neither r x d e is (inr same) = not_both r x e is same
+neither r x d e is (inl same) = cc
+neither r x d e is (inr same) = cc
 
 pub returns-in_err-rows-clause-silent : goal.returns-in_err-rows-clause-silent
 returns-in_err-rows-clause-silent g c = λ _. keeps_same (g.W.Write.contents c.args.writer.now)

@@ -6,7 +6,6 @@ use Rattle.job_core.specs.Jobs.{due_bytes}
 use Rattle.boxglue_script.specs.Blocks.{lines_of}
 use Rattle.boxglue_program.proofs.RunLaws.{was_run, was_run_past, same_run_with}
 use Rattle.boxglue_program.proofs.OutcomeLaws.{outcome_at_end}
-use Rattle.boxglue_program.proofs.SentParts.{said_part}
 use Rattle.boxglue_program.specs.Runs.{commands_of, line_numbers}
 use Rattle.boxglue_program.specs.Texts.{answer_lines, answers_text}
 use Rattle.boxglue_program.proofs.run.run_whole.Goals as goal
@@ -17,7 +16,7 @@ returns-clause-ran g c =
     let ran = c.run_blocks-run.ensures.ran in
     let run = was_run c.args.files.now (commands_of (lines_of c.args.lines)) ran.0 c.finish-end.result c.in_ok-job.job c.run_blocks-run.new.job c.finish-end.new.self
     c.in_ok-job.ensures.ok ran.1 c.finish-end.ensures.finished c.finish-end.ensures.dvi c.finish-end.ensures.file c.finish-end.ensures.size c.finish-end.ensures.count c.finish-end.ensures.end
-    (λ is m holds. said_part _ _ _ (c.finish-end.ensures.part is m holds)) in
+    c.finish-end.ensures.part in
     let began = c.finish-end.ensures.goes_on.began ∙ c.run_blocks-run.ensures.goes_on.began in
     let past = was_run_past c.args.files.now (commands_of (lines_of c.args.lines)) ran.0 c.finish-end.result c.in_ok-job.job c.run_blocks-run.new.job c.finish-end.new.self
     c.in_ok-job.ensures.ok ran.1 c.finish-end.ensures.finished began in

@@ -1,6 +1,7 @@
 -- How a session ended, by what it had done before.
-use Rattle.std.proofs.Common.{ap}
-use Rattle.boxglue_program.proofs.SessionCalls.{err_at, finished_or_refused, ok_at, other_fault, returned_silent, run_ended, run_lacks_room, run_lost_input, run_not_begun, run_not_ended, run_unfinished, session_begins, session_goes_on}
+use Rattle.std.proofs.Common.{◌∙◌, ap}
+use Rattle.dvi_device.specs.Pasts.{Past}
+use Rattle.boxglue_program.proofs.SessionCalls.{began_stays, err_at, finished_or_refused, ok_at, other_fault, returned_silent, run_ended, run_lacks_room, run_lost_input, run_not_begun, run_not_ended, run_unfinished, session_begins, session_goes_on}
 use Rattle.boxglue_program.proofs.session.run_session.Goals as goal
 
 pub returns-in-Err-clause-memory : goal.returns-in-Err-clause-memory
@@ -64,3 +65,10 @@ returns-clause-unreadable g c = λ _.
     (g.R.Read.remaining c.args.reader.now) (g.R.Read.remaining c.loop.reader) (g.W.Write.contents c.args.writer.now) (g.W.Write.contents c.loop.writer)
     (g.D.Device.bytes_written c.stop-2.result.device) c.stop-2.result.outcome c.stop-2.result.written c.in-Ok.ensures.new c.in-Ok.ensures.limited c.loop.invariant
     c.stop-2.ensures.outcome c.stop-2.ensures.written c.stop-2.ensures.device.failed c.stop-2.ensures.device.bytes_written
+
+pub returns-in-Err-exchange-clause-made : goal.returns-in-Err-exchange-clause-made
+returns-in-Err-exchange-clause-made g c =
+    let stays = began_stays c.in-Ok.session c.loop.session c.exchange.new.self (g.R.Read.remaining c.args.reader.now) (g.R.Read.remaining c.loop.reader) (g.R.Read.remaining c.exchange.new.reader)
+    (g.W.Write.contents c.args.writer.now) (g.W.Write.contents c.loop.writer) (g.W.Write.contents c.exchange.new.writer) c.in-Err-exchange.fault c.loop.invariant
+    (λ same. c.exchange.ensures.memory (err_at c.in-Err-exchange.is same)) (λ same. c.exchange.ensures.unread (err_at c.in-Err-exchange.is same)) in
+    c.stop.ensures.device.made ∙ ap (λ (p : Past). p.made) (stays ∙ c.in-Ok.ensures.made.began)

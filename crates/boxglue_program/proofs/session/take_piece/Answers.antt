@@ -22,7 +22,7 @@ pub returns-in_err-ran-clause-stopped : goal.returns-in_err-ran-clause-stopped
 returns-in_err-ran-clause-stopped g c =
     let some : 0 < length c.split_lines.result.0.now = search rules in
     stopped_within c.from_residual-in_err-ran.result c.args.kept.now.items c.args.piece.now c.split_lines.result.0.now c.split_lines.result.1.now c.deref.result.now
-    (dialog_of c.args.dialog.now.job c.args.dialog.now.lines c.args.dialog.now.accepted) c.answer-ran.new.dialog.job
+    (dialog_of c.args.dialog.now.job c.args.dialog.now.lines c.args.dialog.now.accepted) (dialog_of c.answer-ran.new.dialog.job c.answer-ran.new.dialog.lines c.answer-ran.new.dialog.accepted)
     c.args.outbox.now.reads c.answer-ran.new.self.reads (g.W.Write.contents c.args.writer.now) (g.W.Write.contents c.answer-ran.new.writer)
     (cut_of _ _ _ _ _ _ c.split_lines.ensures some c.in_ok-extend_from_slice.ensures.items c.deref.ensures.value) c.in_err-ran.ensures.stopped
 

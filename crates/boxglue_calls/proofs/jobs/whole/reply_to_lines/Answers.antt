@@ -4,7 +4,6 @@ use Rattle.std.proofs.lemmas.List.{with_items_is}
 use Rattle.std.specs.Prelude.{max}
 use Rattle.dvi_device.specs.Held.{MemoryState}
 use Rattle.boxglue_program.proofs.RunLaws.{was_run, same_run}
-use Rattle.boxglue_program.proofs.SentParts.{said_part}
 use Rattle.boxglue_program.specs.Runs.{commands_of, line_numbers}
 use Rattle.boxglue_calls.specs.RunStatus.{replies_status}
 use Rattle.boxglue_calls.specs.Rows.{reply_rows}
@@ -19,7 +18,7 @@ returns c =
     let ran = each.ensures.ran in
     let end = c.finish-end in
     let run = was_run c.args.files.now (commands_of lines) ran.0 end.result c.in-Ok.job each.new.job end.new.self c.in-Ok.ensures.ok ran.1
-    end.ensures.finished end.ensures.dvi end.ensures.file end.ensures.size end.ensures.count end.ensures.end (λ is m holds. said_part _ _ _ (end.ensures.part is m holds)) in
+    end.ensures.finished end.ensures.dvi end.ensures.file end.ensures.size end.ensures.count end.ensures.end end.ensures.part in
     let start : 0 ≡ c.in-Ok.job.failed = sym (c.in-Ok.ensures.made.failed ∙ ap (λ (m : MemoryState). m.failures) c.new.ensures) in
     let rows : List ReplyRow = reply_rows (line_numbers lines) ran.0 in
     let room : length c.deref_mut.result.now ≡ length rows = c.deref_mut.ensures.len ∙ (c.in_ok-rows.ensures.len ∙ sym (length_rows lines ran.0 ran.2)) in

@@ -31,7 +31,7 @@ returns-clause-stopped g c =
     on_err_weaker c.finish.result
     (λ h. (
       lines.0,
-      stops_at_end c.args.text.now lines.0 old now c.finish.new.dialog.job lines.1 h.0,
+      stops_at_end c.args.text.now lines.0 old now (dialog_of c.finish.new.dialog.job c.finish.new.dialog.lines c.finish.new.dialog.accepted) lines.1 h.0,
       sent_no_more c.args.self.now.reads c.answer.new.self.reads c.finish.new.self.reads (g.W.Write.contents c.args.writer.now) (g.W.Write.contents c.answer.new.writer) (g.W.Write.contents c.finish.new.writer) lines.0 lines.2 h.1,
     ))
     c.finish.ensures.none

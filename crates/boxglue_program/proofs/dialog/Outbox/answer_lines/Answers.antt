@@ -26,7 +26,7 @@ returns-in_err-answer-clause-stopped g c =
     let before = c.loop-rest.invariant.done in
     on_any_err c.from_residual.result (
       before.0,
-      stops_after c.args.text.now c.loop-rest.rest.now before.0 old now c.answer.new.self.job before.1 c.in_err-answer.ensures.unchanged,
+      stops_after c.args.text.now c.loop-rest.rest.now before.0 old now (dialog_of c.answer.new.self.job c.answer.new.self.lines c.answer.new.self.accepted) before.1 c.in_err-answer.ensures.unchanged,
       sends_no_line start held room (g.W.Write.contents c.args.writer.now) (g.W.Write.contents c.loop-rest.writer) (g.W.Write.contents c.make_room.new.writer) before.0 c.answer.new.answers.items before.2
           c.make_room.ensures.sent c.in_err-answer.ensures.cut,
     )

@@ -2,8 +2,8 @@
 use Rattle.std.proofs.Common.{ℕ, List, subst}
 use Rattle.std.specs.Str.Lines.{lines}
 use Rattle.boxglue_program.specs.Private.Dialogs.{dialog_of}
-use Rattle.boxglue_program.specs.Sessions.{AnswersLines, SessionView}
-use Rattle.boxglue_program.proofs.SessionCalls.{session_finished}
+use Rattle.boxglue_program.specs.Sessions.{AnswersLines, DialogView, SessionView, StopsIn}
+use Rattle.boxglue_program.proofs.SessionCalls.{session_finished, session_unfinished}
 use Rattle.boxglue_program.proofs.session.Session.finish.Goals as goal
 
 pub returns-in-Ok-clause-ended : goal.returns-in-Ok-clause-ended
@@ -16,3 +16,16 @@ returns-in-Ok-clause-ended g c =
     session_finished c.args.self was c.close.result.outcome c.in-Ok.accepted c.answer_last.new.self.reads c.close.result.written (g.D.Device.failed c.close.result.device) c.answer_last.new.dialog.job.failed
     (g.D.Device.bytes_written c.close.result.device) c.answer_last.new.dialog.job.bytes_written (g.W.Write.contents c.args.writer.now) (g.W.Write.contents c.answer_last.new.writer) ends.0 ends.1 ends.2
     c.self.view_is c.close.ensures.outcome c.close.ensures.device.failed c.close.ensures.device.bytes_written c.close.ensures.written ran ends.4 ends.5 ends.6
+
+pub returns-clause-memory : goal.returns-clause-memory
+returns-clause-memory g c =
+    let inside = c.self.inside in
+    let was : SessionView =
+    record { dialog = dialog_of inside.dialog.job inside.dialog.lines inside.dialog.accepted; reads = inside.outbox.reads; kept = inside.kept.items; left = inside.left } in
+    let now = c.answer_last.new.dialog in
+    let ended : DialogView = dialog_of now.job now.lines now.accepted in
+    let lacks = c.in-Err.ensures.stopped in
+    let stops : StopsIn was.kept was.dialog lacks.0 ended = subst (λ (text : List ℕ). StopsIn text was.dialog lacks.0 ended) c.deref.ensures.value lacks.1 in
+    session_unfinished c.args.self was ended c.close-in-Err.result.outcome c.answer_last.new.self.reads c.close-in-Err.result.written (g.D.Device.failed c.close-in-Err.result.device)
+    (g.D.Device.bytes_written c.close-in-Err.result.device) (g.W.Write.contents c.args.writer.now) (g.W.Write.contents c.answer_last.new.writer) lacks.0
+    c.self.view_is c.close-in-Err.ensures.outcome c.close-in-Err.ensures.device.failed c.close-in-Err.ensures.device.bytes_written c.close-in-Err.ensures.written stops lacks.2

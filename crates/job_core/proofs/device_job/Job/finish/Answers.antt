@@ -6,7 +6,8 @@ use Rattle.dvi_write.specs.Closing.{IsClosedFor}
 use Rattle.dvi_write.specs.Layout.{whole}
 use Rattle.dvi_write.specs.Shippable.{GivesFonts, IsFileOfPages}
 use Rattle.job_core.specs.Private.Sound.{view_of}
-use Rattle.job_core.proofs.Endings.{over_refused, open_refused, may_finish, has_written_by, fonts_are, sent_by, part_by, kept_by, some_where, finished, losing, stopped, said, filed}
+use Rattle.job_core.proofs.FreshDevices.{said}
+use Rattle.job_core.proofs.Endings.{over_refused, open_refused, may_finish, has_written_by, fonts_are, sent_by, part_by, kept_by, some_where, finished, losing, stopped, filed, count_by, size_by}
 use Rattle.job_core.proofs.BoundedFiles.{small_file}
 use Rattle.job_core.proofs.device_job.Job.finish.Goals as goal
 
@@ -31,6 +32,31 @@ returns-clause-finished g c =
     let taken = c.in-Ok.ensures.past _ m.pages (has_written_by old m c.fonts.result.now holds running c.fonts.ensures) in
     kept_by old m c.fonts.result.now old.began c.finish.new.self.began c.finish.new.self.past holds c.fonts.ensures c.finish.ensures.goes_on.began
     (keeps_taken old.began c.finish.new.self.past (whole c.fonts.result.now m.pages) (whole c.fonts.result.now m.pages) taken)))
+
+pub returns-clause-file : goal.returns-clause-file
+returns-clause-file g c =
+    let running = sym c.is_over.ensures ∙ c.if-is_over.false in
+    let old = view_of c.self.inside.kept c.self.inside.writer in
+    rw (← c.self.view_is)
+    (λ m holds.
+    sent_by old m c.fonts.result.now c.finish.new.self.bytes_written holds c.fonts.ensures (c.in-Ok.ensures.whole _ m.pages (has_written_by old m c.fonts.result.now holds running c.fonts.ensures)))
+
+pub returns-clause-count : goal.returns-clause-count
+returns-clause-count g c =
+    let running = sym c.is_over.ensures ∙ c.if-is_over.false in
+    let old = view_of c.self.inside.kept c.self.inside.writer in
+    rw (← c.self.view_is)
+    (λ m holds. count_by old m c.fonts.result.now _ holds c.fonts.ensures (c.in-Ok.ensures.size _ m.pages (has_written_by old m c.fonts.result.now holds running c.fonts.ensures)))
+
+pub returns-clause-size : goal.returns-clause-size
+returns-clause-size g c =
+    let running = sym c.is_over.ensures ∙ c.if-is_over.false in
+    let old = view_of c.self.inside.kept c.self.inside.writer in
+    let fonts = c.fonts.result.now in
+    rw (← c.self.view_is)
+    (λ m holds.
+    let written = has_written_by old m fonts holds running c.fonts.ensures in
+    size_by c.self.inside.writer.bytes_written c.finish.new.self.bytes_written (whole fonts m.pages) _ (c.in-Ok.ensures.whole _ m.pages written) (c.in-Ok.ensures.size _ m.pages written))
 
 pub returns-clause-dvi : goal.returns-clause-dvi
 returns-clause-dvi g c =
