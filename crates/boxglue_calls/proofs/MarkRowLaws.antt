@@ -5,13 +5,13 @@ use Rattle.std.proofs.lemmas.Grind.{flat_map-append}
 use Rattle.dvi_ops.specs.File.{MarkedPage}
 use Rattle.dvi_ops.specs.Fonts.{WidthsByName, widths_of}
 use Rattle.dvi_ops.specs.Instruction.{Definition}
-use Rattle.dvi_read.specs.PageMarks.{IsGlyphWidth, OfGlyph, marks_of}
+use Rattle.dvi_read.specs.PageMarks.{IsGlyphWidth, OfGlyph, marks_of, text_in}
 use Rattle.dvi_read.specs.Seen.{SeenItem, Counts, Marked, seen_of, seen_on}
 use Rattle.dvi_read.specs.SeenAhead.{TextEndsAt}
 use Rattle.dvi_read.specs.declared.fonts.ReadFonts.{ReadFonts}
 use Rattle.scaled_core.specs.Mark.{Mark, Glyph, Rule, Special}
 use Rattle.boxglue_calls.specs.Private.MarkRows.{marks_among, pages_among, row_of, size_of}
-use Rattle.boxglue_calls.specs.MarkTables.{AreMarkRows, IsMarkRow, glyph_row, page_row, page_rows, special_row}
+use Rattle.boxglue_calls.specs.MarkTables.{AreMarkRows, IsMarkRow, glyph_row, page_row, page_rows, special_row, text_start_of, text_starts}
 use Rattle.boxglue_calls.specs.declared.mark_table.DviMark.{DviMark}
 use Rattle.boxglue_calls.specs.declared.mark_table.DviPage.{DviPage}
 
@@ -49,6 +49,17 @@ is_row bytes metrics table fonts place (Glyph font code h v) (width, here, is) e
 is_row bytes metrics table fonts place (Rule h v height width) glyph ends = refl
 is_row bytes metrics table fonts place (Special h v text) glyph ends =
     (place - length text, ends, ap (λ (n : ℕ). special_row h v n (place - length text)) (size_is (length text) ends.short))
+
+-- Where the text of the row begins.
+pub start_of : (fonts : ReadFonts) (place : ℕ) (mark : Mark) → text_start_of (row_of fonts place mark) ≡ map (λ text. place - length text) (text_in mark)
+start_of fonts place (Glyph font code h v) = refl
+start_of fonts place (Rule h v height width) = refl
+start_of fonts place (Special h v text) = refl
+
+pub starts_more : (rows : List DviMark) (row : DviMark) (places : List ℕ) → text_starts rows ≡ places → text_starts (rows ++ row ∷ []) ≡ places ++ text_start_of row
+starts_more rows row places is =
+    flat_map-append text_start_of rows (row ∷ [])
+    ∙ (ap (λ (ps : List ℕ). text_starts rows ++ ps) (append-nil (text_start_of row)) ∙ ap (λ (ps : List ℕ). ps ++ text_start_of row) is)
 
 -- One row more, for one mark more.
 pub rows_more : (bytes : List ℕ) (metrics : WidthsByName) (table : List Definition) (rows : List DviMark) (marks : List Mark) (row : DviMark) (mark : Mark) → AreMarkRows bytes (widths_of metrics table) rows marks

@@ -7,7 +7,7 @@ use Rattle.dvi_ops.specs.Instruction.{Definition}
 use Rattle.dvi_ops.specs.Tokens.{token_instructions}
 use Rattle.dvi_ops.specs.View.{units as view_units}
 use Rattle.dvi_ops.specs.declared.op.Units.{Units as UnitsOf}
-use Rattle.dvi_read.specs.PageMarks.{marks_of}
+use Rattle.dvi_read.specs.PageMarks.{marks_of, text_places}
 use Rattle.dvi_read.specs.declared.sights.Sights.{Sights}
 use Rattle.tfm_core.specs.FileWidths.{file_widths}
 use Rattle.tfm_core.specs.NamedBytes.{NamedBytes}
@@ -15,7 +15,7 @@ use Rattle.boxglue_program.specs.declared.output.Output.{Output}
 use Rattle.boxglue_calls.specs.Buffers.{HandsOver}
 use Rattle.boxglue_calls.specs.Private.MarkFiles.{FitsIn, HandsOverFully, IsChecked, IsRefusal}
 use Rattle.boxglue_calls.specs.Private.MarkRows.{HasRowsFor, HoldsRows}
-use Rattle.boxglue_calls.specs.MarkTables.{AreMarkRows, HandsOverAll, LacksRoom, MarkOutputs, mark_outputs, no_units, page_rows}
+use Rattle.boxglue_calls.specs.MarkTables.{AreMarkRows, HandsOverAll, LacksRoom, MarkOutputs, mark_outputs, no_units, page_rows, text_starts}
 use Rattle.boxglue_calls.specs.Pages.{read_status}
 use Rattle.boxglue_calls.specs.declared.mark_table.DviMark.{DviMark}
 use Rattle.boxglue_calls.specs.declared.mark_table.DviPage.{DviPage}
@@ -30,9 +30,12 @@ module _ (files : List NamedBytes) (bytes : List ℕ) (units : UnitsOf) (s : Sig
   abbrev pub table : List Definition
   table = definitions (token_instructions checked.file.frame.front ++ token_instructions checked.file.frame.tail)
 
-  handed_rows : (rows : List DviMark) → AreMarkRows bytes (widths_of (file_widths files) table) rows (marks_of all) → (old new : MarkOutputs) (status : ℕ)
+  abbrev pub places : List ℕ
+  places = text_places 0 checked.file.frame.front
+
+  handed_rows : (rows : List DviMark) → AreMarkRows bytes (widths_of (file_widths files) table) rows (marks_of all) → text_starts rows ≡ places → (old new : MarkOutputs) (status : ℕ)
       → HandsOverAll old new (mark_outputs (page_rows 0 all) rows []) 0 status → HandsOverFully files bytes old new sizes status
-  handed_rows rows are old new status handed =
+  handed_rows rows are starts old new status handed =
       let pages : length (page_rows 0 all) ≡ length all = length-pages 0 all in
       let marks : length rows ≡ length (marks_of all) = length-rows bytes (file_widths files) table rows (marks_of all) are in
       let few = checked.room.marks_fit in
@@ -40,7 +43,7 @@ module _ (files : List NamedBytes) (bytes : List ℕ) (units : UnitsOf) (s : Sig
         record {
           outputs = mark_outputs (page_rows 0 all) rows [];
           accepted = true;
-          table = inl (record { pages = all; file = checked.file; rows_are = refl; marks_are = are; units_are = sym units_is ∙ checked.units_are }, refl, refl);
+          table = inl (record { pages = all; file = checked.file; rows_are = refl; marks_are = are; starts_are = starts; units_are = sym units_is ∙ checked.units_are }, refl, refl);
           handed = handed;
           pages_size = pages_size ∙ sym pages;
           marks_size = marks_size ∙ sym marks;
@@ -49,24 +52,24 @@ module _ (files : List NamedBytes) (bytes : List ℕ) (units : UnitsOf) (s : Sig
         record { pages_fit = omega arith; marks_fit = omega arith; text_fits = omega arith },
       )
 
-  pub rows_lack : HasRowsFor (file_widths files) table s.bytes.now (marks_of all) → (pages : List DviPage) (marks : List DviMark) (text : List ℕ) (n m : ℕ) → n ≡ length all → m ≡ length (marks_of all)
+  pub rows_lack : HasRowsFor (file_widths files) table s.bytes.now places (marks_of all) → (pages : List DviPage) (marks : List DviMark) (text : List ℕ) (n m : ℕ) → n ≡ length all → m ≡ length (marks_of all)
       → (length pages < n) ⊎ (length marks < m) → HandsOverFully files bytes (mark_outputs pages marks text) (mark_outputs pages marks text) sizes 4
-  rows_lack (rows, are) pages marks text n m n_is m_is few =
+  rows_lack (rows, are, starts) pages marks text n m n_is m_is few =
       let here = subst (λ (b : List ℕ). AreMarkRows b (widths_of (file_widths files) table) rows (marks_of all)) checked.bytes_are are in
       let pages_is : length (page_rows 0 all) ≡ length all = length-pages 0 all in
       let marks_is : length rows ≡ length (marks_of all) = length-rows bytes (file_widths files) table rows (marks_of all) here in
-      handed_rows rows here (mark_outputs pages marks text) (mark_outputs pages marks text) 4 (inr (lacks rows pages_is marks_is few, refl, refl, refl, refl))
+      handed_rows rows here starts (mark_outputs pages marks text) (mark_outputs pages marks text) 4 (inr (lacks rows pages_is marks_is few, refl, refl, refl, refl))
     where
       lacks : (rows : List DviMark) → length (page_rows 0 all) ≡ length all → length rows ≡ length (marks_of all) → (length pages < n) ⊎ (length marks < m)
           → LacksRoom (mark_outputs pages marks text) (mark_outputs (page_rows 0 all) rows [])
       lacks rows pages_is marks_is (inl few) = inl (omega arith)
       lacks rows pages_is marks_is (inr few) = inr (inl (omega arith))
 
-  pub rows_handed : (pages pages_new : List DviPage) (marks marks_new : List DviMark) (text : List ℕ) → HoldsRows (file_widths files) table s.bytes.now (mark_outputs pages marks []) (mark_outputs pages_new marks_new []) all
+  pub rows_handed : (pages pages_new : List DviPage) (marks marks_new : List DviMark) (text : List ℕ) → HoldsRows (file_widths files) table s.bytes.now (mark_outputs pages marks []) (mark_outputs pages_new marks_new []) places all
       → HandsOverFully files bytes (mark_outputs pages marks text) (mark_outputs pages_new marks_new text) sizes 0
   rows_handed pages pages_new marks marks_new text has =
       let here = subst (λ (b : List ℕ). AreMarkRows b (widths_of (file_widths files) table) has.rows (marks_of all)) checked.bytes_are has.are in
-      handed_rows has.rows here (mark_outputs pages marks text) (mark_outputs pages_new marks_new text) 0 (inl (has.pages, has.marks, holds_none text, refl))
+      handed_rows has.rows here has.starts (mark_outputs pages marks text) (mark_outputs pages_new marks_new text) 0 (inl (has.pages, has.marks, holds_none text, refl))
 
 -- The line of a refusal.
 pub refusal_handed : (files : List NamedBytes) (bytes : List ℕ) (output : Output) (pages : List DviPage) (marks : List DviMark) (text text_new : List ℕ) (sizes : MarkSizes) (status : ℕ) → IsRefusal files bytes output

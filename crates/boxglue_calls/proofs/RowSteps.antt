@@ -1,5 +1,5 @@
 -- The rows that are written, one after the other.
-use Rattle.std.proofs.Common.{◌≡◌, ◌≤◌, ◌+◌, ◌-◌, ◌++◌, [], ◌∷◌, List, drop, length, take, ℕ, ℤ, Some, append-nil, append_assoc, arith, length-append, inl, inr, refl, sym, ◌∙◌, ap, subst}
+use Rattle.std.proofs.Common.{◌≡◌, ◌≤◌, ◌+◌, ◌-◌, ◌++◌, [], ◌∷◌, List, drop, length, take, ℕ, ℤ, Some, append-nil, append_assoc, arith, length-append, inl, inr, refl, sym, ◌∙◌, ap, subst, subst₂}
 use Rattle.std.specs.Prelude.{◌⊎◌}
 use Rattle.std.specs.Borrow.{Bor}
 use Rattle.std.specs.List.{AllByRecursion}
@@ -12,29 +12,30 @@ use Rattle.dvi_read.proofs.AgainLemmas.{same_file, same_then}
 use Rattle.dvi_read.proofs.SeenLemmas.{more_marks, page_seen}
 use Rattle.dvi_read.specs.PageMarks.{HasGlyphWidths, IsGlyphWidth, OfGlyph, marks_of}
 use Rattle.dvi_read.specs.Seen.{SeenItem, Counts, Marked, seen_of}
-use Rattle.dvi_read.specs.SeenAhead.{EndsText, IsSameFile, IsSeenAhead, ShowsNext, TextEndsAt}
+use Rattle.dvi_read.specs.SeenAhead.{AreTextsAhead, EndsText, IsSameFile, IsSeenAhead, PassesText, ShowsNext, TextEndsAt}
 use Rattle.dvi_read.specs.declared.fonts.ReadFonts.{ReadFonts}
 use Rattle.dvi_read.specs.declared.sights.Sight.{Sight}
 use Rattle.dvi_read.specs.declared.sights.Sight.TheVariants as sights
 use Rattle.dvi_read.specs.declared.sights.Sights.{Sights}
 use Rattle.dvi_scan.specs.View.{mark_of}
 use Rattle.boxglue_calls.specs.Buffers.{Holds}
-use Rattle.boxglue_calls.specs.MarkTables.{AreMarkRows, IsMarkRow, MarkOutputs, page_row, page_rows}
+use Rattle.boxglue_calls.specs.MarkTables.{AreMarkRows, IsMarkRow, MarkOutputs, page_row, page_rows, text_start_of, text_starts}
 use Rattle.boxglue_calls.specs.Private.MarkRows.{AddsMark, BeginsPage, CanBeWritten, HasPlace, HasRowsFor, HoldsRows, WritesSight, marks_among, pages_among, row_of}
 use Rattle.boxglue_calls.specs.declared.mark_rows.Written.{Written}
 use Rattle.boxglue_calls.specs.declared.mark_table.DviMark.{DviMark}
 use Rattle.boxglue_calls.specs.declared.mark_table.DviPage.{DviPage}
-use Rattle.boxglue_calls.proofs.MarkRowLaws.{is_row, length-pages, length-rows, marks-among, marks-append, marks_seen_in, no_mark_first, one_seen, pages-among, pages_last, pages_seen_in, rows_more}
+use Rattle.boxglue_calls.proofs.MarkRowLaws.{is_row, length-pages, length-rows, start_of, starts_more, marks-among, marks-append, marks_seen_in, no_mark_first, one_seen, pages-among, pages_last, pages_seen_in, rows_more}
 use Rattle.boxglue_calls.proofs.WrittenParts.{holds_last, holds_more, holds_none, same_length}
 
 -- The last of the pages, and its row.
 abbrev pub HasOpen : List MarkedPage → DviPage → Type 0
 HasOpen shown row = (shown ≡ []) ⊎ (before : List MarkedPage) × (page : MarkedPage) × (shown ≡ before ++ page ∷ []) × (row ≡ page_row (length (marks_of before)) page)
 
--- The rows of the pages that were seen are written.
-pub record HasWritten (bytes : List ℕ) (metrics : WidthsByName) (table : List Definition) (old new : MarkOutputs) (w : Written) (shown : List MarkedPage) : Type 0 where
+-- The rows of the pages that were seen are written. The texts of their specials begin at these places.
+pub record HasWritten (bytes : List ℕ) (metrics : WidthsByName) (table : List Definition) (old new : MarkOutputs) (w : Written) (places : List ℕ) (shown : List MarkedPage) : Type 0 where
   pub rows : List DviMark
   pub are : AreMarkRows bytes (widths_of metrics table) rows (marks_of shown)
+  pub starts : text_starts rows ≡ places
   pub pages : Holds old.pages new.pages (page_rows 0 shown)
   pub marks : Holds old.marks new.marks rows
   pub pages_count : w.pages ≡ length shown
@@ -45,9 +46,9 @@ pub record HasWritten (bytes : List ℕ) (metrics : WidthsByName) (table : List 
 abbrev empty_page : List ℤ → MarkedPage
 empty_page counts = record { counts = counts; marks = [] }
 
-module _ (bytes : List ℕ) (metrics : WidthsByName) (table : List Definition) (old mid after : MarkOutputs) (w new : Written) (shown : List MarkedPage) (has : HasWritten bytes metrics table old mid w shown) where
+module _ (bytes : List ℕ) (metrics : WidthsByName) (table : List Definition) (old mid after : MarkOutputs) (w new : Written) (places : List ℕ) (shown : List MarkedPage) (has : HasWritten bytes metrics table old mid w places shown) where
   page_more : (counts : List ℤ) → length shown + 1 ≤ length old.pages → BeginsPage counts w new mid.pages after.pages → after.marks ≡ mid.marks
-      → HasWritten bytes metrics table old after new (shown ++ empty_page counts ∷ [])
+      → HasWritten bytes metrics table old after new places (shown ++ empty_page counts ∷ [])
   page_more counts room begins same =
       let page = empty_page counts in
       let size : length (page_rows 0 shown) ≡ length shown = length-pages 0 shown in
@@ -65,6 +66,7 @@ module _ (bytes : List ℕ) (metrics : WidthsByName) (table : List Definition) (
       record {
         rows = has.rows;
         are = subst (λ (ms : List Mark). AreMarkRows bytes (widths_of metrics table) has.rows ms) (sym marks_are) has.are;
+        starts = has.starts;
         pages = subst (λ (rows : List DviPage). Holds old.pages after.pages rows) rows_are
             (holds_more old.pages mid.pages after.pages (page_rows 0 shown) (new.row ∷ []) has.pages fits put);
         marks = subst (λ (rows : List DviMark). Holds old.marks rows has.rows) (sym same) has.marks;
@@ -75,7 +77,7 @@ module _ (bytes : List ℕ) (metrics : WidthsByName) (table : List Definition) (
 
   mark_more : (row : DviMark) (mark : Mark) (before : List MarkedPage) (page : MarkedPage) → shown ≡ before ++ page ∷ [] → w.row ≡ page_row (length (marks_of before)) page
       → length (marks_of shown) + 1 ≤ length old.marks → IsMarkRow bytes (widths_of metrics table) row mark → AddsMark row w new mid after
-      → HasWritten bytes metrics table old after new (before ++ record page { marks = page.marks ++ mark ∷ [] } ∷ [])
+      → HasWritten bytes metrics table old after new (places ++ text_start_of row) (before ++ record page { marks = page.marks ++ mark ∷ [] } ∷ [])
   mark_more row mark before page is row_is room is_row adds =
       let next : MarkedPage = record page { marks = page.marks ++ mark ∷ [] } in
       let start : ℕ = length (marks_of before) in
@@ -109,6 +111,7 @@ module _ (bytes : List ℕ) (metrics : WidthsByName) (table : List Definition) (
       record {
         rows = has.rows ++ row ∷ [];
         are = subst (λ (ms : List Mark). AreMarkRows bytes (widths_of metrics table) (has.rows ++ row ∷ []) ms) marks_are (rows_more bytes metrics table has.rows (marks_of shown) row mark has.are is_row);
+        starts = starts_more has.rows row places has.starts;
         pages = subst (λ (rows : List DviPage). Holds old.pages after.pages rows) rows_are
             (holds_last old.pages mid.pages after.pages (page_rows 0 before) (page_row start page) new.row held put);
         marks = holds_more old.marks mid.marks after.marks has.rows (row ∷ []) has.marks mark_fits put_mark;
@@ -118,26 +121,35 @@ module _ (bytes : List ℕ) (metrics : WidthsByName) (table : List Definition) (
       }
 
 -- What is written, and what is still to be seen.
-pub record IsWriting (metrics : WidthsByName) (table : List Definition) (first : Sights) (old new : MarkOutputs) (w : Written) (all : List MarkedPage) (s : Sights) : Type 0 where
+pub record IsWriting (metrics : WidthsByName) (table : List Definition) (first : Sights) (old new : MarkOutputs) (w : Written) (places : List ℕ) (all : List MarkedPage) (s : Sights) : Type 0 where
   pub shown : List MarkedPage
   pub rest : List SeenItem
+  pub passed : List ℕ
+  pub left : List ℕ
   pub parts : seen_of all ≡ seen_of shown ++ rest
   pub ahead : IsSeenAhead s rest
+  pub texts_parts : places ≡ passed ++ left
+  pub texts : AreTextsAhead s left
   pub same : IsSameFile first s
-  pub has : HasWritten first.bytes.now metrics table old new w shown
+  pub has : HasWritten first.bytes.now metrics table old new w passed shown
 
-pub writing_first : (metrics : WidthsByName) (table : List Definition) (s : Sights) (old : MarkOutputs) (w : Written) (all : List MarkedPage) → CanBeWritten metrics table s old all → w.pages ≡ 0 → w.marks ≡ 0
-    → IsWriting metrics table s old old w all s
-writing_first metrics table s old w all can pages marks =
+pub writing_first : (metrics : WidthsByName) (table : List Definition) (s : Sights) (old : MarkOutputs) (w : Written) (places : List ℕ) (all : List MarkedPage) → CanBeWritten metrics table s old places all
+    → w.pages ≡ 0 → w.marks ≡ 0 → IsWriting metrics table s old old w places all s
+writing_first metrics table s old w places all can pages marks =
     record {
       shown = [];
       rest = seen_of all;
+      passed = [];
+      left = places;
       parts = refl;
       ahead = can.ahead;
+      texts_parts = refl;
+      texts = can.texts;
       same = same_file s;
       has = record {
         rows = [];
         are = tt;
+        starts = refl;
         pages = holds_none old.pages;
         marks = holds_none old.marks;
         pages_count = pages;
@@ -146,8 +158,8 @@ writing_first metrics table s old w all can pages marks =
       };
     }
 
-module _ (metrics : WidthsByName) (table : List Definition) (first : Sights) (old mid : MarkOutputs) (w : Written) (all : List MarkedPage) (s : Sights) (can : CanBeWritten metrics table first old all)
-    (writing : IsWriting metrics table first old mid w all s) where
+module _ (metrics : WidthsByName) (table : List Definition) (first : Sights) (old mid : MarkOutputs) (w : Written) (places : List ℕ) (all : List MarkedPage) (s : Sights) (can : CanBeWritten metrics table first old places all)
+    (writing : IsWriting metrics table first old mid w places all s) where
   abbrev shown : List MarkedPage
   shown = writing.shown
 
@@ -213,9 +225,9 @@ module _ (metrics : WidthsByName) (table : List Definition) (first : Sights) (ol
       (all_back (OfGlyph (IsGlyphWidth metrics table first.fonts)) (marks_of shown) (mark ∷ marks_among later) each).0 in
       subst (λ (fonts : ReadFonts). OfGlyph (IsGlyphWidth metrics table fonts) mark) (sym fonts) here
 
-  pub written_next : (new : Sights) (sight : Sight) (w_new : Written) (after : MarkOutputs) → IsSameFile s new → EndsText s.bytes.now new.at (Some sight) → ShowsNext writing.rest new (Some sight)
-      → WritesSight sight new w w_new mid after → IsWriting metrics table first old after w_new all new
-  written_next new (sights.Page counts) w_new after same text (later, is, ahead) (begins, marks) =
+  pub written_next : (new : Sights) (sight : Sight) (w_new : Written) (after : MarkOutputs) → IsSameFile s new → EndsText s.bytes.now new.at (Some sight)
+      → PassesText writing.left new (Some sight) → ShowsNext writing.rest new (Some sight) → WritesSight sight new w w_new mid after → IsWriting metrics table first old after w_new places all new
+  written_next new (sights.Page counts) w_new after same text (left, left_is, texts) (later, is, ahead) (begins, marks) =
       let page = empty_page counts in
       record {
         shown = shown ++ page ∷ [];
@@ -224,16 +236,22 @@ module _ (metrics : WidthsByName) (table : List Definition) (first : Sights) (ol
             ∙ (ap (λ (ss : List SeenItem). seen_of shown ++ ss) is
             ∙ (sym (append_assoc (seen_of shown) (Counts counts ∷ []) later) ∙ ap (λ (ss : List SeenItem). ss ++ later) (sym (page_seen shown page))));
         ahead = ahead;
+        passed = writing.passed;
+        left = left;
+        texts_parts = writing.texts_parts ∙ ap (λ (ps : List ℕ). writing.passed ++ ps) left_is;
+        texts = texts;
         same = same_then first s new writing.same same;
-        has = page_more first.bytes.now metrics table old mid after w w_new shown writing.has counts (page_room counts later is) begins marks;
+        has = page_more first.bytes.now metrics table old mid after w w_new writing.passed shown writing.has counts (page_room counts later is) begins marks;
       }
-  written_next new (sights.Mark mark) w_new after same text (later, is, ahead) adds =
+  written_next new (sights.Mark mark) w_new after same text (left, left_is, texts) (later, is, ahead) adds =
       let m = mark_of mark in
       let (before, page, shown_is, row_is) = opened m later is in
       let next : MarkedPage = record page { marks = page.marks ++ m ∷ [] } in
       let all_same = same_then first s new writing.same same in
       let ends : TextEndsAt first.bytes.now new.at m = subst (λ (bytes : Bor (List ℕ)). TextEndsAt bytes.now new.at m) writing.same.bytes text in
       let row = is_row first.bytes.now metrics table new.fonts new.at m (glyph_now new m later all_same is) ends in
+      let start : List ℕ = text_start_of (row_of new.fonts new.at m) in
+      let left_parts : writing.left ≡ start ++ left = left_is ∙ ap (λ (ps : List ℕ). ps ++ left) (sym (start_of new.fonts new.at m)) in
       let seen : seen_of shown ++ (Marked m ∷ []) ≡ seen_of (before ++ next ∷ []) =
       ap (λ (ss : List SeenItem). ss ++ (Marked m ∷ [])) (ap (λ (ps : List MarkedPage). seen_of ps) shown_is ∙ page_seen before page)
       ∙ (sym (more_marks before page.counts page.marks (m ∷ [])) ∙ sym (page_seen before next)) in
@@ -244,12 +262,16 @@ module _ (metrics : WidthsByName) (table : List Definition) (first : Sights) (ol
             ∙ (ap (λ (ss : List SeenItem). seen_of shown ++ ss) is
             ∙ (sym (append_assoc (seen_of shown) (Marked m ∷ []) later) ∙ ap (λ (ss : List SeenItem). ss ++ later) seen));
         ahead = ahead;
+        passed = writing.passed ++ start;
+        left = left;
+        texts_parts = writing.texts_parts ∙ (ap (λ (ps : List ℕ). writing.passed ++ ps) left_parts ∙ sym (append_assoc writing.passed start left));
+        texts = texts;
         same = all_same;
-        has = mark_more first.bytes.now metrics table old mid after w w_new shown writing.has (row_of new.fonts new.at m) m before page shown_is row_is (mark_room m later is) row adds;
+        has = mark_more first.bytes.now metrics table old mid after w w_new writing.passed shown writing.has (row_of new.fonts new.at m) m before page shown_is row_is (mark_room m later is) row adds;
       }
 
-  pub written_all : writing.rest ≡ [] → HoldsRows metrics table first.bytes.now old mid all
-  written_all none =
+  pub written_all : writing.rest ≡ [] → writing.left ≡ [] → HoldsRows metrics table first.bytes.now old mid places all
+  written_all none no_texts =
       let whole : seen_of all ≡ seen_of shown =
       writing.parts ∙ (ap (λ (ss : List SeenItem). seen_of shown ++ ss) none ∙ append-nil (seen_of shown)) in
       let is : shown ≡ all = sym (one_seen all shown whole) in
@@ -257,22 +279,38 @@ module _ (metrics : WidthsByName) (table : List Definition) (first : Sights) (ol
         pages = subst (λ (ps : List MarkedPage). Holds old.pages mid.pages (page_rows 0 ps)) is writing.has.pages;
         rows = writing.has.rows;
         are = subst (λ (ps : List MarkedPage). AreMarkRows first.bytes.now (widths_of metrics table) writing.has.rows (marks_of ps)) is writing.has.are;
+        starts = writing.has.starts ∙ (sym (append-nil writing.passed) ∙ (ap (λ (ps : List ℕ). writing.passed ++ ps) (sym no_texts) ∙ sym writing.texts_parts));
         marks = writing.has.marks;
       }
 
 -- The rows of the marks that were counted.
-pub record HasCounted (metrics : WidthsByName) (table : List Definition) (first : Sights) (seen : List SeenItem) (s : Sights) : Type 0 where
+pub record HasCounted (metrics : WidthsByName) (table : List Definition) (first : Sights) (places : List ℕ) (seen : List SeenItem) (s : Sights) : Type 0 where
   pub done : List Mark
   pub rest : List SeenItem
+  pub passed : List ℕ
+  pub left : List ℕ
   pub ahead : IsSeenAhead s rest
   pub parts : marks_among seen ≡ done ++ marks_among rest
-  pub rows : HasRowsFor metrics table first.bytes.now done
+  pub texts_parts : places ≡ passed ++ left
+  pub texts : AreTextsAhead s left
+  pub rows : HasRowsFor metrics table first.bytes.now passed done
 
-pub counted_row : (metrics : WidthsByName) (table : List Definition) (first : Sights) (seen : List SeenItem) (s new : Sights) (sight : Sight) → HasGlyphWidths metrics table first.fonts (marks_among seen) → IsSameFile first s
-    → IsSameFile s new → EndsText s.bytes.now new.at (Some sight) → (c : HasCounted metrics table first seen s) → ShowsNext c.rest new (Some sight) → HasCounted metrics table first seen new
-counted_row metrics table first seen s new (sights.Page counts) widths before same text c (later, is, ahead) =
-    record { done = c.done; rest = later; ahead = ahead; parts = c.parts ∙ ap (λ (ss : List SeenItem). c.done ++ marks_among ss) is; rows = c.rows }
-counted_row metrics table first seen s new (sights.Mark mark) widths before same text c (later, is, ahead) =
+pub counted_row : (metrics : WidthsByName) (table : List Definition) (first : Sights) (places : List ℕ) (seen : List SeenItem) (s new : Sights) (sight : Sight) → HasGlyphWidths metrics table first.fonts (marks_among seen)
+    → IsSameFile first s → IsSameFile s new → EndsText s.bytes.now new.at (Some sight) → (c : HasCounted metrics table first places seen s) → PassesText c.left new (Some sight) → ShowsNext c.rest new (Some sight)
+    → HasCounted metrics table first places seen new
+counted_row metrics table first places seen s new (sights.Page counts) widths before same text c (left, left_is, texts) (later, is, ahead) =
+    record {
+      done = c.done;
+      rest = later;
+      passed = c.passed;
+      left = left;
+      ahead = ahead;
+      parts = c.parts ∙ ap (λ (ss : List SeenItem). c.done ++ marks_among ss) is;
+      texts_parts = c.texts_parts ∙ ap (λ (ps : List ℕ). c.passed ++ ps) left_is;
+      texts = texts;
+      rows = c.rows;
+    }
+counted_row metrics table first places seen s new (sights.Mark mark) widths before same text c (left, left_is, texts) (later, is, ahead) =
     let m = mark_of mark in
     let (place, fonts) = (same_then first s new before same).fonts in
     let parts : marks_among seen ≡ c.done ++ (m ∷ marks_among later) = c.parts ∙ ap (λ (ss : List SeenItem). c.done ++ marks_among ss) is in
@@ -282,20 +320,28 @@ counted_row metrics table first seen s new (sights.Mark mark) widths before same
     let now : OfGlyph (IsGlyphWidth metrics table new.fonts) m = subst (λ (fonts : ReadFonts). OfGlyph (IsGlyphWidth metrics table fonts) m) (sym fonts) here in
     let ends : TextEndsAt first.bytes.now new.at m = subst (λ (bytes : Bor (List ℕ)). TextEndsAt bytes.now new.at m) before.bytes text in
     let row = is_row first.bytes.now metrics table new.fonts new.at m now ends in
-    let (rows, are) = c.rows in
+    let made : DviMark = row_of new.fonts new.at m in
+    let start : List ℕ = text_start_of made in
+    let left_parts : c.left ≡ start ++ left = left_is ∙ ap (λ (ps : List ℕ). ps ++ left) (sym (start_of new.fonts new.at m)) in
+    let (rows, are, starts) = c.rows in
     record {
       done = c.done ++ m ∷ [];
       rest = later;
+      passed = c.passed ++ start;
+      left = left;
       ahead = ahead;
       parts = parts ∙ sym (append_assoc c.done (m ∷ []) (marks_among later));
-      rows = (rows ++ row_of new.fonts new.at m ∷ [], rows_more first.bytes.now metrics table rows c.done (row_of new.fonts new.at m) m are row);
+      texts_parts = c.texts_parts ∙ (ap (λ (ps : List ℕ). c.passed ++ ps) left_parts ∙ sym (append_assoc c.passed start left));
+      texts = texts;
+      rows = (rows ++ made ∷ [], rows_more first.bytes.now metrics table rows c.done made m are row, starts_more rows made c.passed starts);
     }
 
-pub counted_rows : (metrics : WidthsByName) (table : List Definition) (first : Sights) (seen : List SeenItem) (s : Sights) (c : HasCounted metrics table first seen s) → c.rest ≡ []
-    → HasRowsFor metrics table first.bytes.now (marks_among seen)
-counted_rows metrics table first seen s c none =
+pub counted_rows : (metrics : WidthsByName) (table : List Definition) (first : Sights) (places : List ℕ) (seen : List SeenItem) (s : Sights) (c : HasCounted metrics table first places seen s) → c.rest ≡ [] → c.left ≡ []
+    → HasRowsFor metrics table first.bytes.now places (marks_among seen)
+counted_rows metrics table first places seen s c none no_texts =
     let whole : marks_among seen ≡ c.done = c.parts ∙ (ap (λ (ss : List SeenItem). c.done ++ marks_among ss) none ∙ append-nil c.done) in
-    subst (λ (ms : List Mark). HasRowsFor metrics table first.bytes.now ms) (sym whole) c.rows
+    let all : places ≡ c.passed = c.texts_parts ∙ (ap (λ (ps : List ℕ). c.passed ++ ps) no_texts ∙ append-nil c.passed) in
+    subst₂ (λ (ps : List ℕ) (ms : List Mark). HasRowsFor metrics table first.bytes.now ps ms) (sym all) (sym whole) c.rows
 
 -- The glyphs have their widths in the same file.
 pub same_widths : (metrics : WidthsByName) (table : List Definition) (a b : Sights) (marks : List Mark) → IsSameFile a b → HasGlyphWidths metrics table a.fonts marks → HasGlyphWidths metrics table b.fonts marks

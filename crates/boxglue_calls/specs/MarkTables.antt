@@ -1,11 +1,12 @@
 -- The pages of a DVI file and their marks as tables (own; the marks are DVItype's, 15 and 16).
-use Rattle.std.specs.Prelude.{◌≡◌, ◌⊎◌, ◌+◌, ◌++◌, ◌<◌, ℕ, ℤ, pos, Bool, true, List, [], ◌∷◌, length, Some}
+use Rattle.std.specs.Prelude.{◌≡◌, ◌⊎◌, ◌+◌, ◌++◌, ◌<◌, if◌then◌else◌, nat_eq, ℕ, ℤ, pos, Bool, true, List, [], ◌∷◌, length, Some}
+use Rattle.std.specs.List.{flat_map}
 use Rattle.dvi_ops.specs.Body.{Widths}
 use Rattle.dvi_ops.specs.File.{IsFile, MarkedPage}
 use Rattle.dvi_ops.specs.Fonts.{definitions, widths_of}
 use Rattle.dvi_ops.specs.Instruction.{Units}
 use Rattle.dvi_ops.specs.Tokens.{token_instructions}
-use Rattle.dvi_read.specs.PageMarks.{TextStandsAt, marks_of}
+use Rattle.dvi_read.specs.PageMarks.{TextStandsAt, marks_of, text_places}
 use Rattle.scaled_core.specs.Mark.{Mark, Glyph, Rule, Special}
 use Rattle.tfm_core.specs.FileWidths.{file_widths}
 use Rattle.tfm_core.specs.NamedBytes.{NamedBytes}
@@ -54,6 +55,14 @@ AreMarkRows bytes widths [] [] = Unit {0}
 AreMarkRows bytes widths (row ∷ rows) (mark ∷ marks) = IsMarkRow bytes widths row mark × AreMarkRows bytes widths rows marks
 AreMarkRows bytes widths rows marks = ⊥
 
+-- Where the text of a row begins, if it is that of a special, as a list of one or none.
+abbrev pub text_start_of : DviMark → List ℕ
+text_start_of row = if nat_eq row.kind 3 then row.text_start ∷ [] else []
+
+-- Where the texts of the specials among rows begin, in order.
+abbrev pub text_starts : List DviMark → List ℕ
+text_starts rows = flat_map text_start_of rows
+
 -- The bytes are a file, and the tables have its pages and their marks. The width of a glyph is that by the first definition of its font.
 pub record TabulatesMarks (files : List NamedBytes) (bytes : List ℕ) (rows : List DviPage) (marks : List DviMark) (units : Units) : Type 0 where
   pub pages : List MarkedPage
@@ -62,6 +71,8 @@ pub record TabulatesMarks (files : List NamedBytes) (bytes : List ℕ) (rows : L
   pub marks_are : AreMarkRows bytes (widths_of (file_widths files)
       (definitions (token_instructions file.frame.front ++ token_instructions file.frame.tail))) marks
       (marks_of pages)
+  -- The text of each special begins where its own instruction has it, also where the same text stands elsewhere in the file.
+  pub starts_are : text_starts marks ≡ text_places 0 file.frame.front
   pub units_are : units ≡ file.frame.stop.units
 
 -- No units.

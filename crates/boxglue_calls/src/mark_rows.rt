@@ -1,13 +1,13 @@
 //! The rows of the pages of a checked DVI file and of their marks, counted and then written into the memory of a caller.
 
-ghost use Rattle.std.specs.Prelude.{◌≡◌, ◌+◌, ◌<◌, ◌≤◌, ◌^◌, ◌∷◌, [], List, length};
+ghost use Rattle.std.specs.Prelude.{◌≡◌, ◌+◌, ◌<◌, ◌≤◌, ◌^◌, ◌∷◌, [], List, length, ℕ};
 ghost use Rattle.dvi_ops.specs.File.{MarkedPage};
 ghost use Rattle.dvi_ops.specs.Fonts.{WidthsByName};
 ghost use Rattle.dvi_ops.specs.Instruction.{Definition};
 ghost use Rattle.dvi_read.specs.PageMarks.{HasGlyphWidths};
 ghost use Rattle.dvi_read.specs.ReadFonts.{HaveByteCodes};
 ghost use Rattle.dvi_read.specs.Seen.{SeenItem};
-ghost use Rattle.dvi_read.specs.SeenAhead.{IsSameFile, IsSeenAhead, sight_of};
+ghost use Rattle.dvi_read.specs.SeenAhead.{AreTextsAhead, IsSameFile, IsSeenAhead, sight_of};
 ghost use Rattle.dvi_scan.specs.View.{mark_of};
 ghost use Rattle.boxglue_calls.specs.MarkTables.{empty_row, mark_outputs};
 ghost use Rattle.boxglue_calls.specs.Private.MarkRows.{AddsMark, BeginsPage, CanBeWritten, HasPlace, HasRowsFor, HoldsRows, WritesSight};
@@ -52,8 +52,9 @@ pub(crate) fn count_rows(sights: &mut Sights<'_>) -> RowCounts
     ensures pages { (seen : List SeenItem) → IsSeenAhead sights.old seen → result.pages ≡ pages_among seen }
     ensures marks { (seen : List SeenItem) → IsSeenAhead sights.old seen → result.marks ≡ length (marks_among seen) }
     // There is a row for each mark.
-    ensures rows { (metrics : WidthsByName) (table : List Definition) (seen : List SeenItem) → IsSeenAhead sights.old seen
-        → HasGlyphWidths metrics table sights.old.fonts (marks_among seen) → HasRowsFor metrics table sights.old.bytes.now (marks_among seen) }
+    ensures rows { (metrics : WidthsByName) (table : List Definition) (places : List ℕ) (seen : List SeenItem) → IsSeenAhead sights.old seen
+        → AreTextsAhead sights.old places → HasGlyphWidths metrics table sights.old.fonts (marks_among seen)
+        → HasRowsFor metrics table sights.old.bytes.now places (marks_among seen) }
     ensures ahead { (seen : List SeenItem) × IsSeenAhead sights.new seen }
     ensures same { IsSameFile sights.old sights.new }
 {
@@ -172,11 +173,11 @@ fn write_sight(
 
 /// Writes the rows of all pages that are still to be seen, and of their marks, to the fronts of buffers that have room for them.
 pub(crate) fn write_rows(sights: &mut Sights<'_>, pages: &mut [DviPage], marks: &mut [DviMark])
-    requires { (metrics : WidthsByName) × (table : List Definition) × (all : List MarkedPage)
-        × CanBeWritten metrics table sights.old (mark_outputs pages.old marks.old []) all }
-    ensures { (metrics : WidthsByName) (table : List Definition) (all : List MarkedPage)
-        → CanBeWritten metrics table sights.old (mark_outputs pages.old marks.old []) all
-        → HoldsRows metrics table sights.old.bytes.now (mark_outputs pages.old marks.old []) (mark_outputs pages.new marks.new []) all }
+    requires { (metrics : WidthsByName) × (table : List Definition) × (places : List ℕ) × (all : List MarkedPage)
+        × CanBeWritten metrics table sights.old (mark_outputs pages.old marks.old []) places all }
+    ensures { (metrics : WidthsByName) (table : List Definition) (places : List ℕ) (all : List MarkedPage)
+        → CanBeWritten metrics table sights.old (mark_outputs pages.old marks.old []) places all
+        → HoldsRows metrics table sights.old.bytes.now (mark_outputs pages.old marks.old []) (mark_outputs pages.new marks.new []) places all }
 {
     let mut written = Written {
         pages: 0,

@@ -5,6 +5,7 @@ pub mod WalkLemmas
 mod HeldLemmas
 pub mod SeenLemmas
 mod SightLemmas
+pub mod TextLemmas
 pub mod AgainLemmas
 mod CheckedLemmas
 mod CharacterLemmas

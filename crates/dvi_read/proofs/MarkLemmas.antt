@@ -27,8 +27,8 @@ use Rattle.dvi_scan.specs.View.{marked_page}
 use Rattle.dvi_scan.specs.declared.executing.PassState.{PassState}
 use Rattle.dvi_scan.specs.declared.page.Page.{Page}
 use Rattle.dvi_read.specs.Opened.{OpenedFile}
-use Rattle.dvi_read.specs.PageMarks.{HasGlyphWidths, HasPlaces, HasRoomFor, IsGlyphWidth, OfGlyph, TextStandsAt, TextsStandAt, marks_of, marks_so_far, text_in, texts_in}
-use Rattle.dvi_read.specs.Private.PageMarks.{PutsSpecial, text_place, text_put}
+use Rattle.dvi_read.specs.PageMarks.{HasGlyphWidths, HasPlaces, HasRoomFor, IsGlyphWidth, OfGlyph, TextStandsAt, TextsStandAt, marks_of, marks_so_far, text_in, text_place, texts_in}
+use Rattle.dvi_read.specs.Private.PageMarks.{PutsSpecial, text_put}
 use Rattle.dvi_read.proofs.SelectLemmas.{some_is}
 use Rattle.dvi_read.specs.ReadFonts.{AreSound, FontIsRead, font_place, read_font_at, width_in}
 use Rattle.dvi_read.specs.Steps.{IsWalkStep, known_of, stand_of}

@@ -1,10 +1,12 @@
 -- What a reader of a file knows of the marks of its pages: the places of the texts of specials, and the widths of glyphs (own; the marks are
 -- DVItype's, 15 and 16).
-use Rattle.std.specs.Prelude.{◌≡◌, ◌≤◌, ◌<◌, ◌+◌, ◌*◌, ◌^◌, ◌++◌, [], ◌∷◌, ℕ, ℤ, List, Option, Some, drop, length, option_and_then, slice_index, take}
+use Rattle.std.specs.Prelude.{◌≡◌, ◌≤◌, ◌<◌, ◌+◌, ◌-◌, ◌*◌, ◌^◌, ◌++◌, [], ◌∷◌, ℕ, ℤ, List, Option, Some}
+use Rattle.std.specs.Prelude.{drop, length, option_and_then, slice_index, take}
 use Rattle.std.specs.List.{AllByRecursion, flat_map}
 use Rattle.dvi_ops.specs.File.{MarkedPage}
 use Rattle.dvi_ops.specs.Fonts.{WidthsByName, widths_of}
-use Rattle.dvi_ops.specs.Instruction.{Definition}
+use Rattle.dvi_ops.specs.Instruction.{Definition, Do, Instruction, Xxx}
+use Rattle.dvi_ops.specs.Tokens.{Token}
 use Rattle.dvi_scan.specs.Pass.{PassStateView, Between, Inside}
 use Rattle.dvi_read.specs.ReadFonts.{HaveByteCodes, font_place, read_font_at, width_in}
 use Rattle.dvi_read.specs.declared.fonts.ReadFonts.{ReadFonts}
@@ -22,6 +24,17 @@ text_in mark = []
 -- The texts of the specials among marks, in order.
 abbrev pub texts_in : List Mark → List (List ℕ)
 texts_in marks = flat_map text_in marks
+
+-- Where the text of an instruction that puts a special begins, as a list of one or none: the text is the last operand (DVItype, 15), so it ends where
+-- the instruction does.
+abbrev pub text_place : (end : ℕ) → Instruction → List ℕ
+text_place end (Do (Xxx text)) = (end - length text) ∷ []
+text_place end i = []
+
+-- Where the texts of the specials begin, in order, where the first instruction is at `at`.
+abbrev pub text_places : (at : ℕ) → List Token → List ℕ
+text_places at [] = []
+text_places at (t ∷ rest) = text_place (at + length t.bytes) t.says ++ text_places (at + length t.bytes) rest
 
 -- A text stands in the bytes from a place on. Its length fits the four bytes of xxx4, the longest form (DVItype, 15).
 pub record TextStandsAt (bytes : List ℕ) (place : ℕ) (text : List ℕ) : Type 0 where

@@ -14,7 +14,7 @@ use Rattle.dvi_scan.specs.Pass.{PassStateView, Between, Inside, passes}
 use Rattle.dvi_scan.specs.View.{mark_of, spot_position, standing_state}
 use Rattle.dvi_scan.specs.declared.executing.OpenPage.{OpenPage}
 use Rattle.dvi_read.specs.Listing.{listing, text_ahead}
-use Rattle.dvi_read.specs.PageMarks.{TextStandsAt, read_width}
+use Rattle.dvi_read.specs.PageMarks.{TextStandsAt, read_width, text_in, text_places}
 use Rattle.dvi_read.specs.ReadFonts.{HasCurrent, HaveByteCodes}
 use Rattle.dvi_read.specs.Seen.{SeenItem, Counts, Marked, seen_lines, seen_of, seen_so_far}
 use Rattle.dvi_read.specs.Steps.{FontsAreRead}
@@ -103,6 +103,37 @@ TextEndsAt bytes place mark = Unit {0}
 abbrev pub EndsText : List ℕ → (place : ℕ) → Option Sight → Type 0
 EndsText bytes place (Some (sights.Mark mark)) = TextEndsAt bytes place (mark_of mark)
 EndsText bytes place sight = Unit {0}
+
+-- The texts of the specials among the instructions between two places of a file begin at these places.
+pub record HasTexts (bytes : List ℕ) (at post : ℕ) (places : List ℕ) : Type 0 where
+  pub tokens : List Token
+  pub spelled : AllByRecursion IsSpelled tokens
+  pub whole : token_bytes tokens ≡ take (post - at) (drop at bytes)
+  pub places_are : places ≡ text_places at tokens
+
+-- The same for a checked file, for all pages of what is to be seen of it, and for what is still to be seen.
+abbrev pub HasCheckedTexts : CheckedDvi → (places : List ℕ) → Type 0
+HasCheckedTexts checked places = HasTexts checked.bytes.now checked.from checked.post places
+
+abbrev pub HasAllTexts : Sights → (places : List ℕ) → Type 0
+HasAllTexts s places = HasTexts s.bytes.now s.from s.post places
+
+abbrev pub AreTextsAhead : Sights → (places : List ℕ) → Type 0
+AreTextsAhead s places = HasTexts s.bytes.now s.at s.post places
+
+-- Where the text of what is seen begins, if it is a special and its text ends at this place.
+abbrev pub text_seen : (end : ℕ) → Option Sight → List ℕ
+text_seen end (Some (sights.Mark mark)) = map (λ text. end - length text) (text_in (mark_of mark))
+text_seen end sight = []
+
+-- Where the walk has come to, the text of what is seen ends, and it is the first of those that were ahead.
+abbrev pub PassesText : (places : List ℕ) → Sights → Option Sight → Type 0
+PassesText places new sight = (rest : List ℕ) × (places ≡ text_seen new.at sight ++ rest) × AreTextsAhead new rest
+
+-- The same for what is seen next; where nothing is, no text is ahead.
+abbrev pub PassesNextText : (places : List ℕ) → Sights → Option Sight → Type 0
+PassesNextText places new None = places ≡ []
+PassesNextText places new (Some sight) = PassesText places new (Some sight)
 
 -- The bytes of a listing that are still to come: the rest of a line that was begun, and the lines of what is still to be seen.
 pub record AreLinesAhead (l : CheckedLines) (text : List ℕ) : Type 0 where

@@ -11,12 +11,13 @@ ghost use Rattle.dvi_scan.specs.Execution.{HasRoom};
 ghost use Rattle.dvi_scan.specs.Pass.{Between, PassStateView, execute};
 ghost use Rattle.dvi_scan.specs.View.{mark_of};
 ghost use Rattle.dvi_scan.specs.Private.View.{marks_in};
-ghost use Rattle.dvi_read.specs.PageMarks.{read_width};
+ghost use Rattle.dvi_read.specs.PageMarks.{read_width, text_place};
 ghost use Rattle.dvi_read.specs.ReadFonts.{HasCurrent, HaveByteCodes};
 ghost use Rattle.dvi_read.specs.Private.ReadFonts.{Chooses};
 ghost use Rattle.dvi_read.specs.Private.SeenTexts.{ShowsTextOf};
 ghost use Rattle.dvi_read.specs.Seen.{SeenItem, seen_of};
-ghost use Rattle.dvi_read.specs.SeenAhead.{EndsText, HasAllPages, IsReady, IsSameFile, IsSeenAfter, IsSeenAhead, ShowsFirst, ShowsNext, standing};
+ghost use Rattle.dvi_read.specs.SeenAhead.{AreTextsAhead, EndsText, HasAllPages, IsReady, IsSameFile, IsSeenAfter, IsSeenAhead};
+ghost use Rattle.dvi_read.specs.SeenAhead.{PassesNextText, PassesText, ShowsFirst, ShowsNext, standing, text_seen};
 ghost use Rattle.dvi_read.specs.Steps.{FontsAreRead};
 ghost use Rattle.dvi_read.specs.declared.fonts.ReadFonts.{ReadFonts};
 
@@ -190,6 +191,7 @@ impl<'a> Sights<'a> {
         requires { (seen : List SeenItem) × IsSeenAfter (view op.now ∷ []) self.old seen }
         ensures next { (seen : List SeenItem) → IsSeenAfter (view op.now ∷ []) self.old seen → ShowsFirst seen self.new result }
         ensures text { ShowsTextOf (view op.now) result }
+        ensures begins { (end : ℕ) → text_seen end result ≡ text_place end (view op.now) }
         ensures place { self.new.at ≡ self.old.at }
         ensures post { self.new.post ≡ self.old.post }
         ensures same { IsSameFile self.old self.new }
@@ -217,6 +219,7 @@ impl<'a> Sights<'a> {
         requires more { self.old.at < self.old.post }
         ensures next { (seen : List SeenItem) → IsSeenAhead self.old seen → ShowsFirst seen self.new result }
         ensures text { EndsText self.old.bytes.now self.new.at result }
+        ensures texts { (places : List ℕ) → AreTextsAhead self.old places → PassesText places self.new result }
         ensures forward { self.old.at < self.new.at }
         ensures fits { self.new.at < 2 ^ 64 }
         ensures post { self.new.post ≡ self.old.post }
@@ -236,6 +239,8 @@ impl<'a> Sights<'a> {
         ensures next { (seen : List SeenItem) → IsSeenAhead self.old seen → ShowsNext seen self.new result }
         // The text of a special ends in the file where the walk has come to.
         ensures text { EndsText self.old.bytes.now self.new.at result }
+        // It is that of the next special among the instructions.
+        ensures texts { (places : List ℕ) → AreTextsAhead self.old places → PassesNextText places self.new result }
         ensures forward { IsSome result → self.old.at < self.new.at }
         ensures stays { self.old.at ≤ self.new.at }
         ensures fits { self.new.at < 2 ^ 64 }
@@ -269,6 +274,7 @@ impl<'a> Sights<'a> {
     pub fn rewind(&mut self)
         requires { (seen : List SeenItem) × IsSeenAhead self.old seen }
         ensures ahead { (pages : List MarkedPage) → HasAllPages self.old pages → IsSeenAhead self.new (seen_of pages) }
+        ensures place { self.new.at ≡ self.new.from }
         ensures same { IsSameFile self.old self.new }
     {
         self.at = self.from;

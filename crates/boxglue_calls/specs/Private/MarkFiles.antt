@@ -5,9 +5,9 @@ use Rattle.dvi_ops.specs.Fonts.{definitions}
 use Rattle.dvi_ops.specs.Tokens.{token_instructions}
 use Rattle.dvi_ops.specs.View.{units as view_units}
 use Rattle.dvi_ops.specs.declared.op.Units.{Units as UnitsOf}
-use Rattle.dvi_read.specs.PageMarks.{HasGlyphWidths, HasRoomFor, marks_of}
+use Rattle.dvi_read.specs.PageMarks.{HasGlyphWidths, HasRoomFor, marks_of, text_places}
 use Rattle.dvi_read.specs.Seen.{seen_of}
-use Rattle.dvi_read.specs.SeenAhead.{HasAllPages, IsSeenAhead}
+use Rattle.dvi_read.specs.SeenAhead.{HasAllPages, HasAllTexts, IsSeenAhead}
 use Rattle.dvi_read.specs.declared.fault.DviFault.{DviFault}
 use Rattle.dvi_read.specs.declared.fault.DviFault.TheVariants.{Bad, OutOfMemory}
 use Rattle.dvi_read.specs.declared.sights.Sights.{Sights}
@@ -32,6 +32,8 @@ pub record IsChecked (files : List NamedBytes) (bytes : List ℕ) (units : Units
   pub units_are : view_units units ≡ file.frame.stop.units
   pub ahead : IsSeenAhead s (seen_of pages)
   pub all : HasAllPages s pages
+  pub texts : HasAllTexts s (text_places 0 file.frame.front)
+  pub begun : s.at ≡ s.from
   pub bytes_are : s.bytes.now ≡ bytes
   pub widths : HasGlyphWidths (file_widths files) (definitions (token_instructions file.frame.front ++ token_instructions file.frame.tail)) s.fonts
       (marks_of pages)

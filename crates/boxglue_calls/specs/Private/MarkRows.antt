@@ -5,7 +5,7 @@ use Rattle.dvi_ops.specs.Fonts.{WidthsByName, widths_of}
 use Rattle.dvi_ops.specs.Instruction.{Definition}
 use Rattle.dvi_read.specs.PageMarks.{HasGlyphWidths, marks_of, read_width}
 use Rattle.dvi_read.specs.Seen.{SeenItem, Counts, Marked, seen_of}
-use Rattle.dvi_read.specs.SeenAhead.{IsSeenAhead}
+use Rattle.dvi_read.specs.SeenAhead.{AreTextsAhead, IsSeenAhead}
 use Rattle.dvi_read.specs.declared.fonts.ReadFonts.{ReadFonts}
 use Rattle.dvi_read.specs.declared.sights.Sight.{Sight}
 use Rattle.dvi_read.specs.declared.sights.Sight.TheVariants as sights
@@ -13,7 +13,7 @@ use Rattle.dvi_read.specs.declared.sights.Sights.{Sights}
 use Rattle.dvi_scan.specs.View.{mark_of}
 use Rattle.scaled_core.specs.Mark.{Mark, Glyph, Rule, Special}
 use Rattle.boxglue_calls.specs.Buffers.{Holds}
-use Rattle.boxglue_calls.specs.MarkTables.{AreMarkRows, MarkOutputs, glyph_row, page_rows, rule_row, special_row}
+use Rattle.boxglue_calls.specs.MarkTables.{AreMarkRows, MarkOutputs, glyph_row, page_rows, rule_row, special_row, text_starts}
 use Rattle.boxglue_calls.specs.declared.mark_rows.Written.{Written}
 use Rattle.boxglue_calls.specs.declared.mark_table.DviMark.{DviMark}
 use Rattle.boxglue_calls.specs.declared.mark_table.DviPage.{DviPage}
@@ -40,9 +40,10 @@ marks_among [] = []
 marks_among (Counts counts ∷ rest) = marks_among rest
 marks_among (Marked mark ∷ rest) = mark ∷ marks_among rest
 
--- There are rows for these marks.
-abbrev pub HasRowsFor : WidthsByName → (table : List Definition) → (bytes : List ℕ) → List Mark → Type 0
-HasRowsFor metrics table bytes marks = (rows : List DviMark) × AreMarkRows bytes (widths_of metrics table) rows marks
+-- There are rows for these marks, and the texts of their specials begin at these places.
+abbrev pub HasRowsFor : WidthsByName → (table : List Definition) → (bytes places : List ℕ) → List Mark → Type 0
+HasRowsFor metrics table bytes places marks =
+    (rows : List DviMark) × AreMarkRows bytes (widths_of metrics table) rows marks × (text_starts rows ≡ places)
 
 -- The buffers have a place for the row of what is seen next: a mark comes after a page.
 abbrev pub HasPlace : Sight → Written → MarkOutputs → Type 0
@@ -70,18 +71,21 @@ abbrev pub WritesSight : Sight → Sights → (old new : Written) → (before af
 WritesSight (sights.Page counts) s old new before after = BeginsPage counts old new before.pages after.pages × (after.marks ≡ before.marks)
 WritesSight (sights.Mark mark) s old new before after = AddsMark (row_of s.fonts s.at (mark_of mark)) old new before after
 
--- The pages that are still to be seen, their glyphs have these widths, and the buffers have room for all rows.
-pub record CanBeWritten (metrics : WidthsByName) (table : List Definition) (s : Sights) (buffers : MarkOutputs)
+-- The pages that are still to be seen, the texts of their specials begin at these places, their glyphs have these widths, and the buffers have room
+-- for all rows.
+pub record CanBeWritten (metrics : WidthsByName) (table : List Definition) (s : Sights) (buffers : MarkOutputs) (places : List ℕ)
     (all : List MarkedPage) : Type 0 where
   pub ahead : IsSeenAhead s (seen_of all)
+  pub texts : AreTextsAhead s places
   pub widths : HasGlyphWidths metrics table s.fonts (marks_of all)
   pub pages_fit : length all ≤ length buffers.pages
   pub marks_fit : length (marks_of all) ≤ length buffers.marks
 
--- The buffers hold the rows of these pages, and of their marks.
-pub record HoldsRows (metrics : WidthsByName) (table : List Definition) (bytes : List ℕ) (old new : MarkOutputs)
+-- The buffers hold the rows of these pages, and of their marks. The texts of specials begin at these places.
+pub record HoldsRows (metrics : WidthsByName) (table : List Definition) (bytes : List ℕ) (old new : MarkOutputs) (places : List ℕ)
     (all : List MarkedPage) : Type 0 where
   pub pages : Holds old.pages new.pages (page_rows 0 all)
   pub rows : List DviMark
   pub are : AreMarkRows bytes (widths_of metrics table) rows (marks_of all)
+  pub starts : text_starts rows ≡ places
   pub marks : Holds old.marks new.marks rows

@@ -1,16 +1,11 @@
 -- The rest of `PageMarks`, which no public contract reaches (own; the marks are DVItype's, 15 and 16).
-use Rattle.std.specs.Prelude.{◌≡◌, ◌-◌, [], ◌∷◌, ℕ, List, length}
+use Rattle.std.specs.Prelude.{◌≡◌, [], ◌∷◌, ℕ, List}
 use Rattle.dvi_ops.specs.Instruction.{Xxx, Instruction, Do}
 
 -- The text of an instruction that puts a special, as a list of one or none.
 abbrev pub text_put : Instruction → List (List ℕ)
 text_put (Do (Xxx text)) = text ∷ []
 text_put i = []
-
--- The place of that text, where the instruction ends at `next`, as a list of one or none.
-abbrev pub text_place : (next : ℕ) → Instruction → List ℕ
-text_place next (Do (Xxx text)) = (next - length text) ∷ []
-text_place next i = []
 
 -- An instruction puts a special.
 abbrev pub PutsSpecial : Instruction → Type 0

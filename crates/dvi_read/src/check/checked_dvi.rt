@@ -1,6 +1,6 @@
 //! A DVI file that was checked as a whole, without keeping its marks.
 
-ghost use Rattle.std.specs.Prelude.{◌≡◌, ◌≢◌, ◌++◌, IfErr, IfOk, List};
+ghost use Rattle.std.specs.Prelude.{◌≡◌, ◌≢◌, ◌++◌, IfErr, IfOk, List, ℕ};
 ghost use Rattle.dvi_ops.specs.File.{Frame, IsFile, MarkedPage};
 ghost use Rattle.dvi_ops.specs.Fonts.{definitions};
 ghost use Rattle.dvi_ops.specs.Tokens.{token_instructions};
@@ -8,9 +8,9 @@ ghost use Rattle.dvi_read.specs.CheckedUnits.{HasCheckedUnits};
 ghost use Rattle.dvi_read.specs.Listing.{listing};
 ghost use Rattle.dvi_read.specs.Opened.{IsNoFile};
 ghost use Rattle.dvi_read.specs.Opening.{IsDviFault};
-ghost use Rattle.dvi_read.specs.PageMarks.{HasGlyphWidths, HasRoomFor, marks_of};
+ghost use Rattle.dvi_read.specs.PageMarks.{HasGlyphWidths, HasRoomFor, marks_of, text_places};
 ghost use Rattle.dvi_read.specs.Seen.{seen_of};
-ghost use Rattle.dvi_read.specs.SeenAhead.{AreLinesAhead, HasAllLines, HasAllPages, HasCheckedPages, IsSeenAhead};
+ghost use Rattle.dvi_read.specs.SeenAhead.{AreLinesAhead, HasAllLines, HasAllPages, HasAllTexts, HasCheckedPages, HasCheckedTexts, IsSeenAhead};
 ghost use Rattle.dvi_read.specs.declared.fault.DviFault.TheVariants.{OutOfMemory};
 ghost use Rattle.tfm_core.specs.FileWidths.{file_widths};
 
@@ -66,6 +66,7 @@ impl<'a> CheckedDvi<'a> {
             (marks_of pages)) }
         ensures room { IfOk result (λ checked. (pages : List MarkedPage) → HasCheckedPages checked pages → HasRoomFor bytes.now pages) }
         ensures bytes { IfOk result (λ checked. checked.bytes.now ≡ bytes.now) }
+        ensures texts { IfOk result (λ checked. (f : Frame bytes.now) → HasCheckedTexts checked (text_places 0 f.front)) }
         // The rule that a fault names is broken at its place, and the earlier checks hold.
         ensures bad { IfErr result (IsDviFault files.now bytes.now) }
         // Except for memory, only bytes that are no file are refused.
@@ -99,6 +100,8 @@ impl<'a> CheckedDvi<'a> {
     pub fn sights(self, alloc: Global) -> Result<Sights<'a>, AllocError>
         ensures ahead { IfOk result (λ sights. (pages : List MarkedPage) → HasCheckedPages self.entry pages → IsSeenAhead sights (seen_of pages)) }
         ensures all { IfOk result (λ sights. (pages : List MarkedPage) → HasCheckedPages self.entry pages → HasAllPages sights pages) }
+        ensures texts { IfOk result (λ sights. (places : List ℕ) → HasCheckedTexts self.entry places → HasAllTexts sights places) }
+        ensures place { IfOk result (λ sights. sights.at ≡ sights.from) }
         ensures bytes { IfOk result (λ sights. sights.bytes ≡ self.entry.bytes) }
         ensures fonts { IfOk result (λ sights. sights.fonts ≡ self.entry.fonts) }
     {

@@ -2,7 +2,7 @@
 use Rattle.std.proofs.Common.{◌≡◌, [], List, Option, ap, arith, length, refl, subst}
 use Rattle.dvi_read.proofs.AgainLemmas.{same_file, same_then}
 use Rattle.dvi_read.specs.Seen.{SeenItem}
-use Rattle.dvi_read.specs.SeenAhead.{ShowsNext, sight_of}
+use Rattle.dvi_read.specs.SeenAhead.{PassesNextText, ShowsNext, sight_of}
 use Rattle.dvi_read.specs.declared.sights.Sight.{Sight}
 use Rattle.boxglue_calls.specs.Private.MarkRows.{marks_among, pages_among}
 use Rattle.boxglue_calls.proofs.RowSteps.{counted_next, counted_row, counted_rows}
@@ -13,7 +13,8 @@ loop-sight-init c =
     record {
       some = c.requires;
       begun = λ seen first. (seen, first, omega arith, omega arith);
-      rows = λ metrics table seen first widths. record { done = []; rest = seen; ahead = first; parts = refl; rows = ([], tt) };
+      rows = λ metrics table places seen first texts widths.
+          record { done = []; rest = seen; passed = []; left = places; ahead = first; parts = refl; texts_parts = refl; texts = texts; rows = ([], tt, refl) };
       few = omega arith;
       same = same_file c.args.sights.now;
     }
@@ -34,10 +35,10 @@ loop-sight-preserved c =
           let (later, is, ahead) = c.in-Some.ensures.next rest now in
           let (more, more_marks) = counted_next rest later (sight_of c.in-Some.sight) _ _ _ _ (pages_among seen) (length (marks_among seen)) is pages marks one.pages one.marks in
           (later, ahead, more, more_marks));
-      rows = λ metrics table seen first widths.
-          (let counted = held.rows metrics table seen first widths in
-          counted_row metrics table c.args.sights.now seen c.loop-sight.sights c.next_sight.new.self c.in-Some.sight widths held.same c.next_sight.ensures.same c.in-Some.ensures.text counted
-          (c.in-Some.ensures.next counted.rest counted.ahead));
+      rows = λ metrics table places seen first texts widths.
+          (let counted = held.rows metrics table places seen first texts widths in
+          counted_row metrics table c.args.sights.now places seen c.loop-sight.sights c.next_sight.new.self c.in-Some.sight widths held.same c.next_sight.ensures.same c.in-Some.ensures.text counted
+          (c.in-Some.ensures.texts counted.left counted.texts) (c.in-Some.ensures.next counted.rest counted.ahead));
       few = omega (arith, held.few, c.in-Some.ensures.forward refl, one.one);
       same = same_then c.args.sights.now c.loop-sight.sights c.next_sight.new.self held.same c.next_sight.ensures.same;
     }
@@ -61,10 +62,11 @@ returns-clause-marks c = λ seen first.
     let left : length (marks_among rest) ≡ 0 = ap (λ (ss : List SeenItem). length (marks_among ss)) none in omega (arith, marks, left)
 
 pub returns-clause-rows : goal.returns-clause-rows
-returns-clause-rows c = λ metrics table seen first widths.
-    let counted = c.loop-sight.invariant.rows metrics table seen first widths in
+returns-clause-rows c = λ metrics table places seen first texts widths.
+    let counted = c.loop-sight.invariant.rows metrics table places seen first texts widths in
     let (none, ahead) = subst (λ (o : Option Sight). ShowsNext counted.rest c.next_sight.new.self o) c.in_default.is (c.next_sight.ensures.next counted.rest counted.ahead) in
-    counted_rows metrics table c.args.sights.now seen c.loop-sight.sights counted none
+    let no_texts = subst (λ (o : Option Sight). PassesNextText counted.left c.next_sight.new.self o) c.in_default.is (c.next_sight.ensures.texts counted.left counted.texts) in
+    counted_rows metrics table c.args.sights.now places seen c.loop-sight.sights counted none no_texts
 
 pub returns-clause-ahead : goal.returns-clause-ahead
 returns-clause-ahead c =

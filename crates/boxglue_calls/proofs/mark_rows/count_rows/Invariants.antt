@@ -1,10 +1,10 @@
 -- What was counted and what is still to be seen are all. Each of it took a byte.
-use Rattle.std.proofs.Common.{◌≡◌, ◌≤◌, ◌+◌, ◌-◌, List, length}
+use Rattle.std.proofs.Common.{◌≡◌, ◌≤◌, ◌+◌, ◌-◌, List, length, ℕ}
 use Rattle.dvi_ops.specs.Fonts.{WidthsByName}
 use Rattle.dvi_ops.specs.Instruction.{Definition}
 use Rattle.dvi_read.specs.PageMarks.{HasGlyphWidths}
 use Rattle.dvi_read.specs.Seen.{SeenItem}
-use Rattle.dvi_read.specs.SeenAhead.{IsSameFile, IsSeenAhead}
+use Rattle.dvi_read.specs.SeenAhead.{AreTextsAhead, IsSameFile, IsSeenAhead}
 use Rattle.boxglue_calls.specs.Private.MarkRows.{marks_among, pages_among}
 use Rattle.boxglue_calls.proofs.RowSteps.{HasCounted}
 use Rattle.boxglue_calls.proofs.mark_rows.count_rows.Given as goal
@@ -14,8 +14,8 @@ invariant-loop-sight l = record {
   some : (seen : List SeenItem) × IsSeenAhead l.sights seen;
   begun : (seen : List SeenItem) → IsSeenAhead l.initial.sights seen → (rest : List SeenItem) × IsSeenAhead l.sights rest × (l.counts.pages + pages_among rest ≡ pages_among seen)
       × (l.counts.marks + length (marks_among rest) ≡ length (marks_among seen));
-  rows : (metrics : WidthsByName) (table : List Definition) (seen : List SeenItem) → IsSeenAhead l.initial.sights seen → HasGlyphWidths metrics table l.initial.sights.fonts (marks_among seen)
-      → HasCounted metrics table l.initial.sights seen l.sights;
+  rows : (metrics : WidthsByName) (table : List Definition) (places : List ℕ) (seen : List SeenItem) → IsSeenAhead l.initial.sights seen → AreTextsAhead l.initial.sights places
+      → HasGlyphWidths metrics table l.initial.sights.fonts (marks_among seen) → HasCounted metrics table l.initial.sights places seen l.sights;
   few : l.counts.pages + l.counts.marks ≤ l.sights.at;
   same : IsSameFile l.initial.sights l.sights;
 }

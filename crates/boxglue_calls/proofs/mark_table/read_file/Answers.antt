@@ -4,7 +4,7 @@ use Rattle.std.specs.Borrow.{Bor}
 use Rattle.dvi_ops.specs.Fonts.{definitions}
 use Rattle.dvi_ops.specs.Tokens.{token_instructions}
 use Rattle.dvi_ops.specs.View.{units as view_units}
-use Rattle.dvi_read.specs.PageMarks.{HasGlyphWidths, marks_of}
+use Rattle.dvi_read.specs.PageMarks.{HasGlyphWidths, marks_of, text_places}
 use Rattle.dvi_read.specs.declared.fonts.ReadFonts.{ReadFonts}
 use Rattle.tfm_core.specs.FileWidths.{file_widths}
 use Rattle.tfm_core.specs.NamedBytes.{NamedBytes}
@@ -29,6 +29,8 @@ returns-in-Ok c =
         units_are = ap view_units c.units-units.ensures ∙ checked.units.same file.frame;
         ahead = sights.ensures.ahead pages has;
         all = sights.ensures.all pages has;
+        texts = sights.ensures.texts (text_places 0 file.frame.front) (checked.texts file.frame);
+        begun = sights.ensures.place;
         bytes_are = ap (λ (b : Bor (List ℕ)). b.now) sights.ensures.bytes ∙ checked.bytes;
         widths = subst (λ (fonts : ReadFonts). HasGlyphWidths (file_widths files) (definitions (token_instructions file.frame.front ++ token_instructions file.frame.tail)) fonts (marks_of pages))
             (sym sights.ensures.fonts) (checked.widths file.frame pages has);

@@ -1,10 +1,11 @@
 -- What an instruction shows is next; at the place of post nothing is left.
 use Rattle.std.proofs.Common.{List, ℕ, Option, Some, arith, refl, subst, ◌∙◌}
 use Rattle.std.specs.Borrow.{Bor}
-use Rattle.dvi_read.specs.SeenAhead.{EndsText, ShowsFirst}
+use Rattle.dvi_read.specs.SeenAhead.{EndsText, PassesText, ShowsFirst}
 use Rattle.dvi_read.specs.declared.sights.Sight.{Sight}
 use Rattle.dvi_read.proofs.AgainLemmas.{same_file, same_then}
 use Rattle.dvi_read.proofs.SightLemmas.{all_seen}
+use Rattle.dvi_read.proofs.TextLemmas.{none_ahead, none_passed}
 use Rattle.dvi_read.proofs.sights.Sights.next_sight.Goals as goal
 
 pub returns-in-Some-clause-next : goal.returns-in-Some-clause-next
@@ -12,6 +13,13 @@ returns-in-Some-clause-next c = λ seen a. c.in-Some.ensures.next seen (c.loop-s
 
 pub returns-clause-next : goal.returns-clause-next
 returns-clause-next c = λ seen a. all_seen c.loop-self.self seen (omega arith) (c.loop-self.invariant.same seen a)
+
+pub returns-in-Some-clause-texts : goal.returns-in-Some-clause-texts
+returns-in-Some-clause-texts c = λ places has. c.in-Some.ensures.texts places (c.loop-self.invariant.texts places has)
+
+pub returns-clause-texts : goal.returns-clause-texts
+returns-clause-texts c = λ places has.
+    none_ahead c.loop-self.self.bytes.now c.loop-self.self.at c.loop-self.self.post places (omega arith) (c.loop-self.invariant.texts places has)
 
 pub returns-in-Some-clause-text : goal.returns-in-Some-clause-text
 returns-in-Some-clause-text c =
@@ -21,7 +29,7 @@ pub returns-in-Some-clause-same : goal.returns-in-Some-clause-same
 returns-in-Some-clause-same c = same_then c.args.self.now c.loop-self.self c.step.new.self c.loop-self.invariant.file c.step.ensures.same
 
 pub loop-self-init : goal.loop-self-init
-loop-self-init c = record { ahead = c.requires; same = λ seen a. a; forward = omega arith; post = refl; file = same_file c.args.self.now }
+loop-self-init c = record { ahead = c.requires; same = λ seen a. a; texts = λ places has. has; forward = omega arith; post = refl; file = same_file c.args.self.now }
 
 pub loop-self-preserved : goal.loop-self-preserved
 loop-self-preserved c =
@@ -31,6 +39,7 @@ loop-self-preserved c =
     record {
       ahead = (seen, subst (λ (o : Option Sight). ShowsFirst seen c.step.new.self o) c.in_default.is (step.next seen a));
       same = λ seen a. subst (λ (o : Option Sight). ShowsFirst seen c.step.new.self o) c.in_default.is (step.next seen (held.same seen a));
+      texts = λ places has. none_passed c.step.new.self places (subst (λ (o : Option Sight). PassesText places c.step.new.self o) c.in_default.is (step.texts places (held.texts places has)));
       forward = omega (arith, held.forward, step.forward);
       post = step.post ∙ held.post;
       file = same_then c.args.self.now c.loop-self.self c.step.new.self held.file step.same;

@@ -1,13 +1,14 @@
 -- What is still to be seen is the same as at the beginning: nothing was seen on the way.
-use Rattle.std.proofs.Common.{◌≡◌, ◌≤◌, ◌-◌, List}
+use Rattle.std.proofs.Common.{◌≡◌, ◌≤◌, ◌-◌, List, ℕ}
 use Rattle.dvi_read.specs.Seen.{SeenItem}
-use Rattle.dvi_read.specs.SeenAhead.{IsSameFile, IsSeenAhead}
+use Rattle.dvi_read.specs.SeenAhead.{AreTextsAhead, IsSameFile, IsSeenAhead}
 use Rattle.dvi_read.proofs.sights.Sights.next_sight.Given as goal
 
 abbrev pub invariant-loop-self : goal.invariant-loop-self
 invariant-loop-self l = record {
   ahead : (seen : List SeenItem) × IsSeenAhead l.self seen;
   same : (seen : List SeenItem) → IsSeenAhead l.initial.self seen → IsSeenAhead l.self seen;
+  texts : (places : List ℕ) → AreTextsAhead l.initial.self places → AreTextsAhead l.self places;
   forward : l.initial.self.at ≤ l.self.at;
   post : l.self.post ≡ l.initial.self.post;
   file : IsSameFile l.initial.self l.self;

@@ -7,4 +7,4 @@ pub returns : goal.returns
 returns c =
     let (seen, a) = c.requires in
     let s = c.args.self.now in
-    record { ahead = λ pages has. seen_again s seen pages a has; same = record { bytes = refl; from = refl; post = refl; most = refl; fonts = (s.fonts.current, refl) } }
+    record { ahead = λ pages has. seen_again s seen pages a has; place = refl; same = record { bytes = refl; from = refl; post = refl; most = refl; fonts = (s.fonts.current, refl) } }

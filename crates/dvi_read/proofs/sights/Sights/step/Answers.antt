@@ -3,6 +3,7 @@ use Rattle.std.proofs.Common.{ℕ, arith, subst, sym}
 use Rattle.dvi_ops.specs.View.{view}
 use Rattle.dvi_read.specs.SeenAhead.{EndsText}
 use Rattle.dvi_read.proofs.SightLemmas.{now_read, one_there, text_ends}
+use Rattle.dvi_read.proofs.TextLemmas.{texts_passed}
 use Rattle.dvi_read.proofs.sights.Sights.step.Goals as goal
 
 pub unreachable-requires : goal.unreachable-requires
@@ -26,6 +27,14 @@ returns-clause-text c =
     let high = a.rest.high in
     subst (λ (n : ℕ). EndsText s.bytes.now n c.take.result) (sym c.take.ensures.place)
     (text_ends s.bytes.now s.at c.in-Ok.next (view c.in-Ok.op) c.take.result a.rest.small found.after (omega (arith, found.end_bounded, high)) found.found c.take.ensures.text)
+
+pub returns-clause-texts : goal.returns-clause-texts
+returns-clause-texts c = λ places has.
+    let s = c.args.self.now in
+    let (seen, a) = c.requires.ahead in
+    let found = c.in-Ok.ensures in
+    texts_passed s c.take.new.self c.in-Ok.next (view c.in-Ok.op) c.take.result places (omega (arith, found.after)) found.end_bounded a.rest.high found.found c.take.ensures.place c.take.ensures.post
+    c.take.ensures.same.bytes (c.take.ensures.begins c.in-Ok.next) has
 
 pub returns-clause-same : goal.returns-clause-same
 returns-clause-same c =

@@ -1,9 +1,12 @@
 -- A page begins or ends, or the mark of an instruction comes next.
-use Rattle.std.proofs.Common.{rules, ◌≡◌, false, true, ap, refl}
+use Rattle.std.proofs.Common.{rules, ◌≡◌, false, true, ℕ, ap, refl, sym}
 use Rattle.dvi_ops.specs.Body.{instruction_acts, bounded_acts}
+use Rattle.dvi_ops.specs.Instruction.{Instruction}
 use Rattle.dvi_ops.specs.View.{view}
 use Rattle.dvi_read.specs.PageMarks.{read_width}
+use Rattle.dvi_read.specs.PageMarks.{text_place}
 use Rattle.dvi_read.proofs.SightLemmas.{began, drawn_texts, draws_on, drew, ended, no_eop, read_first, text_shown}
+use Rattle.dvi_read.proofs.TextLemmas.{none_outside, place_shown}
 use Rattle.dvi_read.proofs.sights.Sights.take.Goals as goal
 
 pub returns-then-not-self-clause-next : goal.returns-then-not-self-clause-next
@@ -39,6 +42,7 @@ returns-in-Some c =
       next = λ seen a. drew (view c.args.op.now) s seen a c.draw.new.fonts c.draw.new.page c.draw.result _ place within fonts draw.counts draw.ready draw.draws c.in-Some.is;
       place = refl;
       text = text_shown (view c.args.op.now) c.draw.result _ texts c.in-Some.is;
+      begins = λ end. place_shown end (view c.args.op.now) c.draw.result _ texts c.in-Some.is;
       post = refl;
       same = record { bytes = refl; from = refl; post = refl; most = refl; fonts = (place, fonts) };
     }
@@ -55,6 +59,7 @@ returns-in-None c =
       next = λ seen a. drew (view c.args.op.now) s seen a c.draw.new.fonts c.draw.new.page c.draw.result _ place within fonts draw.counts draw.ready draw.draws c.in-None.is;
       place = refl;
       text = text_shown (view c.args.op.now) c.draw.result _ texts c.in-None.is;
+      begins = λ end. place_shown end (view c.args.op.now) c.draw.result _ texts c.in-None.is;
       post = refl;
       same = record { bytes = refl; from = refl; post = refl; most = refl; fonts = (place, fonts) };
     }
@@ -70,3 +75,18 @@ returns-in-Eop-clause-same c =
 pub returns-then-not-begin-clause-same : goal.returns-then-not-begin-clause-same
 returns-then-not-begin-clause-same c =
     let s = c.args.self.now in record { bytes = refl; from = refl; post = refl; most = refl; fonts = (s.fonts.current, refl) }
+
+pub returns-then-not-self-clause-begins : goal.returns-then-not-self-clause-begins
+returns-then-not-self-clause-begins c = λ end.
+    let s = c.args.self.now in
+    let (seen, a) = c.requires in
+    let outside : s.inside ≡ false = search rules in none_outside end (view c.args.op.now) s seen a outside
+
+pub returns-then-not-begin-clause-begins : goal.returns-then-not-begin-clause-begins
+returns-then-not-begin-clause-begins c = λ end.
+    let s = c.args.self.now in
+    let (seen, a) = c.requires in
+    let outside : s.inside ≡ false = search rules in none_outside end (view c.args.op.now) s seen a outside
+
+pub returns-in-Eop-clause-begins : goal.returns-in-Eop-clause-begins
+returns-in-Eop-clause-begins c = λ end. sym (ap (λ (i : Instruction). text_place end i) (ap view c.in-Eop.is))

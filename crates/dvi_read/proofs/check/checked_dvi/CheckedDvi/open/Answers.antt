@@ -12,6 +12,8 @@ use Rattle.dvi_read.specs.PageMarks.{HasGlyphWidths, marks_of}
 use Rattle.dvi_read.specs.SeenAhead.{HasRest}
 use Rattle.dvi_read.specs.declared.fonts.ReadFonts.{ReadFonts}
 use Rattle.dvi_read.proofs.CheckedLemmas.{checked_fault, checked_pages, checked_widths, rest_room}
+use Rattle.dvi_read.proofs.FaultLemmas.{post_within}
+use Rattle.dvi_read.proofs.TextLemmas.{starts_texts}
 use Rattle.dvi_read.proofs.OpenLemmas.{IsRefused, refused, units_of_post}
 use Rattle.dvi_read.proofs.check.checked_dvi.CheckedDvi.open.Goals as goal
 
@@ -83,3 +85,12 @@ returns-clause-widths c = λ f pages has.
 pub returns-clause-room : goal.returns-clause-room
 returns-clause-room c = λ pages has.
     let front = c.in_ok-ending.field-0 in rest_room c.args.bytes.now front.from front.ending.post c.max_pushes.result c.fonts_of.result pages has
+
+pub returns-clause-texts : goal.returns-clause-texts
+returns-clause-texts c = λ f.
+    let front = c.in_ok-ending.field-0 in
+    let ending = front.ending in
+    let starts = c.in_ok-ending.ensures.ok in
+    let bytes = c.args.bytes.now in
+    starts_texts bytes ending.post ending.after ending.last (postamble ending.stop) front.chain.items front.from starts
+    (post_within c.args.files.now bytes ending.post ending.after ending.last (postamble ending.stop) front.chain.items starts.chained.framed) f

@@ -15,3 +15,6 @@ returns-clause-ahead c = λ pages has.
 
 pub returns-clause-all : goal.returns-clause-all
 returns-clause-all c = λ pages has. has
+
+pub returns-clause-texts : goal.returns-clause-texts
+returns-clause-texts c = λ places has. has
