@@ -5,7 +5,6 @@ ghost use Rattle.dvi_ops.specs.File.{MarkedPage};
 ghost use Rattle.dvi_ops.specs.Fonts.{WidthsByName};
 ghost use Rattle.dvi_ops.specs.Instruction.{Definition};
 ghost use Rattle.dvi_read.specs.PageMarks.{HasGlyphWidths};
-ghost use Rattle.dvi_read.specs.ReadFonts.{HaveByteCodes};
 ghost use Rattle.dvi_read.specs.Seen.{SeenItem};
 ghost use Rattle.dvi_read.specs.SeenAhead.{AreTextsAhead, IsSameFile, IsSeenAhead, sight_of};
 ghost use Rattle.dvi_scan.specs.View.{mark_of};
@@ -91,7 +90,7 @@ fn size_in_32(size: usize) -> u32
 
 /// The row of the mark that was seen last.
 fn mark_row(mark: &Mark<'_>, sights: &Sights<'_>) -> DviMark
-    requires { HaveByteCodes sights.now.fonts }
+    requires { (seen : List SeenItem) × IsSeenAhead sights.now seen }
     ensures { result ≡ row_of sights.now.fonts sights.now.at (mark_of mark.now) }
 {
     match *mark {
@@ -158,7 +157,7 @@ fn write_sight(
     pages: &mut [DviPage],
     marks: &mut [DviMark],
 )
-    requires codes { HaveByteCodes sights.now.fonts }
+    requires ahead { (seen : List SeenItem) × IsSeenAhead sights.now seen }
     requires place { HasPlace sight.now written.old (mark_outputs pages.old marks.old []) }
     ensures { WritesSight sight.now sights.now written.old written.new (mark_outputs pages.old marks.old []) (mark_outputs pages.new marks.new []) }
 {

@@ -1,118 +1,224 @@
--- The pages and the marks of a checked file, one after the other.
-use Rattle.std.proofs.Common.{◌≡◌, ◌≤◌, ◌<◌, ◌-◌, ◌++◌, [], ◌∷◌, List, map, suc, ℕ, ℤ, Option, Some, None, append_assoc, arith, refl, sym, ◌∙◌, ap, subst}
-use Rattle.std.specs.Prelude.{slice_get}
-use Rattle.std.proofs.lemmas.List.{map-append}
+-- The instructions of a checked file up to the beginning of a page, and those of the page.
+use Rattle.std.proofs.Common.{◌≡◌, ◌≢◌, ◌≤◌, ◌<◌, ◌+◌, ◌-◌, ◌++◌, if◌then◌else◌, [], ◌∷◌, Bool, true, false, List, drop, length, map, nat_lt, reverse, slice_get, take, suc, ℕ, ℤ, Option, Some, None, append-nil, append_assoc, arith, length-append, refl, sym, ◌∙◌, ap, ap₂, subst}
+use Rattle.std.proofs.lemmas.Bool.{ltb-false, ltb-true}
+use Rattle.std.proofs.lemmas.Option.{slice_get_past}
 use Rattle.scaled_core.specs.Mark.{Mark}
+use Rattle.scaled_core.proofs.EachOf.{all_front}
+use Rattle.dvi_ops.specs.Body.{Position, DviState, Meaning, Acts, instruction_acts, bounded_acts, start}
 use Rattle.dvi_ops.specs.File.{MarkedPage}
-use Rattle.dvi_scan.specs.View.{mark_of}
+use Rattle.dvi_ops.specs.Fonts.{selection_of, selections}
+use Rattle.dvi_ops.specs.Instruction.{Nop, FontDef, Instruction, Do, Push, Pop, Bop, Eop}
+use Rattle.dvi_ops.specs.Table.{Spells}
+use Rattle.dvi_ops.specs.Tokens.{token_instructions}
+use Rattle.dvi_scan.proofs.TurnLemmas.{broken_turn}
+use Rattle.dvi_scan.proofs.WidthLemmas.{one_width}
+use Rattle.dvi_scan.specs.Drawing.{constant_width}
+use Rattle.dvi_scan.specs.Execution.{BreaksTurn, inside_of}
+use Rattle.dvi_scan.specs.Pass.{PassStateView, Between, Inside, execute, passes, then_pass, with_marks}
+use Rattle.dvi_scan.specs.View.{mark_of, spot_position, standing_state}
+use Rattle.dvi_scan.specs.declared.executing.OpenPage.{OpenPage}
+use Rattle.dvi_scan.specs.declared.fault.DviCause.{DviCause}
 use Rattle.dvi_scan.specs.declared.page.Mark.{Mark as PassMark}
-use Rattle.dvi_read.specs.Seen.{SeenItem, Marked, seen_of}
-use Rattle.dvi_read.specs.SeenAhead.{IsSeenAhead, ShowsNext}
-use Rattle.dvi_read.specs.Private.PageAhead.{IsInPage, ShowsMark}
-use Rattle.dvi_read.specs.declared.sights.Sight.{Sight}
-use Rattle.dvi_read.specs.declared.sights.Sight.TheVariants as sights
-use Rattle.dvi_read.specs.declared.sights.Sights.{Sights}
+use Rattle.dvi_scan.specs.declared.page.Position.{Position as Spot}
+use Rattle.dvi_read.specs.PageMarks.{read_width}
+use Rattle.dvi_read.specs.ReadFonts.{FontIsRead, HasCurrent, asked_width, code_in}
+use Rattle.dvi_read.specs.Private.OnePage.{EndsPage, HasRestAt}
+use Rattle.dvi_read.specs.SeenAhead.{HasCheckedPages, HasRest}
+use Rattle.dvi_read.specs.Steps.{FontsAreRead}
+use Rattle.dvi_read.specs.declared.check.checked_dvi.CheckedDvi.{CheckedDvi}
+use Rattle.dvi_read.specs.declared.fonts.ReadFonts.{ReadFonts}
+use Rattle.dvi_read.proofs.SeenLemmas.{Continues, end_turn}
+use Rattle.dvi_read.proofs.SightLemmas.{asked_now, first_read, goes_on, none_left, rest_after}
 
--- A mark is one of the open page.
-pub mark_first : (marks : List Mark) (pages : List MarkedPage) (new : Sights) (mark : PassMark) → ShowsNext (map Marked marks ++ seen_of pages) new (Some (sights.Mark mark)) → ShowsMark marks pages new (Some mark)
-mark_first [] [] new mark (rest, is, ahead) = absurd cc
-mark_first [] (page ∷ pages) new mark (rest, is, ahead) = absurd cc
-mark_first (first ∷ marks) pages new mark (rest, is, ahead) =
-    let same : first ≡ mark_of mark = cc in
-    let left : map Marked marks ++ seen_of pages ≡ rest = cc in
-    (marks, ap (λ (m : Mark). m ∷ marks) same, subst (λ (seen : List SeenItem). IsSeenAhead new seen) (sym left) ahead)
+-- The pages that have ended.
+abbrev pages_ended : PassStateView → List MarkedPage
+pages_ended (Between pages) = pages
+pages_ended (Inside pages counts marks stack s) = pages
 
--- The counts are those of the next page, and the open one had no more marks.
-pub record BeginsNext (marks : List Mark) (pages : List MarkedPage) (new : Sights) (counts : List ℤ) : Type 0 where
-  pub none : marks ≡ []
-  pub page : MarkedPage
-  pub rest : List MarkedPage
-  pub pages_are : pages ≡ page ∷ rest
-  pub counts_are : page.counts ≡ counts
-  pub inside : IsInPage new page.marks rest
+-- The number of pages that have begun.
+abbrev pages_begun : PassStateView → ℕ
+pages_begun (Between pages) = length pages
+pages_begun (Inside pages counts marks stack s) = suc (length pages)
 
-pub page_first : (marks : List Mark) (pages : List MarkedPage) (new : Sights) (counts : List ℤ) → ShowsNext (map Marked marks ++ seen_of pages) new (Some (sights.Page counts)) → BeginsNext marks pages new counts
-page_first [] [] new counts (rest, is, ahead) = absurd cc
-page_first [] (page ∷ pages) new counts (rest, is, ahead) =
-    let left : map Marked page.marks ++ seen_of pages ≡ rest = cc in
-    record {
-      none = refl;
-      page = page;
-      rest = pages;
-      pages_are = refl;
-      counts_are = cc;
-      inside = subst (λ (seen : List SeenItem). IsSeenAhead new seen) (sym left) ahead;
-    }
-page_first (first ∷ marks) pages new counts (rest, is, ahead) = absurd cc
+-- The number of pages that an instruction begins.
+abbrev pub begins : Instruction → ℕ
+begins (Bop counts pointer) = 1
+begins i = 0
 
--- Nothing comes after the last mark of the last page.
-pub none_first : (marks : List Mark) (pages : List MarkedPage) → map Marked marks ++ seen_of pages ≡ [] → (marks ≡ []) × (pages ≡ [])
-none_first [] [] is = (refl, refl)
-none_first [] (page ∷ pages) is = absurd cc
-none_first (first ∷ marks) pages is = absurd cc
+-- What an instruction does to the pages: those that have ended stay, and so many more have begun.
+record KeepsPages (more_begun : ℕ) (p q : PassStateView) : Type 0 where
+  pub more : List MarkedPage
+  pub ended : pages_ended q ≡ pages_ended p ++ more
+  pub begun : pages_begun q ≡ more_begun + pages_begun p
 
--- What was asked for is the page with the index `left` of those that are still to come after these marks.
-pub record IsBefore (s : Sights) (asked : Option MarkedPage) (left : ℕ) : Type 0 where
-  pub marks : List Mark
-  pub rest : List MarkedPage
-  pub asked_is : slice_get rest left ≡ asked
-  pub ahead : IsInPage s marks rest
+none_ended : (n : ℕ) (p q r : PassStateView) → q ≡ r → pages_ended q ≡ pages_ended p → pages_begun q ≡ n + pages_begun p → KeepsPages n p r
+none_ended n p q r same ended begun =
+    record { more = []; ended = sym (ap pages_ended same) ∙ (ended ∙ sym (append-nil (pages_ended p))); begun = sym (ap pages_begun same) ∙ begun }
 
-pub before_all : (s : Sights) (pages : List MarkedPage) (index : ℕ) → IsSeenAhead s (seen_of pages) → IsBefore s (slice_get pages index) index
-before_all s pages index ahead = record { marks = []; rest = pages; asked_is = refl; ahead = ahead }
+drawn_keeps : (pages : List MarkedPage) (counts : List ℤ) (marks : List Mark) (stack : List Position) (s : DviState) (m : Meaning) (q : PassStateView)
+    → with_marks pages counts marks stack m ≡ Some q → KeepsPages 0 (Inside pages counts marks stack s) q
+drawn_keeps pages counts marks stack s None q e = absurd cc
+drawn_keeps pages counts marks stack s (Some (more, t)) q e =
+    let same : Inside pages counts (marks ++ more) stack t ≡ q = cc in none_ended 0 (Inside pages counts marks stack s) (Inside pages counts (marks ++ more) stack t) q same refl (omega arith)
 
-module _ (s new : Sights) (asked : Option MarkedPage) (left : ℕ) (before : IsBefore s asked left) where
-  -- A mark is passed over.
-  pub mark_passed : (mark : PassMark) → ShowsNext (map Marked before.marks ++ seen_of before.rest) new (Some (sights.Mark mark)) → IsBefore new asked left
-  mark_passed mark shows =
-      let (rest, is, ahead) = mark_first before.marks before.rest new mark shows in
-      record { marks = rest; rest = before.rest; asked_is = before.asked_is; ahead = ahead }
+push_keeps : (b : Bool) (pages : List MarkedPage) (counts : List ℤ) (marks : List Mark) (stack more : List Position) (s : DviState) (q : PassStateView)
+    → (if b then Some (Inside pages counts marks more s) else None) ≡ Some q → KeepsPages 0 (Inside pages counts marks stack s) q
+push_keeps true pages counts marks stack more s q e =
+    let same : Inside pages counts marks more s ≡ q = cc in none_ended 0 (Inside pages counts marks stack s) (Inside pages counts marks more s) q same refl (omega arith)
+push_keeps false pages counts marks stack more s q e = absurd cc
 
-  pub other_passed : (found : Sight) → ((counts : List ℤ) → found ≡ sights.Page counts → ⊥) → ShowsNext (map Marked before.marks ++ seen_of before.rest) new (Some found) → IsBefore new asked left
-  other_passed (sights.Page counts) other shows = absurd (other counts refl)
-  other_passed (sights.Mark mark) other shows = mark_passed mark shows
+turn_keeps : (does : Acts) (most : ℕ) (i : Instruction) (p q : PassStateView) → execute does most i p ≡ Some q → KeepsPages (begins i) p q
+turn_keeps does most (Do Nop) (Between pages) q e = let same : Between pages ≡ q = cc in none_ended 0 (Between pages) (Between pages) q same refl (omega arith)
+turn_keeps does most (Do (FontDef d)) (Between pages) q e = let same : Between pages ≡ q = cc in none_ended 0 (Between pages) (Between pages) q same refl (omega arith)
+turn_keeps does most (Bop counts pointer) (Between pages) q e =
+    let same : Inside pages counts [] [] start ≡ q = cc in none_ended 1 (Between pages) (Inside pages counts [] [] start) q same refl (omega arith)
+turn_keeps does most i (Between pages) q e = absurd cc
+turn_keeps does most (Do leaf) (Inside pages counts marks stack s) q e = drawn_keeps pages counts marks stack s (does leaf s) q e
+turn_keeps does most Push (Inside pages counts marks stack s) q e = push_keeps (nat_lt (length stack) most) pages counts marks stack (s.place ∷ stack) s q e
+turn_keeps does most Pop (Inside pages counts marks [] s) q e = absurd cc
+turn_keeps does most Pop (Inside pages counts marks (p ∷ stack) s) q e =
+    let after : PassStateView = Inside pages counts marks stack (record { place = p; font = s.font }) in
+    let same : after ≡ q = cc in none_ended 0 (Inside pages counts marks (p ∷ stack) s) after q same refl (omega arith)
+turn_keeps does most Eop (Inside pages counts marks stack s) q e =
+    let page : MarkedPage = record { counts = counts; marks = marks } in
+    let is : q ≡ Between (pages ++ page ∷ []) = end_turn does most pages counts marks stack s q e in
+    let size = length-append pages (page ∷ []) in
+    record { more = page ∷ []; ended = ap pages_ended is; begun = ap pages_begun is ∙ (omega (arith, size)) }
+turn_keeps does most i (Inside pages counts marks stack s) q e = absurd cc
 
-  -- A page before the one that was asked for is passed over.
-  pub page_passed : (counts : List ℤ) (less : ℕ) → left ≡ suc less → ShowsNext (map Marked before.marks ++ seen_of before.rest) new (Some (sights.Page counts)) → IsBefore new asked less
-  page_passed counts less more shows =
-      let first = page_first before.marks before.rest new counts shows in
-      record {
-        marks = first.page.marks;
-        rest = first.rest;
-        asked_is = sym (ap (λ (n : ℕ). slice_get (first.page ∷ first.rest) n) more) ∙ (sym (ap (λ (ps : List MarkedPage). slice_get ps left) first.pages_are) ∙ before.asked_is);
-        ahead = first.inside;
-      }
+-- The pages that have ended stay.
+abbrev EndedStay : PassStateView → PassStateView → Type 0
+EndedStay p q = (more : List MarkedPage) × (pages_ended q ≡ pages_ended p ++ more)
 
-  -- The page that was asked for begins.
-  pub counts_here : (counts : List ℤ) → left ≡ 0 → ShowsNext (map Marked before.marks ++ seen_of before.rest) new (Some (sights.Page counts))
-      → (page : MarkedPage) × (rest : List MarkedPage) × (asked ≡ Some page) × (page.counts ≡ counts) × IsInPage new page.marks rest
-  counts_here counts now shows =
-      let first = page_first before.marks before.rest new counts shows in
-      let here : asked ≡ Some first.page = sym before.asked_is ∙ (ap (λ (ps : List MarkedPage). slice_get ps left) first.pages_are ∙ ap (λ (n : ℕ). slice_get (first.page ∷ first.rest) n) now) in
-      (first.page, first.rest, here, first.counts_are, first.inside)
-
-  -- There is no such page.
-  pub ended : map Marked before.marks ++ seen_of before.rest ≡ [] → asked ≡ None
-  ended is = let (none, no_page) = none_first before.marks before.rest is in sym before.asked_is ∙ ap (λ (ps : List MarkedPage). slice_get ps left) no_page
-
--- A sight is before the place of post.
-pub fewer : (old new : Sights) (seen : List SeenItem) (found : Sight) → new.post ≡ old.post → old.at < new.at → ShowsNext seen new (Some found) → new.post - new.at < old.post - old.at
-fewer old new seen found post forward (rest, is, ahead) = by_numbers old.at new.at old.post new.post post forward ahead.rest.low
+ended_pass : (does : Acts) (most : ℕ) (is : List Instruction) (p q : PassStateView) → passes does most is p ≡ Some q → EndedStay p q
+ended_pass does most [] p q e = let same : p ≡ q = cc in ([], sym (ap pages_ended same) ∙ sym (append-nil (pages_ended p)))
+ended_pass does most (i ∷ is) p q e = by_turn (execute does most i p) refl (λ r later. ended_pass does most is r q later) e
   where
-    by_numbers : (at next post later : ℕ) → later ≡ post → at < next → next ≤ later → later - next < post - at
-    by_numbers at next post later same forward within = omega arith
+    by_turn : (o : Option PassStateView) → execute does most i p ≡ o → ((r : PassStateView) → passes does most is r ≡ Some q → EndedStay r q) → then_pass (passes does most is) o ≡ Some q → EndedStay p q
+    by_turn None turn later e = absurd cc
+    by_turn (Some r) turn later e =
+        let keeps = turn_keeps does most i p r turn in
+        let (more, rest) = later r e in (keeps.more ++ more, rest ∙ (ap (λ (ps : List MarkedPage). ps ++ more) keeps.ended ∙ append_assoc (pages_ended p) keeps.more more))
 
--- One more mark.
-pub one_more : (found : List PassMark) (more : List PassMark) (mark : PassMark) (marks rest later : List Mark) → more ≡ found ++ mark ∷ [] → rest ≡ mark_of mark ∷ later → map mark_of found ++ rest ≡ marks
-    → map mark_of more ++ later ≡ marks
-one_more found more mark marks rest later grown is whole =
-    ap (λ (ms : List PassMark). map mark_of ms ++ later) grown
-    ∙ (ap (λ (ms : List Mark). ms ++ later) (map-append mark_of found (mark ∷ []))
-    ∙ (append_assoc (map mark_of found) (mark_of mark ∷ []) later ∙ (ap (λ (ms : List Mark). map mark_of found ++ ms) (sym is) ∙ whole)))
+-- A bop begins a page, where none is open.
+bop_turn : (does : Acts) (most : ℕ) (counts : List ℤ) (pointer : ℤ) (p q : PassStateView) → execute does most (Bop counts pointer) p ≡ Some q
+    → (before : List MarkedPage) × (p ≡ Between before) × (q ≡ Inside before counts [] [] start)
+bop_turn does most counts pointer (Between pages) q e = (pages, refl, cc)
+bop_turn does most counts pointer (Inside pages found marks stack s) q e = absurd cc
 
--- The counts and the marks make the page.
-abbrev made : (counts : List ℤ) → (marks : List Mark) → MarkedPage
-made counts marks = record { counts = counts; marks = marks }
+-- An instruction that begins no page.
+pub begins_none : (i : Instruction) → ((counts : List ℤ) (pointer : ℤ) → i ≢ Bop counts pointer) → begins i ≡ 0
+begins_none (Bop counts pointer) other = absurd (other counts pointer refl)
+begins_none i other = refl
 
-pub page_is : (page : MarkedPage) (counts : List ℤ) (marks : List Mark) → page.counts ≡ counts → marks ≡ page.marks → made counts marks ≡ page
-page_is page counts marks same all = ap (λ (cs : List ℤ). made cs marks) (sym same) ∙ ap (λ (ms : List Mark). made page.counts ms) all
+-- The page with this index is that with the index `left` of those that have not begun.
+pub record IsBefore (c : CheckedDvi) (pages : List MarkedPage) (index at left : ℕ) : Type 0 where
+  pub here : PassStateView
+  pub count : pages_begun here + left ≡ index
+  pub rest : HasRestAt c at here pages
+
+pub before_all : (c : CheckedDvi) (pages : List MarkedPage) (index : ℕ) → HasCheckedPages c pages → IsBefore c pages index c.from index
+before_all c pages index has = record { here = Between []; count = omega arith; rest = has }
+
+module _ (c : CheckedDvi) (pages : List MarkedPage) (index at left : ℕ) (before : IsBefore c pages index at left) where
+  -- The file has no such page.
+  pub none_begins : c.post ≤ at → slice_get pages index ≡ None
+  none_begins past =
+      let here = none_left c.bytes.now at c.post c.most c.fonts before.here pages past before.rest in
+      let count = before.count in
+      let begun : pages_begun before.here ≡ length pages = ap pages_begun here in slice_get_past pages index (omega (arith, count, begun))
+
+  module _ (i : Instruction) (next : ℕ) (forward : at < next) (within : next ≤ c.post) (spelled : Spells i (take (next - at) (drop at c.bytes.now))) where
+    read : HasRest c.bytes.now next c.post c.most c.fonts (i ∷ []) before.here pages
+    read = first_read c.bytes.now at c.post c.most c.fonts before.here pages i next forward within spelled before.rest
+
+    turned : Continues (bounded_acts (instruction_acts (read_width c.fonts))) c.most i (token_instructions read.rest) before.here (Between pages)
+    turned = goes_on c.bytes.now next c.post c.most c.fonts before.here pages i read
+
+    rest : HasRestAt c next turned.after pages
+    rest = rest_after c.bytes.now next c.post c.most c.fonts before.here pages i turned.after c.fonts c.fonts.current refl read turned.later
+
+    -- The instruction is passed over, and so is the page that it begins, if it begins one.
+    pub passed_over : (less : ℕ) → left ≡ begins i + less → IsBefore c pages index next less
+    passed_over less is =
+        let keeps = turn_keeps (bounded_acts (instruction_acts (read_width c.fonts))) c.most i before.here turned.after turned.turns in
+        let begun = keeps.begun in
+        let count = before.count in record { here = turned.after; count = omega (arith, begun, count, is); rest = rest }
+
+    -- It begins the page.
+    pub page_begins : (counts : List ℤ) (pointer : ℤ) → i ≡ Bop counts pointer → left ≡ 0
+        → (earlier : List MarkedPage) × (length earlier ≡ index) × HasRestAt c next (Inside earlier counts [] [] start) pages
+    page_begins counts pointer is now =
+        let turns = subst (λ (i : Instruction). execute (bounded_acts (instruction_acts (read_width c.fonts))) c.most i before.here ≡ Some turned.after) is turned.turns in
+        let (earlier, here, after) = bop_turn (bounded_acts (instruction_acts (read_width c.fonts))) c.most counts pointer before.here turned.after turns in
+        let begun : pages_begun before.here ≡ length earlier = ap pages_begun here in
+        let count = before.count in
+        (earlier, omega (arith, begun, count, now), subst (λ (p : PassStateView). HasRestAt c next p pages) after rest)
+
+-- An instruction of an open page.
+module _ (most : ℕ) (fonts : ReadFonts) (i : Instruction) (page : OpenPage) (current : (f : ℤ) → page.state.font ≡ Some f → HasCurrent f fonts) (pages : List MarkedPage) (after : PassStateView)
+    (turns : execute (bounded_acts (instruction_acts (read_width fonts))) most i (inside_of pages page) ≡ Some after) where
+  -- It does the same with the one width that was asked.
+  turned_by_one : execute (bounded_acts (instruction_acts (constant_width (asked_width fonts (code_in i))))) most i (inside_of pages page) ≡ Some after
+  turned_by_one = one_width (read_width fonts) (asked_width fonts (code_in i)) most i (inside_of pages page) (asked_now fonts i pages page current) ∙ turns
+
+  pub no_rule_broken : (cause : DviCause) → BreaksTurn (instruction_acts (constant_width (asked_width fonts (code_in i)))) most i (inside_of pages page) cause → ⊥
+  no_rule_broken cause broken =
+      let none = broken_turn (instruction_acts (constant_width (asked_width fonts (code_in i)))) most i (inside_of pages page) cause broken in
+      let both : Some after ≡ None = sym turned_by_one ∙ none in cc
+
+  pub drawn_on : (new : OpenPage) → execute (bounded_acts (instruction_acts (constant_width (asked_width fonts (code_in i))))) most i (inside_of pages page) ≡ Some (inside_of pages new)
+      → after ≡ inside_of pages new
+  drawn_on new turn = let both : Some after ≡ Some (inside_of pages new) = sym turned_by_one ∙ turn in cc
+
+-- A page that has begun, without marks and without saved places.
+pub page_opened : (before : List MarkedPage) (counts : List ℤ) (marks : List PassMark) (places : List Spot) → marks ≡ [] → places ≡ []
+    → Inside before counts [] [] start ≡ Inside before counts (map mark_of marks) (reverse (map spot_position places)) start
+page_opened before counts marks places no_marks no_places =
+    ap₂ (λ (ms : List PassMark) (ps : List Spot). Inside before counts (map mark_of ms) (reverse (map spot_position ps)) start) (sym no_marks) (sym no_places)
+
+-- The page after some others.
+page_after : (before later : List MarkedPage) (page : MarkedPage) → slice_get (before ++ page ∷ later) (length before) ≡ Some page
+page_after [] later page = refl
+page_after (first ∷ before) later page = page_after before later page
+
+-- The rest of an open page.
+module _ (bytes : List ℕ) (at post most : ℕ) (fonts : ReadFonts) (before : List MarkedPage) (page : OpenPage) (pages : List MarkedPage) (ahead : HasRest bytes at post most fonts [] (inside_of before page) pages) where
+  -- It does not end at the place of post.
+  pub some_left : at < post
+  some_left = by_size (nat_lt at post) refl
+    where
+      by_size : (b : Bool) → nat_lt at post ≡ b → at < post
+      by_size true is = ltb-true at post is
+      by_size false is = (let here = none_left bytes at post most fonts (inside_of before page) pages (ltb-false at post is) ahead in absurd cc)
+
+  module _ (i : Instruction) (next : ℕ) (forward : at < next) (within : next ≤ post) (spelled : Spells i (take (next - at) (drop at bytes))) where
+    pub read_here : HasRest bytes next post most fonts (i ∷ []) (inside_of before page) pages
+    read_here = first_read bytes at post most fonts (inside_of before page) pages i next forward within spelled ahead
+
+    pub turned_here : Continues (bounded_acts (instruction_acts (read_width fonts))) most i (token_instructions read_here.rest) (inside_of before page) (Between pages)
+    turned_here = goes_on bytes next post most fonts (inside_of before page) pages i read_here
+
+    -- The font that it selects was read.
+    pub fonts_read : FontsAreRead fonts (selection_of i)
+    fonts_read = all_front (λ f. FontIsRead f fonts) (selection_of i) (selections (token_instructions read_here.rest)) read_here.read
+
+    -- The page goes on after it.
+    pub rest_drawn : (new : OpenPage) (chosen : ReadFonts) (place : ℕ) → chosen ≡ record fonts { current = place }
+        → ((pages : List MarkedPage) (after : PassStateView) → execute (bounded_acts (instruction_acts (read_width fonts))) most i (inside_of pages page) ≡ Some after → after ≡ inside_of pages new)
+        → HasRest bytes next post most chosen [] (inside_of before new) pages
+    rest_drawn new chosen place same draws =
+        subst (λ (p : PassStateView). HasRest bytes next post most chosen [] p pages) (draws before turned_here.after turned_here.turns)
+        (rest_after bytes next post most fonts (inside_of before page) pages i turned_here.after chosen place same read_here turned_here.later)
+
+    -- The page ends with it.
+    pub page_ends : i ≡ Eop → EndsPage before page pages
+    page_ends is =
+        let does = bounded_acts (instruction_acts (read_width fonts)) in
+        let marks = map mark_of page.marks.items in
+        let whole : MarkedPage = record { counts = page.counts; marks = marks } in
+        let turns = subst (λ (i : Instruction). execute (bounded_acts (instruction_acts (read_width fonts))) most i (inside_of before page) ≡ Some turned_here.after) is turned_here.turns in
+        let after : turned_here.after ≡ Between (before ++ whole ∷ []) = end_turn does most before page.counts marks (reverse (map spot_position page.stack.items)) (standing_state page.state) turned_here.after turns in
+        let (more, stay) = ended_pass does most (token_instructions read_here.rest) turned_here.after (Between pages) turned_here.later in
+        let all : pages ≡ (before ++ whole ∷ []) ++ more = stay ∙ ap (λ (p : PassStateView). pages_ended p ++ more) after in
+        ap (λ (ps : List MarkedPage). slice_get ps (length before)) (all ∙ append_assoc before (whole ∷ []) more) ∙ page_after before more whole

@@ -55,11 +55,11 @@ use Rattle.tfm_core.specs.Fonts.{SizedFont}
 pub asked_here : (fonts : ReadFonts) (c f : ℤ) → HasCurrent f fonts → asked_width fonts (Some c) ≡ read_width fonts f c
 asked_here fonts c f current = sym (ap (λ (o : Option ℕ). width_in (option_and_then (read_font_at fonts) o) c) current)
 
-asked_now : (fonts : ReadFonts) (i : Instruction) (page : OpenPage) → ((f : ℤ) → page.state.font ≡ Some f → HasCurrent f fonts)
-    → IsAsked (read_width fonts) i (inside_of [] page) (asked_width fonts (code_in i))
-asked_now fonts (Do (SetChar c)) page current = λ f e. asked_here fonts c f (current f e)
-asked_now fonts (Do (PutChar c)) page current = λ f e. asked_here fonts c f (current f e)
-asked_now fonts i page current = tt
+pub asked_now : (fonts : ReadFonts) (i : Instruction) (pages : List MarkedPage) (page : OpenPage) → ((f : ℤ) → page.state.font ≡ Some f → HasCurrent f fonts)
+    → IsAsked (read_width fonts) i (inside_of pages page) (asked_width fonts (code_in i))
+asked_now fonts (Do (SetChar c)) pages page current = λ f e. asked_here fonts c f (current f e)
+asked_now fonts (Do (PutChar c)) pages page current = λ f e. asked_here fonts c f (current f e)
+asked_now fonts i pages page current = tt
 
 module _ (most : ℕ) (fonts : ReadFonts) (i : Instruction) (page : OpenPage) (ready : IsReady most fonts page) where
   -- An open page without marks.
@@ -69,7 +69,7 @@ module _ (most : ℕ) (fonts : ReadFonts) (i : Instruction) (page : OpenPage) (r
   -- The instruction does the same with the one width that was asked, and without the pages and the marks that were seen.
   alone_turn : execute (bounded_acts (instruction_acts (constant_width (asked_width fonts (code_in i))))) most i (inside_of [] page) ≡ execute (bounded_acts (instruction_acts (read_width fonts))) most i (standing true [] [] page)
   alone_turn =
-      one_width (read_width fonts) (asked_width fonts (code_in i)) most i (inside_of [] page) (asked_now fonts i page ready.current)
+      one_width (read_width fonts) (asked_width fonts (code_in i)) most i (inside_of [] page) (asked_now fonts i [] page ready.current)
       ∙ ap (λ (p : PassStateView). execute (bounded_acts (instruction_acts (read_width fonts))) most i p) page_alone
 
   turn_here : (pages : List MarkedPage) (marks : List Mark) → execute (bounded_acts (instruction_acts (read_width fonts))) most i (standing true pages marks page)

@@ -1,8 +1,8 @@
 -- What no contract reaches that another crate or a user can call: only proofs and private functions speak of these definitions.
 pub mod GlyphHeads
 pub mod ListingParts
+pub mod OnePage
 pub mod OpeningParts
-pub mod PageAhead
 pub mod PageMarks
 pub mod ReadFonts
 pub mod Steps

@@ -100,7 +100,7 @@ fn begin(op: &Op<'_>, page: &mut OpenPage<'_>) -> bool
 }
 
 /// Selects the font of an instruction, if it selects one. The font was read before.
-fn choose_font(op: &Op<'_>, fonts: &mut ReadFonts)
+pub(crate) fn choose_font(op: &Op<'_>, fonts: &mut ReadFonts)
     requires { FontsAreRead fonts.old (selection_of (view op.now)) }
     ensures chosen { Chooses (view op.now) fonts.old fonts.new }
     ensures fonts { (place : ℕ) × (fonts.new ≡ record fonts.old { current = place }) }
@@ -264,7 +264,7 @@ impl<'a> Sights<'a> {
 
     /// The width of a character in the font of a number; None where no page selects that font, or it has no such character. It takes no memory.
     pub fn width(&self, number: FontNumber, code: CharCode) -> Option<i32>
-        requires { HaveByteCodes self.now.fonts }
+        requires { (seen : List SeenItem) × IsSeenAhead self.now seen }
         ensures { result ≡ read_width self.now.fonts number.value code.value }
     {
         self.fonts.width_by(number, code)

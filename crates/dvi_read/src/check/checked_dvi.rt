@@ -15,7 +15,7 @@ ghost use Rattle.dvi_read.specs.declared.fault.DviFault.TheVariants.{OutOfMemory
 ghost use Rattle.tfm_core.specs.FileWidths.{file_widths};
 
 use crate::check::before_pages::{BeforePages, find_front};
-use crate::check::instruction::max_pushes;
+use crate::check::instruction::most_pushes;
 use crate::check::pages::{check_pages, finish};
 use crate::check::walk::Walk;
 use crate::fault::DviFault;
@@ -83,7 +83,7 @@ impl<'a> CheckedDvi<'a> {
             bytes,
             from,
             post: ending.post,
-            most: max_pushes(&ending),
+            most: most_pushes(&ending),
             fonts: fonts_of(walk),
             units: ending.stop.units,
         })

@@ -86,7 +86,7 @@ fn pass_on<'a>(
 }
 
 /// The greatest number of pushes that may be open at once: the depth in post, but at most `MAX_PUSHES`.
-pub(crate) fn max_pushes(ending: &FileEnd) -> usize
+pub(crate) fn most_pushes(ending: &FileEnd) -> usize
     ensures { result ≡ min max_pushes ending.now.stop.stack_depth }
 {
     MAX_PUSHES.min(usize::from(ending.stop.stack_depth))
@@ -111,6 +111,6 @@ pub fn step<'a>(
     ensures bad { IfErr result (StopsStep source.now.files.now source.now.ahead.now.keys (min max_pushes source.now.ending.now.stop.stack_depth) at
         (view op.now) walk.old) }
 {
-    pass_on(alloc, max_pushes(source.ending), op, walk)?;
+    pass_on(alloc, most_pushes(source.ending), op, walk)?;
     note(alloc, source, walk, at, op)
 }

@@ -1,76 +1,136 @@
-//! One page of a checked file. No mark of another page is kept.
+//! One page of a checked file. Of the pages before it the instructions are read alone: no mark of them is made, and no font of them is selected.
 
-ghost use Rattle.std.specs.Prelude.{◌≡◌, ◌-◌, ◌<◌, map, slice_get, IfOk, IsSome, List};
+ghost use Rattle.std.specs.Prelude.{◌≡◌, ◌≢◌, slice_get, IfOk, List, OnOk, Some, ℕ, ℤ};
 ghost use Rattle.std.specs.Option.{option_map};
+ghost use Rattle.dvi_ops.specs.Body.{bounded_acts, instruction_acts};
 ghost use Rattle.dvi_ops.specs.File.{MarkedPage};
-ghost use Rattle.dvi_scan.specs.View.{mark_of, marked_page};
-ghost use Rattle.scaled_core.specs.Mark.{Mark as MarkSeen};
-ghost use Rattle.dvi_read.specs.Seen.{seen_of};
-ghost use Rattle.dvi_read.specs.SeenAhead.{HasCheckedPages, IsSeenAhead};
-ghost use Rattle.dvi_read.specs.Private.PageAhead.{IsInPage, IsPageBegun, ShowsMark};
+ghost use Rattle.dvi_ops.specs.Fonts.{selection_of};
+ghost use Rattle.dvi_ops.specs.Instruction.{Eop};
+ghost use Rattle.dvi_ops.specs.View.{view};
+ghost use Rattle.dvi_scan.specs.Execution.{inside_of};
+ghost use Rattle.dvi_scan.specs.Pass.{PassStateView, execute};
+ghost use Rattle.dvi_scan.specs.View.{marked_page};
+ghost use Rattle.dvi_read.specs.PageMarks.{read_width};
+ghost use Rattle.dvi_read.specs.ReadFonts.{HasCurrent, HaveByteCodes};
+ghost use Rattle.dvi_read.specs.SeenAhead.{HasCheckedPages};
+ghost use Rattle.dvi_read.specs.Steps.{FontsAreRead};
+ghost use Rattle.dvi_read.specs.Private.OnePage.{EndsPage, IsOpenAt, IsPageStart};
 
 use crate::check::checked_dvi::CheckedDvi;
-use crate::sights::{Sight, Sights};
-use dvi_scan::{Mark, Page};
+use crate::fonts::{ReadFonts, width_asked};
+use crate::sights::choose_font;
+use dvi_ops::Op;
+use dvi_scan::{DviState, OpenPage, Page, PassFault, Position, read_at};
+use smallvec::SmallVec;
 use std::alloc::{AllocError, Global};
 
-/// The counts of the page with an index, from 0 on; None if there are fewer pages. What comes before is passed over.
-fn page_counts(sights: &mut Sights<'_>, index: usize) -> Option<[i32; 10]>
-    requires { (pages : List MarkedPage) × IsSeenAhead sights.old (seen_of pages) }
-    ensures { (pages : List MarkedPage) → IsSeenAhead sights.old (seen_of pages) → IsPageBegun pages index sights.new result }
+/// The beginning of a page: its counts, and the place after its bop.
+#[derive(Clone, Copy, Debug)]
+struct PageStart {
+    counts: [i32; 10],
+    at: usize,
+}
+
+/// Takes an instruction of an open page that does not end it. It takes memory for a mark or a saved place alone.
+fn draw_on<'a>(
+    most: usize,
+    op: &Op<'a>,
+    fonts: &mut ReadFonts,
+    page: &mut OpenPage<'a>,
+) -> Result<(), AllocError>
+    requires current { (f : ℤ) → page.old.state.font ≡ Some f → HasCurrent f fonts.old }
+    requires codes { HaveByteCodes fonts.old }
+    requires read { FontsAreRead fonts.old (selection_of (view op.now)) }
+    requires stays { view op.now ≢ Eop }
+    requires goes_on { (pages : List MarkedPage) × (after : PassStateView)
+        × (execute (bounded_acts (instruction_acts (read_width fonts.old))) most (view op.now) (inside_of pages page.old) ≡ Some after) }
+    ensures draws { OnOk result ((pages : List MarkedPage) (after : PassStateView)
+        → execute (bounded_acts (instruction_acts (read_width fonts.old))) most (view op.now) (inside_of pages page.old) ≡ Some after
+        → after ≡ inside_of pages page.new) }
+    ensures current { OnOk result ((f : ℤ) → page.new.state.font ≡ Some f → HasCurrent f fonts.new) }
+    ensures fonts { (place : ℕ) × (fonts.new ≡ record fonts.old { current = place }) }
 {
-    let mut left = index;
-    while let Some(sight) = sights.next_sight() {
-        let Sight::Page(counts) = sight else {
-            continue;
-        };
-        if left == 0 {
-            return Some(counts);
+    let width = width_asked(fonts, op);
+    match page.take(most, op, width) {
+        Ok(()) => {
+            choose_font(op, fonts);
+            Ok(())
         }
-        left -= 1;
+        Err(PassFault::OutOfMemory) => Err(AllocError),
+        Err(PassFault::Broken(_)) => unreachable!(),
     }
-    None
-}
-
-/// The next mark of the page whose counts came last; None after its last mark.
-fn next_mark<'a>(sights: &mut Sights<'a>) -> Option<Mark<'a>>
-    requires { (marks : List MarkSeen) × (pages : List MarkedPage) × IsInPage sights.old marks pages }
-    ensures next { (marks : List MarkSeen) (pages : List MarkedPage) → IsInPage sights.old marks pages → ShowsMark marks pages sights.new result }
-    ensures fewer { IsSome result → sights.new.post - sights.new.at < sights.old.post - sights.old.at }
-{
-    match sights.next_sight() {
-        Some(Sight::Mark(mark)) => Some(mark),
-        Some(Sight::Page(_)) => None,
-        None => None,
-    }
-}
-
-/// The marks of the page whose counts came last.
-fn page_marks<'a>(alloc: Global, sights: &mut Sights<'a>) -> Result<Vec<Mark<'a>>, AllocError>
-    requires { (marks : List MarkSeen) × (pages : List MarkedPage) × IsInPage sights.old marks pages }
-    ensures { IfOk result (λ found. (marks : List MarkSeen) (pages : List MarkedPage) → IsInPage sights.old marks pages
-        → map mark_of found.items ≡ marks) }
-{
-    let mut found = Vec::new(alloc);
-    while let Some(mark) = next_mark(sights) {
-        found.push(mark)?;
-    }
-    Ok(found)
 }
 
 impl<'a> CheckedDvi<'a> {
-    /// The page with an index, from 0 on; None if the file has fewer pages. The file is read once more, up to the end of the page. It takes memory as
-    /// `sights`, and for the marks of this page.
-    pub fn page(self, alloc: Global, index: usize) -> Result<Option<Page<'a>>, AllocError>
+    /// The beginning of the page with an index, from 0 on; None if the file has fewer pages. It takes no memory.
+    fn page_start(&self, index: usize) -> Option<PageStart>
+        requires { (pages : List MarkedPage) × HasCheckedPages self.now pages }
+        ensures { (pages : List MarkedPage) → HasCheckedPages self.now pages → IsPageStart self.now pages index result }
+    {
+        let mut left = index;
+        let mut at = self.from;
+        while at < self.post {
+            let Ok((op, next)) = read_at(self.bytes, at, self.post) else {
+                unreachable!()
+            };
+            at = next;
+            let Op::Bop { counts, .. } = op else {
+                continue;
+            };
+            if left == 0 {
+                return Some(PageStart { counts, at });
+            }
+            left -= 1;
+        }
+        None
+    }
+
+    /// Takes the instructions of an open page up to its eop. It takes memory for its marks and for the places that pushes save.
+    fn draw_page(&mut self, from: usize, page: &mut OpenPage<'a>) -> Result<(), AllocError>
+        requires current { (f : ℤ) → page.old.state.font ≡ Some f → HasCurrent f self.old.fonts }
+        requires ahead { (before : List MarkedPage) × (pages : List MarkedPage) × IsOpenAt self.old from before page.old pages }
+        ensures { OnOk result ((before : List MarkedPage) (pages : List MarkedPage)
+            → IsOpenAt self.old from before page.old pages → EndsPage before page.new pages) }
+    {
+        let mut at = from;
+        while at < self.post {
+            let Ok((op, next)) = read_at(self.bytes, at, self.post) else {
+                unreachable!()
+            };
+            if let Op::Eop = op {
+                return Ok(());
+            }
+            draw_on(self.most, &op, &mut self.fonts, page)?;
+            at = next;
+        }
+        unreachable!()
+    }
+
+    /// The page with an index, from 0 on; None if the file has fewer pages. The file is read once more, up to the end of the page. It takes memory
+    /// for the marks of this page and for the places that its pushes save.
+    pub fn page(mut self, alloc: Global, index: usize) -> Result<Option<Page<'a>>, AllocError>
         requires { (pages : List MarkedPage) × HasCheckedPages self pages }
         ensures { IfOk result (λ page. (pages : List MarkedPage) → HasCheckedPages self.entry pages
             → option_map marked_page page ≡ slice_get pages index) }
     {
-        let mut sights = self.sights(alloc)?;
-        let Some(counts) = page_counts(&mut sights, index) else {
+        let Some(begin) = self.page_start(index) else {
             return Ok(None);
         };
-        let marks = page_marks(alloc, &mut sights)?;
+        let counts = begin.counts;
+        let marks = Vec::new(alloc);
+        let stack = SmallVec::new(alloc);
+        let mut page = OpenPage {
+            counts,
+            marks,
+            stack,
+            state: DviState {
+                place: Position::START,
+                font: None,
+            },
+        };
+        self.draw_page(begin.at, &mut page)?;
+        let counts = page.counts;
+        let OpenPage { marks, .. } = page;
         Ok(Some(Page { counts, marks }))
     }
 }

@@ -13,11 +13,11 @@ pub next_sight-requires : goal.next_sight-requires
 next_sight-requires c =
     let (metrics, table, places, all, can) = c.requires in let writing = c.loop-sight.invariant metrics table places all can in (writing.rest, writing.ahead)
 
-pub write_sight-requires-clause-codes : goal.write_sight-requires-clause-codes
-write_sight-requires-clause-codes c =
+pub write_sight-requires-clause-ahead : goal.write_sight-requires-clause-ahead
+write_sight-requires-clause-ahead c =
     let (metrics, table, places, all, can) = c.requires in
     let writing = c.loop-sight.invariant metrics table places all can in
-    let (later, is, ahead) = c.in-Some.ensures.next writing.rest writing.ahead in ahead.rest.codes
+    let (later, is, ahead) = c.in-Some.ensures.next writing.rest writing.ahead in (later, ahead)
 
 pub write_sight-requires-clause-place : goal.write_sight-requires-clause-place
 write_sight-requires-clause-place c =

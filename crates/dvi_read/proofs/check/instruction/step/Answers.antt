@@ -20,7 +20,7 @@ returns-in_err-pass_on-clause-bad c =
     let fault = c.in_err-pass_on.field-0.0 in
     handed_on (StopsStep files ahead most c.args.at i c.args.walk.now) c.from_residual.result fault c.from_residual.ensures.1
     (pass_fault files ahead most c.args.at i c.args.walk.now fault c.requires.sound c.requires.current
-    (subst (λ (n : ℕ). BreaksPass n i c.args.walk.now fault) c.max_pushes.ensures c.in_err-pass_on.ensures.bad))
+    (subst (λ (n : ℕ). BreaksPass n i c.args.walk.now fault) c.most_pushes.ensures c.in_err-pass_on.ensures.bad))
 
 pub returns-clause-ok : goal.returns-clause-ok
 returns-clause-ok c =
@@ -28,7 +28,7 @@ returns-clause-ok c =
     let ahead = c.args.source.now.ahead.now.keys in
     let most = min 1024 c.args.source.now.ending.now.stop.stack_depth in
     let i = view c.args.op.now in
-    let passes = subst (λ (n : ℕ). PassesOn n i c.args.walk.now c.pass_on.new.walk) c.max_pushes.ensures c.in_ok-pass_on.ensures.ok in
+    let passes = subst (λ (n : ℕ). PassesOn n i c.args.walk.now c.pass_on.new.walk) c.most_pushes.ensures c.in_ok-pass_on.ensures.ok in
     on_ok_weaker c.note.result
     (λ (notes : Notes (file_widths files) ahead c.args.at i c.pass_on.new.walk c.note.new.walk).
     stepped files ahead most c.args.at i c.args.walk.now c.pass_on.new.walk c.note.new.walk c.requires.sound c.requires.current passes notes) c.note.ensures.ok
@@ -39,6 +39,6 @@ returns-clause-bad c =
     let ahead = c.args.source.now.ahead.now.keys in
     let most = min 1024 c.args.source.now.ending.now.stop.stack_depth in
     let i = view c.args.op.now in
-    let passes = subst (λ (n : ℕ). PassesOn n i c.args.walk.now c.pass_on.new.walk) c.max_pushes.ensures c.in_ok-pass_on.ensures.ok in
+    let passes = subst (λ (n : ℕ). PassesOn n i c.args.walk.now c.pass_on.new.walk) c.most_pushes.ensures c.in_ok-pass_on.ensures.ok in
     IfErr-weaker c.note.result (BreaksNote files ahead c.args.at i c.pass_on.new.walk) (StopsStep files ahead most c.args.at i c.args.walk.now)
     (λ fault broken. note_fault files ahead most c.args.at i c.args.walk.now c.pass_on.new.walk fault c.requires.sound c.requires.current passes broken) c.note.ensures.bad

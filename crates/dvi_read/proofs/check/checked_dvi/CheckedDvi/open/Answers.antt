@@ -62,7 +62,7 @@ returns-clause-ok c =
     c.finish.new.walk.known (λ k. (c.type_inv.bytes k).fits) c.in_ok-finish.ensures.ended c.in_ok-finish.ensures.closed in (
       all,
       file,
-      subst₂ (λ (fonts : ReadFonts) (most : ℕ). HasRest bytes front.from ending.post most fonts [] (Between []) all) (sym (c.fonts_of.ensures ∙ c.in_ok-finish.ensures.fonts)) (sym c.max_pushes.ensures) rest,
+      subst₂ (λ (fonts : ReadFonts) (most : ℕ). HasRest bytes front.from ending.post most fonts [] (Between []) all) (sym (c.fonts_of.ensures ∙ c.in_ok-finish.ensures.fonts)) (sym c.most_pushes.ensures) rest,
     )
 
 pub returns-clause-units : goal.returns-clause-units
@@ -77,14 +77,14 @@ returns-clause-widths c = λ f pages has.
     let ending = front.ending in
     let bytes = c.args.bytes.now in
     let same = c.fonts_of.ensures ∙ c.in_ok-finish.ensures.fonts in
-    let rest = subst (λ (fonts : ReadFonts). HasRest bytes front.from ending.post c.max_pushes.result fonts [] (Between []) pages) same has in
+    let rest = subst (λ (fonts : ReadFonts). HasRest bytes front.from ending.post c.most_pushes.result fonts [] (Between []) pages) same has in
     subst (λ (fonts : ReadFonts). HasGlyphWidths (file_widths c.args.files.now) (definitions (token_instructions f.front ++ token_instructions f.tail)) fonts (marks_of pages)) (sym same)
     (checked_widths c.args.files.now bytes ending.post ending.after ending.last (postamble ending.stop) front.chain.items front.from c.in_ok-walk.walk c.in_ok-walk.ensures.ok c.finish.new.walk.known
-    c.max_pushes.result pages c.in_ok-finish.ensures.closed rest f)
+    c.most_pushes.result pages c.in_ok-finish.ensures.closed rest f)
 
 pub returns-clause-room : goal.returns-clause-room
 returns-clause-room c = λ pages has.
-    let front = c.in_ok-ending.field-0 in rest_room c.args.bytes.now front.from front.ending.post c.max_pushes.result c.fonts_of.result pages has
+    let front = c.in_ok-ending.field-0 in rest_room c.args.bytes.now front.from front.ending.post c.most_pushes.result c.fonts_of.result pages has
 
 pub returns-clause-texts : goal.returns-clause-texts
 returns-clause-texts c = λ f.

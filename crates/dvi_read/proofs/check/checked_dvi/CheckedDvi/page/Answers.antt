@@ -1,21 +1,25 @@
--- The page has the counts that came and the marks after them.
-use Rattle.std.proofs.Common.{Some, ap, sym, ◌∙◌}
-use Rattle.dvi_ops.specs.File.{MarkedPage}
-use Rattle.dvi_read.proofs.OnePageLemmas.{page_is}
+-- The page has the counts with which it began and the marks of the instructions after them.
+use Rattle.std.proofs.Common.{ap, slice_get, subst, sym, ℕ, ◌∙◌}
+use Rattle.dvi_scan.specs.Pass.{PassStateView}
+use Rattle.dvi_read.specs.Private.OnePage.{HasRestAt}
+use Rattle.dvi_read.proofs.OnePageLemmas.{page_opened}
 use Rattle.dvi_read.proofs.check.checked_dvi.CheckedDvi.page.Goals as goal
 
-pub page_counts-requires : goal.page_counts-requires
-page_counts-requires c = let (pages, has) = c.requires in (pages, c.in_ok-sights.ensures.ahead pages has)
-
-pub page_marks-requires : goal.page_marks-requires
-page_marks-requires c =
+pub draw_page-requires-clause-ahead : goal.draw_page-requires-clause-ahead
+draw_page-requires-clause-ahead c =
     let (pages, has) = c.requires in
-    let (page, rest, here, counts, inside) = c.in-Some.ensures pages (c.in_ok-sights.ensures.ahead pages has) in (page.marks, rest, inside)
+    let begin = c.in-Some.begin in
+    let (before, size, rest) = c.in-Some.ensures pages has in
+    let opened = page_opened before begin.counts c.new-marks.result.items c.new-stack.result.items c.new-marks.ensures.items c.new-stack.ensures.items in
+    (before, pages, subst (λ (p : PassStateView). HasRestAt c.args.self begin.at p pages) opened rest)
 
 pub returns-in_default : goal.returns-in_default
-returns-in_default c = λ pages has. sym (c.in_default.ensures pages (c.in_ok-sights.ensures.ahead pages has))
+returns-in_default c = λ pages has. sym (c.in_default.ensures pages has)
 
 pub returns : goal.returns
 returns c = λ pages has.
-    let (page, rest, here, counts, inside) = c.in-Some.ensures pages (c.in_ok-sights.ensures.ahead pages has) in
-    ap (λ (p : MarkedPage). Some p) (page_is page c.in-Some.counts _ counts (c.in_ok-marks.ensures page.marks rest inside)) ∙ sym here
+    let begin = c.in-Some.begin in
+    let (before, size, rest) = c.in-Some.ensures pages has in
+    let opened = page_opened before begin.counts c.new-marks.result.items c.new-stack.result.items c.new-marks.ensures.items c.new-stack.ensures.items in
+    let drawn = c.in_ok-draw_page.ensures before pages (subst (λ (p : PassStateView). HasRestAt c.args.self begin.at p pages) opened rest) in
+    sym drawn ∙ ap (λ (n : ℕ). slice_get pages n) size
