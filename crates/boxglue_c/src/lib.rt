@@ -14,7 +14,7 @@ ghost use Rattle.boxglue_calls.specs.Jobs.{IsNewJob, KeptState};
 ghost use Rattle.boxglue_calls.specs.Pieces.{DoesCommands, FinishesKept, HandsAnswers, HandsBytes};
 ghost use Rattle.boxglue_calls.specs.Replies.{RepliesTo, RepliesToEnd};
 ghost use Rattle.boxglue_calls.specs.Whole.{IsReplied};
-ghost use Rattle.boxglue_program.specs.Outputs.{IsListed, IsPainted, LacksPage};
+ghost use Rattle.boxglue_print.specs.Outputs.{IsListed, IsPainted, LacksPage};
 ghost use Rattle.raster_core.specs.Sheets.{sheet_of};
 
 use boxglue_calls::jobs::{JobHandle, ReplyRow, ReplySizes};

@@ -3,7 +3,7 @@ use Rattle.std.proofs.Common.{◌≡◌, ◌≤◌, ◌<◌, ◌+◌, ◌^◌, �
 use Rattle.std.proofs.lemmas.Fmt.{length-decimal-le}
 use Rattle.std.specs.Fmt.{digits}
 use Rattle.boxglue_program.specs.Texts.{refusal_line, refusal_text}
-use Rattle.boxglue_program.specs.Faults.{bad_line, dvi_cause_name, fault_line}
+use Rattle.boxglue_print.specs.Faults.{bad_line, dvi_cause_name, fault_line}
 use Rattle.dvi_read.specs.declared.fault.DviFault.{DviFault}
 use Rattle.dvi_read.specs.declared.fault.DviFault.TheVariants.{OutOfMemory, Bad, NoFont, BadTfm, DimensionTooLarge}
 use Rattle.dvi_scan.specs.declared.fault.BadDvi.{BadDvi}

@@ -5,9 +5,9 @@ use Rattle.std.proofs.lemmas.List.{map_more}
 use Rattle.dvi_ops.specs.Instruction.{Definition, Units}
 use Rattle.dvi_ops.specs.View.{definition}
 use Rattle.dvi_ops.specs.declared.op.FontDefinition.{FontDefinition}
-use Rattle.boxglue_program.specs.Faults.{fault_line}
-use Rattle.boxglue_program.specs.Fonts.{BreaksFonts, DefinesFonts}
-use Rattle.boxglue_program.proofs.FontLemmas.{refuses_fonts}
+use Rattle.boxglue_print.specs.Faults.{fault_line}
+use Rattle.boxglue_print.specs.Fonts.{BreaksFonts, DefinesFonts}
+use Rattle.boxglue_print.proofs.FontLemmas.{refuses_fonts}
 use Rattle.dvi_read.specs.declared.fault.DviFault.{DviFault}
 use Rattle.dvi_read.specs.declared.fault.DviFault.TheVariants.{OutOfMemory}
 use Rattle.boxglue_calls.specs.Buffers.{HandsOverBoth}

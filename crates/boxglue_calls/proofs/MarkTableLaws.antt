@@ -11,7 +11,7 @@ use Rattle.dvi_read.specs.PageMarks.{marks_of, text_places}
 use Rattle.dvi_read.specs.declared.sights.Sights.{Sights}
 use Rattle.tfm_core.specs.FileWidths.{file_widths}
 use Rattle.tfm_core.specs.NamedBytes.{NamedBytes}
-use Rattle.boxglue_program.specs.declared.output.Output.{Output}
+use Rattle.boxglue_print.specs.declared.output.Output.{Output}
 use Rattle.boxglue_calls.specs.Buffers.{HandsOver}
 use Rattle.boxglue_calls.specs.Private.MarkFiles.{FitsIn, HandsOverFully, IsChecked, IsRefusal}
 use Rattle.boxglue_calls.specs.Private.MarkRows.{HasRowsFor, HoldsRows}

@@ -3,7 +3,7 @@ use Rattle.std.specs.Prelude.{◌≡◌, ◌⊎◌, ◌+◌, ℕ, Bool, true, Li
 use Rattle.std.specs.Int.{w32, cast_unsigned}
 use Rattle.std.specs.List.{flat_map}
 use Rattle.dvi_ops.specs.Instruction.{Definition, Units}
-use Rattle.boxglue_program.specs.Fonts.{DefinesFonts, RefusesFonts}
+use Rattle.boxglue_print.specs.Fonts.{DefinesFonts, RefusesFonts}
 use Rattle.boxglue_calls.specs.Buffers.{HandsOverBoth}
 use Rattle.boxglue_calls.specs.Pages.{read_status}
 use Rattle.boxglue_calls.specs.declared.font_table.DviFont.{DviFont}

@@ -10,7 +10,7 @@ use Rattle.dvi_read.specs.PageMarks.{TextStandsAt, marks_of, text_places}
 use Rattle.scaled_core.specs.Mark.{Mark, Glyph, Rule, Special}
 use Rattle.tfm_core.specs.FileWidths.{file_widths}
 use Rattle.tfm_core.specs.NamedBytes.{NamedBytes}
-use Rattle.boxglue_program.specs.Outputs.{RefusesFile}
+use Rattle.boxglue_print.specs.Outputs.{RefusesFile}
 use Rattle.boxglue_calls.specs.Buffers.{Holds}
 use Rattle.boxglue_calls.specs.Pages.{read_status}
 use Rattle.boxglue_calls.specs.declared.mark_table.DviMark.{DviMark}

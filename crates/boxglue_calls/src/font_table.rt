@@ -2,13 +2,13 @@
 
 ghost use Rattle.std.specs.Prelude.{◌≡◌, ◌++◌, ◌∷◌, ◌⊎◌, ℕ, List, [], length, map, true, IfOk, OnOk};
 ghost use Rattle.boxglue_calls.specs.FontTables.{HandsOverFonts, IsFontTable, names_of, row_at, rows_from};
-ghost use Rattle.boxglue_program.specs.Fonts.{BreaksFonts};
+ghost use Rattle.boxglue_print.specs.Fonts.{BreaksFonts};
 ghost use Rattle.dvi_ops.specs.View.{definition};
 
 use crate::buffers::hand_over_both;
 use crate::pages::file_status;
 use crate::status::OUT_OF_MEMORY;
-use boxglue_program::{DviFault, Output, defined_fonts, refusal};
+use boxglue_print::{DviFault, Output, defined_fonts, refusal};
 use dvi_ops::FontDefinition;
 use std::alloc::{AllocError, Global};
 

@@ -12,7 +12,7 @@ use crate::buffers::hand_over;
 use crate::given::{Font, are_named, font_files};
 use crate::mark_rows::{RowCounts, count_rows, write_rows};
 use crate::status::{ACCEPTED, BAD_FONT_NAME, BUFFER_TOO_SMALL, OUT_OF_MEMORY, REFUSED};
-use boxglue_program::{CheckedDvi, DviFault, Output, refusal};
+use boxglue_print::{CheckedDvi, DviFault, Output, refusal};
 use dvi_ops::Units;
 use dvi_read::Sights;
 use std::alloc::{AllocError, Global};

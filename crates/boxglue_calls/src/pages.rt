@@ -4,15 +4,15 @@ ghost use Rattle.std.specs.Prelude.{◌≡◌, ◌↔◌, ◌⊎◌, false, leng
 ghost use Rattle.boxglue_calls.specs.Buffers.{HandsOver};
 ghost use Rattle.boxglue_calls.specs.Fonts.{are_named, files_of};
 ghost use Rattle.boxglue_calls.specs.Pages.{HandsOverPages, is_in_range, read_status};
-ghost use Rattle.boxglue_program.specs.Outputs.{IsListed, IsPainted, LacksPage};
-ghost use Rattle.boxglue_program.specs.declared.output.PaintFault.TheVariants.{NoSuchPage};
+ghost use Rattle.boxglue_print.specs.Outputs.{IsListed, IsPainted, LacksPage};
+ghost use Rattle.boxglue_print.specs.declared.output.PaintFault.TheVariants.{NoSuchPage};
 ghost use Rattle.raster_core.specs.Sheets.{sheet_of};
 
 use crate::buffers::hand_over;
 use crate::given::{Font, are_named, font_files};
 use crate::listings::list_checked;
 use crate::status::{ACCEPTED, BAD_FONT_NAME, NO_SUCH_PAGE, OUT_OF_MEMORY, OUT_OF_RANGE, REFUSED};
-use boxglue_program::{CheckedDvi, Output, PaintFault, PaintOptions, paint_text, refusal};
+use boxglue_print::{CheckedDvi, Output, PaintFault, PaintOptions, paint_text, refusal};
 use std::alloc::{AllocError, Global};
 
 /// The status of a DVI file that was read.

@@ -1,7 +1,7 @@
 -- What `fonts` prints of a file that is read (own).
 use Rattle.std.specs.Prelude.{◌≡◌, Bool, List, ℕ}
 use Rattle.boxglue_words.specs.Readings.{Files, IsFileReading, IsReadableFile, IsUnreadableFile}
-use Rattle.boxglue_program.specs.Fonts.{AreFontsPrinted}
+use Rattle.boxglue_print.specs.Fonts.{AreFontsPrinted}
 use Rattle.boxglue_lib.specs.Ends.{TaskRules}
 
 -- The text has the units of the file at a path and its fonts, or is the line of its refusal.

@@ -1,6 +1,6 @@
 -- What `list` and `paint` print of files that are read (own).
 use Rattle.std.specs.Prelude.{◌⊎◌, ℕ, Bool, List}
-use Rattle.boxglue_program.specs.Outputs.{IsListed, IsPainted, LacksPage}
+use Rattle.boxglue_print.specs.Outputs.{IsListed, IsPainted, LacksPage}
 use Rattle.boxglue_words.specs.Hosts.{AreFilesOf}
 use Rattle.boxglue_words.specs.Readings.{Files, IsFileReading}
 use Rattle.boxglue_words.specs.declared.font_files.Unread.TheVariants.{OutOfMemory as WantsMemory, File}

@@ -6,7 +6,8 @@ ghost use Rattle.boxglue_lib.specs.Ends.{EndsTask};
 ghost use Rattle.boxglue_lib.specs.FontListings.{font_rules};
 
 use crate::task_end::TaskEnd;
-use boxglue_program::{Output, fonts_text, write_text};
+use boxglue_print::{Output, fonts_text};
+use boxglue_program::write_text;
 use boxglue_words::{FileHost, HostFault};
 use std::alloc::Global;
 use std::io::Write;

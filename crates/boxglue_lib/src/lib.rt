@@ -14,9 +14,10 @@ mod tasks;
 mod telling;
 mod typesetting;
 
+pub use boxglue_print::fonts_text;
 pub use boxglue_program::{
     Cause, Device, DeviceFault, FontFile, FontName, Line, Memory, RunFault, ScriptFault, Unwritten,
-    fonts_text, read_script, refuse_memory, run_memory, run_script, write_text,
+    read_script, refuse_memory, run_memory, run_script, write_text,
 };
 pub use boxglue_words::{
     CreatedPaths, FailureCount, FileDevice, FileHost, HeldFile, Host, HostFault, HostParts,

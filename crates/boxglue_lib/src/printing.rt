@@ -4,16 +4,17 @@ ghost use Rattle.std.specs.Prelude.{◌≡◌, ◌≢◌, ◌≤◌, ◌⊎◌, 
 ghost use Rattle.std.specs.Io.KnownBytes.{Appends, Keeps};
 ghost use Rattle.dvi_read.specs.SeenAhead.{AreLinesAhead};
 ghost use Rattle.dvi_read.specs.declared.listings.part.TheConstants.{PART};
-ghost use Rattle.boxglue_program.specs.Outputs.{IsListed, IsPainted, LacksPage};
+ghost use Rattle.boxglue_print.specs.Outputs.{IsListed, IsPainted, LacksPage};
 ghost use Rattle.raster_core.specs.PlainText.{pbm};
 ghost use Rattle.raster_core.specs.declared.text.TheConstants.{ROW_TEXT};
 ghost use Rattle.boxglue_program.specs.Runs.{WritesFront};
 ghost use Rattle.boxglue_lib.specs.declared.printing.PrintFault.TheVariants.{OutOfMemory, Unwritten};
 
-use boxglue_program::{
-    Bitmap, CheckedDvi, CheckedLines, FontFile, Output, PaintFault, PaintOptions, Painting,
-    Unwritten, page_bitmap, refusal, write_text,
+use boxglue_print::{
+    Bitmap, CheckedDvi, CheckedLines, Output, PaintFault, PaintOptions, Painting, page_bitmap,
+    refusal,
 };
+use boxglue_program::{FontFile, Unwritten, write_text};
 use std::alloc::{AllocError, Global};
 use std::io::Write;
 use thiserror::Error;

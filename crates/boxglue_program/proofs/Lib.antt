@@ -9,8 +9,3 @@ pub mod SessionScripts
 pub mod RowLaws
 pub mod WritingLemmas
 pub mod BlockRuns
-pub mod FontLemmas
-pub mod PrintLemmas
-pub mod TextLemmas
-pub mod ReadBackLemmas
-pub mod ListedLemmas

@@ -3,9 +3,4 @@ pub mod Outcomes
 pub mod Runs
 pub mod Rows
 pub mod Sessions
-pub mod Faults
-pub mod FontLines
-pub mod Fonts
-pub mod Outputs
-pub mod ReadBack
 pub mod Private

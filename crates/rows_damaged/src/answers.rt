@@ -1,7 +1,8 @@
 //! The answer to a file.
 
 use anyhow::{Context, Result, bail};
-use boxglue_program::{FontFile, Output, list_text, run_memory};
+use boxglue_print::{Output, list_text};
+use boxglue_program::{FontFile, run_memory};
 use std::alloc::Global;
 use tfm_core::{Tfm, TfmFault};
 

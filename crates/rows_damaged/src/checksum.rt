@@ -1,6 +1,6 @@
 //! A checksum over texts.
 
-use boxglue_program::Output;
+use boxglue_print::Output;
 
 /// The 64-bit FNV-1a hash of no bytes.
 const OFFSET_BASIS: u64 = 0xcbf2_9ce4_8422_2325;

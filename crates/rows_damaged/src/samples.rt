@@ -3,7 +3,8 @@
 use crate::answers::FileKind;
 use crate::checksum::checksum;
 use anyhow::{Context, Result};
-use boxglue_program::{FontFile, Output};
+use boxglue_print::Output;
+use boxglue_program::FontFile;
 use std::alloc::Global;
 use std::io::Write;
 use std::slice;

@@ -13,9 +13,9 @@ use Rattle.dvi_read.specs.declared.fault.DviFault.TheVariants.{Bad, OutOfMemory}
 use Rattle.dvi_read.specs.declared.sights.Sights.{Sights}
 use Rattle.tfm_core.specs.FileWidths.{file_widths}
 use Rattle.tfm_core.specs.NamedBytes.{NamedBytes}
-use Rattle.boxglue_program.specs.Faults.{fault_line}
-use Rattle.boxglue_program.specs.Outputs.{RefusesFile}
-use Rattle.boxglue_program.specs.declared.output.Output.{Output}
+use Rattle.boxglue_print.specs.Faults.{fault_line}
+use Rattle.boxglue_print.specs.Outputs.{RefusesFile}
+use Rattle.boxglue_print.specs.declared.output.Output.{Output}
 use Rattle.boxglue_calls.specs.MarkTables.{HandsOverMarks, MarkOutputs}
 use Rattle.boxglue_calls.specs.declared.mark_table.MarkSizes.{MarkSizes}
 use Rattle.boxglue_calls.specs.declared.mark_table.ReadFile.{ReadFile}

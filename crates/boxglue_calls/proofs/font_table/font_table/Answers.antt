@@ -1,7 +1,7 @@
 -- The table of the fonts that are defined, or the line of the refusal of these bytes.
 use Rattle.std.proofs.Common.{map}
 use Rattle.dvi_ops.specs.View.{definition, units as units_of}
-use Rattle.boxglue_program.specs.Fonts.{DefinesFonts}
+use Rattle.boxglue_print.specs.Fonts.{DefinesFonts}
 use Rattle.boxglue_calls.proofs.FontTableLaws.{accepts, then_of, then_of_three}
 use Rattle.boxglue_calls.proofs.font_table.font_table.Goals as goal
 

@@ -8,8 +8,8 @@ use Rattle.dvi_read.specs.PageMarks.{HasGlyphWidths, marks_of, text_places}
 use Rattle.dvi_read.specs.declared.fonts.ReadFonts.{ReadFonts}
 use Rattle.tfm_core.specs.FileWidths.{file_widths}
 use Rattle.tfm_core.specs.NamedBytes.{NamedBytes}
-use Rattle.boxglue_program.specs.Outputs.{RefusesFile}
-use Rattle.boxglue_program.proofs.PrintLemmas.{refuses}
+use Rattle.boxglue_print.specs.Outputs.{RefusesFile}
+use Rattle.boxglue_print.proofs.PrintLemmas.{refuses}
 use Rattle.boxglue_calls.specs.Fonts.{files_of}
 use Rattle.boxglue_calls.specs.Private.MarkFiles.{IsReadFile, IsRefusal}
 use Rattle.boxglue_calls.specs.declared.mark_table.ReadFile.TheVariants.{Checked}

@@ -4,8 +4,8 @@ use Rattle.std.specs.Prelude.{IfOk}
 use Rattle.std.proofs.lemmas.Result.{IfOk-weaker}
 use Rattle.dvi_read.specs.Listing.{listing}
 use Rattle.tfm_core.specs.NamedBytes.{NamedBytes}
-use Rattle.boxglue_program.specs.Outputs.{IsListed}
-use Rattle.boxglue_program.proofs.PrintLemmas.{refuses}
+use Rattle.boxglue_print.specs.Outputs.{IsListed}
+use Rattle.boxglue_print.proofs.PrintLemmas.{refuses}
 use Rattle.boxglue_calls.specs.Buffers.{HandsOver}
 use Rattle.boxglue_calls.specs.Fonts.{files_of}
 use Rattle.boxglue_calls.specs.Pages.{HandsOverPages}

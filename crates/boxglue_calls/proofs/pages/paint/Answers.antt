@@ -1,8 +1,8 @@
 -- A page that is painted is there, and where one is painted the status is none of those that write nothing.
 use Rattle.std.proofs.Common.{Err, ap, subst, sym}
 use Rattle.boxglue_calls.specs.Fonts.{files_of}
-use Rattle.boxglue_program.proofs.PrintLemmas.{has_page}
-use Rattle.boxglue_program.specs.Outputs.{LacksPage}
+use Rattle.boxglue_print.proofs.PrintLemmas.{has_page}
+use Rattle.boxglue_print.specs.Outputs.{LacksPage}
 use Rattle.raster_core.specs.Sheets.{Sheet}
 use Rattle.boxglue_calls.proofs.PageLaws.{handed_status, not_silent}
 use Rattle.boxglue_calls.proofs.pages.paint.Goals as goal

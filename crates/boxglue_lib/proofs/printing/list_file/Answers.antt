@@ -1,7 +1,7 @@
 -- The line of the refusal, or the pieces of the listing: all of it, or a beginning.
 use Rattle.std.proofs.Common.{true, inl, inr, refl}
 use Rattle.dvi_read.specs.Listing.{listing}
-use Rattle.boxglue_program.proofs.PrintLemmas.{refuses}
+use Rattle.boxglue_print.proofs.PrintLemmas.{refuses}
 use Rattle.boxglue_lib.proofs.EndLemmas.{keeps_same}
 use Rattle.boxglue_lib.proofs.printing.list_file.Goals as goal
 

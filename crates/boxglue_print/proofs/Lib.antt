@@ -1,0 +1,5 @@
+pub mod FontLemmas
+pub mod PrintLemmas
+pub mod TextLemmas
+pub mod ReadBackLemmas
+pub mod ListedLemmas

@@ -1,0 +1,82 @@
+-- The texts for refused files, and for pages.
+use Rattle.std.proofs.Common.{◌≡◌, ◌≤◌, ◌-◌, [], ◌∷◌, ℕ, zero, suc, Bool, true, false, List, length, Some, None, Result, Ok, Err, OnOk, IfOk, inl, inr, refl, arith, ◌∙◌, ap}
+use Rattle.std.proofs.lemmas.Option.{slice_get_within}
+use Rattle.std.specs.Prelude.{◌≢◌, slice_get}
+use Rattle.std.specs.declared.alloc.AllocError.{AllocError}
+use Rattle.dvi_ops.specs.File.{Frame, IsFile, MarkedPage}
+use Rattle.dvi_ops.proofs.Frames.{one_list_of_pages}
+use Rattle.dvi_ops.specs.Instruction.{Units}
+use Rattle.std.specs.Fmt.{digits}
+use Rattle.boxglue_program.specs.Texts.{refusal_line, refusal_text}
+use Rattle.boxglue_print.specs.Faults.{KnownLines, fault_line}
+use Rattle.boxglue_print.specs.Outputs.{IsListed, IsPainted, LacksPage, Paints, RefusesFile}
+use Rattle.boxglue_print.specs.declared.output.Output.{Output}
+use Rattle.dvi_read.specs.Opened.{IsNoFile}
+use Rattle.dvi_read.specs.Opening.{IsDviFault}
+use Rattle.dvi_read.specs.declared.fault.DviFault.{DviFault}
+use Rattle.dvi_read.specs.declared.fault.DviFault.TheVariants.{OutOfMemory}
+use Rattle.raster_core.specs.Pictures.{PixelGrid, painted_picture, white}
+use Rattle.raster_core.specs.Pixels.{is_covered, scale_of}
+use Rattle.raster_core.specs.PlainText.{pbm}
+use Rattle.raster_core.specs.Sheets.{Sheet}
+use Rattle.tfm_core.specs.FileWidths.{file_widths}
+use Rattle.tfm_core.specs.NamedBytes.{NamedBytes}
+
+-- The line of a refusal is printed for a file that is refused.
+pub refuses : (files : List NamedBytes) (bytes text : List ℕ) (fault : DviFault) (accepted : Bool) → fault ≢ OutOfMemory → IsDviFault files bytes fault
+    → (fault ≢ OutOfMemory → IsNoFile files bytes) → text ≡ fault_line fault → accepted ≡ false → RefusesFile files bytes text accepted
+refuses files bytes text fault accepted other broken none text_is accepted_is = record {
+  fault = fault;
+  other = other;
+  broken = broken;
+  none = none other;
+  text_is = text_is;
+  accepted_is = accepted_is;
+}
+
+-- The same where memory may be refused for the line.
+pub listed_refusal : (files : List NamedBytes) (bytes : List ℕ) (fault : DviFault) (r : Result Output AllocError) → IsDviFault files bytes fault
+    → (fault ≢ OutOfMemory → IsNoFile files bytes) → OnOk r (fault ≢ OutOfMemory) → IfOk r (λ output. output.text.items ≡ fault_line fault)
+    → IfOk r (λ output. output.accepted ≡ false) → IfOk r (λ output. IsListed files bytes output.text.items output.accepted)
+listed_refusal files bytes fault (Ok output) broken none other text accepted =
+    inr (refuses files bytes output.text.items fault output.accepted other broken none text accepted)
+listed_refusal files bytes fault (Err e) broken none other text accepted = tt
+
+-- The bitmap of a page is printed.
+pub paints : (files : List NamedBytes) (bytes : List ℕ) (sheet : Sheet) (pages : List MarkedPage) (units : Units) (shown : MarkedPage) (picture : PixelGrid)
+    → IsFile (file_widths files) bytes pages → ((f : Frame bytes) → units ≡ f.stop.units) → slice_get pages (sheet.page - 1) ≡ Some shown
+    → picture ≡ painted_picture (is_covered (scale_of units sheet.dpi) shown.marks) (white sheet.width sheet.height) → Paints files bytes sheet (pbm picture) true
+paints files bytes sheet pages units shown picture file same page_is picture_is = record {
+  pages = pages;
+  file = file;
+  shown = shown;
+  page_is = page_is;
+  text_is = ap pbm picture_is ∙ ap (λ (u : Units). pbm (painted_picture (is_covered (scale_of u sheet.dpi) shown.marks) (white sheet.width sheet.height))) (same file.frame);
+  accepted_is = refl;
+}
+
+-- A file in which this page is not found has fewer pages.
+no_more : (index : ℕ) (pages : List MarkedPage) → slice_get pages index ≡ None → length pages ≤ index
+no_more index [] none = omega arith
+no_more zero (first ∷ pages) none = absurd cc
+no_more (suc index) (first ∷ pages) none = let later = no_more index pages none in omega arith
+
+pub lacks_page : (files : List NamedBytes) (bytes : List ℕ) (page : ℕ) (pages : List MarkedPage) → IsFile (file_widths files) bytes pages → 1 ≤ page
+    → slice_get pages (page - 1) ≡ None → LacksPage files bytes page
+lacks_page files bytes page pages file first none =
+    let most = no_more (page - 1) pages none in record { pages = pages; file = file; few = omega arith }
+
+-- A file whose page is painted has that page.
+pub has_page : (files : List NamedBytes) (bytes : List ℕ) (sheet : Sheet) (text : List ℕ) (accepted : Bool) → IsPainted files bytes sheet text accepted
+    → LacksPage files bytes sheet.page → ⊥
+has_page files bytes sheet text accepted (inl paints) lacks =
+    let same = ap (λ (pages : List MarkedPage). length pages) (one_list_of_pages (file_widths files) bytes paints.pages lacks.pages paints.file lacks.file) in
+    let within = slice_get_within paints.pages (sheet.page - 1) paints.shown paints.page_is in
+    let few = lacks.few in
+    absurd (omega arith)
+has_page files bytes sheet text accepted (inr refuses) lacks = refuses.none lacks.pages lacks.file
+
+-- The known lines, computed by the definitions.
+pub known_lines : KnownLines
+unfolding fault_line refusal_line refusal_text digits
+known_lines = (refl, refl, refl, refl, refl)

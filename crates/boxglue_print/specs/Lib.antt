@@ -1,0 +1,5 @@
+pub mod Faults
+pub mod FontLines
+pub mod Fonts
+pub mod Outputs
+pub mod ReadBack

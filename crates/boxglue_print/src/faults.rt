@@ -1,0 +1,55 @@
+//! The lines of refusals.
+
+ghost use Rattle.std.specs.Prelude.{◌≡◌, ◌++◌, OnOk};
+ghost use Rattle.boxglue_print.specs.Faults.{bad_line, dvi_cause_name, fault_line};
+
+use boxglue_program::{push_number, push_refusal_line, push_text};
+use dvi_read::DviFault;
+use dvi_scan::{BadDvi, DviCause};
+use job_machine::Refusal;
+use std::alloc::AllocError;
+
+/// The name of a rule of a DVI file.
+fn dvi_cause_name(cause: DviCause) -> &'static str
+    ensures { result.now ≡ dvi_cause_name cause }
+{
+    match cause {
+        DviCause::Trailer => "Trailer",
+        DviCause::Version => "Version",
+        DviCause::Opcode => "Opcode",
+        DviCause::Pointer => "Pointer",
+        DviCause::Count => "Count",
+        DviCause::Preamble => "Preamble",
+        DviCause::Truncated => "Truncated",
+        DviCause::Stack => "Stack",
+        DviCause::Font => "Font",
+        DviCause::Glyph => "Glyph",
+        DviCause::Range => "Range",
+    }
+}
+
+/// Appends the line of a broken rule.
+#[tactic(auto, unfolding(crate::specs::Faults::bad_line))]
+fn push_bad(bad: &BadDvi, out: &mut Vec<u8>) -> Result<(), AllocError>
+    ensures { OnOk result (out.new.items ≡ out.old.items ++ bad_line bad.now) }
+{
+    push_text("refused 20 BadDvi ", out)?;
+    push_number(bad.place as u64, out)?;
+    push_text(" ", out)?;
+    push_text(dvi_cause_name(bad.cause), out)?;
+    push_text("\n", out)
+}
+
+/// Appends the line of a refusal. Those that a job has too have its numbers and names.
+#[tactic(auto, unfolding(crate::specs::Faults::fault_line))]
+pub(crate) fn push_fault(fault: DviFault, out: &mut Vec<u8>) -> Result<(), AllocError>
+    ensures { OnOk result (out.new.items ≡ out.old.items ++ fault_line fault) }
+{
+    match fault {
+        DviFault::OutOfMemory => push_refusal_line(Refusal::OutOfMemory, out),
+        DviFault::DimensionTooLarge => push_refusal_line(Refusal::DimensionTooLarge, out),
+        DviFault::NoFont => push_refusal_line(Refusal::NoFont, out),
+        DviFault::BadTfm(cause) => push_refusal_line(Refusal::BadTfm(cause), out),
+        DviFault::Bad(bad) => push_bad(&bad, out),
+    }
+}

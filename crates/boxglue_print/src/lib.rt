@@ -1,0 +1,19 @@
+//! The texts that `list`, `fonts` and `paint` print for a DVI file: the listing of its pages, its fonts, a page as a bitmap in plain PBM, or the one
+//! line of a refusal. The program reads the files and writes the texts.
+//!
+//! `round_trip_laws` has the laws of reading back: the file of a job is opened with exactly the pages of the job, and that of a typeset script is
+//! listed with exactly their marks.
+#![tactic(auto)]
+
+mod faults;
+mod font_lines;
+mod fonts;
+mod output;
+pub mod print_laws;
+pub mod round_trip_laws;
+
+pub use dvi_read::{CheckedDvi, CheckedLines, Dvi, DviFault, Lines, PART};
+pub use fonts::{DefinedFonts, defined_fonts, fonts_text};
+pub use output::{Output, PaintFault, Painting, list_text, page_bitmap, paint_text, refusal};
+pub use raster_core::{Bitmap, PaintOptions, PbmText, ROW_TEXT};
+pub use tfm_core::FontFile;

@@ -1,0 +1,163 @@
+//! The listing of a DVI file and the bitmap of one of its pages.
+
+ghost use Rattle.std.specs.Prelude.{◌≡◌, ◌≢◌, ◌↔◌, ◌⊎◌, false, Err, IfOk, IsTrue, OnOk};
+ghost use Rattle.dvi_ops.specs.File.{AreUnits};
+ghost use Rattle.dvi_ops.specs.View.{units as units_of};
+ghost use Rattle.dvi_scan.specs.View.{marked_page};
+ghost use Rattle.boxglue_print.specs.Faults.{fault_line};
+ghost use Rattle.boxglue_print.specs.declared.output.PaintFault.TheVariants.{OutOfMemory};
+ghost use Rattle.boxglue_print.specs.Outputs.{IsListed, IsPainted, IsPainting, LacksPage};
+ghost use Rattle.raster_core.specs.Pictures.{painted_picture, white};
+ghost use Rattle.raster_core.specs.Pixels.{is_covered, scale_of};
+
+use crate::faults::push_fault;
+use dvi_ops::Units;
+use dvi_read::{CheckedDvi, Dvi, DviFault};
+use dvi_scan::Page;
+use raster_core::{Bitmap, PaintOptions};
+use std::alloc::{AllocError, Global};
+use tfm_core::FontFile;
+use thiserror::Error;
+
+/// The text to print for a DVI file, and whether the file was accepted.
+#[derive(Debug, Drop)]
+pub struct Output {
+    pub text: Vec<u8>,
+    pub accepted: bool,
+}
+
+/// A page of a DVI file as a bitmap, or the text of the file's refusal.
+#[derive(Debug, Drop)]
+pub enum Painting {
+    Picture(Bitmap),
+    Refusal(Output),
+}
+
+/// Why nothing is painted.
+#[derive(Clone, Copy, Debug, PartialEq, Eq, Error)]
+pub enum PaintFault {
+    /// A growth of memory was refused.
+    #[error("out of memory")]
+    OutOfMemory,
+    /// The file is accepted, but has no such page.
+    #[error("no such page")]
+    NoSuchPage,
+}
+
+impl From<AllocError> for PaintFault {
+    ghost from_gives = { λ _ fault. fault ≡ OutOfMemory };
+
+    fn from(_error: AllocError) -> PaintFault {
+        PaintFault::OutOfMemory
+    }
+}
+
+/// Whether a file is refused because memory was refused.
+fn is_out_of_memory(fault: DviFault) -> bool
+    ensures { IsTrue result ↔ fault ≡ DviFault.OutOfMemory }
+{
+    match fault {
+        DviFault::OutOfMemory => true,
+        DviFault::DimensionTooLarge | DviFault::NoFont | DviFault::BadTfm(_) | DviFault::Bad(_) =>
+            false,
+    }
+}
+
+/// The text for a file that is refused. The result is an Err where memory was refused, here or before.
+pub fn refusal(alloc: Global, fault: DviFault) -> Result<Output, AllocError>
+    ensures text { IfOk result (λ output. output.text.items ≡ fault_line fault) }
+    ensures refused { IfOk result (λ output. output.accepted ≡ false) }
+    ensures other { OnOk result (fault ≢ DviFault.OutOfMemory) }
+{
+    if is_out_of_memory(fault) {
+        return Err(AllocError);
+    }
+    let mut text = Vec::new(alloc);
+    push_fault(fault, &mut text)?;
+    Ok(Output {
+        text,
+        accepted: false,
+    })
+}
+
+/// The listing of a DVI file with these metric files, or the line of its refusal. The result is an Err where memory was refused.
+pub fn list_text(alloc: Global, dvi: &[u8], files: &[FontFile]) -> Result<Output, AllocError>
+    ensures { IfOk result (λ output. IsListed files.now dvi.now output.text.items output.accepted) }
+{
+    let opened = match Dvi::open(alloc, dvi, files) {
+        Ok(opened) => opened,
+        Err(fault) => return refusal(alloc, fault),
+    };
+    let mut text = Vec::new(alloc);
+    opened.listing(&mut text)?;
+    Ok(Output {
+        text,
+        accepted: true,
+    })
+}
+
+/// The bitmap of a page.
+fn painted_page(
+    alloc: Global,
+    page: &Page<'_>,
+    units: Units,
+    sheet: PaintOptions,
+) -> Result<Bitmap, AllocError>
+    requires { AreUnits (units_of units) }
+    ensures { IfOk result (λ bitmap. bitmap
+        ≡ painted_picture (is_covered (scale_of (units_of units) sheet.dpi) (marked_page page.now).marks) (white sheet.width sheet.height)) }
+{
+    let Ok(mut bitmap) = Bitmap::new(alloc, sheet.width(), sheet.height()) else {
+        return Err(AllocError);
+    };
+    bitmap.paint(page, units, sheet.dpi());
+    Ok(bitmap)
+}
+
+/// The bitmap of a page of a DVI file with these metric files, or the text of the file's refusal. No mark of another page is kept. The whole file is
+/// checked before NoSuchPage is returned, which is the fault exactly where it is accepted and has fewer pages, unless memory is refused: then it
+/// is OutOfMemory.
+pub fn page_bitmap(
+    alloc: Global,
+    dvi: &[u8],
+    files: &[FontFile],
+    sheet: PaintOptions,
+) -> Result<Painting, PaintFault>
+    ensures ok { IfOk result (IsPainting files.now dvi.now sheet) }
+    ensures missing { result ≡ Err PaintFault.NoSuchPage → LacksPage files.now dvi.now sheet.page }
+    ensures found { LacksPage files.now dvi.now sheet.page → (result ≡ Err PaintFault.NoSuchPage) ⊎ (result ≡ Err PaintFault.OutOfMemory) }
+{
+    let checked = match CheckedDvi::open(alloc, dvi, files) {
+        Ok(checked) => checked,
+        Err(fault) => return Ok(Painting::Refusal(refusal(alloc, fault)?)),
+    };
+    let units = checked.units();
+    let Some(page) = checked.page(alloc, sheet.page() as usize - 1)? else {
+        return Err(PaintFault::NoSuchPage);
+    };
+    Ok(Painting::Picture(painted_page(alloc, &page, units, sheet)?))
+}
+
+/// The text of the bitmap of a page of a DVI file, or the line of the file's refusal, as `page_bitmap`.
+pub fn paint_text(
+    alloc: Global,
+    dvi: &[u8],
+    files: &[FontFile],
+    sheet: PaintOptions,
+) -> Result<Output, PaintFault>
+    ensures ok { IfOk result (λ output. IsPainted files.now dvi.now sheet output.text.items output.accepted) }
+    ensures missing { result ≡ Err PaintFault.NoSuchPage → LacksPage files.now dvi.now sheet.page }
+    ensures found { LacksPage files.now dvi.now sheet.page → (result ≡ Err PaintFault.NoSuchPage) ⊎ (result ≡ Err PaintFault.OutOfMemory) }
+{
+    let painting = page_bitmap(alloc, dvi, files, sheet)?;
+    let bitmap = match painting {
+        Painting::Picture(bitmap) => bitmap,
+        Painting::Refusal(output) => return Ok(output),
+    };
+    let mut text = Vec::new(alloc);
+    bitmap.write_pbm(&mut text)?;
+    Ok(Output {
+        text,
+        accepted: true,
+    })
+}

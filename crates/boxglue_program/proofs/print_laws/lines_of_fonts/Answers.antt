@@ -1,5 +1,0 @@
-use Rattle.boxglue_program.proofs.FontLemmas.{known_font_lines}
-use Rattle.boxglue_program.proofs.print_laws.lines_of_fonts.Goals as goal
-
-pub returns : goal.returns
-returns c = known_font_lines

@@ -1,5 +1,0 @@
-use Rattle.boxglue_program.proofs.PrintLemmas.{known_lines}
-use Rattle.boxglue_program.proofs.print_laws.lines_of_refusals.Goals as goal
-
-pub returns : goal.returns
-returns c = known_lines

@@ -1,5 +1,0 @@
-use Rattle.boxglue_program.proofs.ReadBackLemmas.{read_back}
-use Rattle.boxglue_program.proofs.round_trip_laws.finished_files_are_read_back.Goals as goal
-
-pub returns : goal.returns
-returns c = read_back
