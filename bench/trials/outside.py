@@ -171,8 +171,9 @@ def main():
     parts = words.parts or list(PARTS)
     if not set(parts) <= set(PARTS):
         parser.error("the parts are " + ", ".join(PARTS))
-    if not os.access(words.boxglue, os.X_OK):
-        sys.exit("%s is not there" % words.boxglue)
+    for path in (words.boxglue, words.library)[:2 if words.by == "library" else 1]:
+        if not os.path.isfile(path):
+            sys.exit("%s is not there" % path)
     left_out = 0
     with tempfile.TemporaryDirectory() as room:
         folder = os.path.abspath(words.folder or room)

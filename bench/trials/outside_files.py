@@ -30,8 +30,8 @@ def other_fonts(work, name, theirs, fonts):
     """What `boxglue fonts` says of a file otherwise than dvitype and tftopl; the fonts are words NAME=TFM."""
     paths = {font: work.path(path) for font, _, path in (word.partition("=") for word in fonts)}
     expected = [(number, font, size, *header(paths[font])) for number, (font, size) in theirs.fonts.items()]
-    units, found = work.units_and_fonts(name, fonts)
-    return ["%s: units %s and %s" % (name, units, theirs.units)] * (units != theirs.units) + ["%s: fonts %s and %s" % (name, found, expected)] * (found != expected)
+    found = dict(zip(("units", "fonts"), work.units_and_fonts(name, fonts)))
+    return ["%s: %s %s and %s" % (name, what, found[what], said) for what, said in (("units", theirs.units), ("fonts", expected)) if found[what] != said]
 
 
 def fonts(work):
@@ -139,8 +139,10 @@ def sheets(work):
     pages = zip(by_dvitype("sheets.ours.dvi", work.folder).pages, dvipng_rules("sheets.ours.dvi", work.folder, dots))
     for number, (page, rules) in enumerate(pages, 1):
         ours, (_, theirs) = work.bitmap("sheets.ours.dvi", number, dots, side), black(work.path("sheet%d.png" % number))
-        notes += ["page %d: not what FORMATS.md says" % number] * (painted(page.marks, dots, side) != ours)
-        notes += ["page %d: dvipng rounds otherwise" % number] * (drawn(rules, side) != theirs)
+        if painted(page.marks, dots, side) != ours:
+            notes.append("page %d: not what FORMATS.md says" % number)
+        if drawn(rules, side) != theirs:
+            notes.append("page %d: dvipng rounds otherwise" % number)
         found.update(pages=1, rules=len(page.marks), differ=black_pixels(map(int.__xor__, ours, theirs)))
     line = "sheets: %d pages, %d rules, %d pixels; that differ from dvipng's %d; pages that are not what FORMATS.md says, or not what dvipng's rounding makes: %d" % (
         found["pages"], found["rules"], found["pages"] * side * side, found["differ"], len(notes))
@@ -170,8 +172,8 @@ def random_files(work):
         together[verdict, bool(theirs.complaints)] += 1
         if ours.pages is not None and not theirs.complaints:
             tally.pages(name, ours.pages, theirs.pages)
-        elif ours.pages is not None and all("absent" in it for it in theirs.complaints):
-            causes["files that define a font which is not there and which no page selects"] += 1
+        elif ours.pages is not None and all(" loaded" in it for it in theirs.complaints):
+            causes["files that define a font, before a page alone or without its metric file, which no page selects"] += 1
         elif (ours.pages is None) != bool(theirs.complaints):
             notes.append("%s: boxglue: %s; dvitype: %s" % (name, verdict, "; ".join(theirs.complaints[:2]) or "no complaint"))
     table = ", ".join("%d %s%s" % (count, verdict, ", dvitype complains" if complains else "") for (verdict, complains), count in sorted(together.items()))

@@ -55,7 +55,7 @@ def by_dvitype(path, folder):
             continue
         step = STEP.match(line)
         name, number, rest = step.groups() if step else (None, None, None)
-        if name != "xxx" and COMPLAINT.search(OUTSIDE.sub("", line)):
+        if COMPLAINT.search(OUTSIDE.sub("", line)) if name != "xxx" else "string of negative length!" in line:
             complaints.append(line)
         if name == "beginning":
             counts = [int(it) for it in rest.split()[2].split(".")]

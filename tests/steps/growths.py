@@ -59,7 +59,11 @@ class Refusing:
     def run(self, words, text, nth):
         """A run in which the growth of this number is refused; none for 0."""
         env = {"LANG": "C.UTF-8", "LD_PRELOAD": self.library, "REFUSE_GROWTH": str(nth)}
-        ran = subprocess.run([self.program, *words], input=text, capture_output=True, cwd=self.folder, env=env, timeout=LIMIT)
+        # From a pipe a text comes in pieces by time and chance, and the growths would not be the same in each run.
+        with tempfile.TemporaryFile() as given:
+            given.write(text)
+            given.seek(0)
+            ran = subprocess.run([self.program, *words], stdin=given, capture_output=True, cwd=self.folder, env=env, timeout=LIMIT)
         return Ended(ran.returncode, ran.stdout, ran.stderr, self.take_made())
 
     def run_whole(self, words, text):

@@ -20,7 +20,8 @@ class Job:
     """
 
     def __init__(self, fonts: Fonts = ()) -> None:
-        self._handle, self._lock = JobHandle(), threading.Lock()
+        # A handler of a signal may close the job where it interrupts a call on it in the same thread.
+        self._handle, self._lock = JobHandle(), threading.RLock()
         # The buffers that calls of `take` filled and whose bytes no caller got yet, each with the size of what is in it: more than one where KeyboardInterrupt or
         # MemoryError cut a call off.
         self._filled: list[tuple[Any, c_size_t]] = []

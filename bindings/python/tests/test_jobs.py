@@ -155,6 +155,18 @@ class Jobs(unittest.TestCase):
 
 
 # A program that ends while a daemon thread is inside a call on a job. The library is a stand-in whose call waits, and which says what is freed meanwhile.
+CLOSES = """
+import boxglue, signal
+job = boxglue.Job()
+signal.signal(signal.SIGALRM, lambda *_: job.close())
+signal.setitimer(signal.ITIMER_REAL, 0.2)
+try:
+    while True:
+        job.commands("hbox into 1\\nend\\n" * 200)
+except boxglue.NoJob:
+    print("closed")
+"""
+
 ENDS = """
 import threading, time, boxglue
 from boxglue import _job
@@ -254,6 +266,11 @@ class Ends(unittest.TestCase):
                     sys.setprofile(None)
                 self.assertEqual(taken + job.take(), wanted)
         self.assertGreater(count, 5)
+
+    def test_a_signal_handler_closes_the_job(self):
+        """A handler that interrupts a call does not wait for it, and later calls raise NoJob."""
+        done = subprocess.run([sys.executable, "-c", CLOSES], env={**os.environ, "PYTHONPATH": PACKAGE}, stdout=subprocess.PIPE, timeout=60)
+        self.assertEqual((done.stdout, done.returncode), (b"closed\n", 0))
 
     def test_closed_job_keeps_no_buffers(self):
         job = boxglue.Job()
