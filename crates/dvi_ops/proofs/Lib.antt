@@ -16,3 +16,4 @@ pub mod Ranges
 pub mod KnownFiles
 pub mod NoFiles
 pub mod Runs
+pub mod Kept

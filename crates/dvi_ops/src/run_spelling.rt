@@ -1,6 +1,6 @@
 //! The instructions of a body whose characters stand apart, as a list and as bytes.
 
-ghost use Rattle.std.specs.Prelude.{◌≡◌, ◌<◌, ◌≤◌, ◌+◌, ◌++◌, ◌-◌, pos, length, map, take, drop, vec_len, vec_capacity, IfOk, OnOk};
+ghost use Rattle.std.specs.Prelude.{◌≡◌, ◌<◌, ◌≤◌, ◌+◌, ◌++◌, ◌-◌, pos, length, map, take, drop, vec_len, vec_capacity, IfOk, OnOk, OnErr};
 ghost use Rattle.std.specs.List.{AllByRecursion};
 ghost use Rattle.dvi_ops.specs.Instruction.{SetChar, Do};
 ghost use Rattle.dvi_ops.specs.Layout.{bytes_of};
@@ -59,10 +59,11 @@ fn append_plain(out: &mut Vec<u8>, codes: &[u8]) -> usize
     codes.len()
 }
 
-/// Appends the spellings of characters one by one.
+/// Appends the spellings of characters one by one. Where memory is refused, a beginning of them may be there.
 #[tactic(auto, unfolding(crate::specs::Spelling::spelling, crate::specs::Spelling::leaf_spelling))]
 fn append_each(out: &mut Vec<u8>, codes: &[u8]) -> Result<(), AllocError>
-    ensures { OnOk result (out.new.items ≡ out.old.items ++ bytes_of (characters codes.now)) }
+    ensures ok { OnOk result (out.new.items ≡ out.old.items ++ bytes_of (characters codes.now)) }
+    ensures left { OnErr result (take (length out.old.items) out.new.items ≡ out.old.items) }
 {
     for code in codes {
         append_char(out, i32::from(*code))?;
@@ -70,10 +71,11 @@ fn append_each(out: &mut Vec<u8>, codes: &[u8]) -> Result<(), AllocError>
     Ok(())
 }
 
-/// Appends the spellings of characters.
+/// Appends the spellings of characters. Where memory is refused, a beginning of them may be there.
 #[inline(always)]
 fn append_characters(out: &mut Vec<u8>, codes: &[u8]) -> Result<(), AllocError>
-    ensures { OnOk result (out.new.items ≡ out.old.items ++ bytes_of (characters codes.now)) }
+    ensures ok { OnOk result (out.new.items ≡ out.old.items ++ bytes_of (characters codes.now)) }
+    ensures left { OnErr result (take (length out.old.items) out.new.items ≡ out.old.items) }
 {
     let plain = append_plain(out, codes);
     if plain == codes.len() {
@@ -114,11 +116,12 @@ impl<'a> PageRuns<'a> {
         Ok(out)
     }
 
-    /// Appends the spellings of the instructions. Where memory is refused, a beginning of the spellings may be there.
+    /// Appends the spellings of the instructions. Where memory is refused, a beginning of the spellings may be there, after what was there before.
     #[tactic(auto, unfolding(crate::specs::Runs::instructions_of))]
     pub fn append_to(&self, out: &mut Vec<u8>) -> Result<(), AllocError>
         requires { AllByRecursion HasSpelling (instructions_of self.now) }
-        ensures { OnOk result (out.new.items ≡ out.old.items ++ bytes_of (instructions_of self.now)) }
+        ensures ok { OnOk result (out.new.items ≡ out.old.items ++ bytes_of (instructions_of self.now)) }
+        ensures left { OnErr result (take (length out.old.items) out.new.items ≡ out.old.items) }
     {
         let mut rest = self.codes.as_slice();
         let mut from = 0;

@@ -2,6 +2,7 @@ use Rattle.std.proofs.Common.{◌≡◌, ◌+◌, ◌++◌, ◌∷◌, ◌<◌, 
 use Rattle.dvi_ops.specs.Runs.{characters, instructions_of, woven_instructions}
 use Rattle.dvi_ops.specs.Spelling.{spelling}
 use Rattle.dvi_ops.specs.View.{body_view}
+use Rattle.dvi_ops.proofs.Kept.{kept_in_front}
 use Rattle.dvi_ops.proofs.Runs.{woven_split, bytes_further, spelled_further}
 use Rattle.dvi_ops.proofs.page_runs.PageRuns.append_to.Goals as goal
 
@@ -24,6 +25,8 @@ loop-index-preserved c =
     c.split_codes.result.0.now c.split_codes.result.1.now inside runs.paired c.index-place.ensures c.index.ensures c.saturating_sub.ensures c.split_codes.ensures.run
     c.split_codes.ensures.rest in
     record {
-      bytes = bytes_further _ _ _ _ _ _ _ _ c.in_ok-append_characters.ensures c.in_ok-spell_body.ensures.ok c.loop-index.invariant.bytes is;
+      bytes = bytes_further _ _ _ _ _ _ _ _ c.in_ok-append_characters.ensures.ok c.in_ok-spell_body.ensures.ok c.loop-index.invariant.bytes is;
       spelled = (spelled_further _ _ _ _ c.loop-index.invariant.spelled is).1;
+      kept =
+          kept_in_front _ _ _ _ (kept_in_front _ _ _ _ c.loop-index.invariant.kept c.in_ok-append_characters.ensures.ok) c.in_ok-spell_body.ensures.ok;
     }
