@@ -1,5 +1,5 @@
 -- Facts about two lists of instructions or of parts, one after the other.
-use Rattle.std.proofs.Common.{◌≡◌, ◌+◌, ◌++◌, [], ◌∷◌, List, length, map, ℕ, suc, ℤ, Option, Some, None, Bool, true, false, if◌then◌else◌, refl, sym, ◌∙◌, ap, append_assoc, add_assoc, length-append, arith}
+use Rattle.std.proofs.Common.{◌≡◌, ◌+◌, ◌++◌, [], ◌∷◌, List, length, ℕ, suc, ℤ, Option, Some, None, Bool, true, false, if◌then◌else◌, refl, sym, ◌∙◌, ap, append_assoc, add_assoc, length-append, arith}
 use Rattle.std.proofs.lemmas.List.{map-append}
 use Rattle.std.proofs.lemmas.Grind.{flat_map-append}
 use Rattle.std.specs.Ordering.{int_eq}

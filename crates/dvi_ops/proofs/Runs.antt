@@ -1,10 +1,10 @@
 -- How a body whose characters stand apart grows, and what is left of it on the way through it.
-use Rattle.std.proofs.Common.{◌≡◌, ◌≤◌, ◌<◌, ◌+◌, ◌-◌, ◌++◌, ℕ, suc, zero, List, [], ◌∷◌, length, map, take, drop, get_or, refl, sym, ap, ◌∙◌, subst, append_assoc, arith}
+use Rattle.std.proofs.Common.{◌≡◌, ◌≤◌, ◌<◌, ◌+◌, ◌-◌, ◌++◌, ℕ, List, [], ◌∷◌, length, map, take, drop, get_or, refl, sym, ap, ◌∙◌, subst, append_assoc, arith}
 use Rattle.std.specs.Prelude.{pos, Result, Ok, Err, OnOk, OnErr}
-use Rattle.std.specs.List.{AllByRecursion, flat_map}
+use Rattle.std.specs.List.{AllByRecursion}
 use Rattle.std.proofs.lemmas.Grind.{flat_map-append}
 use Rattle.scaled_core.proofs.EachOf.{all_back}
-use Rattle.std.proofs.lemmas.List.{map-append, take_all, drop_all, take-append-le, drop-append-le, length-drop, length-append, drop_more, get_or_read, take-append-drop}
+use Rattle.std.proofs.lemmas.List.{map-append, take_all, drop_all, take-append-le, drop-append-le, length-drop, length-append, drop_more, take-append-drop}
 use Rattle.dvi_ops.specs.Instruction.{SetChar, Instruction, Do}
 use Rattle.dvi_ops.specs.Layout.{bytes_of}
 use Rattle.dvi_ops.specs.Private.Rising.{IsRising}

@@ -95,6 +95,7 @@ impl<'a> PageRuns<'a> {
     pub fn push_in_room(&mut self, code: u8) -> bool
         ensures pushed { result ≡ true → instructions_of self.new ≡ instructions_of self.old ++ Do (SetChar (pos code)) ∷ [] }
         ensures full { result ≡ false → self.new ≡ self.old }
+        ensures room { vec_len self.old.codes < vec_capacity self.old.codes → result ≡ true }
     {
         if self.codes.len() >= self.codes.capacity() {
             return false;

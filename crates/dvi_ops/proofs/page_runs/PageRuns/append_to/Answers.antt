@@ -1,7 +1,4 @@
-use Rattle.std.proofs.Common.{◌≡◌, ◌+◌, ◌++◌, ◌∷◌, ◌<◌, ◌-◌, ◌∙◌, length, map, drop, ap, arith}
-use Rattle.dvi_ops.specs.Runs.{characters, instructions_of, woven_instructions}
-use Rattle.dvi_ops.specs.Spelling.{spelling}
-use Rattle.dvi_ops.specs.View.{body_view}
+use Rattle.std.proofs.Common.{◌<◌, length, arith}
 use Rattle.dvi_ops.proofs.Kept.{kept_in_front}
 use Rattle.dvi_ops.proofs.Runs.{woven_split, bytes_further, spelled_further}
 use Rattle.dvi_ops.proofs.page_runs.PageRuns.append_to.Goals as goal

@@ -1,4 +1,4 @@
-use Rattle.std.proofs.Common.{◌≡◌, ◌+◌, ◌∙◌, ℕ, List, length, map, ap, arith}
+use Rattle.std.proofs.Common.{◌∙◌, ℕ, List, length, map, ap, arith}
 use Rattle.dvi_ops.specs.Runs.{instructions_of, woven_instructions}
 use Rattle.dvi_ops.specs.View.{body_view}
 use Rattle.dvi_ops.proofs.Runs.{no_fewer, rising_further, woven-character}
