@@ -34,3 +34,10 @@ pub kept_at_err :
     → OnErr r (take (length before) after ≡ before)
 kept_at_err (Ok x) before between after first second = tt
 kept_at_err (Err e) before between after first second = kept_through before between after first second
+
+-- The same, where the last step left all as it was.
+pub kept_same :
+    {A E : Type 0} (r : Result A E) (before between after : List ℕ) → take (length before) between ≡ before → OnErr r (after ≡ between)
+    → OnErr r (take (length before) after ≡ before)
+kept_same (Ok x) before between after kept same = tt
+kept_same (Err e) before between after kept same = ap (take (length before)) same ∙ kept

@@ -44,7 +44,7 @@ pub fn append_all(bytes: &mut Vec<u8>, ops: &[Op<'_>]) -> Result<(), AllocError>
 }
 
 /// Appends the spellings of a page with these counts and this body, from bop to eop. `last` is the place of the previous bop, or -1. Where memory is
-/// refused, a beginning of the spellings may be there.
+/// refused, a beginning of the spellings may be there, after what was there before.
 pub fn append_page(
     bytes: &mut Vec<u8>,
     counts: &[i32; 10],
@@ -54,6 +54,7 @@ pub fn append_page(
     requires { AllByRecursion HasSpelling (instructions_of body.now) }
     ensures ok { OnOk result (bytes.new.items ≡ bytes.old.items ++ bytes_of (Bop counts.now last ∷ (instructions_of body.now ++ Eop ∷ []))) }
     ensures counts { AllByRecursion NumberFits counts.now }
+    ensures left { OnErr result (take (length bytes.old.items) bytes.new.items ≡ bytes.old.items) }
 {
     let bop = Op::Bop {
         counts: *counts,
