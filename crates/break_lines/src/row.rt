@@ -59,36 +59,45 @@ pub fn offer(
     put(row, entry.with_line(index, place, line, cut), cut);
 }
 
-/// Appends the offers of a row to a table, and removes them from the row.
+/// Appends the offers of a row to a table.
 #[inline]
-fn move_held(table: &mut Vec<Entry>, row: &mut Vec<Option<Entry>>) -> Result<(), AllocError>
+fn append_offers(table: &mut Vec<Entry>, row: &Vec<Option<Entry>>) -> Result<(), AllocError>
     ensures front { take (length table.old.items) table.new.items ≡ table.old.items }
-    ensures table { OnOk result (table.new.items ≡ table.old.items ++ row_entries row.old.items) }
-    ensures row { OnOk result (row.new.items ≡ replicate (length row.old.items) None) }
-    ensures wide { length row.new.items ≡ length row.old.items }
+    ensures table { OnOk result (table.new.items ≡ table.old.items ++ row_entries row.now.items) }
 {
     for index in 0..row.len() {
         if let Some(entry) = row[index] {
             table.push(entry)?;
-            row[index] = None;
         }
     }
     Ok(())
 }
 
-/// Appends the offers of a row to a table, and empties the row. If memory is refused, the table is as it was before the call, and the row keeps its
-/// slots; some of them may be empty then.
+/// Empties the slots of a row.
+#[inline]
+fn empty_slots(row: &mut Vec<Option<Entry>>)
+    ensures { row.new.items ≡ replicate (length row.old.items) None }
+{
+    for index in 0..row.len() {
+        row[index] = None;
+    }
+}
+
+/// Appends the offers of a row to a table, and empties the row. If memory is refused, both are as they were before the call: the row is emptied only
+/// after all its offers were appended.
 #[inline]
 pub fn flush_row(table: &mut Vec<Entry>, row: &mut Vec<Option<Entry>>) -> Result<(), AllocError>
     ensures table { OnOk result (table.new.items ≡ table.old.items ++ row_entries row.old.items) }
     ensures row { OnOk result (row.new.items ≡ replicate (length row.old.items) None) }
     ensures err { OnErr result (table.new.items ≡ table.old.items) }
+    ensures kept { OnErr result (row.new.items ≡ row.old.items) }
     ensures wide { length row.new.items ≡ length row.old.items }
 {
     let count = table.len();
-    if let Err(refused) = move_held(table, row) {
+    if let Err(refused) = append_offers(table, row) {
         table.truncate(count);
         return Err(refused);
     }
+    empty_slots(row);
     Ok(())
 }
