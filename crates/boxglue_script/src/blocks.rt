@@ -1,6 +1,6 @@
 //! The lines of a script in blocks.
 
-ghost use Rattle.std.specs.Prelude.{◌≡◌, ◌<◌, ◌+◌, ◌∷◌, ◌++◌, [], OnOk, vec_len};
+ghost use Rattle.std.specs.Prelude.{◌≡◌, ◌<◌, ◌+◌, ◌∷◌, ◌++◌, [], OnOk, OnErr, vec_len};
 ghost use Rattle.boxglue_script.specs.Blocks.{lines_of};
 
 use crate::script::Line;
@@ -31,9 +31,10 @@ impl LineBlocks {
         }
     }
 
-    /// Appends a line to the last block, or to a new one if that block has `most` lines.
+    /// Appends a line to the last block, or to a new one if that block has `most` lines. Where memory is refused, no line is lost.
     pub(crate) fn push(&mut self, most: usize, line: Line) -> Result<(), AllocError>
         ensures ok { OnOk result (lines_of self.new ≡ lines_of self.old ++ line ∷ []) }
+        ensures err { OnErr result (lines_of self.new ≡ lines_of self.old) }
         ensures full { vec_len self.old.last < most → self.new.full.items ≡ self.old.full.items }
         ensures last { vec_len self.old.last < most → OnOk result (vec_len self.new.last ≡ vec_len self.old.last + 1) }
     {
@@ -43,11 +44,12 @@ impl LineBlocks {
         Ok(self.last.push(line)?)
     }
 
-    /// Begins a block, with room for `most` lines at once.
+    /// Begins a block, with room for `most` lines at once. The room is taken before a block moves, so that no line is lost where memory is refused.
     #[tactic(auto, using(crate::proofs::BlockLemmas::one_block_more))]
     fn begin_block(&mut self, most: usize) -> Result<(), AllocError>
-        ensures { OnOk result (lines_of self.new ≡ lines_of self.old) }
+        ensures { lines_of self.new ≡ lines_of self.old }
     {
+        self.full.reserve(1)?;
         let room = Vec::with_capacity(*self.last.allocator(), most)?;
         let block = replace(&mut self.last, room);
         Ok(self.full.push(block)?)
