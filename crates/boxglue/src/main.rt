@@ -7,8 +7,9 @@ mod waiting;
 
 use boxglue_lib::{program, refuse_memory, write_text};
 use later_words::LaterWords;
-use std::fs::File;
+use std::fs::{File, OpenOptions};
 use std::io::ErrorKind;
+use std::os::fd::AsRawFd;
 use std::process::ExitCode;
 use system_host::SystemHost;
 use waiting::Waiting;
@@ -22,19 +23,38 @@ Usage: boxglue [COMMAND]
 For more information, try '--help'.
 ";
 
-/// Files of which one is opened three times before anything else, and never read. The number of a closed standard stream goes to the next file that
-/// is opened, and what is meant for the stream would then go into that file. So the numbers of all three are taken first, and a write to a closed
-/// stream fails. The user may lack the right to read the first ones.
-const PLACEHOLDERS: [&str; 3] = ["/", "/dev/null", "."];
+/// Folders of which one is opened three times before anything else. The number of a closed standard stream goes to the next file that is opened. What
+/// is meant for the stream would then go into that file, and what is read of the stream would be its bytes. So the numbers of all three are taken
+/// first. A folder can be neither read nor written as a stream, so each use of a closed stream fails, whichever stream it is. The user may lack the
+/// right to read the first one.
+const FOLDERS: [&str; 2] = ["/", "."];
 
-/// A file that is open while the program runs, if one of the placeholders can be opened.
+/// The file that stands in where no folder can be opened. It can be read and written, and so it is opened for one of both alone.
+const NULL: &str = "/dev/null";
+
+/// The number of standard input.
+const INPUT: i32 = 0;
+
+/// Opens `NULL` for reading, so that a write to it fails, or where it has the number of standard input for writing, so that a reading fails.
+fn null_file(rt: &HostRuntime) -> Option<File> {
+    let Ok(file) = File::open(rt, NULL) else {
+        return None;
+    };
+    if file.as_raw_fd() != INPUT {
+        return Some(file);
+    }
+    drop(file);
+    OpenOptions::new().write(true).open(rt, NULL).ok()
+}
+
+/// A file that is open while the program runs, if there is one that can be opened.
 fn placeholder(rt: &HostRuntime) -> Option<File> {
-    for path in PLACEHOLDERS {
+    for path in FOLDERS {
         if let Ok(file) = File::open(rt, path) {
             return Some(file);
         }
     }
-    None
+    null_file(rt)
 }
 
 /// The program takes no words, or a task with its own: a script from standard input, answers to standard output.
