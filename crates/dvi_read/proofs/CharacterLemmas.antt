@@ -17,7 +17,6 @@ use Rattle.dvi_scan.specs.declared.executing.PassState.{PassState}
 use Rattle.dvi_scan.specs.declared.executing.PassState.TheVariants as stands
 use Rattle.dvi_scan.specs.declared.page.Position.{Position as Spot}
 use Rattle.dvi_scan.proofs.PlaceLemmas.{one_byte}
-use Rattle.dvi_read.specs.PageMarks.{HasPlaces, TextsStandAt, marks_so_far, texts_in}
 use Rattle.dvi_read.specs.ReadFonts.{AreSound, FontIsRead, HasCurrent, IsCurrent, asked_width, selected_in}
 use Rattle.dvi_read.specs.Steps.{FontsAreRead, known_of, places_left, stand_of}
 use Rattle.dvi_read.specs.Private.Walks.{IsWalkedOver, bare}
@@ -112,10 +111,6 @@ module _ (metrics : WidthsByName) (ahead : List ℤ) (bytes : List ℕ) (stop : 
       inl (n, small, refl, one_byte bytes at within ∙ ap (λ (k : ℕ). k ∷ []) byte) in
       walked_over_turn false metrics ahead bytes stop chain at (at + 1) old new i after (omega arith) (omega arith) walked spelled goes (ap (placed_at s) alone) refl tt (sym (append-nil (known_of old))) tt tt
       (subst (λ (fs : List ℤ). FontsAreRead old.fonts fs) (sym (append-nil walked.selected)) walked.read) walked.sound (λ g e. walked.current g (ap selected_in inside ∙ e))
-
--- The places of the specials are as before.
-pub places_as_before : (bytes places : List ℕ) (p q : PassStateView) → marks_so_far q ≡ marks_so_far p → HasPlaces bytes places p → HasPlaces bytes places q
-places_as_before bytes places p q same has = λ small. subst (λ (ms : List Mark). TextsStandAt bytes places (texts_in ms)) (sym same) (has small)
 
 -- Two states that are some.
 pub some_after : (p q : PassStateView) → Some p ≡ Some q → p ≡ q

@@ -23,7 +23,6 @@ use Rattle.dvi_scan.specs.declared.page.Page.{Page}
 use Rattle.dvi_scan.specs.declared.widths.FontRefusal.{FontRefusal}
 use Rattle.dvi_scan.specs.declared.widths.FontRefusal.TheVariants as refusals
 use Rattle.dvi_scan.proofs.ReachedLemmas.{reached_next}
-use Rattle.dvi_read.specs.PageMarks.{HasPlaces}
 use Rattle.dvi_read.specs.ReadFonts.{AreSound, FontIsRead, HasCurrent, IsCurrent, selected_in}
 use Rattle.dvi_read.specs.Steps.{FontsAreRead, known_of, places_left, so_far, stand_of}
 use Rattle.dvi_read.specs.Stops.{PageBytes, page_bytes, BreaksAt, BreaksPages, BreaksRule, InstructionAllocates, IsPagesFault, LacksRoom, LacksWidths, PassContinues, SelectsUnread}
@@ -252,12 +251,3 @@ walked_kept metrics ahead bytes stop chain at walk walked =
       sound = walked.sound;
       current = walked.current;
     }
-
--- The places of the specials that are held.
-places_bare : (bytes : List ℕ) (p : PassStateView) → HasPlaces bytes [] (bare p)
-places_bare bytes (Between pages) = λ small. tt
-places_bare bytes (Inside pages counts marks stack s) = λ small. tt
-
-pub places_held : (keeps : Bool) (bytes old new : List ℕ) (p q : PassStateView) → new ≡ (if keeps then old else []) → q ≡ held_state keeps p → HasPlaces bytes old p → HasPlaces bytes new q
-places_held true bytes old new p q places stand has = subst₂ (λ (ps : List ℕ) (p : PassStateView). HasPlaces bytes ps p) (sym places) (sym stand) has
-places_held false bytes old new p q places stand has = subst₂ (λ (ps : List ℕ) (p : PassStateView). HasPlaces bytes ps p) (sym places) (sym stand) (places_bare bytes p)

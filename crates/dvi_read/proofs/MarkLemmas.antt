@@ -1,16 +1,15 @@
 -- The marks that a pass makes: each glyph has a width in a font that was selected, and each special has its text in the file.
-use Rattle.std.proofs.Common.{◌≡◌, ◌≤◌, ◌<◌, ◌+◌, ◌*◌, ◌-◌, ◌^◌, ◌++◌, if◌then◌else◌, [], ◌∷◌, Bool, true, false, List, drop, length, map, min, nat_lt, slice_index, take, zero, suc, ℕ, ℤ, Option, Some, None, Result, Ok, Err, append-nil, append_assoc, length-append, arith, refl, sym, ◌∙◌, ap, ap₂, subst, subst₂, inl, inr}
-use Rattle.std.specs.Prelude.{◌⊎◌, IsSome, OnErr, option_and_then}
+use Rattle.std.proofs.Common.{◌≡◌, ◌≤◌, ◌<◌, ◌+◌, ◌*◌, ◌-◌, ◌^◌, ◌++◌, if◌then◌else◌, [], ◌∷◌, Bool, true, false, List, drop, length, nat_lt, slice_index, take, zero, suc, ℕ, ℤ, Option, Some, None, append-nil, append_assoc, length-append, arith, refl, sym, ◌∙◌, ap, subst, inl, inr}
+use Rattle.std.specs.Prelude.{◌⊎◌, IsSome}
 use Rattle.std.specs.List.{AllByRecursion}
 use Rattle.std.proofs.lemmas.Grind.{flat_map-append}
 use Rattle.std.proofs.lemmas.List.{drop-drop, drop-take, drop_at, get_or-drop, length-drop, length-take-le, take-append-drop}
 use Rattle.byteorder.specs.Endian.{big_number}
 use Rattle.byteorder.specs.Numbers.{big_from-lt}
-use Rattle.dvi_scan.specs.Closing.{ClosesTo}
 use Rattle.dvi_ops.specs.Body.{Position, DviState, Meaning, Widths, Acts, instruction_acts, glyph, glyph_of, bounded_acts, kept_in, place_after, put_glyph, right, rule_at, set_glyph, start}
 use Rattle.dvi_ops.specs.File.{MarkedPage}
-use Rattle.dvi_ops.specs.Fonts.{WidthsByName, definitions, font, selection_of, selections, width_in as width_of_font, widths_of}
-use Rattle.dvi_ops.specs.Instruction.{Definition, BodyLeaf, SetChar, PutChar, SetRule, PutRule, Nop, Move, FontNum, FontDef, Xxx, Instruction, Do, Push, Pop, Bop, Eop, Postamble, Units}
+use Rattle.dvi_ops.specs.Fonts.{WidthsByName, definitions, font, selection_of, selections, width_in as width_of_font}
+use Rattle.dvi_ops.specs.Instruction.{Definition, BodyLeaf, SetChar, PutChar, SetRule, PutRule, Nop, Move, FontNum, FontDef, Xxx, Instruction, Do, Push, Pop, Bop, Eop}
 use Rattle.dvi_ops.specs.Table.{Spells}
 use Rattle.dvi_ops.specs.Tokens.{Token, IsSpelled, token_instructions, token_bytes}
 use Rattle.dvi_ops.proofs.Frames.{not_empty}
@@ -19,28 +18,10 @@ use Rattle.dvi_ops.proofs.Numbers.{short_below}
 use Rattle.scaled_core.specs.Mark.{Mark, Glyph, Rule, Special}
 use Rattle.scaled_core.proofs.EachOf.{all_append, all_back, all_front, all_weaker}
 use Rattle.dvi_scan.proofs.FontLemmas.{current_of, has_definition, same_more_widths, turn_font}
-use Rattle.dvi_scan.specs.Ends.{StandsAt}
-use Rattle.dvi_scan.specs.Execution.{TakesRoom, pass_at}
 use Rattle.dvi_scan.specs.Pass.{PassStateView, Between, Inside, execute, passes, then_pass, with_marks}
-use Rattle.dvi_scan.specs.Reached.{IsReached, PlacesLeft, ReadSoFar}
-use Rattle.dvi_scan.specs.View.{marked_page}
-use Rattle.dvi_scan.specs.declared.executing.PassState.{PassState}
-use Rattle.dvi_scan.specs.declared.page.Page.{Page}
-use Rattle.dvi_read.specs.Opened.{OpenedFile}
-use Rattle.dvi_read.specs.PageMarks.{HasGlyphWidths, HasPlaces, HasRoomFor, IsGlyphWidth, OfGlyph, TextStandsAt, TextsStandAt, marks_of, marks_so_far, text_in, text_place, texts_in}
-use Rattle.dvi_read.specs.Private.PageMarks.{PutsSpecial, text_put}
-use Rattle.dvi_read.proofs.SelectLemmas.{some_is}
-use Rattle.dvi_read.specs.ReadFonts.{AreSound, FontIsRead, font_place, read_font_at, width_in}
-use Rattle.dvi_read.specs.Steps.{IsWalkStep, known_of, stand_of}
-use Rattle.dvi_read.specs.Stops.{PagesHaveEnded, page_bytes}
-use Rattle.dvi_read.specs.Walks.{IsWalked}
-use Rattle.dvi_read.specs.Private.Walks.{IsBegun, StopsReading}
-use Rattle.dvi_read.specs.declared.fault.DviFault.TheVariants.{OutOfMemory}
+use Rattle.dvi_read.specs.PageMarks.{HasGlyphWidths, IsGlyphWidth, OfGlyph, TextStandsAt, marks_of, text_in}
+use Rattle.dvi_read.specs.Private.PageMarks.{marks_so_far, text_put, texts_in}
 use Rattle.dvi_read.specs.declared.fonts.ReadFonts.{ReadFonts}
-use Rattle.dvi_read.specs.declared.check.walk.Walk.{Walk}
-use Rattle.tfm_core.specs.FileWidths.{file_widths, width_at}
-use Rattle.tfm_core.specs.Fonts.{SizedFont}
-use Rattle.tfm_core.specs.NamedBytes.{NamedBytes}
 
 -- The marks of a meaning.
 abbrev drawn : Meaning → List Mark
@@ -212,22 +193,6 @@ turn_adds widths most Eop (Inside pages counts marks [] s) q e =
 turn_adds widths most Eop (Inside pages counts marks (p ∷ stack) s) q e = absurd cc
 turn_adds widths most i (Inside pages counts marks stack s) q e = absurd cc
 
--- Memory may be refused for the place of a special, as for its mark.
-special_room : (text : List ℕ) (pages : List MarkedPage) (counts : List ℤ) (marks : List Mark) (stack : List Position) (s : DviState) (b : Bool) (q : PassStateView)
-    → with_marks pages counts marks stack (ranged b (Some (Special s.place.h s.place.v text ∷ [], s))) ≡ Some q
-    → ranged b (Some (Special s.place.h s.place.v text ∷ [], s)) ≡ Some (Special s.place.h s.place.v text ∷ [], s)
-special_room text pages counts marks stack s true q e = refl
-special_room text pages counts marks stack s false q e = absurd cc
-
-special_takes : (widths : Widths) (most : ℕ) (text : List ℕ) (p q : PassStateView) → execute (bounded_acts (instruction_acts widths)) most (Do (Xxx text)) p ≡ Some q → TakesRoom (instruction_acts widths) most (Do (Xxx text)) p
-special_takes widths most text (Between pages) q e = absurd cc
-special_takes widths most text (Inside pages counts marks stack s) q e = (Special s.place.h s.place.v text, s, special_room text pages counts marks stack s _ q e)
-
-pub takes_special : (widths : Widths) (most : ℕ) (i : Instruction) (p q : PassStateView) → PutsSpecial i → execute (bounded_acts (instruction_acts widths)) most i p ≡ Some q → TakesRoom (instruction_acts widths) most i p
-takes_special widths most i p q (text, is) e =
-    subst (λ (i : Instruction). TakesRoom (instruction_acts widths) most i p) (sym is)
-    (special_takes widths most text p q (subst (λ (i : Instruction). execute (bounded_acts (instruction_acts widths)) most i p ≡ Some q) is e))
-
 -- The glyphs of a pass have what glyphs of selected fonts with widths have.
 pub pass_glyphs : (P : ℤ → ℤ → Type 0) (Selected : ℤ → Type 0) (widths : Widths) (most : ℕ) (is : List Instruction) (p q : PassStateView)
     → ((f : ℤ) → Selected f → (c : ℤ) → IsSome (widths f c) → P f c) → ((f : ℤ) → current_of p ≡ Some f → Selected f) → AllByRecursion Selected (selections is)
@@ -251,27 +216,6 @@ pass_glyphs P Selected widths most (i ∷ is) p q has current selected all e =
         → then_pass (passes (bounded_acts (instruction_acts widths)) most is) o ≡ Some q → AllByRecursion (OfGlyph P) (marks_so_far q)
     by_turn None turn later e = absurd cc
     by_turn (Some r) turn later e = later r turn e
-
--- The width of a font that was read.
-read_width_is : (metrics : WidthsByName) (table : List Definition) (fonts : ReadFonts) (f c : ℤ) → AreSound metrics table fonts → FontIsRead f fonts → IsSome (widths_of metrics table f c)
-    → IsGlyphWidth metrics table fonts f c
-read_width_is metrics table fonts f c sound is_read some =
-    let (place, at) = some_is (font_place f fonts) is_read in
-    let (read, there, widths) = sound.widths f place at in
-    let (width, is) = some_is (widths_of metrics table f c) some in
-    let found : option_and_then (read_font_at fonts) (font_place f fonts) ≡ Some read = ap (λ (o : Option ℕ). option_and_then (read_font_at fonts) o) at ∙ there in
-    let same : width_of_font (font metrics table f) c ≡ width_at read c = ap (λ (o : Option (ℤ → Option ℤ)). width_of_font o c) widths in
-    (width, ap (λ (o : Option SizedFont). width_in o c) found ∙ (sym same ∙ is), is)
-
--- The glyphs of the pages that were read have widths, where the fonts that were selected were read.
-pub walked_widths : (metrics : WidthsByName) (most : ℕ) (fonts : ReadFonts) (table : List Definition) (is : List Instruction) (q : PassStateView) → AreSound metrics table fonts
-    → AllByRecursion (λ f. FontIsRead f fonts) (selections is) → passes (bounded_acts (instruction_acts (widths_of metrics table))) most is (Between []) ≡ Some q → HasGlyphWidths metrics table fonts (marks_so_far q)
-walked_widths metrics most fonts table is q sound read e =
-    record {
-      codes = sound.codes;
-      widths = pass_glyphs (IsGlyphWidth metrics table fonts) (λ f. FontIsRead f fonts) (widths_of metrics table) most is (Between []) q
-          (λ f is_read c some. read_width_is metrics table fonts f c sound is_read some) (λ f at. absurd cc) read tt e;
-    }
 
 -- More definitions change no width.
 more_width : (metrics : WidthsByName) (xs ys : List Definition) (fonts : ReadFonts) (f c : ℤ) → IsGlyphWidth metrics xs fonts f c → IsGlyphWidth metrics (xs ++ ys) fonts f c
@@ -332,30 +276,6 @@ text_stands bytes at next text small forward within (n, count, low, high, is, le
       short = subst (λ (m : ℕ). m < 2 ^ 32) big below;
       text_is = ap (λ (k : ℕ). take (length text) (drop k bytes)) (sym place) ∙ (ap (λ (x : List ℕ). take (length text) x) (sym (drop-drop (length front) at bytes)) ∙ cut);
     }
-
--- One more text.
-stand_more : (bytes : List ℕ) (places : List ℕ) (texts : List (List ℕ)) (place : ℕ) (text : List ℕ) → TextsStandAt bytes places texts → TextStandsAt bytes place text
-    → TextsStandAt bytes (places ++ place ∷ []) (texts ++ text ∷ [])
-stand_more bytes [] [] place text stand here = (here, tt)
-stand_more bytes [] (t ∷ texts) place text stand here = absurd stand
-stand_more bytes (p ∷ places) [] place text stand here = absurd stand
-stand_more bytes (p ∷ places) (t ∷ texts) place text (first, stand) here = (first, stand_more bytes places texts place text stand here)
-
-stand_next : (bytes : List ℕ) (at next : ℕ) (i : Instruction) (places : List ℕ) (texts : List (List ℕ)) → ((k : ℕ) → slice_index bytes k < 256) → at < next → next ≤ length bytes → Spells i (take (next - at) (drop at bytes))
-    → TextsStandAt bytes places texts → TextsStandAt bytes (places ++ text_place next i) (texts ++ text_put i)
-stand_next bytes at next (Do (Xxx text)) places texts small forward within spelled stand =
-    stand_more bytes places texts (next - length text) text stand (text_stands bytes at next text small forward within spelled)
-stand_next bytes at next i places texts small forward within spelled stand =
-    subst₂ (λ (ps : List ℕ) (ts : List (List ℕ)). TextsStandAt bytes ps ts) (sym (append-nil places)) (sym (append-nil texts)) stand
-
-pub places_next : (widths : Widths) (most : ℕ) (bytes : List ℕ) (at next : ℕ) (i : Instruction) (places new : List ℕ) (p q : PassStateView) → at < next → next ≤ length bytes
-    → Spells i (take (next - at) (drop at bytes)) → execute (bounded_acts (instruction_acts widths)) most i p ≡ Some q → new ≡ places ++ text_place next i → HasPlaces bytes places p → HasPlaces bytes new q
-places_next widths most bytes at next i places new p q forward within spelled turn new_is has small =
-    let adds = turn_adds widths most i p q turn in
-    let texts : texts_in (marks_so_far q) ≡ texts_in (marks_so_far p) ++ text_put i =
-    ap texts_in adds.after ∙ (flat_map-append text_in (marks_so_far p) adds.marks ∙ ap (λ (ts : List (List ℕ)). texts_in (marks_so_far p) ++ ts) adds.texts) in
-    subst₂ (λ (ps : List ℕ) (ts : List (List ℕ)). TextsStandAt bytes ps ts) (sym new_is) (sym texts)
-    (stand_next bytes at next i places (texts_in (marks_so_far p)) small forward within spelled (has small))
 
 -- The least number of bytes of an instruction, as far as marks and pages are counted.
 abbrev pub least : Instruction → ℕ
@@ -447,66 +367,3 @@ pass_bytes widths most (i ∷ is) p q e =
         let pages = turn_bytes (bounded_acts (instruction_acts widths)) most i p r turn in
         let marks_rest = rest.marks in
         let pages_rest = rest.pages in record { marks = omega arith; pages = omega arith }
-
--- What was read of a file before a place.
-module _ (metrics : WidthsByName) (ahead : List ℤ) (bytes : List ℕ) (stop : Postamble) (chain : List ℕ) (at : ℕ) where
-  -- The marks and the pages have room in the file.
-  pub reached_room : (s : ReadSoFar) (pages : List MarkedPage) → at ≤ length bytes → IsReached metrics ahead bytes stop chain at s → s.pass ≡ Between pages → HasRoomFor bytes pages
-  reached_room s pages within r between =
-      let takes = pass_bytes (widths_of metrics s.known) (min 1024 stop.stack_depth) r.body (Between []) s.pass r.passed in
-      let marks : length (marks_so_far s.pass) ≡ length (marks_of pages) = ap (λ (p : PassStateView). length (marks_so_far p)) between in
-      let size : pages_bytes s.pass ≡ 46 * length pages = ap pages_bytes between in
-      let all : least_of (token_instructions r.before) ≡ 1 + least_of r.body = ap least_of r.front_is in
-      let spelled = least_written r.before r.spelled in
-      let whole : length (token_bytes r.before) ≡ at = ap (λ (x : List ℕ). length x) r.whole ∙ length-take-le at bytes within in
-      let few = takes.marks in
-      let low = takes.pages in record { marks_fit = omega arith; pages_fit = omega arith }
-
-  -- The glyphs have widths.
-  pub reached_widths : (walk : Walk) → IsWalked metrics ahead bytes stop chain at walk → HasGlyphWidths metrics (known_of walk) walk.fonts (marks_so_far (stand_of walk))
-  reached_widths walk walked =
-      let r = walked.reached in
-      let chosen : walked.selected ≡ selections r.body = sym r.selected_is ∙ ap (λ (is : List Instruction). selections is) r.front_is in
-      walked_widths metrics (min 1024 stop.stack_depth) walk.fonts (known_of walk) r.body (stand_of walk) walked.sound
-      (subst (λ (fs : List ℤ). AllByRecursion (λ f. FontIsRead f walk.fonts) fs) chosen walked.read) r.passed
-
--- A fact where a result is an error.
-pub on_err : {A E : Type 0} (r : Result A E) (P : Type 0) → P → OnErr r P
-on_err (Ok x) P p = tt
-on_err (Err e) P p = p
-
--- No text before the first page.
-pub places_first : (bytes : List ℕ) (left : List ℕ) (walk : Walk) (places : List ℕ) → IsBegun left walk → places ≡ [] → HasPlaces bytes places (stand_of walk)
-places_first bytes left walk places begun none =
-    let start : stand_of walk ≡ Between [] = ap₂ (λ (pages : List Page) (stand : PassState). pass_at (map marked_page pages) stand) begun.done begun.stand in
-    subst₂ (λ (ps : List ℕ) (p : PassStateView). HasPlaces bytes ps p) (sym none) (sym start) (λ small. tt)
-
--- Memory that is refused for the place of a special.
-pub special_fault : (files : List NamedBytes) (ahead : List ℤ) (bytes : List ℕ) (stop : Postamble) (at post : ℕ) (i : Instruction) (old new : Walk) → StandsAt bytes at post i → PutsSpecial i
-    → IsWalkStep (file_widths files) ahead (min 1024 stop.stack_depth) at i old new → StopsReading files (page_bytes ahead bytes (min 1024 stop.stack_depth) post) at old OutOfMemory
-special_fault files ahead bytes stop at post i old new stands puts steps selected read =
-    (i, stands, inl (takes_special (widths_of (file_widths files) (known_of old)) (min 1024 stop.stack_depth) i (stand_of old) (stand_of new) puts steps.goes_on))
-
--- The same for what is kept of a file: its pages are those of the walk, and its definitions are those before post and after it.
-module _ (p : PassStateView) (left : PlacesLeft) (pages bounded_acts : List MarkedPage) (units : Units) (new : List Definition) (dvi : OpenedFile) (ended : PagesHaveEnded p left pages) (same : bounded_acts ≡ pages)
-    (is : dvi ≡ record { units = units; pages = bounded_acts; fonts = new }) where
-  pages_of_dvi : dvi.pages ≡ pages
-  pages_of_dvi = ap (λ (d : OpenedFile). d.pages) is ∙ same
-
-  marks_of_dvi : marks_so_far p ≡ marks_of dvi.pages
-  marks_of_dvi = ap marks_so_far ended.between ∙ ap marks_of (sym pages_of_dvi)
-
-  pub kept_widths : (metrics : WidthsByName) (bytes : List ℕ) (from to : ℕ) (known : List Definition) (fonts read : ReadFonts) → HasGlyphWidths metrics known fonts (marks_so_far p)
-      → ClosesTo bytes from to known new → read ≡ fonts → HasGlyphWidths metrics dvi.fonts read (marks_of dvi.pages)
-  kept_widths metrics bytes from to known fonts read has (tail, closes, new_is) fonts_are =
-      let table : known ++ definitions (token_instructions tail) ≡ dvi.fonts = sym (ap (λ (d : OpenedFile). d.fonts) is ∙ new_is) in
-      let all = subst (λ (ms : List Mark). HasGlyphWidths metrics known fonts ms) marks_of_dvi has in
-      let more = more_widths metrics known (definitions (token_instructions tail)) fonts (marks_of dvi.pages) all in
-      subst₂ (λ (ds : List Definition) (fonts : ReadFonts). HasGlyphWidths metrics ds fonts (marks_of dvi.pages)) table (sym fonts_are) more
-
-  pub kept_places : (bytes places read : List ℕ) → ((k : ℕ) → slice_index bytes k < 256) → HasPlaces bytes places p → read ≡ places → TextsStandAt bytes read (texts_in (marks_of dvi.pages))
-  kept_places bytes places read small has places_are =
-      subst₂ (λ (ps : List ℕ) (ms : List Mark). TextsStandAt bytes ps (texts_in ms)) (sym places_are) marks_of_dvi (has small)
-
-  pub kept_room : (bytes : List ℕ) → HasRoomFor bytes pages → HasRoomFor bytes dvi.pages
-  kept_room bytes room = subst (λ (ps : List MarkedPage). HasRoomFor bytes ps) (sym pages_of_dvi) room

@@ -1,9 +1,11 @@
 -- A whole file: its parts make a file, and each refusal has a reason.
-use Rattle.std.proofs.Common.{◌≡◌, ◌≢◌, ◌-◌, ◌++◌, List, length, ℕ, ℤ, Result, Ok, Err, refl, sym, ◌∙◌, ap, ap₂, subst, inl, inr, arith}
+use Rattle.std.proofs.Common.{◌≡◌, ◌≢◌, ◌-◌, ◌++◌, List, length, map, ℕ, ℤ, Result, Ok, Err, refl, sym, ◌∙◌, ap, ap₂, subst, inl, inr, arith}
 use Rattle.std.specs.Prelude.{IfOk, IfErr, IsErrAnd}
 use Rattle.std.proofs.lemmas.Grind.{flat_map-append}
 use Rattle.dvi_scan.specs.Closing.{ClosesTo, IsClosingFault}
 use Rattle.dvi_scan.proofs.AheadLemmas.{looked}
+use Rattle.dvi_scan.proofs.ErrLemmas.{handed_on}
+use Rattle.dvi_scan.specs.Ahead.{IsLookedAhead}
 use Rattle.dvi_scan.specs.Chain.{IsChainRefusal}
 use Rattle.dvi_scan.specs.Ends.{HasPostamble}
 use Rattle.dvi_scan.specs.declared.fault.FrameFault.{FrameFault}
@@ -19,12 +21,17 @@ use Rattle.dvi_scan.specs.Passed.{file_framing, IsFramed}
 use Rattle.dvi_scan.specs.Reached.{IsReached, IsTail, PlacesLeft, ReadSoFar, before_pages}
 use Rattle.dvi_scan.proofs.PassedLemmas.{frame_parts, passed_file}
 use Rattle.dvi_scan.proofs.ReachedLemmas.{reached_end, reached_first}
-use Rattle.dvi_read.specs.Opened.{OpenedFile, GivesPages, HasFontsOf, HasUnitsOf, IsExact, IsNoFile, IsReadFrom}
-use Rattle.dvi_read.specs.Opening.{HasPages, IsDviFault, IsFrontFault, IsStray, StartsAt, ForPlaces, InTheChain, AtPost, AfterPost, ForDefinitions}
-use Rattle.dvi_read.specs.Private.OpeningParts.{IsFinishFault}
+use Rattle.dvi_scan.specs.View.{marked_page}
+use Rattle.dvi_scan.specs.declared.page.Page.{Page}
+use Rattle.dvi_read.specs.Opened.{OpenedFile, GivesPages, IsExact, IsNoFile}
+use Rattle.dvi_read.specs.Private.Opened.{IsReadFrom}
+use Rattle.dvi_read.specs.Opening.{HasPages, IsDviFault, IsFrontFault, IsStray, StartsAt, ForPlaces, InTheChain, InThePages, AtPost, AfterPost, ForDefinitions}
+use Rattle.dvi_read.specs.Private.OpeningParts.{HoldsPages, IsFinishFault}
 use Rattle.dvi_read.proofs.FaultLemmas.{after_within, no_fault, post_within}
 use Rattle.dvi_read.specs.Faults.{of_frame}
+use Rattle.dvi_read.specs.Steps.{known_of, places_left, so_far, stand_of}
 use Rattle.dvi_read.specs.Stops.{PagesHaveEnded, IsWalkFault}
+use Rattle.dvi_read.specs.declared.check.walk.Walk.{Walk}
 use Rattle.dvi_read.specs.declared.fault.DviFault.{DviFault}
 use Rattle.dvi_read.specs.declared.fault.DviFault.TheVariants as faults
 use Rattle.dvi_read.proofs.PointerLemmas.{stray_bop, stray_pointer, unmet_pointer}
@@ -105,19 +112,6 @@ read_from files bytes post after last stop chain from ahead seen pages new has e
       fonts = fonts_read (file_widths files) ahead bytes post after last stop chain seen new has.starts.chained.framed has.reached closes;
     }
 
--- The clauses for a whole result.
-pub pages_open : (files : List NamedBytes) (bytes : List ℕ) (result : Result OpenedFile DviFault) → IfOk result (IsReadFrom files bytes) → IfOk result (λ dvi. IsFile (file_widths files) bytes dvi.pages)
-pages_open files bytes (Ok dvi) read = read.pages
-pages_open files bytes (Err fault) read = tt
-
-pub units_open : (files : List NamedBytes) (bytes : List ℕ) (result : Result OpenedFile DviFault) → IfOk result (IsReadFrom files bytes) → IfOk result (HasUnitsOf bytes)
-units_open files bytes (Ok dvi) read = read.units
-units_open files bytes (Err fault) read = tt
-
-pub fonts_open : (files : List NamedBytes) (bytes : List ℕ) (result : Result OpenedFile DviFault) → IfOk result (IsReadFrom files bytes) → IfOk result (HasFontsOf bytes)
-fonts_open files bytes (Ok dvi) read = read.fonts
-fonts_open files bytes (Err fault) read = tt
-
 -- A fault, if it is none of memory, is of no file.
 abbrev pub IsRefused : List NamedBytes → List ℕ → DviFault → Type 0
 IsRefused files bytes fault = fault ≢ faults.OutOfMemory → IsNoFile files bytes
@@ -139,6 +133,17 @@ exactly files bytes (Err fault) pages read bad f = absurd (no_fault files bytes 
 pub exact_open : (files : List NamedBytes) (bytes : List ℕ) (result : Result OpenedFile DviFault) → IfOk result (IsReadFrom files bytes) → IfErr result (IsDviFault files bytes) → IsExact files bytes result
 exact_open files bytes result read bad = λ pages f. exactly files bytes result pages read bad f
 
+-- The same where a fault is handed on.
+pub exact_refused : (files : List NamedBytes) (bytes : List ℕ) (result : Result OpenedFile DviFault) (fault : DviFault) → IsErrAnd result (λ y. y ≡ fault) → IsDviFault files bytes fault → IsExact files bytes result
+exact_refused files bytes result fault is bad =
+    exact_open files bytes result (not_opened result fault (IsReadFrom files bytes) is) (handed_on (IsDviFault files bytes) result fault is bad)
+
+-- A fault of the pages.
+pub walk_refused : (files : List NamedBytes) (ahead : List ℤ) (bytes : List ℕ) (post after last : ℕ) (stop : Postamble) (chain : List ℕ) (from : ℕ) → StartsAt bytes post after last stop chain from
+    → IsLookedAhead bytes after (last - 5) ahead → (fault : DviFault) → IsWalkFault files ahead bytes stop chain post fault → IsDviFault files bytes fault
+walk_refused files ahead bytes post after last stop chain from starts numbers fault broken =
+    InThePages post after last stop chain from ahead starts numbers broken (strays files ahead bytes post after last stop chain fault starts.chained.framed broken)
+
 -- A fault after post.
 pub tail_refused : (bytes : List ℕ) (post after last : ℕ) (p : PassStateView) (left : PlacesLeft) (pages : List MarkedPage) (known new : List Definition) (fault : FrameFault) → PagesHaveEnded p left pages
     → IsClosingFault bytes after (last - 5) known new fault → IsFinishFault bytes post after last p left known (of_frame fault)
@@ -152,3 +157,17 @@ pub read_kept : (files : List NamedBytes) (bytes : List ℕ) (post after last : 
 read_kept files bytes post after last stop chain from ahead seen pages kept new has ended closes same =
     subst (λ (ps : List MarkedPage). IsReadFrom files bytes (record { units = stop.units; pages = ps; fonts = new })) (sym same)
     (read_from files bytes post after last stop chain from ahead seen pages new has ended closes)
+
+-- A walk that has come to post.
+module _ (files : List NamedBytes) (bytes : List ℕ) (post after last : ℕ) (stop : Postamble) (chain : List ℕ) (from : ℕ) (walk : Walk) (holds : HoldsPages files bytes (file_framing post after last stop chain) from walk) where
+  pub held_fault : (fault : DviFault) → IsFinishFault bytes post after last (stand_of walk) (places_left walk) (known_of walk) fault → IsDviFault files bytes fault
+  held_fault fault b = let (ahead, selected, has) = holds in finish_refused files bytes post after last stop chain from ahead (so_far selected walk) fault has b
+
+  -- It has ended, and what is kept of it is the file.
+  pub held_file : (new : Walk) (dvi : OpenedFile) → PagesHaveEnded (stand_of walk) (places_left walk) (map marked_page walk.done.items) → ClosesTo bytes after (last - 5) (known_of walk) (known_of new)
+      → new.done.items ≡ walk.done.items → dvi ≡ record { units = stop.units; pages = map marked_page new.done.items; fonts = known_of new } → IsReadFrom files bytes dvi
+  held_file new dvi ended closes done is =
+      let (ahead, selected, has) = holds in
+      subst (λ (dvi : OpenedFile). IsReadFrom files bytes dvi) (sym is)
+      (read_kept files bytes post after last stop chain from ahead (so_far selected walk) (map marked_page walk.done.items) (map marked_page new.done.items) (known_of new) has ended closes
+      (ap (λ (pages : List Page). map marked_page pages) done))

@@ -33,8 +33,8 @@ use Rattle.dvi_scan.specs.declared.executing.PassFault.{PassFault}
 use Rattle.dvi_scan.specs.declared.executing.PassFault.TheVariants.{OutOfMemory, Broken}
 use Rattle.dvi_scan.specs.declared.page.DviState.{DviState as Standing}
 use Rattle.dvi_scan.specs.declared.page.Mark.{Mark as PassMark}
-use Rattle.dvi_read.specs.PageMarks.{marks_of, marks_so_far, read_width, texts_in}
-use Rattle.dvi_read.specs.Private.PageMarks.{text_put}
+use Rattle.dvi_read.specs.PageMarks.{marks_of, read_width}
+use Rattle.dvi_read.specs.Private.PageMarks.{marks_so_far, text_put, texts_in}
 use Rattle.dvi_read.specs.Private.SeenTexts.{IsTextOf, ShowsTextOf}
 use Rattle.dvi_read.specs.ReadFonts.{FontIsRead, HasCurrent, HaveByteCodes, asked_width, code_in, font_place, read_font_at, width_in}
 use Rattle.dvi_read.specs.Private.ReadFonts.{Chooses}

@@ -17,8 +17,8 @@ use Rattle.dvi_scan.specs.View.{mark_of}
 use Rattle.dvi_scan.specs.Private.View.{marks_in}
 use Rattle.dvi_scan.specs.declared.page.Mark.{Mark as PassMark}
 use Rattle.dvi_read.specs.Opening.{StartsAt}
-use Rattle.dvi_read.specs.PageMarks.{read_width, text_in, text_place, text_places, texts_in}
-use Rattle.dvi_read.specs.Private.PageMarks.{text_put}
+use Rattle.dvi_read.specs.PageMarks.{read_width, text_in, text_place, text_places}
+use Rattle.dvi_read.specs.Private.PageMarks.{text_put, texts_in}
 use Rattle.dvi_read.specs.Seen.{SeenItem}
 use Rattle.dvi_read.specs.SeenAhead.{AreTextsAhead, HasAllTexts, HasTexts, IsSameFile, IsSeenAfter, PassesText, standing, text_seen}
 use Rattle.dvi_read.specs.declared.sights.Sight.{Sight}

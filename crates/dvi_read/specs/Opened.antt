@@ -35,9 +35,3 @@ IsExact files bytes result = (pages : List MarkedPage) → IsFile (file_widths f
 -- With these font files the bytes are no file, whatever the pages.
 abbrev pub IsNoFile : List NamedBytes → List ℕ → Type 0
 IsNoFile files bytes = (pages : List MarkedPage) → IsFile (file_widths files) bytes pages → ⊥
-
--- The result of reading a file: these are its pages, its units and its fonts (own).
-pub record IsReadFrom (files : List NamedBytes) (bytes : List ℕ) (dvi : OpenedFile) : Type 0 where
-  pub pages : IsFile (file_widths files) bytes dvi.pages
-  pub units : HasUnitsOf bytes dvi
-  pub fonts : HasFontsOf bytes dvi

@@ -1,13 +1,12 @@
 -- What a reader of a file knows of the marks of its pages: the places of the texts of specials, and the widths of glyphs (own; the marks are
 -- DVItype's, 15 and 16).
 use Rattle.std.specs.Prelude.{◌≡◌, ◌≤◌, ◌<◌, ◌+◌, ◌-◌, ◌*◌, ◌^◌, ◌++◌, [], ◌∷◌, ℕ, ℤ, List, Option, Some}
-use Rattle.std.specs.Prelude.{drop, length, option_and_then, slice_index, take}
+use Rattle.std.specs.Prelude.{drop, length, option_and_then, take}
 use Rattle.std.specs.List.{AllByRecursion, flat_map}
 use Rattle.dvi_ops.specs.File.{MarkedPage}
 use Rattle.dvi_ops.specs.Fonts.{WidthsByName, widths_of}
 use Rattle.dvi_ops.specs.Instruction.{Definition, Do, Instruction, Xxx}
 use Rattle.dvi_ops.specs.Tokens.{Token}
-use Rattle.dvi_scan.specs.Pass.{PassStateView, Between, Inside}
 use Rattle.dvi_read.specs.ReadFonts.{HaveByteCodes, font_place, read_font_at, width_in}
 use Rattle.dvi_read.specs.declared.fonts.ReadFonts.{ReadFonts}
 use Rattle.scaled_core.specs.Mark.{Mark, Glyph, Special}
@@ -20,10 +19,6 @@ marks_of pages = flat_map (λ page. page.marks) pages
 abbrev pub text_in : Mark → List (List ℕ)
 text_in (Special h v text) = text ∷ []
 text_in mark = []
-
--- The texts of the specials among marks, in order.
-abbrev pub texts_in : List Mark → List (List ℕ)
-texts_in marks = flat_map text_in marks
 
 -- Where the text of an instruction that puts a special begins, as a list of one or none: the text is the last operand (DVItype, 15), so it ends where
 -- the instruction does.
@@ -41,12 +36,6 @@ pub record TextStandsAt (bytes : List ℕ) (place : ℕ) (text : List ℕ) : Typ
   pub within : place + length text ≤ length bytes
   pub short : length text < 2 ^ 32
   pub text_is : take (length text) (drop place bytes) ≡ text
-
--- Each text stands in the bytes from the place on that has its index.
-abbrev pub TextsStandAt : List ℕ → (places : List ℕ) → (texts : List (List ℕ)) → Type 0
-TextsStandAt bytes [] [] = Unit {0}
-TextsStandAt bytes (place ∷ places) (text ∷ texts) = TextStandsAt bytes place text × TextsStandAt bytes places texts
-TextsStandAt bytes places texts = ⊥
 
 -- The width of a character in the font of a number, where that font was read.
 abbrev pub read_width : ReadFonts → (number code : ℤ) → Option ℤ
@@ -71,12 +60,3 @@ pub record HasGlyphWidths (metrics : WidthsByName) (table : List Definition) (fo
 pub record HasRoomFor (bytes : List ℕ) (pages : List MarkedPage) : Type 0 where
   pub marks_fit : length (marks_of pages) ≤ length bytes
   pub pages_fit : 46 * length pages ≤ length bytes
-
--- The marks of the pages so far, in order (own; no clause of a call that other crates use to read a file reaches this and what follows).
-abbrev pub marks_so_far : PassStateView → List Mark
-marks_so_far (Between pages) = marks_of pages
-marks_so_far (Inside pages counts marks stack s) = marks_of pages ++ marks
-
--- Each text so far stands in the bytes at its place, where these are bytes.
-abbrev pub HasPlaces : List ℕ → (places : List ℕ) → PassStateView → Type 0
-HasPlaces bytes places p = ((k : ℕ) → slice_index bytes k < 256) → TextsStandAt bytes places (texts_in (marks_so_far p))

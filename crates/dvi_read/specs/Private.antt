@@ -2,6 +2,7 @@
 pub mod GlyphHeads
 pub mod ListingParts
 pub mod OnePage
+pub mod Opened
 pub mod OpeningParts
 pub mod PageMarks
 pub mod ReadFonts

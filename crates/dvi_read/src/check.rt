@@ -10,6 +10,6 @@ pub(crate) mod walk;
 
 pub use before_pages::{BeforePages, find_front};
 pub use checked_dvi::CheckedDvi;
-pub use dvi::{Dvi, ReadDvi, read_dvi};
+pub use dvi::Dvi;
 pub use instruction::step;
 pub use walk::{Source, Walk, pages_end, walk_pages};

@@ -1,9 +1,8 @@
 //! The reader of DVI files, the half over `dvi_scan` (one idea, cut for the prover), in five rooms.
 //!
 //! `check` walks over the instructions of all pages and so checks a whole file: `Dvi::open` keeps its pages, which are those of the file definition,
-//! `read_dvi` also the widths of their glyphs and the places of their specials, `CheckedDvi::open` no mark. `sights` walks over a checked file once
-//! more, and hands out what is seen. `listings` has the text of pages, at once or in pieces; `fonts` the fonts that were read; `fault` why a file is
-//! refused.
+//! `CheckedDvi::open` no mark. `sights` walks over a checked file once more, and hands out what is seen. `listings` has the text of pages, at once
+//! or in pieces; `fonts` the fonts that were read; `fault` why a file is refused.
 #![tactic(auto)]
 
 mod check;
@@ -13,8 +12,7 @@ mod listings;
 mod sights;
 
 pub use check::{
-    BeforePages, CheckedDvi, Dvi, ReadDvi, Source, Walk, find_front, pages_end, read_dvi, step,
-    walk_pages,
+    BeforePages, CheckedDvi, Dvi, Source, Walk, find_front, pages_end, step, walk_pages,
 };
 pub use dvi_scan::{Mark, Page};
 pub use fault::{

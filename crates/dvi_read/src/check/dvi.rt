@@ -5,9 +5,8 @@ ghost use Rattle.dvi_read.specs.Listing.{lines_ahead, listing as listing_of};
 ghost use Rattle.dvi_ops.specs.File.{AreUnits, IsFile};
 ghost use Rattle.dvi_ops.specs.View.{definition, units as view_units};
 ghost use Rattle.dvi_scan.specs.View.{marked_page};
-ghost use Rattle.dvi_read.specs.Opened.{HasFontsOf, HasUnitsOf, IsExact, IsNoFile, IsReadFrom};
+ghost use Rattle.dvi_read.specs.Opened.{HasFontsOf, HasUnitsOf, IsExact, IsNoFile};
 ghost use Rattle.dvi_read.specs.Opening.{IsDviFault};
-ghost use Rattle.dvi_read.specs.PageMarks.{HasGlyphWidths, HasRoomFor, TextsStandAt, marks_of, texts_in};
 ghost use Rattle.dvi_read.specs.declared.fault.DviFault.TheVariants.{OutOfMemory};
 ghost use Rattle.tfm_core.specs.FileWidths.{file_widths};
 
@@ -15,7 +14,6 @@ use crate::check::before_pages::{BeforePages, find_front};
 use crate::check::pages::{finish, read_pages};
 use crate::check::walk::Walk;
 use crate::fault::DviFault;
-use crate::fonts::ReadFonts;
 use crate::listings::kept_pages::listing;
 use crate::listings::lines::Lines;
 use dvi_ops::{FontDefinition, Units};
@@ -46,64 +44,17 @@ impl<'a> Model for Dvi<'a> {
     ghost invariant = { λ dvi. AreUnits (view_units dvi.units) };
 }
 
-/// A DVI file that was checked as a whole, and what was read on the way.
-#[derive(Drop)]
-pub struct ReadDvi<'a> {
-    pub dvi: Dvi<'a>,
-    /// The fonts that the pages select.
-    pub fonts: ReadFonts,
-    /// The places of the texts of specials in the file, in the order of the pages and their marks.
-    pub specials: Vec<usize>,
-}
-
 /// The result of a walk over all pages.
-fn opened_file<'a>(units: Units, walk: Walk<'a>, specials: Vec<usize>) -> ReadDvi<'a>
+fn opened_file<'a>(units: Units, walk: Walk<'a>) -> Dvi<'a>
     requires { AreUnits (view_units units) }
-    ensures dvi { result.dvi ≡ record { units = view_units units; pages = map marked_page walk.entry.done.items; fonts = walk.entry.known } }
-    ensures fonts { result.fonts ≡ walk.entry.fonts }
-    ensures specials { result.specials.items ≡ specials.items }
+    ensures { result ≡ record { units = view_units units; pages = map marked_page walk.entry.done.items; fonts = walk.entry.known } }
 {
-    let Walk {
-        done,
-        known,
-        fonts,
-        ..
-    } = walk;
-    let dvi = Dvi {
+    let Walk { done, known, .. } = walk;
+    Dvi {
         units,
         pages: done,
         fonts: known.into_all(),
-    };
-    ReadDvi {
-        dvi,
-        fonts,
-        specials,
     }
-}
-
-/// Checks a whole file and reads its pages, as `Dvi::open`, and keeps the fonts and the places of specials that were read on the way.
-pub fn read_dvi<'a>(
-    alloc: Global,
-    bytes: &'a [u8],
-    files: &[FontFile],
-) -> Result<ReadDvi<'a>, DviFault>
-    ensures ok { IfOk result (λ read. IsReadFrom files.now bytes.now read.dvi) }
-    // Each glyph of the pages has the width that the first definition of its font and the metric files give.
-    ensures widths { IfOk result (λ read. HasGlyphWidths (file_widths files.now) read.dvi.fonts read.fonts (marks_of read.dvi.pages)) }
-    // The bytes of the file from each place on are the text of the special.
-    ensures specials { IfOk result (λ read. TextsStandAt bytes.now read.specials.items (texts_in (marks_of read.dvi.pages))) }
-    ensures room { IfOk result (λ read. HasRoomFor bytes.now read.dvi.pages) }
-    ensures bad { IfErr result (IsDviFault files.now bytes.now) }
-    ensures refused { IfErr result (λ fault. fault ≢ OutOfMemory → IsNoFile files.now bytes.now) }
-{
-    let BeforePages {
-        ending,
-        chain,
-        from,
-    } = find_front(alloc, bytes)?;
-    let (mut walk, specials) = read_pages(alloc, bytes, files, &ending, from, chain)?;
-    finish(bytes, &ending, &mut walk)?;
-    Ok(opened_file(ending.stop.units, walk, specials))
 }
 
 impl<'a> Dvi<'a> {
@@ -125,8 +76,14 @@ impl<'a> Dvi<'a> {
         // A file is opened with exactly its pages, or memory is refused.
         ensures exact { IsExact files.now bytes.now result }
     {
-        let read = read_dvi(alloc, bytes, files)?;
-        Ok(read.dvi)
+        let BeforePages {
+            ending,
+            chain,
+            from,
+        } = find_front(alloc, bytes)?;
+        let mut walk = read_pages(alloc, bytes, files, &ending, from, chain)?;
+        finish(bytes, &ending, &mut walk)?;
+        Ok(opened_file(ending.stop.units, walk))
     }
 
     /// The number of pages.

@@ -6,11 +6,9 @@ ghost use Rattle.dvi_ops.specs.View.{postamble};
 ghost use Rattle.dvi_scan.specs.View.{marked_page};
 ghost use Rattle.dvi_read.specs.Opening.{IsDviFault, StartsAt};
 ghost use Rattle.dvi_read.specs.Private.OpeningParts.{HasPassed, HoldsPages, IsFinishFault};
-ghost use Rattle.dvi_read.specs.PageMarks.{HasGlyphWidths, HasPlaces, marks_so_far};
 ghost use Rattle.dvi_read.specs.Steps.{known_of, places_left, stand_of};
 ghost use Rattle.dvi_read.specs.Stops.{PagesHaveEnded};
 ghost use Rattle.dvi_scan.specs.Passed.{file_framing};
-ghost use Rattle.tfm_core.specs.FileWidths.{file_widths};
 
 use crate::check::walk::{Source, Walk, pages_end, walk_over, walk_pages};
 use crate::fault::DviFault;
@@ -18,7 +16,7 @@ use dvi_scan::{FileEnd, prescan_definitions, read_trailing_definitions};
 use std::alloc::Global;
 use tfm_core::FontFile;
 
-/// Reads the pages of a file. A font that they select needs a definition after post too. The places of the texts of specials come with the walk.
+/// Reads the pages of a file. A font that they select needs a definition after post too.
 pub(crate) fn read_pages<'a>(
     alloc: Global,
     bytes: &'a [u8],
@@ -26,15 +24,12 @@ pub(crate) fn read_pages<'a>(
     ending: &FileEnd,
     from: usize,
     chain: Vec<usize>,
-) -> Result<(Walk<'a>, Vec<usize>), DviFault>
+) -> Result<Walk<'a>, DviFault>
     requires low { ending.now.after + 5 ≤ ending.now.last }
     requires high { ending.now.last ≤ length bytes.now }
     requires starts { StartsAt bytes.now ending.now.post ending.now.after ending.now.last (postamble ending.now.stop) chain.items from }
-    ensures ok { IfOk result (λ found. HoldsPages files.now bytes.now
-        (file_framing ending.now.post ending.now.after ending.now.last (postamble ending.now.stop) chain.items) from found.0) }
-    ensures widths { IfOk result (λ found. HasGlyphWidths (file_widths files.now) (known_of found.0) found.0.fonts
-        (marks_so_far (stand_of found.0))) }
-    ensures specials { IfOk result (λ found. HasPlaces bytes.now found.1.items (stand_of found.0)) }
+    ensures ok { IfOk result (HoldsPages files.now bytes.now
+        (file_framing ending.now.post ending.now.after ending.now.last (postamble ending.now.stop) chain.items) from) }
     ensures bad { IfErr result (IsDviFault files.now bytes.now) }
 {
     let ahead = prescan_definitions(alloc, bytes, ending.after, ending.last - 5)?;
@@ -70,8 +65,7 @@ pub(crate) fn check_pages<'a>(
         ahead: &numbers,
         ending,
     };
-    let (walk, _) = walk_over(alloc, &source, from, chain, false)?;
-    Ok(walk)
+    walk_over(alloc, &source, from, chain, false)
 }
 
 /// Ends a walk at the place of post, and reads the part after post.

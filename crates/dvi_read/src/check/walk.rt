@@ -1,18 +1,16 @@
 //! The walk over the pages of a file, from the preamble to post (DVItype, 15 and 18), and its state.
 
-ghost use Rattle.std.specs.Prelude.{◌≡◌, ◌++◌, ◌+◌, ◌≤◌, ◌<◌, if◌then◌else◌, [], false, length, map, min, pos, true, IfErr, IfOk, List, OnErr, OnOk};
+ghost use Rattle.std.specs.Prelude.{◌≡◌, ◌+◌, ◌≤◌, ◌<◌, false, length, map, min, pos, true, IfErr, IfOk, List, OnOk};
 ghost use Rattle.std.specs.Prelude.{Some, ℕ, ℤ};
 ghost use Rattle.std.specs.List.{AllByRecursion};
 ghost use Rattle.dvi_ops.specs.Body.{place_after};
 ghost use Rattle.dvi_ops.specs.File.{max_pushes};
 ghost use Rattle.dvi_ops.specs.Fonts.{IsFontSize, WidthsByName};
 ghost use Rattle.dvi_ops.specs.Instruction.{Across, By, Postamble};
-ghost use Rattle.dvi_ops.specs.View.{postamble, view};
+ghost use Rattle.dvi_ops.specs.View.{postamble};
 ghost use Rattle.dvi_scan.specs.Reached.{IsReached, before_pages};
 ghost use Rattle.dvi_scan.specs.Drawing.{reached_position};
 ghost use Rattle.dvi_scan.specs.View.{marked_page, spot_position};
-ghost use Rattle.dvi_read.specs.PageMarks.{HasPlaces, marks_so_far, text_place};
-ghost use Rattle.dvi_read.specs.Private.PageMarks.{PutsSpecial};
 ghost use Rattle.dvi_read.specs.ReadFonts.{AreSound, HaveByteCodes, IsCurrent, asked_width, selected_in};
 ghost use Rattle.dvi_read.specs.Steps.{known_of, places_left, stand_of};
 ghost use Rattle.dvi_read.specs.Stops.{page_bytes, PagesHaveEnded, IsUnended, IsWalkFault};
@@ -23,11 +21,10 @@ ghost use Rattle.tfm_core.specs.FileWidths.{file_widths};
 use crate::check::instruction::step;
 use crate::fault::DviFault;
 use crate::fonts::{CharCode, ReadFonts};
-use dvi_ops::{BodyOp, Op};
 use dvi_scan::{
     BadDvi, DviCause, FileEnd, KnownFonts, NumbersAhead, OpenPage, Page, PassState, read_at,
 };
-use std::alloc::{AllocError, Global};
+use std::alloc::Global;
 use tfm_core::FontFile;
 
 /// The input of a walk.
@@ -55,25 +52,12 @@ pub struct Walk<'a> {
     pub missed: bool,
 }
 
-/// Appends the place of the text of a special, which is the end of its instruction. Another instruction has none.
-fn push_text_place(op: &Op<'_>, next: usize, specials: &mut Vec<usize>) -> Result<(), AllocError>
-    ensures ok { OnOk result (specials.new.items ≡ specials.old.items ++ text_place next (view op.now)) }
-    ensures memory { OnErr result (PutsSpecial (view op.now)) }
-{
-    if let Op::Body(BodyOp::Xxx(text)) = *op {
-        specials.push(next.saturating_sub(text.len()))?;
-    }
-    Ok(())
-}
-
-/// Reads the instruction at a place before post, processes it, and returns the place after it. The place of the text of a special is added to
-/// `specials`.
+/// Reads the instruction at a place before post, processes it, and returns the place after it.
 fn read_step<'a>(
     alloc: Global,
     source: &Source<'_, 'a>,
     at: usize,
     walk: &mut Walk<'a>,
-    specials: &mut Vec<usize>,
 ) -> Result<usize, DviFault>
     requires low { at < source.now.ending.now.post }
     requires high { source.now.ending.now.post ≤ length source.now.bytes.now }
@@ -88,8 +72,6 @@ fn read_step<'a>(
         (page_bytes source.now.ahead.now.keys source.now.bytes.now (min max_pushes (postamble source.now.ending.now.stop).stack_depth)
         source.now.ending.now.post)
         at walk.old) }
-    ensures specials { HasPlaces source.now.bytes.now specials.old.items (stand_of walk.old)
-        → OnOk result (HasPlaces source.now.bytes.now specials.new.items (stand_of walk.new)) }
 {
     let (op, next) = match read_at(source.bytes, at, source.ending.post) {
         Ok(found) => found,
@@ -101,10 +83,7 @@ fn read_step<'a>(
         }
     };
     match step(alloc, source, at, &op, walk) {
-        Ok(()) => {
-            push_text_place(&op, next, specials)?;
-            Ok(next)
-        }
+        Ok(()) => Ok(next),
         Err(fault) => Err(fault.at(at)),
     }
 }
@@ -123,19 +102,17 @@ fn walk_start<'a>(alloc: Global, left: Vec<usize>) -> Walk<'a>
     }
 }
 
-/// Drops the pages that have ended, the marks so far and the places of specials, unless they are kept.
-fn release(keeps: bool, walk: &mut Walk<'_>, specials: &mut Vec<usize>)
+/// Drops the pages that have ended and the marks so far, unless they are kept.
+fn release(keeps: bool, walk: &mut Walk<'_>)
     ensures stand { stand_of walk.new ≡ held_state keeps (stand_of walk.old) }
     ensures selected { selected_in walk.new.stand ≡ selected_in walk.old.stand }
     ensures fonts { walk.new.fonts ≡ walk.old.fonts }
     ensures known { known_of walk.new ≡ known_of walk.old }
     ensures left { places_left walk.new ≡ places_left walk.old }
-    ensures specials { specials.new.items ≡ (if keeps then specials.old.items else []) }
 {
     if keeps {
         return;
     }
-    specials.clear();
     walk.done.clear();
     if let PassState::Inside(page) = &mut walk.stand {
         page.marks.clear();
@@ -175,7 +152,6 @@ fn pass_character(keeps: bool, source: &Source<'_, '_>, at: usize, walk: &mut Wa
     ensures passed { result ≡ true → (metrics : WidthsByName) (ahead : List ℤ) (stop : Postamble) (chain : List ℕ)
         → IsWalkedOver keeps metrics ahead source.now.bytes.now stop chain at walk.old
         → IsWalkedOver keeps metrics ahead source.now.bytes.now stop chain (at + 1) walk.new }
-    ensures marks { marks_so_far (stand_of walk.new) ≡ marks_so_far (stand_of walk.old) }
     ensures same { result ≡ false → walk.new ≡ walk.old }
 {
     let byte = source.bytes[at];
@@ -195,34 +171,31 @@ pub(crate) fn walk_over<'a>(
     from: usize,
     left: Vec<usize>,
     keeps: bool,
-) -> Result<(Walk<'a>, Vec<usize>), DviFault>
+) -> Result<Walk<'a>, DviFault>
     requires low { from ≤ source.now.ending.now.post }
     requires high { source.now.ending.now.post ≤ length source.now.bytes.now }
     requires reached { IsReached (file_widths source.now.files.now) source.now.ahead.now.keys source.now.bytes.now
         (postamble source.now.ending.now.stop) left.items from (before_pages left.items) }
-    ensures ok { IfOk result (λ found. IsWalkedOver keeps (file_widths source.now.files.now) source.now.ahead.now.keys source.now.bytes.now
-        (postamble source.now.ending.now.stop) left.items source.now.ending.now.post found.0) }
-    ensures specials { IfOk result (λ found. HasPlaces source.now.bytes.now found.1.items (stand_of found.0)) }
+    ensures ok { IfOk result (IsWalkedOver keeps (file_widths source.now.files.now) source.now.ahead.now.keys source.now.bytes.now
+        (postamble source.now.ending.now.stop) left.items source.now.ending.now.post) }
     ensures bad { IfErr result (IsWalkFault source.now.files.now source.now.ahead.now.keys source.now.bytes.now (postamble source.now.ending.now.stop)
         left.items source.now.ending.now.post) }
 {
     let mut walk = walk_start(alloc, left);
-    let mut specials = Vec::new(alloc);
     let mut at = from;
     while at < source.ending.post {
         if pass_character(keeps, source, at, &mut walk) {
             at += 1;
         } else {
-            at = read_step(alloc, source, at, &mut walk, &mut specials)?;
-            release(keeps, &mut walk, &mut specials);
+            at = read_step(alloc, source, at, &mut walk)?;
+            release(keeps, &mut walk);
         }
     }
-    Ok((walk, specials))
+    Ok(walk)
 }
 
 /// Walks over the pages of a file, from the place after the preamble up to post. `left` has the places of the pages, the last one first (DVItype, 15
-/// and 18). The width of a character is that of the first definition of its font. It returns the places of the texts of specials, in order, beside
-/// the walk. It takes memory for pages, marks, places, definitions and fonts.
+/// and 18). The width of a character is that of the first definition of its font. It takes memory for pages, marks, places, definitions and fonts.
 ///
 /// The fault is Bad with the first broken rule and its place; NoFont, BadTfm or DimensionTooLarge for a selected font without widths; or OutOfMemory.
 pub fn walk_pages<'a>(
@@ -230,16 +203,14 @@ pub fn walk_pages<'a>(
     source: &Source<'_, 'a>,
     from: usize,
     left: Vec<usize>,
-) -> Result<(Walk<'a>, Vec<usize>), DviFault>
+) -> Result<Walk<'a>, DviFault>
     requires low { from ≤ source.now.ending.now.post }
     requires high { source.now.ending.now.post ≤ length source.now.bytes.now }
     requires reached { IsReached (file_widths source.now.files.now) source.now.ahead.now.keys source.now.bytes.now
         (postamble source.now.ending.now.stop) left.items from (before_pages left.items) }
     // All instructions before post are right, and the walk has their pages and fonts.
-    ensures ok { IfOk result (λ found. IsWalked (file_widths source.now.files.now) source.now.ahead.now.keys source.now.bytes.now
-        (postamble source.now.ending.now.stop) left.items source.now.ending.now.post found.0) }
-    // Each text of a special stands at its place.
-    ensures specials { IfOk result (λ found. HasPlaces source.now.bytes.now found.1.items (stand_of found.0)) }
+    ensures ok { IfOk result (IsWalked (file_widths source.now.files.now) source.now.ahead.now.keys source.now.bytes.now
+        (postamble source.now.ending.now.stop) left.items source.now.ending.now.post) }
     // All instructions before the place of a fault are right, and the rule that it names is broken there.
     ensures bad { IfErr result (IsWalkFault source.now.files.now source.now.ahead.now.keys source.now.bytes.now (postamble source.now.ending.now.stop)
         left.items source.now.ending.now.post) }

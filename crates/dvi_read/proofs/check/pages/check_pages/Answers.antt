@@ -1,11 +1,16 @@
 -- All instructions before post are right, or the rule that one breaks is broken.
-use Rattle.std.proofs.Common.{refl}
+use Rattle.std.proofs.Common.{false, refl}
+use Rattle.std.proofs.lemmas.Result.{IfErr-weaker, IfOk-weaker}
 use Rattle.dvi_scan.proofs.ErrLemmas.{handed_on}
 use Rattle.dvi_scan.specs.Passed.{file_framing}
 use Rattle.dvi_ops.specs.View.{postamble}
-use Rattle.dvi_read.specs.Opening.{InThePages, IsDviFault, LookingAhead}
-use Rattle.dvi_read.proofs.OpenLemmas.{starts_reached, strays}
+use Rattle.dvi_read.specs.Opening.{IsDviFault, LookingAhead}
+use Rattle.dvi_read.proofs.OpenLemmas.{starts_reached, walk_refused}
+use Rattle.dvi_read.specs.Private.OpeningParts.{HasPassed}
+use Rattle.dvi_read.specs.Private.Walks.{IsWalkedOver}
+use Rattle.dvi_read.specs.Stops.{IsWalkFault}
 use Rattle.dvi_read.specs.declared.fault.DviFault.TheVariants.{OutOfMemory}
+use Rattle.tfm_core.specs.FileWidths.{file_widths}
 use Rattle.dvi_read.proofs.check.pages.check_pages.Goals as goal
 
 pub returns-in_err-numbers-clause-bad : goal.returns-in_err-numbers-clause-bad
@@ -19,26 +24,29 @@ walk_over-requires-clause-reached c =
     let ending = c.args.ending.now in
     starts_reached c.args.files.now c.args.bytes.now ending.post ending.after ending.last (postamble ending.stop) c.args.chain.items c.args.from c.in_ok-numbers.numbers.keys c.requires.starts
 
-pub returns-in_err-walk-clause-bad : goal.returns-in_err-walk-clause-bad
-returns-in_err-walk-clause-bad c =
+pub returns-clause-bad : goal.returns-clause-bad
+returns-clause-bad c =
     let ending = c.args.ending.now in
     let stop = postamble ending.stop in
     let files = c.args.files.now in
     let ahead = c.in_ok-numbers.numbers.keys in
-    let fault = c.in_err-walk.field-0.0 in
-    handed_on (IsDviFault files c.args.bytes.now) c.from_residual-in_err-walk.result fault c.from_residual-in_err-walk.ensures.1
-    (InThePages ending.post ending.after ending.last stop c.args.chain.items c.args.from ahead c.requires.starts c.in_ok-numbers.ensures.ok c.in_err-walk.ensures.bad
-    (strays files ahead c.args.bytes.now ending.post ending.after ending.last stop c.args.chain.items fault c.requires.starts.chained.framed c.in_err-walk.ensures.bad))
+    IfErr-weaker c.walk_over.result (IsWalkFault files ahead c.args.bytes.now stop c.args.chain.items ending.post) (IsDviFault files c.args.bytes.now)
+    (walk_refused files ahead c.args.bytes.now ending.post ending.after ending.last stop c.args.chain.items c.args.from c.requires.starts c.in_ok-numbers.ensures.ok) c.walk_over.ensures.bad
 
 pub returns-clause-ok : goal.returns-clause-ok
 returns-clause-ok c =
-    let walked = c.in_ok-walk.ensures.ok in
+    let ending = c.args.ending.now in
+    let stop = postamble ending.stop in
+    let ahead = c.in_ok-numbers.numbers.keys in
+    IfOk-weaker c.walk_over.result (IsWalkedOver false (file_widths c.args.files.now) ahead c.args.bytes.now stop c.args.chain.items ending.post)
+    (HasPassed c.args.files.now c.args.bytes.now (file_framing ending.post ending.after ending.last stop c.args.chain.items) c.args.from)
+    (λ walk walked.
     record {
-      ahead = c.in_ok-numbers.numbers.keys;
+      ahead = ahead;
       selected = walked.selected;
       pass = walked.pass;
       has = record { starts = c.requires.starts; looked = c.in_ok-numbers.ensures.ok; reached = walked.reached };
       stand = walked.stand;
       read = walked.read;
       sound = walked.sound;
-    }
+    }) c.walk_over.ensures.ok

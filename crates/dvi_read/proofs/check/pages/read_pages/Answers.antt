@@ -2,12 +2,9 @@ use Rattle.std.proofs.Common.{refl}
 use Rattle.std.proofs.lemmas.Result.{IfErr-weaker, IfOk-weaker}
 use Rattle.dvi_scan.proofs.ErrLemmas.{handed_on}
 use Rattle.dvi_ops.specs.View.{postamble}
-use Rattle.dvi_read.specs.Opening.{InThePages, IsDviFault, LookingAhead}
+use Rattle.dvi_read.specs.Opening.{IsDviFault, LookingAhead}
 use Rattle.dvi_read.specs.Private.OpeningParts.{HoldsPages}
-use Rattle.dvi_read.proofs.MarkLemmas.{reached_widths}
-use Rattle.dvi_read.proofs.OpenLemmas.{starts_reached, strays}
-use Rattle.dvi_read.specs.PageMarks.{HasGlyphWidths, marks_so_far}
-use Rattle.dvi_read.specs.Steps.{known_of, stand_of}
+use Rattle.dvi_read.proofs.OpenLemmas.{starts_reached, walk_refused}
 use Rattle.dvi_read.specs.Stops.{IsWalkFault}
 use Rattle.dvi_read.specs.Walks.{IsWalked}
 use Rattle.dvi_read.specs.declared.fault.DviFault.TheVariants.{OutOfMemory}
@@ -31,19 +28,9 @@ returns-clause-ok c =
     let ending = c.args.ending.now in
     let stop = postamble ending.stop in
     let ahead = c.in_ok-ahead.ahead.keys in
-    IfOk-weaker c.walk_pages.result (λ found. IsWalked (file_widths c.args.files.now) ahead c.args.bytes.now stop c.args.chain.items ending.post found.0)
-    (λ found. HoldsPages c.args.files.now c.args.bytes.now (file_framing ending.post ending.after ending.last stop c.args.chain.items) c.args.from found.0)
-    (λ found walked. (ahead, walked.selected, record { starts = c.requires.starts; looked = c.in_ok-ahead.ensures.ok; reached = walked.reached })) c.walk_pages.ensures.ok
-
-pub returns-clause-widths : goal.returns-clause-widths
-returns-clause-widths c =
-    let ending = c.args.ending.now in
-    let stop = postamble ending.stop in
-    let ahead = c.in_ok-ahead.ahead.keys in
-    let metrics = file_widths c.args.files.now in
-    IfOk-weaker c.walk_pages.result (λ found. IsWalked metrics ahead c.args.bytes.now stop c.args.chain.items ending.post found.0)
-    (λ found. HasGlyphWidths metrics (known_of found.0) found.0.fonts (marks_so_far (stand_of found.0)))
-    (λ found walked. reached_widths metrics ahead c.args.bytes.now stop c.args.chain.items ending.post found.0 walked) c.walk_pages.ensures.ok
+    IfOk-weaker c.walk_pages.result (IsWalked (file_widths c.args.files.now) ahead c.args.bytes.now stop c.args.chain.items ending.post)
+    (HoldsPages c.args.files.now c.args.bytes.now (file_framing ending.post ending.after ending.last stop c.args.chain.items) c.args.from)
+    (λ walk walked. (ahead, walked.selected, record { starts = c.requires.starts; looked = c.in_ok-ahead.ensures.ok; reached = walked.reached })) c.walk_pages.ensures.ok
 
 pub returns-clause-bad : goal.returns-clause-bad
 returns-clause-bad c =
@@ -52,6 +39,4 @@ returns-clause-bad c =
     let files = c.args.files.now in
     let ahead = c.in_ok-ahead.ahead.keys in
     IfErr-weaker c.walk_pages.result (IsWalkFault files ahead c.args.bytes.now stop c.args.chain.items ending.post) (IsDviFault files c.args.bytes.now)
-    (λ fault broken.
-    InThePages ending.post ending.after ending.last stop c.args.chain.items c.args.from ahead c.requires.starts c.in_ok-ahead.ensures.ok broken
-    (strays files ahead c.args.bytes.now ending.post ending.after ending.last stop c.args.chain.items fault c.requires.starts.chained.framed broken)) c.walk_pages.ensures.bad
+    (walk_refused files ahead c.args.bytes.now ending.post ending.after ending.last stop c.args.chain.items c.args.from c.requires.starts c.in_ok-ahead.ensures.ok) c.walk_pages.ensures.bad

@@ -1,12 +1,9 @@
 use Rattle.std.proofs.Common.{rules, ◌≡◌, false, min}
 use Rattle.dvi_scan.proofs.RefusalLemmas.{handed_on}
 use Rattle.dvi_ops.specs.View.{postamble}
-use Rattle.dvi_read.specs.Steps.{stand_of}
 use Rattle.dvi_read.specs.Stops.{IsWalkFault, page_bytes}
 use Rattle.dvi_read.specs.Private.Walks.{read_in}
-use Rattle.dvi_read.proofs.HeldLemmas.{fault_held, places_held, walked_over_first, walked_over_next, walked_same}
-use Rattle.dvi_read.proofs.CharacterLemmas.{places_as_before}
-use Rattle.dvi_read.proofs.MarkLemmas.{places_first}
+use Rattle.dvi_read.proofs.HeldLemmas.{fault_held, walked_over_first, walked_over_next, walked_same}
 use Rattle.dvi_read.proofs.WalkLemmas.{known_sizes}
 use Rattle.tfm_core.specs.FileWidths.{file_widths}
 use Rattle.dvi_read.proofs.check.walk.walk_over.Goals as goal
@@ -16,7 +13,6 @@ loop-at-init c =
     let source = c.args.source.now in (
       c.requires.low,
       walked_over_first c.args.keeps (file_widths source.files.now) source.ahead.now.keys source.bytes.now (postamble source.ending.now.stop) c.args.left.items c.args.from c.walk_start-walk.result c.walk_start-walk.ensures c.requires.reached,
-      places_first source.bytes.now c.args.left.items c.walk_start-walk.result c.new-specials.result.items c.walk_start-walk.ensures c.new-specials.ensures.items,
     )
 
 pub read_step-requires-clause-sizes : goal.read_step-requires-clause-sizes
@@ -57,12 +53,9 @@ loop-at-preserved c =
     let fact : c.pass_character.result ≡ false = search rules in
     let walk = c.pass_character.new.walk in
     let walked = walked_same c.args.keeps metrics source.ahead.now.keys source.bytes.now stop c.args.left.items c.loop-at.at c.loop-at.walk walk (c.pass_character.ensures.same fact) c.loop-at.invariant.1 in
-    let places = places_as_before source.bytes.now c.loop-at.specials.items (stand_of c.loop-at.walk) (stand_of walk) c.pass_character.ensures.marks c.loop-at.invariant.2 in
     let reads = c.in_ok-at.ensures.ok in
     let release = c.release.ensures in (
       reads.within,
       walked_over_next c.args.keeps metrics source.ahead.now.keys source.bytes.now stop c.args.left.items c.loop-at.at source.ending.now.post c.in_ok-at.at walk c.read_step.new.walk c.release.new.walk
           c.requires.high walked reads release.stand release.selected release.fonts release.known release.left,
-      places_held c.args.keeps source.bytes.now c.read_step.new.specials.items c.release.new.specials.items (stand_of c.read_step.new.walk) (stand_of c.release.new.walk) release.specials release.stand
-          (c.in_ok-at.ensures.specials places),
     )

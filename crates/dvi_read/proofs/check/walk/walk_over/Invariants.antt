@@ -1,17 +1,14 @@
 use Rattle.std.proofs.Common.{◌≤◌, ◌-◌}
 use Rattle.dvi_ops.specs.View.{postamble}
-use Rattle.dvi_read.specs.PageMarks.{HasPlaces}
-use Rattle.dvi_read.specs.Steps.{stand_of}
 use Rattle.dvi_read.specs.Private.Walks.{IsWalkedOver}
 use Rattle.tfm_core.specs.FileWidths.{file_widths}
 use Rattle.dvi_read.proofs.check.walk.walk_over.Given as goal
 
--- All instructions before the place are right, and each text of a special among them stands at its place.
+-- All instructions before the place are right.
 abbrev pub invariant-loop-at : goal.invariant-loop-at
 invariant-loop-at l =
     (l.at ≤ l.source.ending.now.post)
     × IsWalkedOver l.keeps (file_widths l.source.files.now) l.source.ahead.now.keys l.source.bytes.now (postamble l.source.ending.now.stop) l.fn.left.items l.at l.walk
-    × HasPlaces l.source.bytes.now l.specials.items (stand_of l.walk)
 
 abbrev pub decreases-loop-at : goal.decreases-loop-at
 decreases-loop-at l = l.source.ending.now.post - l.at

@@ -14,6 +14,6 @@ returns-clause-ok c =
     let metrics = file_widths source.files.now in
     let stop = postamble source.ending.now.stop in
     let keys = source.ahead.now.keys in
-    IfOk-weaker c.walk_over.result (λ found. IsWalkedOver true metrics keys source.bytes.now stop c.args.left.items source.ending.now.post found.0)
-    (λ found. IsWalked metrics keys source.bytes.now stop c.args.left.items source.ending.now.post found.0)
-    (λ found walked. walked_kept metrics keys source.bytes.now stop c.args.left.items source.ending.now.post found.0 walked) c.walk_over.ensures.ok
+    IfOk-weaker c.walk_over.result (IsWalkedOver true metrics keys source.bytes.now stop c.args.left.items source.ending.now.post)
+    (IsWalked metrics keys source.bytes.now stop c.args.left.items source.ending.now.post)
+    (walked_kept metrics keys source.bytes.now stop c.args.left.items source.ending.now.post) c.walk_over.ensures.ok
