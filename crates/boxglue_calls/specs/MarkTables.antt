@@ -26,6 +26,16 @@ abbrev pub page_rows : ℕ → List MarkedPage → List DviPage
 page_rows start [] = []
 page_rows start (page ∷ rest) = page_row start page ∷ page_rows (start + length page.marks) rest
 
+-- The kinds of marks in rows: `boxglue_mark_kind` of the header.
+abbrev pub glyph_kind : ℕ
+glyph_kind = 1
+
+abbrev pub rule_kind : ℕ
+rule_kind = 2
+
+abbrev pub special_kind : ℕ
+special_kind = 3
+
 -- The row of a mark of this kind at a place, with zeros for all else.
 abbrev pub empty_row : (kind : ℕ) → (h v : ℤ) → DviMark
 empty_row kind h v =
@@ -33,15 +43,15 @@ empty_row kind h v =
 
 -- The row of a glyph of this width.
 abbrev pub glyph_row : (font code h v width : ℤ) → DviMark
-glyph_row font code h v width = record (empty_row 1 h v) { font = font; code = code; width = width }
+glyph_row font code h v width = record (empty_row glyph_kind h v) { font = font; code = code; width = width }
 
 -- The row of a rule.
 abbrev pub rule_row : (h v height width : ℤ) → DviMark
-rule_row h v height width = record (empty_row 2 h v) { height = height; width = width }
+rule_row h v height width = record (empty_row rule_kind h v) { height = height; width = width }
 
 -- The row of a special whose text has this length and place.
 abbrev pub special_row : (h v : ℤ) → (size place : ℕ) → DviMark
-special_row h v size place = record (empty_row 3 h v) { text_size = size; text_start = place }
+special_row h v size place = record (empty_row special_kind h v) { text_size = size; text_start = place }
 
 -- The row of a mark: a glyph with the width that its font gives it; a rule; a special with the place of its text in the bytes.
 abbrev pub IsMarkRow : List ℕ → Widths → DviMark → Mark → Type 0
@@ -57,7 +67,7 @@ AreMarkRows bytes widths rows marks = ⊥
 
 -- Where the text of a row begins, if it is that of a special, as a list of one or none.
 abbrev pub text_start_of : DviMark → List ℕ
-text_start_of row = if nat_eq row.kind 3 then row.text_start ∷ [] else []
+text_start_of row = if nat_eq row.kind special_kind then row.text_start ∷ [] else []
 
 -- Where the texts of the specials among rows begin, in order.
 abbrev pub text_starts : List DviMark → List ℕ
