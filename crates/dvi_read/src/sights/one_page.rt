@@ -129,8 +129,11 @@ impl<'a> CheckedDvi<'a> {
             },
         };
         self.draw_page(begin.at, &mut page)?;
-        let counts = page.counts;
+        let page_counts = page.counts;
         let OpenPage { marks, .. } = page;
-        Ok(Some(Page { counts, marks }))
+        Ok(Some(Page {
+            counts: page_counts,
+            marks,
+        }))
     }
 }
