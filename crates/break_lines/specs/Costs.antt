@@ -36,8 +36,8 @@ fit_short sums amount =
       overhang = pos 0;
     }
 
--- How a line is set that is too long by an amount, or fits: it is overfull if it cannot shrink by this amount, and its overhang is the rest (own: the
--- badness and the class of an overfull line).
+-- How a line is set that is too long by an amount, or fits: it is overfull if it cannot shrink by this amount, and is tight then; its overhang is the
+-- rest (TeX: The Program, part 38, §853; own: the overhang, and the badness of an overfull line, which is 10001 in TeX).
 unfoldable pub fit_long : Sums → (amount : ℤ) → LineFit
 fit_long sums amount =
     if int_lt sums.shrink amount then record { overfull = true; badness = 10000; class = Tight; overhang = amount -ℤ sums.shrink }

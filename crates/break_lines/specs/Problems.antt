@@ -86,8 +86,9 @@ abbrev pub places_of : List BreakState → List ℕ
 places_of [] = []
 places_of (s ∷ states) = s.place ∷ places_of states
 
--- The ends of lines as numbers that decide ties, from the last end on: the later place comes first, then fewer lines, then the lower class (own: TeX
--- takes the one that it found last).
+-- The ends of lines as numbers that decide ties, from the last end on: the later place comes first, then fewer lines, then the lower class (own; TeX:
+-- The Program, part 38, §855, keeps for each class of a line the break before it that was found last; part 39, §874, takes at the end the first
+-- active node of fewest demerits).
 abbrev pub tie_numbers : List BreakState → List ℤ
 tie_numbers [] = []
 tie_numbers (s ∷ states) = neg_ℤ (pos s.place) ∷ pos s.lines ∷ pos (class_index s.class) ∷ tie_numbers states

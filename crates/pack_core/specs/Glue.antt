@@ -12,7 +12,7 @@ use Rattle.scaled_core.specs.Badness.{badness_of}
 use Rattle.pack_core.specs.Items.{stretch_in, shrink_in}
 use Rattle.pack_core.specs.Totals.{total}
 
--- The rank of an order (TeX: The Program, part 10).
+-- The rank of an order (TeX: The Program, part 10, §135 and §150).
 abbrev pub rank : Order → ℕ
 rank Normal = 0
 rank Fil = 1

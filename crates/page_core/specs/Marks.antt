@@ -1,5 +1,5 @@
--- The marks that a box makes on a page (TeX: The Program, part 32, §619 to §640), and the numbers of a page that have to fit (own: TeX tests only
--- those of its box, §641).
+-- The marks that a box makes on a page (TeX: The Program, part 32, §619 to §640; for specials part 53, §1368), and the numbers of a page that have
+-- to fit (own: TeX tests only those of its box, §641). The values h and v are those of DVItype, 14: v grows down the page.
 use Rattle.std.specs.Prelude.{◌+ℤ◌, ◌-ℤ◌, ◌&&◌, ℤ, pos, Bool, not, int_lt, if◌then◌else◌, List, [], ◌∷◌, ◌++◌}
 use Rattle.std.specs.List.{list_all}
 use Rattle.node_core.specs.declared.tree.Kind.{Kind}
@@ -24,23 +24,23 @@ abbrev pub size_in : ℤ → RuleSize → ℤ
 size_in whole Running = whole
 size_in whole (Fixed size) = size
 
--- The start of the list of a box, below v: a horizontal list starts on the baseline, a vertical one at the top of the box (TeX: The Program, part 32,
--- §619 and §629).
+-- The value of v where the list of a box begins, whose reference point is at v: a horizontal list begins on the baseline, a vertical one at the top
+-- of the box (TeX: The Program, part 32, §619 and §629).
 abbrev pub list_v : Kind → (height v : ℤ) → ℤ
 list_v Horizontal height v = v
 list_v Vertical height v = v -ℤ height
 
--- The distance to the right of a place in a list that begins at h: only a horizontal list moves right.
+-- The value of h at a place in a list that begins at h: only a horizontal list adds to it (TeX: The Program, part 32, §622 and §631).
 abbrev pub right_at : Kind → (h place : ℤ) → ℤ
 right_at Horizontal h place = h +ℤ place
 right_at Vertical h place = h
 
--- The distance down of a place in a list that begins at v: only a vertical list moves down.
+-- The value of v at a place in a list that begins at v: only a vertical list adds to it (TeX: The Program, part 32, §622 and §631).
 abbrev pub down_at : Kind → (v place : ℤ) → ℤ
 down_at Horizontal v place = v
 down_at Vertical v place = v +ℤ place
 
--- The distance of a rule's corner below the place of its item: its depth in a horizontal list, its height plus depth in a vertical one (TeX: The
+-- What is added to v at a rule to get v at its lower left corner: its depth in a horizontal list, its height plus depth in a vertical one (TeX: The
 -- Program, part 32, §624 and §633).
 abbrev pub rule_below : Kind → BoxNode → Rule → ℤ
 rule_below Horizontal b r = size_in b.depth r.depth
@@ -56,8 +56,8 @@ abbrev pub rule_wide : Kind → BoxNode → Rule → ℤ
 rule_wide Horizontal b r = own_size r.width
 rule_wide Vertical b r = size_in b.width r.width
 
--- A rule with its corner at (h, v), as a list of one mark; it makes no mark where its height or its width is not positive (TeX: The Program, part 32,
--- §624 and §633).
+-- A rule with its lower left corner at (h, v), as a list of one mark; it makes no mark where its height or its width is not positive (TeX: The
+-- Program, part 32, §624 and §633).
 abbrev pub rule_mark : (h v height width : ℤ) → List Mark
 rule_mark h v height width = if int_lt (pos 0) height && int_lt (pos 0) width then marks.Rule h v height width ∷ [] else []
 
@@ -66,7 +66,7 @@ abbrev pub glyph_mark : Kind → (h v : ℤ) → Glyph → List Mark
 glyph_mark Horizontal h v g = marks.Glyph (pos g.slot) (pos g.code) h v ∷ []
 glyph_mark Vertical h v g = []
 
--- The mark of an item at (h, v) in the list of a box.
+-- The mark of an item at (h, v) in the list of a box (TeX: The Program, part 32, §620, §622 and §631; part 53, §1368, for specials).
 abbrev pub marks_of_item : BoxNode → (h v : ℤ) → Leaf → List Mark
 marks_of_item b h v (glyph g) = glyph_mark b.kind h v g
 marks_of_item b h v (font_kern width) = []
@@ -76,21 +76,22 @@ marks_of_item b h v (penalty p) = []
 marks_of_item b h v (special text) = marks.Special h v text ∷ []
 marks_of_item b h v (rule sizes) = rule_mark h (v +ℤ rule_below b.kind b sizes) (rule_tall b.kind b sizes) (rule_wide b.kind b sizes)
 
--- The distance to the right of the item after the items `before`, in a list that begins at h.
+-- The value of h at the item after the items `before`, in a list that begins at h (TeX: The Program, part 32, §622 and §631).
 abbrev pub item_h : BoxNode → (h : ℤ) → (before : List Node) → ℤ
 item_h b h before = right_at b.kind h (place b.kind b.setting before)
 
--- The distance down of the item after the items `before`, in a list that begins at v.
+-- The value of v at the item after the items `before`, in a list that begins at v (TeX: The Program, part 32, §622 and §631).
 abbrev pub item_v : BoxNode → (v : ℤ) → (before : List Node) → ℤ
 item_v b v before = down_at b.kind v (place b.kind b.setting before)
 
--- The distance to the right of the reference point of a box at h: in a vertical list the shift is added (TeX: The Program, part 32, §623 and §632).
+-- The value of h at the reference point of a box whose item is at h: in a vertical list the shift is added (TeX: The Program, part 32, §623 and
+-- §632).
 abbrev pub box_h : Kind → (h shift : ℤ) → ℤ
 box_h Horizontal h shift = h
 box_h Vertical h shift = h +ℤ shift
 
--- The distance down of the reference point of a box at v: in a horizontal list the shift is added, in a vertical one the height (TeX: The Program,
--- part 32, §623 and §632).
+-- The value of v at the reference point of a box whose item is at v: in a horizontal list the shift is added, in a vertical one the height (TeX: The
+-- Program, part 32, §623 and §632).
 abbrev pub box_v : Kind → (v shift height : ℤ) → ℤ
 box_v Horizontal v shift height = v +ℤ shift
 box_v Vertical v shift height = v +ℤ height

@@ -51,7 +51,8 @@ begins_past_steps steps Plain = false
 begins_past_steps steps (Larger c) = false
 begins_past_steps steps (Recipe r) = false
 
--- An index of a character is past the end of its table, or its program begins after the last step (TeX: The Program, part 30, §569).
+-- An index of a character is past the end of its table, or its program begins after the last step (TeX: The Program, part 30, §569; own: recipes and
+-- larger characters are not tested, which §569 and §570 do).
 unfoldable pub breaks_character : MetricFile → Info → Bool
 breaks_character file c =
     nat_le (length file.widths) c.width
