@@ -10,7 +10,7 @@ use Rattle.scaled_core.specs.Mark.{Mark, Glyph}
 use Rattle.dvi_ops.specs.Forest.{Forest, Empty, Then, Group, meaning}
 use Rattle.dvi_ops.specs.Fonts.{WidthsByName, first_definition_of}
 use Rattle.dvi_ops.specs.File.{IsFile}
-use Rattle.dvi_ops.specs.Layout.{Sheet, Table, table_widths, IsTabled, IsGood}
+use Rattle.dvi_ops.specs.Layout.{FilePage, Table, table_widths, IsTabled, IsGood}
 use Rattle.dvi_ops.specs.Examples.{one_rule_body, one_rule_marks, one_rule_file, one_rule_pages, two_page_file, two_pages, fonts_in_nested_boxes_file, fonts_in_nested_boxes_pages, tiny_name, GivesTiny}
 use Rattle.dvi_ops.proofs.WholeFile.{whole_file}
 
@@ -21,10 +21,10 @@ no_fonts : Table
 no_fonts f = None
 
 -- The page of one rule, with these counts.
-abbrev one_rule_sheet : List ℤ → Sheet
-one_rule_sheet counts = record { counts = counts; fresh = []; body = one_rule_body }
+abbrev one_rule_file_page : List ℤ → FilePage
+one_rule_file_page counts = record { counts = counts; fresh = []; body = one_rule_body }
 
-one_rule_good : (metrics : WidthsByName) (known : List Definition) (counts : List ℤ) → length counts ≡ 10 → AllByRecursion NumberFits counts → IsGood metrics no_fonts known (one_rule_sheet counts) one_rule_marks
+one_rule_good : (metrics : WidthsByName) (known : List Definition) (counts : List ℤ) → length counts ≡ 10 → AllByRecursion NumberFits counts → IsGood metrics no_fonts known (one_rule_file_page counts) one_rule_marks
 one_rule_good metrics known counts ten fit =
     record {
       ten = ten;
@@ -46,7 +46,7 @@ all_fit (suc n) = (record { sfits = lit< tt }, all_fit n)
 pub one_rule_is_file : (metrics : WidthsByName) → IsFile metrics one_rule_file one_rule_pages
 unfolding spelling leaf_spelling operand signed_size
 one_rule_is_file metrics =
-    whole_file metrics no_fonts (one_rule_sheet zeros ∷ []) one_rule_pages (pos 65536) (pos 65536) [] 7
+    whole_file metrics no_fonts (one_rule_file_page zeros ∷ []) one_rule_pages (pos 65536) (pos 65536) [] 7
     (refl, one_rule_good metrics [] zeros refl (all_fit 10), tt) (record { tabled = tt; each = λ f some. some }) (record { sfits = lit< tt }) (record { sfits = lit< tt }) (lit< tt) (lit≤ tt)
 
 seven : List ℤ
@@ -56,7 +56,7 @@ seven = pos 7 ∷ replicate 9 (pos 0)
 pub two_page_is_file : (metrics : WidthsByName) → IsFile metrics two_page_file two_pages
 unfolding spelling leaf_spelling operand signed_size seven
 two_page_is_file metrics =
-    whole_file metrics no_fonts (one_rule_sheet zeros ∷ one_rule_sheet seven ∷ []) two_pages (pos 65536) (pos 65536) [] 4
+    whole_file metrics no_fonts (one_rule_file_page zeros ∷ one_rule_file_page seven ∷ []) two_pages (pos 65536) (pos 65536) [] 4
     (refl, one_rule_good metrics [] zeros refl (all_fit 10), (refl, one_rule_good metrics [] seven refl (record { sfits = lit< tt }, all_fit 9), tt))
     (record { tabled = tt; each = λ f some. some }) (record { sfits = lit< tt }) (record { sfits = lit< tt }) (lit< tt) (lit≤ tt)
 
@@ -83,8 +83,8 @@ nested_body =
     (Group (Then (FontNum (pos 1)) (Then (SetChar (pos 98)) Empty))
     (Then (Move Across (By (pos 655360))) (Then (SetChar (pos 99)) Empty)))))
 
-abbrev nested_sheet : Sheet
-nested_sheet = record { counts = zeros; fresh = small ∷ large ∷ []; body = nested_body }
+abbrev nested_file_page : FilePage
+nested_file_page = record { counts = zeros; fresh = small ∷ large ∷ []; body = nested_body }
 
 abbrev nested_marks : List Mark
 nested_marks = Glyph (pos 0) (pos 99) (pos 0) (pos 655360) ∷ Glyph (pos 1) (pos 98) (pos 327680) (pos 655360) ∷ Glyph (pos 1) (pos 99) (pos 983040) (pos 655360) ∷ []
@@ -94,7 +94,7 @@ nested_shows : (widths : Widths) → widths (pos 0) (pos 99) ≡ Some (pos 32768
     (last : DviState) × (meaning (bounded_acts (instruction_acts widths)) nested_body start ≡ Some (nested_marks, last))
 nested_shows widths a b c = (record { place = record { h = pos 1638400; v = pos 655360; held = start.place.held }; font = Some (pos 1) }, rw (a, b, c) refl)
 
-nested_good : (metrics : WidthsByName) → GivesTiny metrics → IsGood metrics fonts [] nested_sheet nested_marks
+nested_good : (metrics : WidthsByName) → GivesTiny metrics → IsGood metrics fonts [] nested_file_page nested_marks
 nested_good metrics tiny =
     let shows = nested_shows (table_widths metrics fonts) (rw (tiny.small_is) (tiny.small_99)) (rw (tiny.large_is) (tiny.large_98)) (rw (tiny.large_is) (tiny.large_99)) in
     record {
@@ -122,6 +122,6 @@ known_are_there f some = by_tests (int_eq f (pos 1)) (int_eq f (pos 0)) some
 pub fonts_in_nested_boxes_is_file : (metrics : WidthsByName) → GivesTiny metrics → IsFile metrics fonts_in_nested_boxes_file fonts_in_nested_boxes_pages
 unfolding spelling leaf_spelling operand signed_size code_size char_spelling font_spelling
 fonts_in_nested_boxes_is_file metrics tiny =
-    whole_file metrics fonts (nested_sheet ∷ []) fonts_in_nested_boxes_pages (pos 983040) (pos 1638400) (small ∷ large ∷ []) 5
+    whole_file metrics fonts (nested_file_page ∷ []) fonts_in_nested_boxes_pages (pos 983040) (pos 1638400) (small ∷ large ∷ []) 5
     (refl, nested_good metrics tiny, tt)
     (record { tabled = (small_tabled, (large_tabled, tt)); each = known_are_there }) (record { sfits = lit< tt }) (record { sfits = lit< tt }) (lit< tt) (lit≤ tt)

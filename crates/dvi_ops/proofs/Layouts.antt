@@ -12,7 +12,7 @@ use Rattle.dvi_ops.specs.Forest.{flat}
 use Rattle.dvi_ops.specs.Tokens.{Token, token_instructions, token_bytes, places, pointers}
 use Rattle.dvi_ops.specs.Fonts.{WidthsByName, AgreesWith, definitions, selections, first_definition_of, FontsAreRight, known_after, widths_in}
 use Rattle.dvi_ops.specs.File.{FilePart, Defines, Shows, instructions, MarkedPage, page_then, pages_of, max_pushes, push_depth_of}
-use Rattle.dvi_ops.specs.Layout.{bytes_of, preamble, define, Sheet, WriterKnowledge, after_preamble, sheet_from, knowledge_after, Table, table_widths, IsWritable, IsTabled, IsGood}
+use Rattle.dvi_ops.specs.Layout.{bytes_of, preamble, define, FilePage, WriterKnowledge, after_preamble, file_page_from, knowledge_after, Table, table_widths, IsWritable, IsTabled, IsGood}
 use Rattle.scaled_core.proofs.EachOf.{all_append, all_weaker, all_map}
 use Rattle.dvi_ops.proofs.Appends.{pointers-page, pointers-append, definitions-append, selections-append, instructions-append, places-append, length-places, known_after-append, fonts_append, pages_joined, pointers-flat}
 
@@ -138,42 +138,42 @@ knows_first metrics table =
     }
 
 -- The parts of a page: the definitions of its fresh fonts, and the page itself.
-abbrev pub parts_of : ℤ → Sheet → List FilePart
+abbrev pub parts_of : ℤ → FilePage → List FilePart
 parts_of last p = map (λ d. Defines d) p.fresh ++ (Shows p.counts last p.body ∷ [])
 
 -- The page itself.
-abbrev pub page_from : ℤ → Sheet → List Instruction
+abbrev pub page_from : ℤ → FilePage → List Instruction
 page_from last p = Bop p.counts last ∷ (flat p.body ++ Eop ∷ [])
 
 -- The page as a reader sees it.
-abbrev pub page_with : Sheet → List Mark → MarkedPage
+abbrev pub page_with : FilePage → List Mark → MarkedPage
 page_with p marks = record { counts = p.counts; marks = marks }
 
 pages-define : (does : Acts) (fonts : List Definition) (rest : List FilePart) → pages_of does (map (λ d. Defines d) fonts ++ rest) ≡ pages_of does rest
 pages-define does [] rest = refl
 pages-define does (d ∷ fonts) rest = pages-define does fonts rest
 
-module _ (metrics : WidthsByName) (table : Table) (s : WriterKnowledge) (known : List Definition) (is : List Instruction) (parts : List FilePart) (pages : List MarkedPage) (p : Sheet) (marks : List Mark)
+module _ (metrics : WidthsByName) (table : Table) (s : WriterKnowledge) (known : List Definition) (is : List Instruction) (parts : List FilePart) (pages : List MarkedPage) (p : FilePage) (marks : List Mark)
     (t : Knows metrics table s known is parts pages) (g : IsGood metrics table known p marks) (small : s.size < 2 ^ 31) where
-  writable_next : AllByRecursion IsWritable (is ++ sheet_from s.last p)
+  writable_next : AllByRecursion IsWritable (is ++ file_page_from s.last p)
   writable_next =
-      all_append IsWritable is (sheet_from s.last p) t.writable
+      all_append IsWritable is (file_page_from s.last p) t.writable
       (all_append IsWritable (define p.fresh) (page_from s.last p) (all_map IsWritable (λ d. Do (FontDef d)) p.fresh (all_weaker (IsTabled table) (λ d. IsWritable (Do (FontDef d))) p.fresh (λ d u. u.writable) g.fresh))
       ((tt, (g.ten, g.counts_fit, place_fits s.size s.last t.last small)), all_append IsWritable (flat p.body) (Eop ∷ []) g.writable ((tt, tt), tt)))
 
-  instructions_next : is ++ sheet_from s.last p ≡ preamble ∷ flat_map instructions (parts ++ parts_of s.last p)
+  instructions_next : is ++ file_page_from s.last p ≡ preamble ∷ flat_map instructions (parts ++ parts_of s.last p)
   instructions_next =
       ap₂ (λ (a b : List Instruction). a ++ b) t.is_front
       (sym (instructions-append (map (λ d. Defines d) p.fresh) (Shows p.counts s.last p.body ∷ []) ∙ ap₂ (λ (a b : List Instruction). a ++ b) (instructions-define p.fresh) (append-nil (page_from s.last p))))
       ∙ ap (λ (b : List Instruction). preamble ∷ b) (sym (instructions-append parts (parts_of s.last p)))
 
-  pointers_sheet : pointers (sheet_from s.last p) ≡ s.last ∷ []
-  pointers_sheet =
+  pointers_file_page : pointers (file_page_from s.last p) ≡ s.last ∷ []
+  pointers_file_page =
       pointers-append (define p.fresh) (page_from s.last p)
       ∙ ap₂ (λ (a b : List ℤ). a ++ b) (pointers-define p.fresh) (pointers-page p.counts s.last p.body)
 
-  places_sheet : (at : ℕ) → places at (map wrote (sheet_from s.last p)) ≡ (at + length (bytes_of (define p.fresh))) ∷ []
-  places_sheet at =
+  places_file_page : (at : ℕ) → places at (map wrote (file_page_from s.last p)) ≡ (at + length (bytes_of (define p.fresh))) ∷ []
+  places_file_page at =
       ap (places at) (map-append wrote (define p.fresh) (page_from s.last p))
       ∙ (places-append at (map wrote (define p.fresh)) (map wrote (page_from s.last p))
       ∙ (ap₂ (λ (a b : List ℕ). a ++ b) (no_places at (define p.fresh) (pointers-define p.fresh))
@@ -183,19 +183,19 @@ module _ (metrics : WidthsByName) (table : Table) (s : WriterKnowledge) (known :
   place_next : ℕ
   place_next = s.size + length (bytes_of (define p.fresh))
 
-  places_next : places 0 (map wrote (is ++ sheet_from s.last p)) ≡ places 0 (map wrote is) ++ place_next ∷ []
+  places_next : places 0 (map wrote (is ++ file_page_from s.last p)) ≡ places 0 (map wrote is) ++ place_next ∷ []
   unfolding place_next
   places_next =
       let upto : length (token_bytes (map wrote is)) ≡ s.size = ap length (written-wrote is) ∙ sym t.size in
       let at : 0 + length (token_bytes (map wrote is)) ≡ s.size = omega arith in
-      ap (places 0) (map-append wrote is (sheet_from s.last p))
-      ∙ (places-append 0 (map wrote is) (map wrote (sheet_from s.last p))
-      ∙ ap (λ (b : List ℕ). places 0 (map wrote is) ++ b) (ap (λ n. places n (map wrote (sheet_from s.last p))) at ∙ places_sheet s.size))
+      ap (places 0) (map-append wrote is (file_page_from s.last p))
+      ∙ (places-append 0 (map wrote is) (map wrote (file_page_from s.last p))
+      ∙ ap (λ (b : List ℕ). places 0 (map wrote is) ++ b) (ap (λ n. places n (map wrote (file_page_from s.last p))) at ∙ places_file_page s.size))
 
-  chain_next : pointers (is ++ sheet_from s.last p) ++ (knowledge_after s p).last ∷ [] ≡ negsuc 0 ∷ map pos (places 0 (map wrote (is ++ sheet_from s.last p)))
+  chain_next : pointers (is ++ file_page_from s.last p) ++ (knowledge_after s p).last ∷ [] ≡ negsuc 0 ∷ map pos (places 0 (map wrote (is ++ file_page_from s.last p)))
   unfolding place_next
   chain_next =
-      ap (λ (ps : List ℤ). ps ++ (knowledge_after s p).last ∷ []) (pointers-append is (sheet_from s.last p) ∙ (ap (λ (ps : List ℤ). pointers is ++ ps) pointers_sheet ∙ t.chain))
+      ap (λ (ps : List ℤ). ps ++ (knowledge_after s p).last ∷ []) (pointers-append is (file_page_from s.last p) ∙ (ap (λ (ps : List ℤ). pointers is ++ ps) pointers_file_page ∙ t.chain))
       ∙ ap (λ (zs : List ℤ). negsuc 0 ∷ zs) (sym (ap (map (λ n. pos n)) places_next ∙ map-append (λ (n : ℕ). pos n) (places 0 (map wrote is)) (place_next ∷ [])))
 
   page_plain : definitions (page_from s.last p) ≡ []
@@ -204,30 +204,30 @@ module _ (metrics : WidthsByName) (table : Table) (s : WriterKnowledge) (known :
   selections_page : selections (page_from s.last p) ≡ selections (flat p.body)
   selections_page = selections-append (flat p.body) (Eop ∷ []) ∙ append-nil (selections (flat p.body))
 
-  selections_sheet : selections (sheet_from s.last p) ≡ selections (flat p.body)
-  selections_sheet = selections-append (define p.fresh) (page_from s.last p) ∙ ap₂ (λ (a b : List ℤ). a ++ b) (selections-define p.fresh) selections_page
+  selections_file_page : selections (file_page_from s.last p) ≡ selections (flat p.body)
+  selections_file_page = selections-append (define p.fresh) (page_from s.last p) ∙ ap₂ (λ (a b : List ℤ). a ++ b) (selections-define p.fresh) selections_page
 
-  known_next : known_after [] (is ++ sheet_from s.last p) ≡ known_after known (define p.fresh)
+  known_next : known_after [] (is ++ file_page_from s.last p) ≡ known_after known (define p.fresh)
   known_next =
-      known_after-append [] is (sheet_from s.last p)
-      ∙ (ap (λ (known : List Definition). known_after known (sheet_from s.last p)) t.known_is
+      known_after-append [] is (file_page_from s.last p)
+      ∙ (ap (λ (known : List Definition). known_after known (file_page_from s.last p)) t.known_is
       ∙ (known_after-append known (define p.fresh) (page_from s.last p) ∙ known_stays (known_after known (define p.fresh)) (page_from s.last p) page_plain))
 
-  fonts_next : FontsAreRight [] (is ++ sheet_from s.last p)
+  fonts_next : FontsAreRight [] (is ++ file_page_from s.last p)
   fonts_next =
       let later : List Definition = known_after known (define p.fresh) in
       let chosen = subst (AllByRecursion (λ f. IsSome (first_definition_of f later))) (sym selections_page) g.chosen in
       let page = chosen_right later (page_from s.last p) page_plain chosen in
-      let sheet = fonts_append known (define p.fresh) (page_from s.last p) (defined_right table known p.fresh t.tabled g.fresh) page in
-      fonts_append [] is (sheet_from s.last p) t.fonts (subst (λ (known : List Definition). FontsAreRight known (sheet_from s.last p)) (sym t.known_is) sheet)
+      let file_page = fonts_append known (define p.fresh) (page_from s.last p) (defined_right table known p.fresh t.tabled g.fresh) page in
+      fonts_append [] is (file_page_from s.last p) t.fonts (subst (λ (known : List Definition). FontsAreRight known (file_page_from s.last p)) (sym t.known_is) file_page)
 
   -- What holds of the fonts selected before and of those that the page selects holds of both together.
-  selected_next : (P : ℤ → Type 0) → AllByRecursion P (selections is) → AllByRecursion P (selections (flat p.body)) → AllByRecursion P (selections (is ++ sheet_from s.last p))
+  selected_next : (P : ℤ → Type 0) → AllByRecursion P (selections is) → AllByRecursion P (selections (flat p.body)) → AllByRecursion P (selections (is ++ file_page_from s.last p))
   selected_next P before here =
-      subst (AllByRecursion P) (sym (selections-append is (sheet_from s.last p)))
-      (all_append P (selections is) (selections (sheet_from s.last p)) before (subst (AllByRecursion P) (sym selections_sheet) here))
+      subst (AllByRecursion P) (sym (selections-append is (file_page_from s.last p)))
+      (all_append P (selections is) (selections (file_page_from s.last p)) before (subst (AllByRecursion P) (sym selections_file_page) here))
 
-  chosen_next : AllByRecursion (λ f. IsSome (first_definition_of f (known_after known (define p.fresh)))) (selections (is ++ sheet_from s.last p))
+  chosen_next : AllByRecursion (λ f. IsSome (first_definition_of f (known_after known (define p.fresh)))) (selections (is ++ file_page_from s.last p))
   chosen_next =
       selected_next (λ f. IsSome (first_definition_of f (known_after known (define p.fresh))))
       (all_weaker (λ f. IsSome (first_definition_of f known)) (λ f. IsSome (first_definition_of f (known_after known (define p.fresh)))) (selections is) (λ f q. stays_known f known p.fresh q) t.chosen) g.chosen
@@ -253,12 +253,12 @@ module _ (metrics : WidthsByName) (table : Table) (s : WriterKnowledge) (known :
   last_next = omega (arith, length-bytes_of-append (define p.fresh) (page_from s.last p))
 
   -- The relation holds after one more page.
-  pub knows_next : Knows metrics table (knowledge_after s p) (known_after known (define p.fresh)) (is ++ sheet_from s.last p) (parts ++ parts_of s.last p) (pages ++ page_with p marks ∷ [])
+  pub knows_next : Knows metrics table (knowledge_after s p) (known_after known (define p.fresh)) (is ++ file_page_from s.last p) (parts ++ parts_of s.last p) (pages ++ page_with p marks ∷ [])
   knows_next =
       record {
         writable = writable_next;
         is_front = instructions_next;
-        size = ap (λ n. n + length (bytes_of (sheet_from s.last p))) t.size ∙ sym (length-bytes_of-append is (sheet_from s.last p));
+        size = ap (λ n. n + length (bytes_of (file_page_from s.last p))) t.size ∙ sym (length-bytes_of-append is (file_page_from s.last p));
         last = last_next;
         chain = chain_next;
         depth = depth_next;

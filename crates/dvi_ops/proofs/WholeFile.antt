@@ -10,7 +10,7 @@ use Rattle.dvi_ops.specs.Spelling.{operand, spelling, NumberFits, NumbersFit}
 use Rattle.dvi_ops.specs.Tokens.{IsSpelled, token_instructions, pointers}
 use Rattle.dvi_ops.specs.Fonts.{WidthsByName, definitions, selections, first_definition_of, FontsAreRight, known_after, font, widths_in, width_in, widths_of}
 use Rattle.dvi_ops.specs.File.{FilePart, instructions, MarkedPage, max_pushes, push_depth_of, IsIdle, Frame, IsFile}
-use Rattle.dvi_ops.specs.Layout.{bytes_of, preamble, define, Sheet, WriterKnowledge, after_preamble, sheet_from, knowledge_after, sheets_from, after_all, front_of, whole_of, stop_of, ending_of, padding_after, Table, table_widths, IsWritable, IsTabled, IsGood, known_in, AreGood, IsClosing}
+use Rattle.dvi_ops.specs.Layout.{bytes_of, preamble, define, FilePage, WriterKnowledge, after_preamble, file_page_from, knowledge_after, file_pages_from, after_all, front_of, whole_of, stop_of, ending_of, padding_after, Table, table_widths, IsWritable, IsTabled, IsGood, known_in, AreGood, IsClosing}
 use Rattle.scaled_core.proofs.EachOf.{all_weaker, all_both, all_map}
 use Rattle.dvi_ops.proofs.Appends.{fonts_append}
 use Rattle.dvi_ops.proofs.Layouts.{wrote, says-wrote, written-wrote, bytes_of-append, length-bytes_of-append, definitions-define, defined_right, place_fits, Knows, knows_first, knows_next, page_with}
@@ -23,14 +23,14 @@ all_spelled [] w = tt
 all_spelled (i ∷ is) (here, w) = (written_is_spelled i here.0 here.1, all_spelled is w)
 
 -- A page never makes the file shorter.
-grows : (s : WriterKnowledge) (ps : List Sheet) → s.size ≤ (after_all s ps).size
+grows : (s : WriterKnowledge) (ps : List FilePage) → s.size ≤ (after_all s ps).size
 grows s [] = omega arith
 grows s (p ∷ ps) = let more = grows (knowledge_after s p) ps in omega arith
 
 -- The relation holds after all pages.
-knows_all : (metrics : WidthsByName) (table : Table) (s : WriterKnowledge) (known : List Definition) (is : List Instruction) (parts : List FilePart) (pages : List MarkedPage) (ps : List Sheet) (more : List MarkedPage) →
+knows_all : (metrics : WidthsByName) (table : Table) (s : WriterKnowledge) (known : List Definition) (is : List Instruction) (parts : List FilePart) (pages : List MarkedPage) (ps : List FilePage) (more : List MarkedPage) →
     Knows metrics table s known is parts pages → AreGood metrics table known ps more → (after_all s ps).size < 2 ^ 31 →
-    (all : List FilePart) × Knows metrics table (after_all s ps) (known_in known ps) (is ++ sheets_from s ps) all (pages ++ more)
+    (all : List FilePart) × Knows metrics table (after_all s ps) (known_in known ps) (is ++ file_pages_from s ps) all (pages ++ more)
 knows_all metrics table s known is parts pages [] [] t good small =
     (parts, subst₂ (λ is pages. Knows metrics table s known is parts pages) (sym (append-nil is)) (sym (append-nil pages)) t)
 knows_all metrics table s known is parts pages [] (page ∷ more) t good small = absurd good
@@ -39,9 +39,9 @@ knows_all metrics table s known is parts pages (p ∷ ps) (page ∷ more) t (cou
     let bound = grows (knowledge_after s p) ps in
     let later = known_after known (define p.fresh) in
     let next = knows_next metrics table s known is parts pages p page.marks t good (omega arith) in
-    let found = knows_all metrics table (knowledge_after s p) later (is ++ sheet_from s.last p) _ (pages ++ (page_with p page.marks) ∷ []) ps more next rest small in
+    let found = knows_all metrics table (knowledge_after s p) later (is ++ file_page_from s.last p) _ (pages ++ (page_with p page.marks) ∷ []) ps more next rest small in
     let same : page_with p page.marks ≡ page = ap (λ (counts : List ℤ). record { counts = counts; marks = page.marks }) (sym counts) in
-    (found.0, subst₂ (λ is pages. Knows metrics table (after_all (knowledge_after s p) ps) (known_in later ps) is found.0 pages) (append_assoc is (sheet_from s.last p) (sheets_from (knowledge_after s p) ps)) (append_assoc pages (page_with p page.marks ∷ []) more ∙ ap (λ (page : MarkedPage). pages ++ (page ∷ more)) same) found.1)
+    (found.0, subst₂ (λ is pages. Knows metrics table (after_all (knowledge_after s p) ps) (known_in later ps) is found.0 pages) (append_assoc is (file_page_from s.last p) (file_pages_from (knowledge_after s p) ps)) (append_assoc pages (page_with p page.marks ∷ []) more ∙ ap (λ (page : MarkedPage). pages ++ (page ∷ more)) same) found.1)
 
 -- A definition of the postamble is the job's.
 closing_is_table : (table : Table) (closing : List Definition) (f : ℤ) → AllByRecursion (IsTabled table) closing → IsSome (first_definition_of f closing) → first_definition_of f closing ≡ table f
@@ -157,39 +157,39 @@ module _ (metrics : WidthsByName) (table : Table) (s : WriterKnowledge) (known :
             ∙ t.shows;
       }
 
--- There are as many pages as sheets.
-same_length : (metrics : WidthsByName) (table : Table) (known : List Definition) (ps : List Sheet) (pages : List MarkedPage) → AreGood metrics table known ps pages → length pages ≡ length ps
+-- There are as many pages as file pages.
+same_length : (metrics : WidthsByName) (table : Table) (known : List Definition) (ps : List FilePage) (pages : List MarkedPage) → AreGood metrics table known ps pages → length pages ≡ length ps
 same_length metrics table known [] [] good = refl
 same_length metrics table known [] (page ∷ pages) good = absurd good
 same_length metrics table known (p ∷ ps) [] good = absurd good
 same_length metrics table known (p ∷ ps) (page ∷ pages) (counts, here, good) = ap suc (same_length metrics table (known_after known (define p.fresh)) ps pages good)
 
 -- The bytes that are written for good pages and the postamble are a file of these pages.
-pub whole_file : (metrics : WidthsByName) (table : Table) (ps : List Sheet) (pages : List MarkedPage) (tall wide : ℤ) (closing : List Definition) (padding : ℕ) →
+pub whole_file : (metrics : WidthsByName) (table : Table) (ps : List FilePage) (pages : List MarkedPage) (tall wide : ℤ) (closing : List Definition) (padding : ℕ) →
     AreGood metrics table [] ps pages → IsClosing table (known_in [] ps) closing → NumberFits tall → NumberFits wide → (after_all after_preamble ps).size < 2 ^ 31 → 4 ≤ padding →
     IsFile metrics (whole_of ps tall wide closing padding) pages
 unfolding whole_bytes stop
 whole_file metrics table ps pages tall wide closing padding good closed tall_fits wide_fits small padded =
     let all = knows_all metrics table after_preamble [] (preamble ∷ []) [] [] ps pages (knows_first metrics table) good small in
     subst (λ count. IsFile metrics (front_of ps ++ ending_of (after_all after_preamble ps) (stop_of (after_all after_preamble ps) tall wide count) closing padding) pages) (same_length metrics table [] ps pages good)
-    (file metrics table (after_all after_preamble ps) (known_in [] ps) (preamble ∷ sheets_from after_preamble ps) all.0 pages tall wide closing padding all.1 closed tall_fits wide_fits small padded)
+    (file metrics table (after_all after_preamble ps) (known_in [] ps) (preamble ∷ file_pages_from after_preamble ps) all.0 pages tall wide closing padding all.1 closed tall_fits wide_fits small padded)
 
 -- One more page: the writer's numbers, its bytes, and that the pages are good.
-pub after_all-append : (s : WriterKnowledge) (ps qs : List Sheet) → after_all s (ps ++ qs) ≡ after_all (after_all s ps) qs
+pub after_all-append : (s : WriterKnowledge) (ps qs : List FilePage) → after_all s (ps ++ qs) ≡ after_all (after_all s ps) qs
 after_all-append s [] qs = refl
 after_all-append s (p ∷ ps) qs = after_all-append (knowledge_after s p) ps qs
 
-pub sheets_from-append : (s : WriterKnowledge) (ps qs : List Sheet) → sheets_from s (ps ++ qs) ≡ sheets_from s ps ++ sheets_from (after_all s ps) qs
-sheets_from-append s [] qs = refl
-sheets_from-append s (p ∷ ps) qs =
-    ap (λ (is : List Instruction). sheet_from s.last p ++ is) (sheets_from-append (knowledge_after s p) ps qs) ∙ sym (append_assoc (sheet_from s.last p) (sheets_from (knowledge_after s p) ps) (sheets_from (after_all (knowledge_after s p) ps) qs))
+pub file_pages_from-append : (s : WriterKnowledge) (ps qs : List FilePage) → file_pages_from s (ps ++ qs) ≡ file_pages_from s ps ++ file_pages_from (after_all s ps) qs
+file_pages_from-append s [] qs = refl
+file_pages_from-append s (p ∷ ps) qs =
+    ap (λ (is : List Instruction). file_page_from s.last p ++ is) (file_pages_from-append (knowledge_after s p) ps qs) ∙ sym (append_assoc (file_page_from s.last p) (file_pages_from (knowledge_after s p) ps) (file_pages_from (after_all (knowledge_after s p) ps) qs))
 
-pub front_more : (ps : List Sheet) (p : Sheet) → front_of (ps ++ p ∷ []) ≡ front_of ps ++ bytes_of (sheet_from (after_all after_preamble ps).last p)
+pub front_more : (ps : List FilePage) (p : FilePage) → front_of (ps ++ p ∷ []) ≡ front_of ps ++ bytes_of (file_page_from (after_all after_preamble ps).last p)
 front_more ps p =
-    ap (λ (is : List Instruction). bytes_of (preamble ∷ is)) (sheets_from-append after_preamble ps (p ∷ []) ∙ ap (λ (is : List Instruction). sheets_from after_preamble ps ++ is) (append-nil (sheet_from (after_all after_preamble ps).last p)))
-    ∙ bytes_of-append (preamble ∷ sheets_from after_preamble ps) (sheet_from (after_all after_preamble ps).last p)
+    ap (λ (is : List Instruction). bytes_of (preamble ∷ is)) (file_pages_from-append after_preamble ps (p ∷ []) ∙ ap (λ (is : List Instruction). file_pages_from after_preamble ps ++ is) (append-nil (file_page_from (after_all after_preamble ps).last p)))
+    ∙ bytes_of-append (preamble ∷ file_pages_from after_preamble ps) (file_page_from (after_all after_preamble ps).last p)
 
-pub good_more : (metrics : WidthsByName) (table : Table) (known : List Definition) (ps : List Sheet) (pages : List MarkedPage) (p : Sheet) (page : MarkedPage) →
+pub good_more : (metrics : WidthsByName) (table : Table) (known : List Definition) (ps : List FilePage) (pages : List MarkedPage) (p : FilePage) (page : MarkedPage) →
     AreGood metrics table known ps pages → page.counts ≡ p.counts → IsGood metrics table (known_in known ps) p page.marks → AreGood metrics table known (ps ++ p ∷ []) (pages ++ page ∷ [])
 good_more metrics table known [] [] p page are counts good = (counts, good, tt)
 good_more metrics table known [] (q ∷ pages) p page are counts good = absurd are
@@ -197,15 +197,15 @@ good_more metrics table known (q ∷ ps) [] p page are counts good = absurd are
 good_more metrics table known (q ∷ ps) (first ∷ pages) p page (same, here, are) counts good = (same, here, good_more metrics table (known_after known (define q.fresh)) ps pages p page are counts good)
 
 -- The writer's count of bytes is the length of what it has written.
-pub size_of_front : (ps : List Sheet) → (after_all after_preamble ps).size ≡ length (front_of ps)
+pub size_of_front : (ps : List FilePage) → (after_all after_preamble ps).size ≡ length (front_of ps)
 unfolding spelling operand
 size_of_front ps = sized after_preamble (preamble ∷ []) ps refl
   where
-    sized : (s : WriterKnowledge) (is : List Instruction) (ps : List Sheet) → s.size ≡ length (bytes_of is) → (after_all s ps).size ≡ length (bytes_of (is ++ sheets_from s ps))
+    sized : (s : WriterKnowledge) (is : List Instruction) (ps : List FilePage) → s.size ≡ length (bytes_of is) → (after_all s ps).size ≡ length (bytes_of (is ++ file_pages_from s ps))
     sized s is [] e = e ∙ ap (λ (is : List Instruction). length (bytes_of is)) (sym (append-nil is))
     sized s is (p ∷ ps) e =
-        sized (knowledge_after s p) (is ++ sheet_from s.last p) ps (ap (λ n. n + length (bytes_of (sheet_from s.last p))) e ∙ sym (length-bytes_of-append is (sheet_from s.last p)))
-        ∙ ap (λ (is : List Instruction). length (bytes_of is)) (append_assoc is (sheet_from s.last p) (sheets_from (knowledge_after s p) ps))
+        sized (knowledge_after s p) (is ++ file_page_from s.last p) ps (ap (λ n. n + length (bytes_of (file_page_from s.last p))) e ∙ sym (length-bytes_of-append is (file_page_from s.last p)))
+        ∙ ap (λ (is : List Instruction). length (bytes_of is)) (append_assoc is (file_page_from s.last p) (file_pages_from (knowledge_after s p) ps))
 
 -- There are four to seven bytes 223.
 pub padding_low : (n : ℕ) → 4 ≤ padding_after n

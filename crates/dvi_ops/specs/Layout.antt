@@ -27,7 +27,7 @@ abbrev pub define : List Definition → List Instruction
 define fonts = map (λ d. Do (FontDef d)) fonts
 
 -- The input for one page: its ten counts, the definitions of the fonts that no earlier page uses, and its body.
-pub record Sheet : Type 0 where
+pub record FilePage : Type 0 where
   pub counts : List ℤ
   pub fresh : List Definition
   pub body : Forest
@@ -43,31 +43,31 @@ abbrev pub after_preamble : WriterKnowledge
 after_preamble = record { last = negsuc 0; size = 15; depth = 0 }
 
 -- The instructions for a page, where the previous bop is at `last`.
-abbrev pub sheet_from : ℤ → Sheet → List Instruction
-sheet_from last p = define p.fresh ++ (Bop p.counts last ∷ (flat p.body ++ Eop ∷ []))
+abbrev pub file_page_from : ℤ → FilePage → List Instruction
+file_page_from last p = define p.fresh ++ (Bop p.counts last ∷ (flat p.body ++ Eop ∷ []))
 
 -- The writer's numbers after a page.
-abbrev pub knowledge_after : WriterKnowledge → Sheet → WriterKnowledge
+abbrev pub knowledge_after : WriterKnowledge → FilePage → WriterKnowledge
 knowledge_after s p =
     record {
       last = pos (s.size + length (bytes_of (define p.fresh)));
-      size = s.size + length (bytes_of (sheet_from s.last p));
+      size = s.size + length (bytes_of (file_page_from s.last p));
       depth = max s.depth (nests p.body);
     }
 
 -- The instructions for pages, in order.
-abbrev pub sheets_from : WriterKnowledge → List Sheet → List Instruction
-sheets_from s [] = []
-sheets_from s (p ∷ rest) = sheet_from s.last p ++ sheets_from (knowledge_after s p) rest
+abbrev pub file_pages_from : WriterKnowledge → List FilePage → List Instruction
+file_pages_from s [] = []
+file_pages_from s (p ∷ rest) = file_page_from s.last p ++ file_pages_from (knowledge_after s p) rest
 
 -- The writer's numbers after these pages.
-abbrev pub after_all : WriterKnowledge → List Sheet → WriterKnowledge
+abbrev pub after_all : WriterKnowledge → List FilePage → WriterKnowledge
 after_all s [] = s
 after_all s (p ∷ rest) = after_all (knowledge_after s p) rest
 
 -- The bytes of a file up to the last eop.
-abbrev pub front_of : List Sheet → List ℕ
-front_of sheets = bytes_of (preamble ∷ sheets_from after_preamble sheets)
+abbrev pub front_of : List FilePage → List ℕ
+front_of file_pages = bytes_of (preamble ∷ file_pages_from after_preamble file_pages)
 
 -- The operands of post, with the greatest sizes of the pages and their number.
 abbrev pub stop_of : WriterKnowledge → (tall wide : ℤ) → (count : ℕ) → Postamble
@@ -83,10 +83,10 @@ abbrev pub ending_of : WriterKnowledge → Postamble → List Definition → (pa
 ending_of s stop closing padding = bytes_of (closing_of s stop closing) ++ replicate padding 223
 
 -- The whole file, with these greatest sizes, and these definitions in the postamble.
-abbrev pub whole_of : List Sheet → (tall wide : ℤ) → List Definition → (padding : ℕ) → List ℕ
-whole_of sheets tall wide closing padding =
-    front_of sheets ++ ending_of (after_all after_preamble sheets)
-    (stop_of (after_all after_preamble sheets) tall wide (length sheets)) closing padding
+abbrev pub whole_of : List FilePage → (tall wide : ℤ) → List Definition → (padding : ℕ) → List ℕ
+whole_of file_pages tall wide closing padding =
+    front_of file_pages ++ ending_of (after_all after_preamble file_pages)
+    (stop_of (after_all after_preamble file_pages) tall wide (length file_pages)) closing padding
 
 -- How many bytes 223 follow `size` bytes: 4 to 7, so that the length is a multiple of 4 (TeX: The Program, part 32, §642).
 abbrev pub padding_after : ℕ → ℕ
@@ -111,7 +111,7 @@ pub record IsTabled (table : Table) (d : Definition) : Type 0 where
   pub writable : IsWritable (Do (FontDef d))
 
 -- A page may follow the definitions `known`, and has these marks.
-pub record IsGood (metrics : WidthsByName) (table : Table) (known : List Definition) (p : Sheet) (marks : List Mark) : Type 0 where
+pub record IsGood (metrics : WidthsByName) (table : Table) (known : List Definition) (p : FilePage) (marks : List Mark) : Type 0 where
   pub ten : length p.counts ≡ 10
   pub counts_fit : AllByRecursion NumberFits p.counts
   pub fresh : AllByRecursion (IsTabled table) p.fresh
@@ -125,12 +125,12 @@ pub record IsGood (metrics : WidthsByName) (table : Table) (known : List Definit
   pub shows : meaning (bounded_acts (instruction_acts (table_widths metrics table))) p.body start ≡ Some (marks, last)
 
 -- The definitions before and in pages, the last one first.
-abbrev pub known_in : (known : List Definition) → List Sheet → List Definition
+abbrev pub known_in : (known : List Definition) → List FilePage → List Definition
 known_in known [] = known
 known_in known (p ∷ rest) = known_in (known_after known (define p.fresh)) rest
 
 -- Each page is good after the definitions before it, and the marked pages have their counts and marks.
-abbrev pub AreGood : WidthsByName → Table → (known : List Definition) → List Sheet → List MarkedPage → Type 0
+abbrev pub AreGood : WidthsByName → Table → (known : List Definition) → List FilePage → List MarkedPage → Type 0
 AreGood metrics table known [] [] = Unit {0}
 AreGood metrics table known [] (page ∷ pages) = ⊥
 AreGood metrics table known (p ∷ rest) [] = ⊥

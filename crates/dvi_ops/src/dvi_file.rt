@@ -7,8 +7,8 @@ ghost use Rattle.dvi_ops.specs.Examples.{undefined_font_file, shallow_file, Give
 ghost use Rattle.dvi_ops.specs.File.{IsFile, MarkedPage, max_pushes};
 ghost use Rattle.dvi_ops.specs.Fonts.{WidthsByName};
 ghost use Rattle.dvi_ops.specs.Instruction.{Definition};
-ghost use Rattle.dvi_ops.specs.Layout.{AreGood, IsClosing, IsGood, Sheet, Table, WriterKnowledge, knowledge_after, after_all, after_preamble};
-ghost use Rattle.dvi_ops.specs.Layout.{bytes_of, front_of, known_in, padding_after, sheet_from, whole_of};
+ghost use Rattle.dvi_ops.specs.Layout.{AreGood, IsClosing, IsGood, FilePage, Table, WriterKnowledge, knowledge_after, after_all, after_preamble};
+ghost use Rattle.dvi_ops.specs.Layout.{bytes_of, front_of, known_in, padding_after, file_page_from, whole_of};
 ghost use Rattle.dvi_ops.specs.Spelling.{NumberFits};
 
 /// The greatest number of pushes that may be open at once on a page, whatever post allows (own).
@@ -28,26 +28,26 @@ pub fn one_file()
 /// What this writer writes for good pages, and then the postamble, is a file of these pages, for any number of pages and fonts and any greatest
 /// sizes.
 pub fn whole_is_file()
-    ensures { (metrics : WidthsByName) (table : Table) (sheets : List Sheet) (pages : List MarkedPage)
+    ensures { (metrics : WidthsByName) (table : Table) (file_pages : List FilePage) (pages : List MarkedPage)
         (tall wide : ℤ) (closing : List Definition) (padding : ℕ)
-        → AreGood metrics table [] sheets pages
-        → IsClosing table (known_in [] sheets) closing
-        → NumberFits tall → NumberFits wide → (after_all after_preamble sheets).size < 2 ^ 31 → 4 ≤ padding
-        → IsFile metrics (whole_of sheets tall wide closing padding) pages }
+        → AreGood metrics table [] file_pages pages
+        → IsClosing table (known_in [] file_pages) closing
+        → NumberFits tall → NumberFits wide → (after_all after_preamble file_pages).size < 2 ^ 31 → 4 ≤ padding
+        → IsFile metrics (whole_of file_pages tall wide closing padding) pages }
 {}
 
 /// A page adds its own bytes after those that were written before it. A good page after good ones makes good pages.
 pub fn pages_are_added()
-    ensures bytes { (sheets : List Sheet) (p : Sheet)
-        → front_of (sheets ++ p ∷ []) ≡ front_of sheets ++ bytes_of (sheet_from (after_all after_preamble sheets).last p) }
-    ensures state { (s : WriterKnowledge) (sheets : List Sheet) (p : Sheet)
-        → after_all s (sheets ++ p ∷ []) ≡ knowledge_after (after_all s sheets) p }
-    ensures size { (sheets : List Sheet) → (after_all after_preamble sheets).size ≡ length (front_of sheets) }
-    ensures good { (metrics : WidthsByName) (table : Table) (known : List Definition) (sheets : List Sheet) (pages : List MarkedPage)
-        (p : Sheet) (page : MarkedPage)
-        → AreGood metrics table known sheets pages → page.counts ≡ p.counts
-        → IsGood metrics table (known_in known sheets) p page.marks
-        → AreGood metrics table known (sheets ++ p ∷ []) (pages ++ page ∷ []) }
+    ensures bytes { (file_pages : List FilePage) (p : FilePage)
+        → front_of (file_pages ++ p ∷ []) ≡ front_of file_pages ++ bytes_of (file_page_from (after_all after_preamble file_pages).last p) }
+    ensures state { (s : WriterKnowledge) (file_pages : List FilePage) (p : FilePage)
+        → after_all s (file_pages ++ p ∷ []) ≡ knowledge_after (after_all s file_pages) p }
+    ensures size { (file_pages : List FilePage) → (after_all after_preamble file_pages).size ≡ length (front_of file_pages) }
+    ensures good { (metrics : WidthsByName) (table : Table) (known : List Definition) (file_pages : List FilePage) (pages : List MarkedPage)
+        (p : FilePage) (page : MarkedPage)
+        → AreGood metrics table known file_pages pages → page.counts ≡ p.counts
+        → IsGood metrics table (known_in known file_pages) p page.marks
+        → AreGood metrics table known (file_pages ++ p ∷ []) (pages ++ page ∷ []) }
 {}
 
 /// The end has four to seven bytes 223, so that the length is a multiple of four.

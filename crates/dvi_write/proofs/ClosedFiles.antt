@@ -10,7 +10,7 @@ use Rattle.dvi_ops.specs.Forest.{flat, nests}
 use Rattle.dvi_ops.specs.Fonts.{definitions}
 use Rattle.dvi_ops.specs.File.{FilePart, Defines, Shows, instructions, push_depth_of}
 use Rattle.dvi_ops.specs.Spelling.{NumberFits, NumbersFit, UnitsFit}
-use Rattle.dvi_ops.specs.Layout.{bytes_of, define, preamble, scaled_points, Sheet, WriterKnowledge, after_preamble, sheet_from, knowledge_after, sheets_from, after_all, closing_of, front_of, stop_of, whole_of, padding_after, IsTabled, IsWritable, Table}
+use Rattle.dvi_ops.specs.Layout.{bytes_of, define, preamble, scaled_points, FilePage, WriterKnowledge, after_preamble, file_page_from, knowledge_after, file_pages_from, after_all, closing_of, front_of, stop_of, whole_of, padding_after, IsTabled, IsWritable, Table}
 use Rattle.scaled_core.proofs.EachOf.{all_append}
 use Rattle.dvi_ops.proofs.Appends.{definitions-append, instructions-append}
 use Rattle.dvi_ops.proofs.Layouts.{says-wrote, definitions-define, instructions-define, length-bytes_of-append, parts_of}
@@ -19,14 +19,14 @@ use Rattle.page_core.specs.Marks.{ShippedPage}
 use Rattle.page_core.specs.Pages.{reach_down, reach_right}
 use Rattle.node_core.specs.declared.limits.TheConstants.{MAX_DEPTH}
 use Rattle.tfm_core.specs.Slots.{Slots, AreDefinable}
-use Rattle.dvi_write.specs.Sheets.{written_body, definitions_of, fresh_slots, in_rising_order, sheet_of, slots_after}
+use Rattle.dvi_write.specs.FilePages.{written_body, definitions_of, fresh_slots, in_rising_order, file_page_of, slots_after}
 use Rattle.dvi_write.specs.SoFar.{ProgressView, nothing_so_far, so_far_from, so_far_of, with_next, closing_so_far}
-use Rattle.dvi_write.specs.Layout.{sheets_of, whole}
+use Rattle.dvi_write.specs.Layout.{file_pages_of, whole}
 use Rattle.dvi_write.specs.Shippable.{slot_widths, IsRightPage}
 use Rattle.dvi_write.specs.Closing.{IsGreatestOf, IsOfJob, IsClosedFor}
 use Rattle.dvi_write.proofs.DefinedFonts.{each_of}
 use Rattle.dvi_write.proofs.Files.{table_of, tabled, tall_fits, wide_fits, small_layout}
-use Rattle.dvi_write.proofs.NextPages.{layout-is, length-sheets, pages-are, whole-laid_out}
+use Rattle.dvi_write.proofs.NextPages.{layout-is, length-file_pages, pages-are, whole-laid_out}
 use Rattle.dvi_write.proofs.WrittenBodies.{definitions-written, nests_written, writable_written}
 
 -- The greatest of a size of some values and a number.
@@ -80,76 +80,76 @@ farthest-append size z [] ys = refl
 farthest-append size z (x ∷ xs) ys = farthest-append size (int_max z (size x)) xs ys
 
 -- The layout of the pages can be spelled, and the last place fits.
-grows : (fonts : Slots) (slots : List ℕ) (s : WriterKnowledge) (pages : List ShippedPage) → s.size ≤ (after_all s (sheets_of fonts slots pages)).size
+grows : (fonts : Slots) (slots : List ℕ) (s : WriterKnowledge) (pages : List ShippedPage) → s.size ≤ (after_all s (file_pages_of fonts slots pages)).size
 grows fonts slots s [] = omega arith
-grows fonts slots s (page ∷ pages) = omega (arith, grows fonts (slots_after fonts slots page) (knowledge_after s (sheet_of fonts slots page)) pages)
+grows fonts slots s (page ∷ pages) = omega (arith, grows fonts (slots_after fonts slots page) (knowledge_after s (file_page_of fonts slots page)) pages)
 
 -- The place of a bop is before the end of its page.
-place_fits : (fonts : Slots) (slots : List ℕ) (s : WriterKnowledge) (page : ShippedPage) (pages : List ShippedPage) → (after_all s (sheets_of fonts slots (page ∷ pages))).size < 2 ^ 31
-    → NumberFits (pos (s.size + length (bytes_of (define (sheet_of fonts slots page).fresh))))
+place_fits : (fonts : Slots) (slots : List ℕ) (s : WriterKnowledge) (page : ShippedPage) (pages : List ShippedPage) → (after_all s (file_pages_of fonts slots (page ∷ pages))).size < 2 ^ 31
+    → NumberFits (pos (s.size + length (bytes_of (define (file_page_of fonts slots page).fresh))))
 place_fits fonts slots s page pages small =
-    let sheet = sheet_of fonts slots page in
+    let file_page = file_page_of fonts slots page in
     record {
       sfits =
           omega (
             arith,
-            grows fonts (slots_after fonts slots page) (knowledge_after s sheet) pages,
-            length-bytes_of-append (define sheet.fresh) (Bop sheet.counts s.last ∷ (flat sheet.body ++ Eop ∷ [])),
+            grows fonts (slots_after fonts slots page) (knowledge_after s file_page) pages,
+            length-bytes_of-append (define file_page.fresh) (Bop file_page.counts s.last ∷ (flat file_page.body ++ Eop ∷ [])),
             small,
           );
     }
 
-last_fits : (fonts : Slots) (slots : List ℕ) (s : WriterKnowledge) (pages : List ShippedPage) → NumberFits s.last → (after_all s (sheets_of fonts slots pages)).size < 2 ^ 31
-    → NumberFits (after_all s (sheets_of fonts slots pages)).last
+last_fits : (fonts : Slots) (slots : List ℕ) (s : WriterKnowledge) (pages : List ShippedPage) → NumberFits s.last → (after_all s (file_pages_of fonts slots pages)).size < 2 ^ 31
+    → NumberFits (after_all s (file_pages_of fonts slots pages)).last
 last_fits fonts slots s [] fit small = fit
 last_fits fonts slots s (page ∷ pages) fit small =
-    last_fits fonts (slots_after fonts slots page) (knowledge_after s (sheet_of fonts slots page)) pages (place_fits fonts slots s page pages small) small
+    last_fits fonts (slots_after fonts slots page) (knowledge_after s (file_page_of fonts slots page)) pages (place_fits fonts slots s page pages small) small
 
 all_defined : (table : Table) (ds : List Definition) → AllByRecursion (IsTabled table) ds → AllByRecursion IsWritable (define ds)
 all_defined table [] all = tt
 all_defined table (d ∷ ds) (here, all) = (here.writable, all_defined table ds all)
 
 pages_writable : (fonts : Slots) → AreDefinable fonts → (slots : List ℕ) (s : WriterKnowledge) (pages : List ShippedPage)
-    → AllByRecursion (IsRightPage fonts) pages → NumberFits s.last → (after_all s (sheets_of fonts slots pages)).size < 2 ^ 31
-    → AllByRecursion IsWritable (sheets_from s (sheets_of fonts slots pages))
+    → AllByRecursion (IsRightPage fonts) pages → NumberFits s.last → (after_all s (file_pages_of fonts slots pages)).size < 2 ^ 31
+    → AllByRecursion IsWritable (file_pages_from s (file_pages_of fonts slots pages))
 pages_writable fonts definable slots s [] all fit small = tt
 pages_writable fonts definable slots s (page ∷ pages) (here, all) fit small =
-    let sheet = sheet_of fonts slots page in
-    let next = knowledge_after s sheet in
+    let file_page = file_page_of fonts slots page in
+    let next = knowledge_after s file_page in
     let later = slots_after fonts slots page in
-    all_append IsWritable (sheet_from s.last sheet) (sheets_from next (sheets_of fonts later pages))
-    (all_append IsWritable (define sheet.fresh) (Bop page.counts s.last ∷ (flat sheet.body ++ Eop ∷ [])) (all_defined (table_of fonts) sheet.fresh
+    all_append IsWritable (file_page_from s.last file_page) (file_pages_from next (file_pages_of fonts later pages))
+    (all_append IsWritable (define file_page.fresh) (Bop page.counts s.last ∷ (flat file_page.body ++ Eop ∷ [])) (all_defined (table_of fonts) file_page.fresh
     (each_of (IsTabled (table_of fonts)) fonts (fresh_slots fonts slots (flat (written_body page))) (λ s l among has. tabled fonts definable s l has)))
-    ((tt, (here.ten, here.counts_fit, fit)), all_append IsWritable (flat sheet.body) (Eop ∷ []) (writable_written (slot_widths fonts) page here.small here.sound.glyphs (omega (arith, here.text))) ((tt, tt), tt)))
+    ((tt, (here.ten, here.counts_fit, fit)), all_append IsWritable (flat file_page.body) (Eop ∷ []) (writable_written (slot_widths fonts) page here.small here.sound.glyphs (omega (arith, here.text))) ((tt, tt), tt)))
     (pages_writable fonts definable later next pages all (place_fits fonts slots s page pages small) small)
 
 -- The pages have few open pushes.
 few_pushes : (fonts : Slots) (slots : List ℕ) (s : WriterKnowledge) (pages : List ShippedPage) → AllByRecursion (IsRightPage fonts) pages → s.depth ≤ MAX_DEPTH
-    → (after_all s (sheets_of fonts slots pages)).depth ≤ MAX_DEPTH
+    → (after_all s (file_pages_of fonts slots pages)).depth ≤ MAX_DEPTH
 few_pushes fonts slots s [] all few = few
 few_pushes fonts slots s (page ∷ pages) (here, all) few =
-    few_pushes fonts (slots_after fonts slots page) (knowledge_after s (sheet_of fonts slots page)) pages all (omega (arith, few, nests_written page, here.sound.depth))
+    few_pushes fonts (slots_after fonts slots page) (knowledge_after s (file_page_of fonts slots page)) pages all (omega (arith, few, nests_written page, here.sound.depth))
 
 -- The parts of the layout of pages: the definitions of their fresh fonts, and the pages.
 parts_from : Slots → List ℕ → WriterKnowledge → List ShippedPage → List FilePart
 parts_from fonts slots s [] = []
 parts_from fonts slots s (page ∷ pages) =
-    parts_of s.last (sheet_of fonts slots page) ++ parts_from fonts (slots_after fonts slots page) (knowledge_after s (sheet_of fonts slots page)) pages
+    parts_of s.last (file_page_of fonts slots page) ++ parts_from fonts (slots_after fonts slots page) (knowledge_after s (file_page_of fonts slots page)) pages
 
-one_page : (last : ℤ) (p : Sheet) → sheet_from last p ≡ flat_map instructions (parts_of last p)
+one_page : (last : ℤ) (p : FilePage) → file_page_from last p ≡ flat_map instructions (parts_of last p)
 one_page last p =
     let shows = Shows p.counts last p.body in
     ap₂ (λ (a b : List Instruction). a ++ b) (sym (instructions-define p.fresh)) (sym (append-nil (instructions shows)))
     ∙ sym (instructions-append (map (λ d. Defines d) p.fresh) (shows ∷ []))
 
-instructions_from : (fonts : Slots) (slots : List ℕ) (s : WriterKnowledge) (pages : List ShippedPage) → sheets_from s (sheets_of fonts slots pages) ≡ flat_map instructions (parts_from fonts slots s pages)
+instructions_from : (fonts : Slots) (slots : List ℕ) (s : WriterKnowledge) (pages : List ShippedPage) → file_pages_from s (file_pages_of fonts slots pages) ≡ flat_map instructions (parts_from fonts slots s pages)
 unfolding parts_from
 instructions_from fonts slots s [] = refl
 instructions_from fonts slots s (page ∷ pages) =
-    let sheet = sheet_of fonts slots page in
+    let file_page = file_page_of fonts slots page in
     let later = slots_after fonts slots page in
-    ap₂ (λ (a b : List Instruction). a ++ b) (one_page s.last sheet) (instructions_from fonts later (knowledge_after s sheet) pages)
-    ∙ sym (instructions-append (parts_of s.last sheet) (parts_from fonts later (knowledge_after s sheet) pages))
+    ap₂ (λ (a b : List Instruction). a ++ b) (one_page s.last file_page) (instructions_from fonts later (knowledge_after s file_page) pages)
+    ∙ sym (instructions-append (parts_of s.last file_page) (parts_from fonts later (knowledge_after s file_page) pages))
 
 -- The greatest number of pushes that are open at once in a part.
 abbrev part_depth : FilePart → ℤ
@@ -166,49 +166,49 @@ definitions-flat n (d ∷ ds) = ap (λ z. farthest part_depth z (map (λ d. Defi
     max-none : (n : ℕ) → max n 0 ≡ n
     max-none n = omega arith
 
-page-deeper : (n : ℕ) (last : ℤ) (p : Sheet) → farthest part_depth (pos n) (parts_of last p) ≡ pos (max n (nests p.body))
+page-deeper : (n : ℕ) (last : ℤ) (p : FilePage) → farthest part_depth (pos n) (parts_of last p) ≡ pos (max n (nests p.body))
 page-deeper n last p =
     farthest-append part_depth (pos n) (map (λ d. Defines d) p.fresh) (Shows p.counts last p.body ∷ [])
     ∙ (ap (λ z. int_max z (pos (nests p.body))) (definitions-flat n p.fresh) ∙ max-deeper n (nests p.body))
 
 -- The layout keeps the greatest number of pushes that are open at once in its parts.
 depth-is : (fonts : Slots) (slots : List ℕ) (s : WriterKnowledge) (pages : List ShippedPage)
-    → farthest part_depth (pos s.depth) (parts_from fonts slots s pages) ≡ pos (after_all s (sheets_of fonts slots pages)).depth
+    → farthest part_depth (pos s.depth) (parts_from fonts slots s pages) ≡ pos (after_all s (file_pages_of fonts slots pages)).depth
 unfolding parts_from
 depth-is fonts slots s [] = refl
 depth-is fonts slots s (page ∷ pages) =
-    let sheet = sheet_of fonts slots page in
+    let file_page = file_page_of fonts slots page in
     let later = slots_after fonts slots page in
-    let parts = parts_from fonts later (knowledge_after s sheet) pages in
-    farthest-append part_depth (pos s.depth) (parts_of s.last sheet) parts
-    ∙ (ap (λ z. farthest part_depth z parts) (page-deeper s.depth s.last sheet) ∙ depth-is fonts later (knowledge_after s sheet) pages)
+    let parts = parts_from fonts later (knowledge_after s file_page) pages in
+    farthest-append part_depth (pos s.depth) (parts_of s.last file_page) parts
+    ∙ (ap (λ z. farthest part_depth z parts) (page-deeper s.depth s.last file_page) ∙ depth-is fonts later (knowledge_after s file_page) pages)
 
 -- The definitions in the layout are those of the job's fonts.
 job_definitions : (fonts : Slots) (slots : List ℕ) → AllByRecursion (IsOfJob fonts) (definitions_of fonts slots)
 job_definitions fonts slots = each_of (IsOfJob fonts) fonts slots (λ s l among has. record { slot = s; loaded = l; held = has; is = refl })
 
 page_definitions : (fonts : Slots) (slots : List ℕ) (last : ℤ) (page : ShippedPage)
-    → definitions (sheet_from last (sheet_of fonts slots page)) ≡ definitions_of fonts (fresh_slots fonts slots (flat (written_body page)))
+    → definitions (file_page_from last (file_page_of fonts slots page)) ≡ definitions_of fonts (fresh_slots fonts slots (flat (written_body page)))
 page_definitions fonts slots last page =
     let fresh = definitions_of fonts (fresh_slots fonts slots (flat (written_body page))) in
     let shows = Bop page.counts last ∷ (flat (written_body page) ++ Eop ∷ []) in
     let none : definitions shows ≡ [] = definitions-append (flat (written_body page)) (Eop ∷ []) ∙ (append-nil (definitions (flat (written_body page))) ∙ definitions-written page) in
     definitions-append (define fresh) shows ∙ (ap₂ (λ (a b : List Definition). a ++ b) (definitions-define fresh) none ∙ append-nil fresh)
 
-front_definitions : (fonts : Slots) (slots : List ℕ) (s : WriterKnowledge) (pages : List ShippedPage) → AllByRecursion (IsOfJob fonts) (definitions (sheets_from s (sheets_of fonts slots pages)))
+front_definitions : (fonts : Slots) (slots : List ℕ) (s : WriterKnowledge) (pages : List ShippedPage) → AllByRecursion (IsOfJob fonts) (definitions (file_pages_from s (file_pages_of fonts slots pages)))
 front_definitions fonts slots s [] = tt
 front_definitions fonts slots s (page ∷ pages) =
-    let sheet = sheet_of fonts slots page in
+    let file_page = file_page_of fonts slots page in
     let later = slots_after fonts slots page in
-    subst (AllByRecursion (IsOfJob fonts)) (sym (definitions-append (sheet_from s.last sheet) (sheets_from (knowledge_after s sheet) (sheets_of fonts later pages))))
-    (all_append (IsOfJob fonts) (definitions (sheet_from s.last sheet)) (definitions (sheets_from (knowledge_after s sheet) (sheets_of fonts later pages)))
+    subst (AllByRecursion (IsOfJob fonts)) (sym (definitions-append (file_page_from s.last file_page) (file_pages_from (knowledge_after s file_page) (file_pages_of fonts later pages))))
+    (all_append (IsOfJob fonts) (definitions (file_page_from s.last file_page)) (definitions (file_pages_from (knowledge_after s file_page) (file_pages_of fonts later pages)))
     (subst (AllByRecursion (IsOfJob fonts)) (sym (page_definitions fonts slots s.last page)) (job_definitions fonts (fresh_slots fonts slots (flat (written_body page)))))
-    (front_definitions fonts later (knowledge_after s sheet) pages))
+    (front_definitions fonts later (knowledge_after s file_page) pages))
 
 all_definitions : (fonts : Slots) (slots : List ℕ) (pages : List ShippedPage)
-    → AllByRecursion (IsOfJob fonts) (definitions ((preamble ∷ sheets_from after_preamble (sheets_of fonts [] pages)) ++ define (definitions_of fonts (in_rising_order slots))))
+    → AllByRecursion (IsOfJob fonts) (definitions ((preamble ∷ file_pages_from after_preamble (file_pages_of fonts [] pages)) ++ define (definitions_of fonts (in_rising_order slots))))
 all_definitions fonts slots pages =
-    let is = preamble ∷ sheets_from after_preamble (sheets_of fonts [] pages) in
+    let is = preamble ∷ file_pages_from after_preamble (file_pages_of fonts [] pages) in
     let ds = definitions_of fonts (in_rising_order slots) in
     subst (AllByRecursion (IsOfJob fonts)) (sym (definitions-append is (define ds)))
     (all_append (IsOfJob fonts) (definitions is) (definitions (define ds)) (front_definitions fonts [] after_preamble pages)
@@ -240,32 +240,32 @@ framed fonts is stop tail place padding pages parts defined front_is units fits 
     }
 
 -- The length of a file in the layout.
-length-whole : (sheets : List Sheet) (tall wide : ℤ) (closing : List Definition) (padding : ℕ) → length (whole_of sheets tall wide closing padding)
-    ≡ (after_all after_preamble sheets).size
-    + length (bytes_of (closing_of (after_all after_preamble sheets) (stop_of (after_all after_preamble sheets) tall wide (length sheets)) closing)) + padding
-length-whole sheets tall wide closing padding =
-    let s = after_all after_preamble sheets in
-    let end = bytes_of (closing_of s (stop_of s tall wide (length sheets)) closing) in
+length-whole : (file_pages : List FilePage) (tall wide : ℤ) (closing : List Definition) (padding : ℕ) → length (whole_of file_pages tall wide closing padding)
+    ≡ (after_all after_preamble file_pages).size
+    + length (bytes_of (closing_of (after_all after_preamble file_pages) (stop_of (after_all after_preamble file_pages) tall wide (length file_pages)) closing)) + padding
+length-whole file_pages tall wide closing padding =
+    let s = after_all after_preamble file_pages in
+    let end = bytes_of (closing_of s (stop_of s tall wide (length file_pages)) closing) in
     omega (
       arith,
-      length-append (front_of sheets) (end ++ replicate padding 223),
+      length-append (front_of file_pages) (end ++ replicate padding 223),
       length-append end (replicate padding 223),
       length-replicate {A = ℕ} padding 223,
-      size_of_front sheets,
+      size_of_front file_pages,
     )
 
 -- The file of pages, as it is laid out, has the right end.
 laid_out_closes : (fonts : Slots) (pages : List ShippedPage) (padding : ℕ) → AreDefinable fonts → AllByRecursion (IsRightPage fonts) pages
-    → (after_all after_preamble (sheets_of fonts [] pages)).size < 2 ^ 31 → 4 ≤ padding → padding ≤ 7
-    → length (whole_of (sheets_of fonts [] pages) (so_far_of fonts pages).tall (so_far_of fonts pages).wide (definitions_of fonts (in_rising_order (so_far_of fonts pages).defined)) padding) % 4 ≡ 0
-    → IsClosedFor fonts (whole_of (sheets_of fonts [] pages) (so_far_of fonts pages).tall (so_far_of fonts pages).wide (definitions_of fonts (in_rising_order (so_far_of fonts pages).defined)) padding) pages
+    → (after_all after_preamble (file_pages_of fonts [] pages)).size < 2 ^ 31 → 4 ≤ padding → padding ≤ 7
+    → length (whole_of (file_pages_of fonts [] pages) (so_far_of fonts pages).tall (so_far_of fonts pages).wide (definitions_of fonts (in_rising_order (so_far_of fonts pages).defined)) padding) % 4 ≡ 0
+    → IsClosedFor fonts (whole_of (file_pages_of fonts [] pages) (so_far_of fonts pages).tall (so_far_of fonts pages).wide (definitions_of fonts (in_rising_order (so_far_of fonts pages).defined)) padding) pages
 laid_out_closes fonts pages padding definable all below least most fills =
-    let sheets = sheets_of fonts [] pages in
-    let s = after_all after_preamble sheets in
+    let file_pages = file_pages_of fonts [] pages in
+    let s = after_all after_preamble file_pages in
     let kept = so_far_of fonts pages in
-    let is = preamble ∷ sheets_from after_preamble sheets in
+    let is = preamble ∷ file_pages_from after_preamble file_pages in
     let parts = parts_from fonts [] after_preamble pages in
-    let stop = stop_of s kept.tall kept.wide (length sheets) in
+    let stop = stop_of s kept.tall kept.wide (length file_pages) in
     let closing = definitions_of fonts (in_rising_order kept.defined) in
     let first : NumberFits (negsuc 0) = record { sfits = omega arith } in
     let units : UnitsFit scaled_points = (record { sfits = lit< tt }, record { sfits = lit< tt }, record { sfits = lit< tt }) in
@@ -274,7 +274,7 @@ laid_out_closes fonts pages padding definable all below least most fills =
     (((lit< tt, units), pages_writable fonts definable [] after_preamble pages all first below))
     (last_fits fonts [] after_preamble pages first below, units, tall_fits fonts pages all, wide_fits fonts pages all, omega (arith, few_pushes fonts [] after_preamble pages all (omega arith)), omega arith)
     (all_defined (table_of fonts) closing (each_of (IsTabled (table_of fonts)) fonts (in_rising_order kept.defined) (λ s l among has. tabled fonts definable s l has)))
-    (size_of_front sheets) below least most
+    (size_of_front file_pages) below least most
     (subst (IsGreatestOf (pos 0 ∷ map reach_down pages)) (tall-is fonts nothing_so_far pages) (farthest-greatest reach_down pages))
     (subst (IsGreatestOf (pos 0 ∷ map reach_right pages)) (wide-is fonts nothing_so_far pages) (farthest-greatest reach_right pages))
     (subst (IsGreatestOf (pos 0 ∷ map part_depth parts)) (depth-is fonts [] after_preamble pages) (farthest-greatest part_depth parts))
@@ -283,13 +283,13 @@ laid_out_closes fonts pages padding definable all below least most fills =
 pub file_closes : (fonts : Slots) (pages : List ShippedPage) → AreDefinable fonts → pages ≢ [] → AllByRecursion (IsRightPage fonts) pages
     → (so_far_of fonts pages).layout.size < 2 ^ 31 → IsClosedFor fonts (whole fonts pages) pages
 file_closes fonts pages definable some all small =
-    let sheets = sheets_of fonts [] pages in
+    let file_pages = file_pages_of fonts [] pages in
     let s = so_far_of fonts pages in
     let closing = definitions_of fonts (in_rising_order s.defined) in
     let size = s.layout.size + length (bytes_of (closing_so_far fonts s)) in
-    let same : s.layout ≡ after_all after_preamble sheets = layout-is fonts nothing_so_far pages in
-    let counted : size ≡ (after_all after_preamble sheets).size + length (bytes_of (closing_of (after_all after_preamble sheets) (stop_of (after_all after_preamble sheets) s.tall s.wide (length sheets)) closing)) =
-    ap₂ (λ (w : WriterKnowledge) (count : ℕ). w.size + length (bytes_of (closing_of w (stop_of w s.tall s.wide count) closing))) same (pages-are fonts pages ∙ sym (length-sheets fonts [] pages)) in
-    let fills = ap (λ n. n % 4) (length-whole sheets s.tall s.wide closing (padding_after size) ∙ ap (λ n. n + padding_after size) (sym counted)) ∙ padding_fills size in
+    let same : s.layout ≡ after_all after_preamble file_pages = layout-is fonts nothing_so_far pages in
+    let counted : size ≡ (after_all after_preamble file_pages).size + length (bytes_of (closing_of (after_all after_preamble file_pages) (stop_of (after_all after_preamble file_pages) s.tall s.wide (length file_pages)) closing)) =
+    ap₂ (λ (w : WriterKnowledge) (count : ℕ). w.size + length (bytes_of (closing_of w (stop_of w s.tall s.wide count) closing))) same (pages-are fonts pages ∙ sym (length-file_pages fonts [] pages)) in
+    let fills = ap (λ n. n % 4) (length-whole file_pages s.tall s.wide closing (padding_after size) ∙ ap (λ n. n + padding_after size) (sym counted)) ∙ padding_fills size in
     subst (λ (bytes : List ℕ). IsClosedFor fonts bytes pages) (sym (whole-laid_out fonts pages some))
     (laid_out_closes fonts pages (padding_after size) definable all (small_layout fonts pages small) (padding_low size) (omega arith) fills)

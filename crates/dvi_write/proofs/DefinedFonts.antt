@@ -14,7 +14,7 @@ use Rattle.scaled_core.proofs.EachOf.{all_append, all_weaker}
 use Rattle.tfm_core.specs.declared.slots.LoadedFont.{LoadedFont}
 use Rattle.tfm_core.specs.Slots.{Slots, font_in}
 use Rattle.dvi_write.specs.MoreFonts.{Extends}
-use Rattle.dvi_write.specs.Sheets.{numbers_below, definition_of, definition_by, definitions_of, selects, is_among, is_fresh, fresh_slots, in_rising_order}
+use Rattle.dvi_write.specs.FilePages.{numbers_below, definition_of, definition_by, definitions_of, selects, is_among, is_fresh, fresh_slots, in_rising_order}
 
 or_cases : {G : Type 0} (a b : Bool) → (a || b) ≡ true → (a ≡ true → G) → (b ≡ true → G) → G
 or_cases true b is first second = first refl

@@ -21,9 +21,9 @@ use Rattle.ship_core.proofs.DrawnMarks.{number_within}
 use Rattle.ship_core.proofs.DrawnPages.{HasFont, fits_down, fits_right}
 use Rattle.tfm_core.specs.declared.slots.LoadedFont.{LoadedFont}
 use Rattle.tfm_core.specs.Slots.{Slots, font_in, AreDefinable}
-use Rattle.dvi_write.specs.Sheets.{written_body, definition_of, definitions_of, fresh_slots, in_rising_order, selects, sheet_of, slots_after}
+use Rattle.dvi_write.specs.FilePages.{written_body, definition_of, definitions_of, fresh_slots, in_rising_order, selects, file_page_of, slots_after}
 use Rattle.dvi_write.specs.SoFar.{ProgressView, nothing_so_far, so_far_from, so_far_of, with_next, closing_so_far}
-use Rattle.dvi_write.specs.Layout.{sheets_of, whole}
+use Rattle.dvi_write.specs.Layout.{file_pages_of, whole}
 use Rattle.dvi_write.specs.Shippable.{slot_font_widths, slot_widths, IsRightPage, GivesFonts, read_page, IsFileOfPages}
 use Rattle.dvi_write.proofs.DefinedFonts.{AreKnown, HasSelected, none_known, known_next, selected_known, each_selected, each_of, rising_among, listed_at, defined_among, holds_selected}
 use Rattle.node_core.proofs.Leaves.{each_leaf}
@@ -110,7 +110,7 @@ module _ (metrics : WidthsByName) (fonts : Slots) (gives : GivesFonts metrics fo
   module _ (definable : AreDefinable fonts) where
     -- A page can be written after the known definitions, and shows its marks.
     page_good : (slots : List ℕ) (known : List Definition) (page : ShippedPage) → AreKnown fonts slots known → IsRightPage fonts page
-        → IsGood metrics (table_of fonts) known (sheet_of fonts slots page) (marks_of_page page)
+        → IsGood metrics (table_of fonts) known (file_page_of fonts slots page) (marks_of_page page)
     page_good slots known page knows right =
         let widths = have_widths page.box_node.list right.sound.glyphs in
         let is = flat (written_body page) in
@@ -141,21 +141,21 @@ module _ (metrics : WidthsByName) (fonts : Slots) (gives : GivesFonts metrics fo
         }
 
     pages_good : (slots : List ℕ) (known : List Definition) (pages : List ShippedPage) → AreKnown fonts slots known → AllByRecursion (IsRightPage fonts) pages
-        → AreGood metrics (table_of fonts) known (sheets_of fonts slots pages) (map read_page pages)
+        → AreGood metrics (table_of fonts) known (file_pages_of fonts slots pages) (map read_page pages)
     pages_good slots known [] knows all = tt
     pages_good slots known (page ∷ pages) knows (here, all) = (
       refl,
       page_good slots known page knows here,
-      pages_good (slots_after fonts slots page) (known_after known (define (sheet_of fonts slots page).fresh)) pages (known_next fonts slots (flat (written_body page)) known knows) all,
+      pages_good (slots_after fonts slots page) (known_after known (define (file_page_of fonts slots page).fresh)) pages (known_next fonts slots (flat (written_body page)) known knows) all,
     )
 
 -- The known definitions after pages.
 known_after_pages : (fonts : Slots) (s : ProgressView) (known : List Definition) (pages : List ShippedPage) → AreKnown fonts s.defined known
-    → AreKnown fonts (so_far_from fonts s pages).defined (known_in known (sheets_of fonts s.defined pages))
+    → AreKnown fonts (so_far_from fonts s pages).defined (known_in known (file_pages_of fonts s.defined pages))
 unfolding with_next
 known_after_pages fonts s known [] knows = knows
 known_after_pages fonts s known (page ∷ pages) knows =
-    known_after_pages fonts (with_next fonts s page) (known_after known (define (sheet_of fonts s.defined page).fresh)) pages (known_next fonts s.defined (flat (written_body page)) known knows)
+    known_after_pages fonts (with_next fonts s page) (known_after known (define (file_page_of fonts s.defined page).fresh)) pages (known_next fonts s.defined (flat (written_body page)) known knows)
 
 -- The definitions of the postamble are right, and include all known ones.
 all_closing : (fonts : Slots) (slots : List ℕ) (known : List Definition) → AreDefinable fonts → AreKnown fonts slots known
@@ -194,8 +194,8 @@ tall_fits fonts pages all = number_within _ (reach_within fonts nothing_so_far p
 pub wide_fits : (fonts : Slots) (pages : List ShippedPage) → AllByRecursion (IsRightPage fonts) pages → NumberFits (so_far_of fonts pages).wide
 wide_fits fonts pages all = number_within _ (reach_within fonts nothing_so_far pages all first_within).1
 
--- The size of the layout is that of its sheets.
-pub small_layout : (fonts : Slots) (pages : List ShippedPage) → (so_far_of fonts pages).layout.size < 2 ^ 31 → (after_all after_preamble (sheets_of fonts [] pages)).size < 2 ^ 31
+-- The size of the layout is that of its file pages.
+pub small_layout : (fonts : Slots) (pages : List ShippedPage) → (so_far_of fonts pages).layout.size < 2 ^ 31 → (after_all after_preamble (file_pages_of fonts [] pages)).size < 2 ^ 31
 small_layout fonts pages small = subst (λ (w : WriterKnowledge). w.size < 2 ^ 31) (layout-is fonts nothing_so_far pages) small
 
 -- The file of pages is a DVI file of them.
@@ -208,7 +208,7 @@ file_shows metrics fonts (page ∷ pages) gives definable all small =
     let s = so_far_of fonts shipped in
     let padding = padding_after (s.layout.size + length (bytes_of (closing_so_far fonts s))) in
     subst (λ (bytes : List ℕ). IsFile metrics bytes (map read_page shipped)) (sym (whole-laid_out fonts shipped (λ is. cc)))
-    (whole_file metrics (table_of fonts) (sheets_of fonts [] shipped) (map read_page shipped) s.tall s.wide (definitions_of fonts (in_rising_order s.defined)) padding
+    (whole_file metrics (table_of fonts) (file_pages_of fonts [] shipped) (map read_page shipped) s.tall s.wide (definitions_of fonts (in_rising_order s.defined)) padding
     (pages_good metrics fonts gives definable [] [] shipped (none_known fonts) all)
-    (all_closing fonts s.defined (known_in [] (sheets_of fonts [] shipped)) definable (known_after_pages fonts nothing_so_far [] shipped (none_known fonts)))
+    (all_closing fonts s.defined (known_in [] (file_pages_of fonts [] shipped)) definable (known_after_pages fonts nothing_so_far [] shipped (none_known fonts)))
     (tall_fits fonts shipped all) (wide_fits fonts shipped all) (small_layout fonts shipped small) (padding_low (s.layout.size + length (bytes_of (closing_so_far fonts s)))))

@@ -14,8 +14,8 @@ use Rattle.std.proofs.lemmas.List.Folds.{list_any-append}
 use Rattle.tfm_core.specs.Slots.{Slots, font_in}
 use Rattle.dvi_ops.specs.Instruction.{FontNum, Instruction, Do}
 use Rattle.dvi_ops.specs.Runs.{characters, woven_instructions}
-use Rattle.dvi_write.specs.Sheets.{numbers_below, selects, is_among, is_fresh, fresh_slots, in_rising_order}
-use Rattle.dvi_write.specs.Private.Sheets.{slot_of, is_marked_fresh}
+use Rattle.dvi_write.specs.FilePages.{numbers_below, selects, is_among, is_fresh, fresh_slots, in_rising_order}
+use Rattle.dvi_write.specs.Private.FilePages.{slot_of, is_marked_fresh}
 
 -- One more number passes a test, or does not.
 pub filtered_more : (p : ℕ → Bool) (n : ℕ) → p n ≡ true → filter p (numbers_below (n + 1)) ≡ filter p (numbers_below n) ++ n ∷ []

@@ -8,7 +8,7 @@ use Rattle.node_core.specs.Loads.{load_with_box}
 use Rattle.node_core.specs.Items.{Leaf, glyph, font_kern, kern, glue, penalty, rule, special}
 use Rattle.dvi_ops.specs.Forest.{flat}
 use Rattle.dvi_ops.specs.Instruction.{Definition}
-use Rattle.dvi_ops.specs.Layout.{Sheet, knowledge_after, front_of}
+use Rattle.dvi_ops.specs.Layout.{FilePage, knowledge_after, front_of}
 use Rattle.dvi_ops.specs.Fonts.{width_in}
 use Rattle.scaled_core.proofs.EachOf.{all_weaker}
 use Rattle.page_core.specs.Marks.{ShippedPage}
@@ -17,8 +17,8 @@ use Rattle.ship_core.specs.Shown.{HasWidth}
 use Rattle.tfm_core.specs.declared.slots.LoadedFont.{LoadedFont}
 use Rattle.tfm_core.specs.Slots.{Slots, font_in}
 use Rattle.dvi_write.specs.MoreFonts.{Extends}
-use Rattle.dvi_write.specs.Sheets.{written_body, definitions_of, fresh_slots, sheet_of, slots_after}
-use Rattle.dvi_write.specs.Layout.{sheets_of, unfinished_file}
+use Rattle.dvi_write.specs.FilePages.{written_body, definitions_of, fresh_slots, file_page_of, slots_after}
+use Rattle.dvi_write.specs.Layout.{file_pages_of, unfinished_file}
 use Rattle.dvi_write.specs.Shippable.{slot_font_widths, slot_widths, IsShippable, IsRightPage}
 use Rattle.dvi_write.specs.SoFar.{ProgressView, nothing_so_far, so_far_from, so_far_of, with_next}
 use Rattle.dvi_write.proofs.DefinedFonts.{fresh_parts, among_fresh, fresh_same, definitions_same}
@@ -57,38 +57,38 @@ module _ (fonts more : Slots) (extends : Extends fonts more) where
   after_more : (slots : List ℕ) (page : ShippedPage) → IsRightPage fonts page → slots_after fonts slots page ≡ slots_after more slots page
   after_more slots page right = ap (λ fresh. slots ++ fresh) (fresh_more slots page right)
 
-  sheet_more : (slots : List ℕ) (page : ShippedPage) → IsRightPage fonts page → sheet_of fonts slots page ≡ sheet_of more slots page
-  sheet_more slots page right =
+  file_page_more : (slots : List ℕ) (page : ShippedPage) → IsRightPage fonts page → file_page_of fonts slots page ≡ file_page_of more slots page
+  file_page_more slots page right =
       let is = flat (written_body page) in
       ap (λ (ds : List Definition). record { counts = page.counts; fresh = ds; body = written_body page })
       (definitions_same fonts more (fresh_slots fonts slots is) extends (λ s among. (fresh_parts fonts slots is s (among_fresh fonts slots is s among).0).0)
       ∙ ap (definitions_of more) (fresh_more slots page right))
 
-  sheets_more : (slots : List ℕ) (pages : List ShippedPage) → AllByRecursion (IsRightPage fonts) pages → sheets_of fonts slots pages ≡ sheets_of more slots pages
-  sheets_more slots [] all = refl
-  sheets_more slots (page ∷ pages) (here, all) =
-      ap₂ (λ (sheet : Sheet) (sheets : List Sheet). sheet ∷ sheets) (sheet_more slots page here)
-      (sheets_more (slots_after fonts slots page) pages all ∙ ap (λ slots. sheets_of more slots pages) (after_more slots page here))
+  file_pages_more : (slots : List ℕ) (pages : List ShippedPage) → AllByRecursion (IsRightPage fonts) pages → file_pages_of fonts slots pages ≡ file_pages_of more slots pages
+  file_pages_more slots [] all = refl
+  file_pages_more slots (page ∷ pages) (here, all) =
+      ap₂ (λ (file_page : FilePage) (file_pages : List FilePage). file_page ∷ file_pages) (file_page_more slots page here)
+      (file_pages_more (slots_after fonts slots page) pages all ∙ ap (λ slots. file_pages_of more slots pages) (after_more slots page here))
 
   -- The bytes up to the last eop are the same, and so are the kept numbers.
   pub front_more : (pages : List ShippedPage) → AllByRecursion (IsRightPage fonts) pages → unfinished_file fonts pages ≡ unfinished_file more pages
   unfolding unfinished_file
   front_more [] all = refl
-  front_more (page ∷ pages) all = ap front_of (sheets_more [] (page ∷ pages) all)
+  front_more (page ∷ pages) all = ap front_of (file_pages_more [] (page ∷ pages) all)
 
   next_more : (s : ProgressView) (page : ShippedPage) → IsRightPage fonts page → with_next fonts s page ≡ with_next more s page
   unfolding with_next
   next_more s page right =
-      let made : Sheet → List ℕ → ProgressView =
-      λ sheet slots. record {
-        layout = knowledge_after s.layout sheet;
+      let made : FilePage → List ℕ → ProgressView =
+      λ file_page slots. record {
+        layout = knowledge_after s.layout file_page;
         defined = slots;
         tall = int_max s.tall (reach_down page);
         wide = int_max s.wide (reach_right page);
         pages = s.pages + 1;
         load = load_with_box s.load page.box_node;
       } in
-      ap₂ made (sheet_more s.defined page right) (after_more s.defined page right)
+      ap₂ made (file_page_more s.defined page right) (after_more s.defined page right)
 
   kept_more : (s : ProgressView) (pages : List ShippedPage) → AllByRecursion (IsRightPage fonts) pages → so_far_from fonts s pages ≡ so_far_from more s pages
   kept_more s [] all = refl

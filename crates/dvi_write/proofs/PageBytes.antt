@@ -11,13 +11,13 @@ use Rattle.dvi_ops.specs.Instruction.{Definition, FontDef, Instruction, Do, Bop,
 use Rattle.dvi_ops.specs.Body.{Widths}
 use Rattle.dvi_ops.specs.Forest.{flat}
 use Rattle.dvi_ops.specs.Spelling.{operand, code_size, spelling, leaf_spelling}
-use Rattle.dvi_ops.specs.Layout.{bytes_of, define, sheet_from}
+use Rattle.dvi_ops.specs.Layout.{bytes_of, define, file_page_from}
 use Rattle.dvi_ops.proofs.Layouts.{bytes_of-append, length-bytes_of-append}
 use Rattle.dvi_ops.proofs.Spelled.{operand_length}
 use Rattle.tfm_core.specs.declared.slots.LoadedFont.{LoadedFont}
 use Rattle.tfm_core.specs.Slots.{Slots, font_in}
 use Rattle.page_core.specs.Marks.{ShippedPage}
-use Rattle.dvi_write.specs.Sheets.{written_body, definition_of, definition_by, definitions_of, fresh_slots, sheet_of}
+use Rattle.dvi_write.specs.FilePages.{written_body, definition_of, definition_by, definitions_of, fresh_slots, file_page_of}
 use Rattle.ship_core.specs.Shown.{HasWidth}
 use Rattle.dvi_write.proofs.WrittenBodies.{written_bytes}
 
@@ -84,11 +84,11 @@ definition_bytes fonts (s ∷ slots) short =
         let fine = short s l is in omega (arith, length-append (spelling (Do (FontDef (definition_of s l)))) [], length-definition s l fine.0 fine.1)
 
 -- A page takes at most 46 bytes, 19 for each node of its box, and 271 for each font that it defines.
-pub sheet_bytes : (widths : Widths) (fonts : Slots) (slots : List ℕ) (page : ShippedPage) (last : ℤ) → HasShortNames fonts → length page.counts ≡ 10
+pub file_page_bytes : (widths : Widths) (fonts : Slots) (slots : List ℕ) (page : ShippedPage) (last : ℤ) → HasShortNames fonts → length page.counts ≡ 10
     → EachLeaf (HasWidth widths) page.box_node.list
-    → length (bytes_of (sheet_from last (sheet_of fonts slots page)))
+    → length (bytes_of (file_page_from last (file_page_of fonts slots page)))
     ≤ 46 + 19 * box_count page.box_node + box_text page.box_node + 271 * length (fresh_slots fonts slots (flat (written_body page)))
-sheet_bytes widths fonts slots page last short ten sized =
+file_page_bytes widths fonts slots page last short ten sized =
     let bop = Bop page.counts last in
     let fresh = fresh_slots fonts slots (flat (written_body page)) in
     let inner = flat (written_body page) in

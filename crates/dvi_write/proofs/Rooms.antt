@@ -13,18 +13,18 @@ use Rattle.node_core.specs.declared.limits.TheConstants.{MAX_PAGES, MAX_SHIPPED_
 use Rattle.tfm_core.specs.declared.slots.LoadedFont.{LoadedFont}
 use Rattle.tfm_core.specs.Slots.{Slots, font_in, IsDefinable, AreDefinable}
 use Rattle.dvi_write.specs.Shippable.{IsShippable, slot_widths}
-use Rattle.dvi_write.specs.Sheets.{written_body, definitions_of, fresh_slots}
+use Rattle.dvi_write.specs.FilePages.{written_body, definitions_of, fresh_slots}
 use Rattle.dvi_write.specs.SoFar.{ProgressView, nothing_so_far, opening_instructions, next_bytes, with_next}
-use Rattle.dvi_write.specs.Limits.{HasRoom, limit_of}
+use Rattle.dvi_write.specs.Limits.{IsWithinLimits, limit_of}
 use Rattle.dvi_write.proofs.DefinedFonts.{few_defined, none_rising, defined_once}
 use Rattle.scaled_core.proofs.EachOf.{each_held, held_within}
-use Rattle.dvi_write.proofs.PageBytes.{HasShortNames, sheet_bytes}
+use Rattle.dvi_write.proofs.PageBytes.{HasShortNames, file_page_bytes}
 use Rattle.dvi_write.proofs.WrittenBodies.{nests_written}
 
-pub small : (s : ProgressView) → HasRoom s → s.layout.size < 2 ^ 31
+pub small : (s : ProgressView) → IsWithinLimits s → s.layout.size < 2 ^ 31
 small s room = omega (arith, room.nodes, room.text, room.pages, room.size, few_defined s.defined room.defined)
 
-pub first_room : HasRoom nothing_so_far
+pub first_room : IsWithinLimits nothing_so_far
 first_room = record { nodes = omega arith; text = omega arith; pages = omega arith; deep = omega arith; defined = none_rising; size = omega arith }
 
 -- The bytes of the next page.
@@ -38,7 +38,7 @@ next-is fonts s page bytes slots is fresh body same =
 
 -- They end before the limit.
 pub next_small : (fonts : Slots) (s : ProgressView) (page : ShippedPage) (size : ℕ) (slots : List ℕ) (is : List Instruction)
-    → HasRoom (with_next fonts s page) → slots ≡ fresh_slots fonts s.defined (flat (written_body page)) → is ≡ flat (written_body page)
+    → IsWithinLimits (with_next fonts s page) → slots ≡ fresh_slots fonts s.defined (flat (written_body page)) → is ≡ flat (written_body page)
     → size ≡ length (bytes_of (define (definitions_of fonts slots) ++ (Bop page.counts s.layout.last ∷ (is ++ Eop ∷ [])))) → s.layout.size + size < 2 ^ 31
 unfolding with_next
 next_small fonts s page size slots is room fresh body same =
@@ -46,11 +46,11 @@ next_small fonts s page size slots is room fresh body same =
     omega (arith, small (with_next fonts s page) room, all)
 
 -- The texts of the specials of the page can be spelled.
-pub next_short : (fonts : Slots) (s : ProgressView) (page : ShippedPage) → HasRoom (with_next fonts s page) → items_text page.box_node.list < 2 ^ 32
+pub next_short : (fonts : Slots) (s : ProgressView) (page : ShippedPage) → IsWithinLimits (with_next fonts s page) → items_text page.box_node.list < 2 ^ 32
 unfolding with_next
 next_short fonts s page room = omega (arith, room.text)
 
-pub next_few : (fonts : Slots) (s : ProgressView) (page : ShippedPage) (slots : List ℕ) → HasRoom (with_next fonts s page) → slots ≡ fresh_slots fonts s.defined (flat (written_body page))
+pub next_few : (fonts : Slots) (s : ProgressView) (page : ShippedPage) (slots : List ℕ) → IsWithinLimits (with_next fonts s page) → slots ≡ fresh_slots fonts s.defined (flat (written_body page))
     → length s.defined + length slots ≤ 256
 unfolding with_next
 next_few fonts s page slots room fresh =
@@ -93,7 +93,7 @@ few_text s page none = omega (arith, ltb-false MAX_SHIPPED_TEXT (s.load.text + b
 -- The limits hold with one more page.
 pub room_next : (fonts : Slots) (s : ProgressView) (page : ShippedPage) → AreDefinable fonts → IsShippable fonts page.box_node → length page.counts ≡ 10
     → limit_of s page ≡ (if is_huge page then Some HugePage else None)
-    → HasRoom s → HasRoom (with_next fonts s page)
+    → IsWithinLimits s → IsWithinLimits (with_next fonts s page)
 unfolding with_next
 room_next fonts s page definable sound ten none room =
     let admits = admitted s page none in
@@ -112,11 +112,11 @@ room_next fonts s page definable sound ten none room =
             arith,
             room.size,
             length-append s.defined fresh,
-            sheet_bytes (slot_widths fonts) fonts s.defined page s.layout.last (short_names fonts definable) ten sound.glyphs,
+            file_page_bytes (slot_widths fonts) fonts s.defined page s.layout.last (short_names fonts definable) ten sound.glyphs,
           );
     }
 
 -- The limits hold after a page, whether its bytes were made or not.
-pub kept_room : {A E : Type 0} (result : Result A E) (old next new : ProgressView) → OnOk result (new ≡ next) → OnErr result (new ≡ old) → HasRoom next → HasRoom old → HasRoom new
-kept_room (Ok x) old next new ok err there room = subst HasRoom (sym ok) there
-kept_room (Err e) old next new ok err there room = subst HasRoom (sym err) room
+pub kept_room : {A E : Type 0} (result : Result A E) (old next new : ProgressView) → OnOk result (new ≡ next) → OnErr result (new ≡ old) → IsWithinLimits next → IsWithinLimits old → IsWithinLimits new
+kept_room (Ok x) old next new ok err there room = subst IsWithinLimits (sym ok) there
+kept_room (Err e) old next new ok err there room = subst IsWithinLimits (sym err) room

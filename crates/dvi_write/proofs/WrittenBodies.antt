@@ -15,13 +15,13 @@ use Rattle.scaled_core.proofs.EachOf.{all_append, all_front, all_back}
 use Rattle.move_core.specs.Reused.{reused_body}
 use Rattle.move_core.specs.SamePage.{IsPlainBody, still_of, leaves_in_order}
 use Rattle.move_core.proofs.SameBody.{reused_length, reused_nests, reused_order, reused_fits}
-use Rattle.move_core.proofs.Sheets.{reused_selections, reused_definitions, reused_kept}
+use Rattle.move_core.proofs.FilePages.{reused_selections, reused_definitions, reused_kept}
 use Rattle.page_core.specs.Marks.{ShippedPage, marks_of_page, is_huge}
 use Rattle.ship_core.specs.Drawing.{body_of}
 use Rattle.ship_core.specs.Shown.{HasWidth}
 use Rattle.ship_core.proofs.DrawnBytes.{body_bytes}
 use Rattle.ship_core.proofs.DrawnPages.{HasFont, drawn_page, no_register_page, writable_page, definitions-page, nests_page, selections_page, spelled_page}
-use Rattle.dvi_write.specs.Sheets.{written_body}
+use Rattle.dvi_write.specs.FilePages.{written_body}
 
 -- A drawn body uses no register.
 pub plain_drawn : (is : List Instruction) (page : ShippedPage) → is ≡ flat (body_of page) → IsPlainBody is

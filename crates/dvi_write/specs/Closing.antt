@@ -10,7 +10,7 @@ use Rattle.tfm_core.specs.declared.slots.LoadedFont.{LoadedFont}
 use Rattle.tfm_core.specs.Slots.{Slots, font_in}
 use Rattle.page_core.specs.Marks.{ShippedPage}
 use Rattle.page_core.specs.Pages.{reach_down, reach_right}
-use Rattle.dvi_write.specs.Sheets.{definition_of}
+use Rattle.dvi_write.specs.FilePages.{definition_of}
 
 -- The greatest number of a list: no number of the list is greater, and it is one of them (own).
 pub record IsGreatestOf (numbers : List ℤ) (greatest : ℤ) : Type 0 where

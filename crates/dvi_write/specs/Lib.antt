@@ -1,6 +1,6 @@
 pub mod Writing
 pub mod MoreFonts
-pub mod Sheets
+pub mod FilePages
 pub mod Layout
 pub mod Shippable
 pub mod SoFar

@@ -5,7 +5,7 @@ use Rattle.page_core.specs.Marks.{ShippedPage}
 use Rattle.dvi_write.specs.declared.fault.WriteFault.{WriteFault}
 use Rattle.dvi_write.specs.declared.fault.WriteFault.TheVariants.{TooManyPages, TooMuchShipped, TooMuchSpecial, HugePage}
 use Rattle.node_core.specs.declared.limits.TheConstants.{MAX_PAGES, MAX_SHIPPED_NODES, MAX_SHIPPED_TEXT, MAX_DEPTH}
-use Rattle.dvi_write.specs.Sheets.{in_rising_order}
+use Rattle.dvi_write.specs.FilePages.{in_rising_order}
 use Rattle.dvi_write.specs.SoFar.{ProgressView}
 
 -- Why a page is not written, however much memory there is: the first of these that holds.
@@ -13,7 +13,7 @@ abbrev pub limit_of : ProgressView → ShippedPage → Option WriteFault
 limit_of s page = first_refusal (page_limits TooManyPages TooMuchShipped TooMuchSpecial HugePage s.pages s.load page)
 
 -- The writer's numbers are within the limits, so that every place in the file is below 2^31 (the invariant of the writer).
-pub record HasRoom (s : ProgressView) : Type 0 where
+pub record IsWithinLimits (s : ProgressView) : Type 0 where
   pub nodes : s.load.nodes ≤ MAX_SHIPPED_NODES
   pub text : s.load.text ≤ MAX_SHIPPED_TEXT
   pub pages : s.pages ≤ MAX_PAGES

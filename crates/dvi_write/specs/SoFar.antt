@@ -3,13 +3,13 @@
 use Rattle.std.specs.Prelude.{◌+◌, ◌++◌, [], ◌∷◌, zero, suc, ℕ, ℤ, pos, List, length}
 use Rattle.std.specs.Int.{int_max}
 use Rattle.dvi_ops.specs.Instruction.{Definition, Instruction, Postamble}
-use Rattle.dvi_ops.specs.Layout.{WriterKnowledge, after_preamble, knowledge_after, bytes_of, preamble, sheet_from, stop_of, closing_of, ending_of}
+use Rattle.dvi_ops.specs.Layout.{WriterKnowledge, after_preamble, knowledge_after, bytes_of, preamble, file_page_from, stop_of, closing_of, ending_of}
 use Rattle.dvi_ops.specs.Layout.{padding_after}
 use Rattle.node_core.specs.Loads.{Load, load_with_box}
 use Rattle.page_core.specs.Marks.{ShippedPage}
 use Rattle.page_core.specs.Pages.{reach_down, reach_right}
 use Rattle.tfm_core.specs.Slots.{Slots}
-use Rattle.dvi_write.specs.Sheets.{definitions_of, in_rising_order, sheet_of, slots_after}
+use Rattle.dvi_write.specs.FilePages.{definitions_of, in_rising_order, file_page_of, slots_after}
 
 -- The numbers of the layout; the slots of the defined fonts, in order; the greatest bottom and right edge of the pages, at least 0; the number of
 -- pages; and their load.
@@ -39,13 +39,13 @@ opening_instructions (suc n) = []
 
 -- The bytes of the next page, with what comes before it.
 unfoldable pub next_bytes : Slots → ProgressView → ShippedPage → List ℕ
-next_bytes fonts s page = bytes_of (opening_instructions s.pages ++ sheet_from s.layout.last (sheet_of fonts s.defined page))
+next_bytes fonts s page = bytes_of (opening_instructions s.pages ++ file_page_from s.layout.last (file_page_of fonts s.defined page))
 
 -- The numbers after one more page.
 unfoldable pub with_next : Slots → ProgressView → ShippedPage → ProgressView
 with_next fonts s page =
     record {
-      layout = knowledge_after s.layout (sheet_of fonts s.defined page);
+      layout = knowledge_after s.layout (file_page_of fonts s.defined page);
       defined = slots_after fonts s.defined page;
       tall = int_max s.tall (reach_down page);
       wide = int_max s.wide (reach_right page);

@@ -24,7 +24,7 @@ pub struct DviWriter<D: Device> {
 
 impl<D: Device> Model for DviWriter<D> {
     ghost use Rattle.std.specs.Prelude.{◌≡◌, ◌<◌, ◌+◌, ◌^◌, false};
-    ghost use Rattle.dvi_write.specs.Limits.{HasRoom};
+    ghost use Rattle.dvi_write.specs.Limits.{IsWithinLimits};
     ghost use Rattle.dvi_write.specs.Writing.{Writing};
     ghost use Rattle.dvi_write.specs.Private.WritingCode.{coded_writing};
 
@@ -41,7 +41,7 @@ impl<D: Device> Model for DviWriter<D> {
       over = w.over;
     } };
 
-    ghost invariant = { λ w. HasRoom w.progress × (w.over ≡ false → D.failed w.device + 1 < 2 ^ 64)
+    ghost invariant = { λ w. IsWithinLimits w.progress × (w.over ≡ false → D.failed w.device + 1 < 2 ^ 64)
         × ((D.past w.device).made ≡ (D.past w.start.seen).made) };
 }
 
@@ -57,7 +57,7 @@ impl<D: Device> DviWriter<D> {
     ghost use Rattle.tfm_core.specs.Slots.{Slots};
     ghost use Rattle.dvi_write.specs.SoFar.{next_bytes, last_bytes, with_next};
     ghost use Rattle.dvi_write.specs.Layout.{unfinished_file, whole};
-    ghost use Rattle.dvi_write.specs.Limits.{HasRoom};
+    ghost use Rattle.dvi_write.specs.Limits.{IsWithinLimits};
     ghost use Rattle.dvi_write.specs.Closing.{IsClosedFor};
     ghost use Rattle.dvi_write.specs.Shippable.{GivesFonts, IsFileOfPages, IsRightPage, IsShippable};
     ghost use Rattle.page_core.specs.Pages.{page_with};
@@ -145,7 +145,7 @@ impl<D: Device> DviWriter<D> {
         requires { IsShippable fonts.now box_node.now }
         ensures bytes { IfOk result (λ next. next.bytes.items ≡ next_bytes fonts.now self.now.so_far (page_with counts.now offsets box_node.now)) }
         ensures after { IfOk result (λ next. next.after ≡ with_next fonts.now self.now.so_far (page_with counts.now offsets box_node.now)) }
-        ensures room { IfOk result (λ next. HasRoom next.after) }
+        ensures room { IfOk result (λ next. IsWithinLimits next.after) }
         ensures right { OnOk result (IsRightPage fonts.now (page_with counts.now offsets box_node.now)) }
         ensures may { OnOk result (refusal_of self.now (page_with counts.now offsets box_node.now) ≡ None) }
         ensures running { OnOk result (self.now.over ≡ false) }

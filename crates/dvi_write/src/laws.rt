@@ -5,7 +5,7 @@ ghost use Rattle.dvi_device.specs.Written.{GrowsByFront};
 ghost use Rattle.dvi_ops.specs.Layout.{after_all, after_preamble};
 ghost use Rattle.page_core.specs.Marks.{ShippedPage};
 ghost use Rattle.tfm_core.specs.Slots.{Slots};
-ghost use Rattle.dvi_write.specs.Layout.{sheets_of, unfinished_file, whole};
+ghost use Rattle.dvi_write.specs.Layout.{file_pages_of, unfinished_file, whole};
 ghost use Rattle.dvi_write.specs.MoreFonts.{Extends};
 ghost use Rattle.dvi_write.specs.SoFar.{last_bytes, next_bytes, so_far_of, with_next};
 ghost use Rattle.dvi_write.specs.Writing.{HasWritten, Writing};
@@ -13,7 +13,7 @@ ghost use Rattle.dvi_write.specs.Writing.{HasWritten, Writing};
 /// The numbers that the writer keeps are those of the layout of its pages, and what it sends for one more page makes their file.
 pub fn kept_numbers_are_those_of_the_file()
     ensures layout { (fonts : Slots) (pages : List ShippedPage)
-        → (so_far_of fonts pages).layout ≡ after_all after_preamble (sheets_of fonts [] pages) }
+        → (so_far_of fonts pages).layout ≡ after_all after_preamble (file_pages_of fonts [] pages) }
     ensures size { (fonts : Slots) (pages : List ShippedPage) → pages ≢ []
         → (so_far_of fonts pages).layout.size ≡ length (unfinished_file fonts pages) }
     ensures kept { (fonts : Slots) (pages : List ShippedPage) (page : ShippedPage)

@@ -11,8 +11,8 @@ ghost use Rattle.dvi_ops.specs.View.{body_view, view};
 ghost use Rattle.ship_core.specs.Private.Pushes.{max_pushed};
 ghost use Rattle.std.specs.List.{AllByRecursion, list_any};
 ghost use Rattle.std.specs.Ordering.{int_eq};
-ghost use Rattle.dvi_write.specs.Sheets.{definition_of, definitions_of, fresh_slots, is_among, in_rising_order, numbers_below, selects};
-ghost use Rattle.dvi_write.specs.Private.Sheets.{is_marked_fresh, slot_of};
+ghost use Rattle.dvi_write.specs.FilePages.{definition_of, definitions_of, fresh_slots, is_among, in_rising_order, numbers_below, selects};
+ghost use Rattle.dvi_write.specs.Private.FilePages.{is_marked_fresh, slot_of};
 ghost use Rattle.dvi_ops.specs.Forest.{Forest, flat, nests};
 
 use dvi_ops::{BodyOp, FontDefinition, Op, PageRuns, Units, opcodes, spell};
@@ -85,14 +85,14 @@ fn mark(marked: &mut [bool; FONT_SLOTS], slot: u8)
 /// The result of one pass over the instructions of a body: the slots of the fonts that they select, all of which are below `limit`, and the greatest
 /// number of pushes that are open at once.
 #[derive(Drop)]
-struct Passed {
+struct FontsAndDepth {
     selected: [bool; FONT_SLOTS],
     limit: usize,
     deepest: usize,
 }
 
 /// Passes over instructions of a body once.
-fn pass_over(ops: &[BodyOp<'_>]) -> Passed
+fn pass_over(ops: &[BodyOp<'_>]) -> FontsAndDepth
     ensures selected { (slot : ℕ) → slot < 256 → get_or result.selected slot false ≡ list_any (selects slot) (map body_view ops.now) }
     ensures limit { (slot : ℕ) → slot < 256 → result.limit ≤ slot → get_or result.selected slot false ≡ false }
     ensures limit_bounded { result.limit ≤ 256 }
@@ -113,7 +113,7 @@ fn pass_over(ops: &[BodyOp<'_>]) -> Passed
             None => {}
         }
     }
-    Passed {
+    FontsAndDepth {
         selected,
         limit,
         deepest,
@@ -128,7 +128,7 @@ pub fn is_among(slot: u8, slots: &[u8]) -> bool
 }
 
 /// Whether the font of a slot is marked, is loaded, and is not defined yet.
-#[tactic(auto, unfolding(crate::specs::Private::Sheets::is_marked_fresh))]
+#[tactic(auto, unfolding(crate::specs::Private::FilePages::is_marked_fresh))]
 fn is_fresh(fonts: &Fonts, defined: &[u8], marked: &[bool; FONT_SLOTS], slot: u8) -> bool
     ensures { result ≡ is_marked_fresh fonts.now defined.now marked.now slot }
 {

@@ -6,7 +6,7 @@ ghost use Rattle.dvi_ops.specs.Runs.{instructions_of};
 ghost use Rattle.scaled_core.specs.Dimensions.{fits};
 ghost use Rattle.page_core.specs.Marks.{is_huge};
 ghost use Rattle.dvi_write.specs.Admitted.{shipped_page};
-ghost use Rattle.dvi_write.specs.Sheets.{written_body};
+ghost use Rattle.dvi_write.specs.FilePages.{written_body};
 
 use crate::fault::WriteFault;
 use dvi_ops::PageRuns;

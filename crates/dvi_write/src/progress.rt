@@ -14,9 +14,9 @@ ghost use Rattle.node_core.specs.Nodes.{box_count, box_text};
 ghost use Rattle.page_core.specs.Marks.{is_huge};
 ghost use Rattle.page_core.specs.Pages.{page_at, reach_down, reach_right};
 ghost use Rattle.dvi_write.specs.Admitted.{shipped_page};
-ghost use Rattle.dvi_write.specs.Sheets.{definitions_of};
+ghost use Rattle.dvi_write.specs.FilePages.{definitions_of};
 ghost use Rattle.dvi_write.specs.SoFar.{closing_so_far, last_bytes, next_bytes, nothing_so_far, opening_instructions, stop_so_far, with_next};
-ghost use Rattle.dvi_write.specs.Limits.{HasRoom, limit_of};
+ghost use Rattle.dvi_write.specs.Limits.{IsWithinLimits, limit_of};
 
 use crate::defined::DefinedSlots;
 use crate::fault::WriteFault;
@@ -258,7 +258,7 @@ impl Progress {
     ) -> Result<NextPage, WriteFault>
         requires nodes { page.now.load.nodes ≡ box_count page.now.box_node.now }
         requires text { page.now.load.text ≡ box_text page.now.box_node.now }
-        requires room { HasRoom (with_next fonts.now self.now (shipped_page page.now)) }
+        requires room { IsWithinLimits (with_next fonts.now self.now (shipped_page page.now)) }
         ensures bytes { IfOk result (λ next. next.bytes.items ≡ next_bytes fonts.now self.now (shipped_page page.now)) }
         ensures after { IfOk result (λ next. next.after ≡ with_next fonts.now self.now (shipped_page page.now)) }
         ensures fits { OnOk result (is_huge (shipped_page page.now) ≡ false) }

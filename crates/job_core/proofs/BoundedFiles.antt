@@ -14,11 +14,11 @@ use Rattle.page_core.specs.Marks.{ShippedPage, is_huge}
 use Rattle.tfm_core.specs.NamedBytes.{NamedBytes}
 use Rattle.dvi_write.specs.declared.fault.WriteFault.TheVariants.{JobOver, TooManyPages, TooMuchShipped, TooMuchSpecial, HugePage}
 use Rattle.tfm_core.specs.Slots.{Slots, IsDefinable, AreDefinable}
-use Rattle.dvi_write.specs.Sheets.{definitions_of, in_rising_order}
+use Rattle.dvi_write.specs.FilePages.{definitions_of, in_rising_order}
 use Rattle.dvi_write.specs.Layout.{unfinished_file, whole}
 use Rattle.dvi_write.specs.Shippable.{IsRightPage}
 use Rattle.dvi_write.specs.SoFar.{ProgressView, with_next, stop_so_far, closing_so_far, last_bytes}
-use Rattle.dvi_write.specs.Limits.{HasRoom, limit_of}
+use Rattle.dvi_write.specs.Limits.{IsWithinLimits, limit_of}
 use Rattle.dvi_write.proofs.DefinedFonts.{few_defined}
 use Rattle.dvi_write.proofs.PageBytes.{HasShortNames, definition_bytes}
 use Rattle.dvi_write.proofs.Rooms.{first_room, room_next, short_names}
@@ -39,7 +39,7 @@ definable files fonts loaded = record { slots = loaded.slots; each = definable_e
 -- The file of a new writer has no page.
 pub bounded_first : (fonts : Slots) (before : Option (List ℕ)) (w : Writing) → HasWritten fonts before w [] → IsBoundedFile fonts w
 unfolding unfinished_file
-bounded_first fonts before w written = record { room = subst HasRoom (sym written.so_far) first_room; before = before; pages = []; written = written }
+bounded_first fonts before w written = record { room = subst IsWithinLimits (sym written.so_far) first_room; before = before; pages = []; written = written }
 
 last_of : {A : Type 0} (P : A → Type 0) (xs : List A) (x : A) → AllByRecursion P (xs ++ x ∷ []) → P x
 last_of P [] x (here, all) = here
@@ -66,14 +66,14 @@ bounded_next fonts old new page definable may kept on bounded =
     let right : IsRightPage fonts page = last_of (IsRightPage fonts) bounded.pages page written.right in
     let none : limit_of old.so_far page ≡ None = sym (ap (λ (over : Bool). if over then Some JobOver else limit_of old.so_far page) bounded.written.running) ∙ may in
     record {
-      room = subst HasRoom (sym kept) (room_next fonts old.so_far page definable right.sound right.ten (admitted old.so_far page none) bounded.room);
+      room = subst IsWithinLimits (sym kept) (room_next fonts old.so_far page definable right.sound right.ten (admitted old.so_far page none) bounded.room);
       before = bounded.before;
       pages = bounded.pages ++ page ∷ [];
       written = written;
     }
 
 -- The bytes from post to the end of the file are few.
-few_last_bytes : (fonts : Slots) (s : ProgressView) → HasShortNames fonts → HasRoom s → length (last_bytes fonts s) ≤ 42 + 271 * 256
+few_last_bytes : (fonts : Slots) (s : ProgressView) → HasShortNames fonts → IsWithinLimits s → length (last_bytes fonts s) ≤ 42 + 271 * 256
 unfolding last_bytes
 few_last_bytes fonts s short room =
     let slots = in_rising_order s.defined in

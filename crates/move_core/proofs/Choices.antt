@@ -3,7 +3,7 @@ use Rattle.std.proofs.Common.{◌≡◌, ℤ, Option, Some, None, Bool, true, fa
 use Rattle.std.proofs.lemmas.Bool.Decides.{Decides-int_eq}
 use Rattle.dvi_ops.specs.Instruction.{MoveRegister, First, Second}
 use Rattle.dvi_ops.specs.Body.{Pair, MoveRegisters, movement_amount, held_after}
-use Rattle.move_core.specs.Registers.{RegisterPair, Known, nothing_known, is_amount, other_register, set_in, choice}
+use Rattle.move_core.specs.Registers.{RegisterPair, KnownRegisters, nothing_known, is_amount, other_register, set_in, choice}
 
 -- A known value is the value of the register.
 abbrev pub Holds : Option ℤ → ℤ → Type 0
@@ -15,7 +15,7 @@ abbrev pub Agree : RegisterPair → Pair → Type 0
 Agree k p = Holds k.first p.first × Holds k.second p.second
 
 -- The same for all four registers.
-abbrev pub AgreeAll : Known → MoveRegisters → Type 0
+abbrev pub AgreeAll : KnownRegisters → MoveRegisters → Type 0
 AgreeAll k r = Agree k.across r.across × Agree k.down r.down
 
 -- Where nothing is known, the known values agree with any registers.

@@ -5,7 +5,7 @@ use Rattle.std.proofs.lemmas.List.{append_assoc, drop_more, drop-set-lt, length-
 use Rattle.dvi_ops.specs.Instruction.{Across, Downward, By, Set, Again, Move, Instruction, Do, Push, Pop}
 use Rattle.dvi_ops.specs.View.{body_view}
 use Rattle.dvi_ops.specs.declared.body_op.BodyOp.{BodyOp}
-use Rattle.move_core.specs.Registers.{Known}
+use Rattle.move_core.specs.Registers.{KnownRegisters}
 use Rattle.move_core.specs.Private.Passes.{Groups, again_in, groups_entered, flags_of, is_move, amounts_after, op_written, rewritten_instructions}
 
 -- The instructions from the one before i on.
@@ -44,7 +44,7 @@ popped_flag flags flags' (Some again) i rest n n' move e l some all =
     (cc, cc)
 
 -- A movement is written by the known values, and enters and leaves no group.
-pub written_move : (known known' : Known) (outer : List Known) (i written : Instruction) (again : Bool) (rest : List Instruction) → is_move i ≡ true →
+pub written_move : (known known' : KnownRegisters) (outer : List KnownRegisters) (i written : Instruction) (again : Bool) (rest : List Instruction) → is_move i ≡ true →
     again ≡ again_in i rest → written ≡ op_written known i again → known' ≡ amounts_after known i again →
     rewritten_instructions (i ∷ rest) (record { known = known; outer = outer }) ≡ written ∷ rewritten_instructions rest (record { known = known'; outer = outer })
 written_move known known' outer (Do (Move axis (By n))) written again rest move e w k = rw (w, k, e) refl

@@ -10,5 +10,5 @@ pub mod FullGroups
 pub mod Passing
 pub mod SameBody
 pub mod PlainBodies
-pub mod Sheets
+pub mod FilePages
 pub mod Apart

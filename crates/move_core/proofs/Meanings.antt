@@ -5,7 +5,7 @@ use Rattle.dvi_ops.specs.Body.{MoveRegisters, Position, DviState, Widths, Meanin
 use Rattle.scaled_core.specs.Mark.{Mark}
 use Rattle.dvi_ops.specs.Forest.{Forest, Empty, Then, Group, marks_ahead, and_then, restored_meaning, meaning, points, points_then}
 use Rattle.dvi_ops.specs.Plain.{NamesNoRegister}
-use Rattle.move_core.specs.Registers.{Known, written_leaf, choose, is_amount}
+use Rattle.move_core.specs.Registers.{KnownRegisters, written_leaf, choose, is_amount}
 use Rattle.move_core.specs.Reused.{has_move, comes_again, reused_from}
 use Rattle.move_core.specs.SamePage.{shown_meaning}
 use Rattle.move_core.proofs.Choices.{AgreeAll, goes_as_far, knows_on}
@@ -21,7 +21,7 @@ IsPlain (Then leaf rest) = NamesNoRegister (Do leaf) × IsPlain rest
 IsPlain (Group inner rest) = IsPlain inner × IsPlain rest
 
 -- A meaning, and the meaning of what is written for an instruction: the same but for the registers, whose known values are k.
-pub Turned : Known → Meaning → Meaning → Type 0
+pub Turned : KnownRegisters → Meaning → Meaning → Type 0
 Turned k None m = m ≡ None
 Turned k (Some (marks, t)) m = (r : MoveRegisters) × AgreeAll k r × (m ≡ Some (marks, with_held r t))
 
@@ -39,20 +39,20 @@ glyph_stays widths c r p (Some f) = by_width (widths f c)
     by_width None = refl
     by_width (Some w) = refl
 
-set_turned : (k : Known) (g g' : Option (Mark × ℤ)) (r : MoveRegisters) (s : DviState) → g' ≡ g → AgreeAll k r →
+set_turned : (k : KnownRegisters) (g g' : Option (Mark × ℤ)) (r : MoveRegisters) (s : DviState) → g' ≡ g → AgreeAll k r →
     Turned k (set_glyph g s) (set_glyph g' (with_held r s))
 unfolding Turned
 set_turned k None g' r s e h = ap (λ (g : Option (Mark × ℤ)). set_glyph g (with_held r s)) e
 set_turned k (Some (mark, width)) g' r s e h = (r, h, ap (λ (g : Option (Mark × ℤ)). set_glyph g (with_held r s)) e)
 
-put_turned : (k : Known) (g g' : Option (Mark × ℤ)) (r : MoveRegisters) (s : DviState) → g' ≡ g → AgreeAll k r →
+put_turned : (k : KnownRegisters) (g g' : Option (Mark × ℤ)) (r : MoveRegisters) (s : DviState) → g' ≡ g → AgreeAll k r →
     Turned k (put_glyph g s) (put_glyph g' (with_held r s))
 unfolding Turned
 put_turned k None g' r s e h = ap (λ (g : Option (Mark × ℤ)). put_glyph g (with_held r s)) e
 put_turned k (Some (mark, width)) g' r s e h = (r, h, ap (λ (g : Option (Mark × ℤ)). put_glyph g (with_held r s)) e)
 
 -- One instruction and what is written for it.
-act_turned : (widths : Widths) (k : Known) (leaf : BodyLeaf) (again : Bool) (r : MoveRegisters) (s : DviState) → NamesNoRegister (Do leaf) → AgreeAll k r →
+act_turned : (widths : Widths) (k : KnownRegisters) (leaf : BodyLeaf) (again : Bool) (r : MoveRegisters) (s : DviState) → NamesNoRegister (Do leaf) → AgreeAll k r →
     Turned (written_leaf k leaf again).known (instruction_acts widths leaf s) (instruction_acts widths (written_leaf k leaf again).leaf (with_held r s))
 unfolding Turned
 act_turned widths k (SetChar c) again r s plain h = set_turned k _ _ r s (glyph_stays widths c r s.place s.font) h
@@ -81,21 +81,21 @@ follows_ahead marks None m' e = ap (marks_ahead marks) e
 follows_ahead marks (Some (more, t)) m' (r, e) = (r, ap (marks_ahead marks) e)
 
 -- The continuation starts from the known values.
-follows_then : (k : Known) (m m' : Meaning) (j j' : DviState → Meaning) → Turned k m m' →
+follows_then : (k : KnownRegisters) (m m' : Meaning) (j j' : DviState → Meaning) → Turned k m m' →
     ((t : DviState) (r : MoveRegisters) → AgreeAll k r → Follows (j t) (j' (with_held r t))) → Follows (and_then m j) (and_then m' j')
 unfolding Turned Follows
 follows_then k None m' j j' e next = ap (λ (m : Meaning). and_then m j') e
 follows_then k (Some (marks, t)) m' j j' (r, h, e) next =
     rw e (follows_ahead marks (j t) (j' (with_held r t)) (next t r h))
 
-restored_turned : (k : Known) (r : MoveRegisters) (p : Position) (m m' : Meaning) → Follows m m' → AgreeAll k r →
+restored_turned : (k : KnownRegisters) (r : MoveRegisters) (p : Position) (m m' : Meaning) → Follows m m' → AgreeAll k r →
     Turned k (restored_meaning p m) (restored_meaning (record { h = p.h; v = p.v; held = r }) m')
 unfolding Turned Follows
 restored_turned k r p None m' e h = ap (restored_meaning (record { h = p.h; v = p.v; held = r })) e
 restored_turned k r p (Some (marks, t)) m' (q, e) h = (r, h, ap (restored_meaning (record { h = p.h; v = p.v; held = r })) e)
 
 -- A body and what is written for it, where k are the known register values.
-pub reused_follows : (widths : Widths) (k : Known) (f : Forest) (r : MoveRegisters) (s : DviState) → IsPlain f → AgreeAll k r →
+pub reused_follows : (widths : Widths) (k : KnownRegisters) (f : Forest) (r : MoveRegisters) (s : DviState) → IsPlain f → AgreeAll k r →
     Follows (meaning (instruction_acts widths) f s) (meaning (instruction_acts widths) (reused_from k f) (with_held r s))
 unfolding Follows
 reused_follows widths k Empty r s plain h = (r, refl)
@@ -118,13 +118,13 @@ shown_follows None m' e = ap shown_meaning e
 shown_follows (Some (marks, s)) m' (r, e) = ap shown_meaning e
 
 -- Both pass through the same places.
-points_turned : (k : Known) (m m' : Meaning) (j j' : DviState → List (ℤ × ℤ)) → Turned k m m' →
+points_turned : (k : KnownRegisters) (m m' : Meaning) (j j' : DviState → List (ℤ × ℤ)) → Turned k m m' →
     ((t : DviState) (r : MoveRegisters) → AgreeAll k r → j' (with_held r t) ≡ j t) → points_then m' j' ≡ points_then m j
 unfolding Turned
 points_turned k None m' j j' e next = ap (λ (m : Meaning). points_then m j') e
 points_turned k (Some (marks, t)) m' j j' (r, h, e) next = rw e (ap (λ (ps : List (ℤ × ℤ)). (t.place.h, t.place.v) ∷ ps) (next t r h))
 
-pub reused_points : (widths : Widths) (k : Known) (f : Forest) (r : MoveRegisters) (s : DviState) → IsPlain f → AgreeAll k r →
+pub reused_points : (widths : Widths) (k : KnownRegisters) (f : Forest) (r : MoveRegisters) (s : DviState) → IsPlain f → AgreeAll k r →
     points (instruction_acts widths) (reused_from k f) (with_held r s) ≡ points (instruction_acts widths) f s
 reused_points widths k Empty r s plain h = refl
 reused_points widths k (Then leaf rest) r s (here, plain) h =

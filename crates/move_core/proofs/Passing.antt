@@ -3,7 +3,7 @@ use Rattle.std.proofs.Common.{◌≡◌, ◌++◌, [], ◌∷◌, List, ℕ, ℤ
 use Rattle.std.proofs.lemmas.List.{reverse-append}
 use Rattle.dvi_ops.specs.Instruction.{Axis, By, Set, Again, BodyLeaf, Move, Instruction, Do, Push, Pop}
 use Rattle.dvi_ops.specs.Forest.{Forest, Empty, Then, Group, flat}
-use Rattle.move_core.specs.Registers.{Known, nothing_known, is_amount, written_leaf}
+use Rattle.move_core.specs.Registers.{KnownRegisters, nothing_known, is_amount, written_leaf}
 use Rattle.move_core.specs.Reused.{movement_along, plain_amount, has_move, comes_again, reused_from, grouped_body, pruned_body, reused_body}
 use Rattle.move_core.specs.Private.Passes.{trimmed_instructions, amount_comes, again_in, outside_groups, rewritten_instructions}
 
@@ -106,8 +106,8 @@ again_same (Move axis (Again register)) f rest ends = refl
 again_same leaf f rest ends = refl
 
 -- The last pass over a body and the rest after it.
-rewritten_forest : (f : Forest) (k : Known) (outer : List Known) (rest : List Instruction) → Ends rest →
-    (q : Known) × (rewritten_instructions (flat f ++ rest) (record { known = k; outer = outer }) ≡ flat (reused_from k f) ++ rewritten_instructions rest (record { known = q; outer = outer }))
+rewritten_forest : (f : Forest) (k : KnownRegisters) (outer : List KnownRegisters) (rest : List Instruction) → Ends rest →
+    (q : KnownRegisters) × (rewritten_instructions (flat f ++ rest) (record { known = k; outer = outer }) ≡ flat (reused_from k f) ++ rewritten_instructions rest (record { known = q; outer = outer }))
 unfolding Ends
 rewritten_forest Empty k outer rest ends = (k, refl)
 rewritten_forest (Then leaf f) k outer rest ends =

@@ -7,7 +7,7 @@ use Rattle.dvi_ops.specs.Spelling.{spelling, leaf_spelling}
 use Rattle.dvi_ops.specs.Layout.{bytes_of, IsWritable}
 use Rattle.dvi_ops.specs.Forest.{Forest, Empty, Then, Group, flat}
 use Rattle.scaled_core.proofs.EachOf.{all_append, all_front, all_back}
-use Rattle.move_core.specs.Registers.{RegisterPair, Known, written_leaf, other_register, set_in, choice, is_amount}
+use Rattle.move_core.specs.Registers.{RegisterPair, KnownRegisters, written_leaf, other_register, set_in, choice, is_amount}
 use Rattle.move_core.specs.Reused.{has_move, comes_again, reused_from, grouped_body, pruned_body}
 use Rattle.move_core.specs.SamePage.{still_of, leaves_in_order}
 
@@ -23,7 +23,7 @@ step_shorter axis false false true k n = by_register (other_register k.last)
     by_register Second = omega arith
 step_shorter axis false false false k n = omega arith
 
-leaf_shorter : (k : Known) (leaf : BodyLeaf) (again : Bool) → length (spelling (Do (written_leaf k leaf again).leaf)) ≤ length (spelling (Do leaf))
+leaf_shorter : (k : KnownRegisters) (leaf : BodyLeaf) (again : Bool) → length (spelling (Do (written_leaf k leaf again).leaf)) ≤ length (spelling (Do leaf))
 leaf_shorter k (Move Across (By n)) again = step_shorter Across (is_amount k.across.first n) (is_amount k.across.second n) again k.across n
 leaf_shorter k (Move Downward (By n)) again = step_shorter Downward (is_amount k.down.first n) (is_amount k.down.second n) again k.down n
 leaf_shorter k leaf again = omega arith
@@ -39,7 +39,7 @@ group_length inner rest =
     ∙ ap (λ (n : ℕ). length (bytes_of (flat inner)) + n) (length-append (spelling Pop) (bytes_of (flat rest)))))
 
 -- The written body is no longer.
-pub reused_shorter : (k : Known) (f : Forest) → length (bytes_of (flat (reused_from k f))) ≤ length (bytes_of (flat f))
+pub reused_shorter : (k : KnownRegisters) (f : Forest) → length (bytes_of (flat (reused_from k f))) ≤ length (bytes_of (flat f))
 reused_shorter k Empty = omega arith
 reused_shorter k (Then leaf rest) =
     let out = written_leaf k leaf (comes_again leaf (has_move rest)) in
@@ -65,12 +65,12 @@ pruned_shorter (Group inner rest) =
 group_still : (inner rest : Forest) → leaves_in_order (flat (Group inner rest)) ≡ leaves_in_order (flat inner) ++ leaves_in_order (flat rest)
 group_still inner rest = flat_map-append still_of (flat inner) (Pop ∷ flat rest)
 
-leaf_still : (k : Known) (leaf : BodyLeaf) (again : Bool) → still_of (Do (written_leaf k leaf again).leaf) ≡ still_of (Do leaf)
+leaf_still : (k : KnownRegisters) (leaf : BodyLeaf) (again : Bool) → still_of (Do (written_leaf k leaf again).leaf) ≡ still_of (Do leaf)
 leaf_still k (Move Across (By n)) again = refl
 leaf_still k (Move Downward (By n)) again = refl
 leaf_still k leaf again = refl
 
-pub reused_still : (k : Known) (f : Forest) → leaves_in_order (flat (reused_from k f)) ≡ leaves_in_order (flat f)
+pub reused_still : (k : KnownRegisters) (f : Forest) → leaves_in_order (flat (reused_from k f)) ≡ leaves_in_order (flat f)
 reused_still k Empty = refl
 reused_still k (Then leaf rest) =
     let again = comes_again leaf (has_move rest) in ap₂ ◌++◌ (leaf_still k leaf again) (reused_still (written_leaf k leaf again).known rest)
@@ -89,7 +89,7 @@ pruned_still (Group inner rest) =
     grouped_still (pruned_body inner) (pruned_body rest)
     ∙ (group_still (pruned_body inner) (pruned_body rest) ∙ (ap₂ ◌++◌ (pruned_still inner) (pruned_still rest) ∙ sym (group_still inner rest)))
 
-leaf_writable : (k : Known) (leaf : BodyLeaf) (again : Bool) → IsWritable (Do leaf) → IsWritable (Do (written_leaf k leaf again).leaf)
+leaf_writable : (k : KnownRegisters) (leaf : BodyLeaf) (again : Bool) → IsWritable (Do leaf) → IsWritable (Do (written_leaf k leaf again).leaf)
 leaf_writable k (Move Across (By n)) again (spelled, fit) = step_writable (is_amount k.across.first n) (is_amount k.across.second n) again k.across
   where
     step_writable : (first second again : Bool) (k : RegisterPair) → IsWritable (Do (Move Across (choice first second again k n).step))
@@ -121,7 +121,7 @@ group_front P inner rest (here, all) = all_front P (flat inner) (Pop ∷ flat re
 group_back : (P : Instruction → Type 0) (inner rest : Forest) → AllByRecursion P (flat (Group inner rest)) → AllByRecursion P (Pop ∷ flat rest)
 group_back P inner rest (here, all) = all_back P (flat inner) (Pop ∷ flat rest) all
 
-pub reused_writable : (k : Known) (f : Forest) → AllByRecursion IsWritable (flat f) → AllByRecursion IsWritable (flat (reused_from k f))
+pub reused_writable : (k : KnownRegisters) (f : Forest) → AllByRecursion IsWritable (flat f) → AllByRecursion IsWritable (flat (reused_from k f))
 reused_writable k Empty all = tt
 reused_writable k (Then leaf rest) (here, all) =
     let again = comes_again leaf (has_move rest) in (leaf_writable k leaf again here, reused_writable (written_leaf k leaf again).known rest all)

@@ -4,7 +4,7 @@ use Rattle.std.proofs.lemmas.Bool.Decides.{Decides-int_eq}
 use Rattle.dvi_ops.specs.Instruction.{Axis, Across, Downward, MoveRegister, First, Second, Movement, By, Set, Again, BodyLeaf, Move, Do}
 use Rattle.dvi_ops.specs.Forest.{Forest, Empty, Then, Group, nests}
 use Rattle.dvi_ops.specs.Plain.{NamesNoRegister}
-use Rattle.move_core.specs.Registers.{RegisterPair, Known, WrittenOp, written_leaf, other_register, set_in, choice, is_amount}
+use Rattle.move_core.specs.Registers.{RegisterPair, KnownRegisters, WrittenOp, written_leaf, other_register, set_in, choice, is_amount}
 use Rattle.move_core.specs.Reused.{movement_along, plain_amount, has_move, comes_again, reused_from}
 use Rattle.move_core.specs.SamePage.{is_hollow, HasNoHollow, StoredValues, stored_after, NamesNoStored, UsesStored, then_meaning, goes_later, GoesNoLater, SetsAhead}
 use Rattle.move_core.proofs.Meanings.{IsPlain}
@@ -13,7 +13,7 @@ use Rattle.move_core.proofs.Meanings.{IsPlain}
 abbrev pub stored_of : RegisterPair → StoredValues
 stored_of k = record { first = k.first; second = k.second }
 
-abbrev pub known_in : Axis → Known → RegisterPair
+abbrev pub known_in : Axis → KnownRegisters → RegisterPair
 known_in Across k = k.across
 known_in Downward k = k.down
 
@@ -72,13 +72,13 @@ choice_last false false true k n later e = by_register (other_register k.last)
 choice_last false false false k n later e = e
 
 -- What is written for an instruction, seen in one direction.
-record Fits (axis : Axis) (k : Known) (leaf : BodyLeaf) (later : Axis → ℤ → Bool) (out : WrittenOp) : Type 0 where
+record Fits (axis : Axis) (k : KnownRegisters) (leaf : BodyLeaf) (later : Axis → ℤ → Bool) (out : WrittenOp) : Type 0 where
   pub keeps : stored_of (known_in axis out.known) ≡ stored_after (stored_of (known_in axis k)) (movement_along axis out.leaf)
   pub uses : NamesNoStored (stored_of (known_in axis k)) (movement_along axis out.leaf)
   pub far : then_meaning (stored_of (known_in axis k)) (movement_along axis out.leaf) ≡ plain_amount (movement_along axis leaf)
   pub last : IsLast (later axis) (movement_along axis out.leaf)
 
-fits : (axis : Axis) (k : Known) (leaf : BodyLeaf) (later : Axis → ℤ → Bool) → NamesNoRegister (Do leaf) →
+fits : (axis : Axis) (k : KnownRegisters) (leaf : BodyLeaf) (later : Axis → ℤ → Bool) → NamesNoRegister (Do leaf) →
     Fits axis k leaf later (written_leaf k leaf (comes_again leaf later))
 unfolding IsLast
 fits Across k (Move Across (By n)) later plain =
@@ -111,7 +111,7 @@ fits Downward k (Move Across (Again register)) later plain = absurd plain
 fits Downward k leaf later plain = record { keeps = refl; uses = tt; far = refl; last = tt }
 
 -- A movement by that distance comes later in the written body exactly where it does in the given one.
-later_same : (axis : Axis) (k : Known) (f : Forest) (n : ℤ) → IsPlain f →
+later_same : (axis : Axis) (k : KnownRegisters) (f : Forest) (n : ℤ) → IsPlain f →
     goes_later axis (stored_of (known_in axis k)) n (reused_from k f) ≡ has_move f axis n
 later_same axis k Empty n plain = refl
 later_same axis k (Then leaf rest) n (here, plain) =
@@ -122,7 +122,7 @@ later_same axis k (Then leaf rest) n (here, plain) =
 later_same axis k (Group inner rest) n (within, plain) = later_same axis k rest n plain
 
 -- No operand is an amount that was set and is still held.
-pub uses_stored : (axis : Axis) (k : Known) (f : Forest) → IsPlain f → UsesStored axis (stored_of (known_in axis k)) (reused_from k f)
+pub uses_stored : (axis : Axis) (k : KnownRegisters) (f : Forest) → IsPlain f → UsesStored axis (stored_of (known_in axis k)) (reused_from k f)
 uses_stored axis k Empty plain = tt
 uses_stored axis k (Then leaf rest) (here, plain) =
     let out = written_leaf k leaf (comes_again leaf (has_move rest)) in
@@ -145,7 +145,7 @@ no_later_from axis s (Some (Set register n)) rest h = tt
 no_later_from axis s (Some (Again register)) rest h = tt
 
 -- No plain movement has an amount that comes again.
-pub sets_ahead : (axis : Axis) (k : Known) (f : Forest) → IsPlain f → SetsAhead axis (stored_of (known_in axis k)) (reused_from k f)
+pub sets_ahead : (axis : Axis) (k : KnownRegisters) (f : Forest) → IsPlain f → SetsAhead axis (stored_of (known_in axis k)) (reused_from k f)
 sets_ahead axis k Empty plain = tt
 sets_ahead axis k (Then leaf rest) (here, plain) =
     let out = written_leaf k leaf (comes_again leaf (has_move rest)) in
@@ -158,19 +158,19 @@ sets_ahead axis k (Then leaf rest) (here, plain) =
     )
 sets_ahead axis k (Group inner rest) (within, plain) = (sets_ahead axis k inner within, sets_ahead axis k rest plain)
 
-hollow_same : (k : Known) (f : Forest) → is_hollow (reused_from k f) ≡ is_hollow f
+hollow_same : (k : KnownRegisters) (f : Forest) → is_hollow (reused_from k f) ≡ is_hollow f
 hollow_same k Empty = refl
 hollow_same k (Then leaf rest) = refl
 hollow_same k (Group inner rest) = ap₂ ◌&&◌ (hollow_same k inner) (hollow_same k rest)
 
 -- The written body has no hollow group, where the given one has none.
-pub no_hollow-reused : (k : Known) (f : Forest) → HasNoHollow f → HasNoHollow (reused_from k f)
+pub no_hollow-reused : (k : KnownRegisters) (f : Forest) → HasNoHollow f → HasNoHollow (reused_from k f)
 no_hollow-reused k Empty h = tt
 no_hollow-reused k (Then leaf rest) h = no_hollow-reused (written_leaf k leaf (comes_again leaf (has_move rest))).known rest h
 no_hollow-reused k (Group inner rest) (full, within, h) = (hollow_same k inner ∙ full, no_hollow-reused k inner within, no_hollow-reused k rest h)
 
 -- The written body nests as deep as the given one.
-pub nests-reused : (k : Known) (f : Forest) → nests (reused_from k f) ≡ nests f
+pub nests-reused : (k : KnownRegisters) (f : Forest) → nests (reused_from k f) ≡ nests f
 nests-reused k Empty = refl
 nests-reused k (Then leaf rest) = nests-reused (written_leaf k leaf (comes_again leaf (has_move rest))).known rest
 nests-reused k (Group inner rest) = ap₂ (λ (a b : ℕ). max (a + 1) b) (nests-reused k inner) (nests-reused k rest)

@@ -11,7 +11,7 @@ pub record RegisterPair : Type 0 where
   pub last : MoveRegister
 
 -- The known values of w and x, and of y and z.
-pub record Known : Type 0 where
+pub record KnownRegisters : Type 0 where
   pub across : RegisterPair
   pub down : RegisterPair
 
@@ -20,7 +20,7 @@ abbrev pub no_known_pair : RegisterPair
 no_known_pair = record { first = None; second = None; last = Second }
 
 -- No value of w, x, y or z is known.
-abbrev pub nothing_known : Known
+abbrev pub nothing_known : KnownRegisters
 nothing_known = record { across = no_known_pair; down = no_known_pair }
 
 -- Whether the value is known and is this amount.
@@ -58,10 +58,10 @@ choose k n again = choice (is_amount k.first n) (is_amount k.second n) again k n
 -- What is written for an instruction, and the known values after it.
 pub record WrittenOp : Type 0 where
   pub leaf : BodyLeaf
-  pub known : Known
+  pub known : KnownRegisters
 
 -- A movement to the right or down is written by the known values of its direction. Any other instruction is unchanged.
-abbrev pub written_leaf : Known → BodyLeaf → (again : Bool) → WrittenOp
+abbrev pub written_leaf : KnownRegisters → BodyLeaf → (again : Bool) → WrittenOp
 written_leaf k (Move Across (By n)) again =
     record { leaf = Move Across (choose k.across n again).step; known = record k { across = (choose k.across n again).held } }
 written_leaf k (Move Downward (By n)) again =

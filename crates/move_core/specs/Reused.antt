@@ -2,7 +2,7 @@
 use Rattle.std.specs.Prelude.{Option, Some, None, Bool, false, ◌||◌, ℤ}
 use Rattle.dvi_ops.specs.Instruction.{Axis, Across, Downward, Movement, By, BodyLeaf, Move}
 use Rattle.dvi_ops.specs.Forest.{Forest, Empty, Then, Group}
-use Rattle.move_core.specs.Registers.{Known, nothing_known, is_amount, written_leaf}
+use Rattle.move_core.specs.Registers.{KnownRegisters, nothing_known, is_amount, written_leaf}
 
 -- The movement of an instruction in a direction, if it is one.
 abbrev pub movement_along : Axis → BodyLeaf → Option Movement
@@ -27,7 +27,7 @@ comes_again (Move axis (By n)) later = later axis n
 comes_again leaf later = false
 
 -- Each movement is written by the known values before it. A group begins with the values known at its push, and they are known again after its pop.
-abbrev pub reused_from : Known → Forest → Forest
+abbrev pub reused_from : KnownRegisters → Forest → Forest
 reused_from k Empty = Empty
 reused_from k (Then leaf rest) =
     Then (written_leaf k leaf (comes_again leaf (has_move rest))).leaf

@@ -8,7 +8,7 @@ ghost use Rattle.move_core.specs.Private.Passes.{rewritten_instructions};
 ghost use Rattle.move_core.specs.Private.Passes.{outside_groups, groups_entered, known_groups, RewritesOp};
 
 use crate::later::Later;
-use crate::registers::Known;
+use crate::registers::KnownRegisters;
 use dvi_ops::BodyOp;
 use std::alloc::{AllocError, Global};
 
@@ -110,8 +110,8 @@ fn which_come_again(alloc: Global, ops: &[BodyOp<'_>]) -> Result<Vec<bool>, Allo
 /// come with the next one last.
 #[derive(Debug, Drop)]
 pub struct RegisterPass {
-    pub known: Known,
-    pub outer: Vec<Known>,
+    pub known: KnownRegisters,
+    pub outer: Vec<KnownRegisters>,
     pub flags: Vec<bool>,
 }
 
@@ -127,7 +127,7 @@ impl RegisterPass {
                 Ok(())
             }
             BodyOp::Pop => {
-                self.known = self.outer.pop().unwrap_or(Known::nothing());
+                self.known = self.outer.pop().unwrap_or(KnownRegisters::nothing());
                 Ok(())
             }
             _ => Ok(()),
@@ -155,7 +155,7 @@ pub fn with_registers<'a>(mut ops: Vec<BodyOp<'a>>) -> Result<Vec<BodyOp<'a>>, A
 {
     let alloc = *ops.allocator();
     let mut pass = RegisterPass {
-        known: Known::nothing(),
+        known: KnownRegisters::nothing(),
         outer: Vec::new(alloc),
         flags: which_come_again(alloc, &ops)?,
     };

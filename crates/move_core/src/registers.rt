@@ -36,7 +36,7 @@ pub struct RegisterPair {
 
 /// The known values of w and x, and of y and z.
 #[derive(Clone, Copy, Debug, PartialEq, Eq)]
-pub struct Known {
+pub struct KnownRegisters {
     pub across: RegisterPair,
     pub down: RegisterPair,
 }
@@ -114,12 +114,12 @@ impl RegisterPair {
     }
 }
 
-impl Known {
+impl KnownRegisters {
     /// No register value is known.
-    pub fn nothing() -> Known
+    pub fn nothing() -> KnownRegisters
         ensures { known_view result ≡ nothing_known }
     {
-        Known {
+        KnownRegisters {
             across: RegisterPair::NOTHING,
             down: RegisterPair::NOTHING,
         }

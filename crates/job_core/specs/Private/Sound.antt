@@ -8,7 +8,7 @@ use Rattle.dvi_write.specs.declared.fault.WriteFault.{WriteFault}
 use Rattle.dvi_write.specs.declared.fault.WriteFault.TheVariants.{JobOver, TooManyPages, TooMuchShipped, TooMuchSpecial, HugePage, OutOfMemory}
 use Rattle.dvi_write.specs.declared.fault.WriteFault.TheVariants.{Device}
 use Rattle.tfm_core.specs.Slots.{Slots}
-use Rattle.dvi_write.specs.Limits.{HasRoom}
+use Rattle.dvi_write.specs.Limits.{IsWithinLimits}
 use Rattle.dvi_write.specs.Writing.{Writing, HasWritten}
 use Rattle.job_machine.specs.State.{State}
 use Rattle.job_state.specs.JobStateView.{JobStateView, state_of}
@@ -35,7 +35,7 @@ pub record IsSound (s : State) : Type 0 where
 
 -- The file of a job that is not over is within the limits: its writer has written some pages, and the numbers that it keeps of them have room.
 pub record IsBoundedFile (fonts : Slots) (w : Writing) : Type 0 where
-  pub room : HasRoom w.so_far
+  pub room : IsWithinLimits w.so_far
   pub before : Option (List ℕ)
   pub pages : List ShippedPage
   pub written : HasWritten fonts before w pages

@@ -13,12 +13,12 @@ use Rattle.move_core.specs.declared.registers.MoveRegister.TheVariants as regist
 use Rattle.move_core.specs.declared.registers.Movement.{Movement as WrittenStep}
 use Rattle.move_core.specs.declared.registers.Movement.TheVariants as steps
 use Rattle.move_core.specs.declared.registers.RegisterPair.{RegisterPair as HeldNow}
-use Rattle.move_core.specs.declared.registers.Known.{Known as KnownNow}
+use Rattle.move_core.specs.declared.registers.KnownRegisters.{KnownRegisters as KnownNow}
 use Rattle.move_core.specs.declared.amount_set.AmountSet.{AmountSet}
 use Rattle.move_core.specs.declared.later.Amounts.{Amounts}
 use Rattle.move_core.specs.declared.later.Later.{Later}
 use Rattle.move_core.specs.declared.passes.RegisterPass.{RegisterPass}
-use Rattle.move_core.specs.Registers.{RegisterPair, Known, nothing_known, is_amount, written_leaf}
+use Rattle.move_core.specs.Registers.{RegisterPair, KnownRegisters, nothing_known, is_amount, written_leaf}
 use Rattle.move_core.specs.Reused.{movement_along, plain_amount, comes_again}
 
 -- The values of the code as values of the definitions.
@@ -34,7 +34,7 @@ step_view (steps.Again register) = Again (register_view register)
 abbrev pub held_view : HeldNow → RegisterPair
 held_view k = record { first = k.first; second = k.second; last = register_view k.last }
 
-abbrev pub known_view : KnownNow → Known
+abbrev pub known_view : KnownNow → KnownRegisters
 known_view k = record { across = held_view k.across; down = held_view k.down }
 
 -- The number of open groups after an instruction of a body; None where it pops without an open group, uses a register, or is in no body.
@@ -102,15 +102,15 @@ flags_of (i ∷ rest) = if is_move i then again_in i rest ∷ flags_of rest else
 
 -- The known register values, and those before each open group, the innermost first.
 pub record Groups : Type 0 where
-  pub known : Known
-  pub outer : List Known
+  pub known : KnownRegisters
+  pub outer : List KnownRegisters
 
 -- Outside of all groups, with nothing known.
 abbrev pub outside_groups : Groups
 outside_groups = record { known = nothing_known; outer = [] }
 
 -- After the innermost open group; nothing is known where none is open.
-abbrev pub groups_left : (outer : List Known) → Groups
+abbrev pub groups_left : (outer : List KnownRegisters) → Groups
 groups_left [] = outside_groups
 groups_left (known ∷ outer) = record { known = known; outer = outer }
 
@@ -121,12 +121,12 @@ groups_entered Pop g = groups_left g.outer
 groups_entered i g = g
 
 -- An instruction as it is written.
-abbrev pub op_written : Known → Instruction → (again : Bool) → Instruction
+abbrev pub op_written : KnownRegisters → Instruction → (again : Bool) → Instruction
 op_written k (Do leaf) again = Do (written_leaf k leaf again).leaf
 op_written k i again = i
 
 -- The known values after an instruction.
-abbrev pub amounts_after : Known → Instruction → (again : Bool) → Known
+abbrev pub amounts_after : KnownRegisters → Instruction → (again : Bool) → KnownRegisters
 amounts_after k (Do leaf) again = (written_leaf k leaf again).known
 amounts_after k i again = k
 

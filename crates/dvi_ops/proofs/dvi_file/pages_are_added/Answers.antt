@@ -3,4 +3,4 @@ use Rattle.dvi_ops.proofs.WholeFile.{front_more, after_all-append, size_of_front
 use Rattle.dvi_ops.proofs.dvi_file.pages_are_added.Goals as goal
 
 pub returns : goal.returns
-returns c = record { bytes = front_more; state = λ s sheets p. after_all-append s sheets (p ∷ []); size = size_of_front; good = good_more }
+returns c = record { bytes = front_more; state = λ s file_pages p. after_all-append s file_pages (p ∷ []); size = size_of_front; good = good_more }

@@ -3,7 +3,7 @@ use Rattle.std.specs.List.{AllByRecursion}
 use Rattle.dvi_ops.specs.Layout.{define}
 use Rattle.dvi_ops.specs.Spelling.{HasSpelling}
 use Rattle.dvi_ops.specs.View.{view}
-use Rattle.dvi_write.specs.Sheets.{definitions_of}
+use Rattle.dvi_write.specs.FilePages.{definitions_of}
 use Rattle.dvi_write.proofs.layout.append_definitions.Given as goal
 
 abbrev pub invariant-loop-slot : goal.invariant-loop-slot

@@ -6,7 +6,7 @@ use Rattle.dvi_ops.specs.View.{body_view}
 use Rattle.dvi_ops.specs.declared.body_op.BodyOp.{BodyOp}
 use Rattle.ship_core.specs.Private.Pushes.{max_pushed}
 use Rattle.ship_core.proofs.PushDepth.{pushed-woven, depth-flat}
-use Rattle.dvi_write.specs.Sheets.{selects}
+use Rattle.dvi_write.specs.FilePages.{selects}
 use Rattle.dvi_write.proofs.FreshFonts.{fresh-is, selects-woven}
 use Rattle.dvi_write.proofs.layout.fresh_slots.Goals as goal
 

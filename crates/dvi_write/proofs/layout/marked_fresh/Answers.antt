@@ -1,7 +1,7 @@
 use Rattle.std.proofs.Common.{◌≡◌, ◌∙◌, ℕ, ap, arith}
 use Rattle.std.specs.Prelude.{filter}
-use Rattle.dvi_write.specs.Sheets.{numbers_below}
-use Rattle.dvi_write.specs.Private.Sheets.{is_marked_fresh}
+use Rattle.dvi_write.specs.FilePages.{numbers_below}
+use Rattle.dvi_write.specs.Private.FilePages.{is_marked_fresh}
 use Rattle.dvi_write.proofs.FreshFonts.{marked_below}
 use Rattle.dvi_write.proofs.layout.marked_fresh.Goals as goal
 

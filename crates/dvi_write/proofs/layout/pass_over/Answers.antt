@@ -7,7 +7,7 @@ use Rattle.dvi_ops.specs.View.{body_view}
 use Rattle.dvi_ops.specs.declared.body_op.BodyOp.{BodyOp}
 use Rattle.dvi_ops.specs.declared.body_op.BodyOp.TheVariants as ops
 use Rattle.ship_core.proofs.PushDepth.{seen_more, seen_all}
-use Rattle.dvi_write.specs.Sheets.{selects}
+use Rattle.dvi_write.specs.FilePages.{selects}
 use Rattle.dvi_write.proofs.FreshFonts.{marked_more, marked_same, unmarked}
 use Rattle.dvi_write.proofs.layout.pass_over.Goals as goal
 use Rattle.dvi_write.proofs.layout.pass_over.Goals.{in-Some, in-None}

@@ -3,7 +3,7 @@ use Rattle.std.specs.Prelude.{false}
 use Rattle.std.specs.List.{list_any}
 use Rattle.dvi_ops.specs.View.{body_view}
 use Rattle.ship_core.proofs.PushDepth.{IsSeen}
-use Rattle.dvi_write.specs.Sheets.{selects}
+use Rattle.dvi_write.specs.FilePages.{selects}
 use Rattle.dvi_write.proofs.layout.pass_over.Given as goal
 
 abbrev pub invariant-loop-op : goal.invariant-loop-op

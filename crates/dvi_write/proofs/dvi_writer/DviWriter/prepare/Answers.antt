@@ -3,7 +3,7 @@ use Rattle.std.proofs.lemmas.Result.{err_from_is_err_and}
 use Rattle.std.specs.Prelude.{ℤ, None, false}
 use Rattle.page_core.specs.declared.placing.Point.{Point}
 use Rattle.page_core.specs.Pages.{page_at}
-use Rattle.dvi_write.specs.Limits.{HasRoom, limit_of}
+use Rattle.dvi_write.specs.Limits.{IsWithinLimits, limit_of}
 use Rattle.dvi_write.specs.Shippable.{IsRightPage}
 use Rattle.dvi_write.proofs.Rooms.{few_text, room_next}
 use Rattle.dvi_write.specs.Writing.{Writing, RefusesPage, refusal_of}
@@ -19,7 +19,7 @@ next_page-requires-clause-room g c =
 pub returns-clause-room : goal.returns-clause-room
 returns-clause-room g c =
     let page = page_at c.args.counts.now c.point_of-at.result.h c.point_of-at.result.v c.args.box_node.now in
-    subst HasRoom (sym c.in_ok-next.ensures.after)
+    subst IsWithinLimits (sym c.in_ok-next.ensures.after)
     (room_next c.args.fonts.now c.self.inside.progress page c.can_be_defined.ensures c.requires c.told-counts
     (c.in_ok-load.ensures.ok c.args.counts.now c.point_of-at.result.h c.point_of-at.result.v) c.self.invariant.0)
 

@@ -4,7 +4,7 @@ use Rattle.dvi_ops.specs.Layout.{bytes_of, define}
 use Rattle.dvi_ops.specs.Runs.{instructions_of}
 use Rattle.dvi_ops.specs.View.{view}
 use Rattle.dvi_ops.specs.declared.op.Op.{Op}
-use Rattle.dvi_write.specs.Sheets.{definitions_of}
+use Rattle.dvi_write.specs.FilePages.{definitions_of}
 use Rattle.dvi_write.specs.SoFar.{ProgressView, opening_instructions}
 use Rattle.dvi_ops.proofs.Layouts.{length-bytes_of-append}
 use Rattle.dvi_write.proofs.PageBytes.{laid_out}

@@ -2,7 +2,7 @@ use Rattle.std.proofs.Common.{refl, length, ap, ap₂, ◌∙◌, arith}
 use Rattle.std.proofs.lemmas.Result.{err_from_is_err_and}
 use Rattle.dvi_ops.specs.Runs.{instructions_of}
 use Rattle.dvi_write.specs.Admitted.{shipped_page}
-use Rattle.dvi_write.specs.Sheets.{fresh_slots}
+use Rattle.dvi_write.specs.FilePages.{fresh_slots}
 use Rattle.dvi_write.specs.SoFar.{ProgressView}
 use Rattle.dvi_write.proofs.Rooms.{next_small, next_few, next_short}
 use Rattle.dvi_write.proofs.WrittenBodies.{spelled_written}

@@ -4,7 +4,7 @@ use Rattle.std.specs.Ordering.{int_eq}
 use Rattle.std.specs.List.{flat_map, list_any}
 use Rattle.dvi_ops.specs.Instruction.{Definition, FontNum, Instruction, Do}
 use Rattle.dvi_ops.specs.Forest.{Forest, flat}
-use Rattle.dvi_ops.specs.Layout.{Sheet}
+use Rattle.dvi_ops.specs.Layout.{FilePage}
 use Rattle.page_core.specs.Marks.{ShippedPage}
 use Rattle.ship_core.specs.Drawing.{body_of}
 use Rattle.move_core.specs.Reused.{reused_body}
@@ -64,8 +64,8 @@ unfoldable pub in_rising_order : (defined : List ℕ) → List ℕ
 in_rising_order defined = filter (λ slot. is_among slot defined) (numbers_below 256)
 
 -- The input to the layout for a page, where the fonts of these slots are defined before it.
-abbrev pub sheet_of : Slots → (defined : List ℕ) → ShippedPage → Sheet
-sheet_of fonts defined page =
+abbrev pub file_page_of : Slots → (defined : List ℕ) → ShippedPage → FilePage
+file_page_of fonts defined page =
     record { counts = page.counts; fresh = definitions_of fonts (fresh_slots fonts defined (flat (written_body page))); body = written_body page }
 
 -- The defined slots after a page, where these are defined before it.

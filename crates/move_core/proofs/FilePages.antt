@@ -7,7 +7,7 @@ use Rattle.dvi_ops.specs.Body.{DviState, Widths, Meaning, instruction_acts, boun
 use Rattle.scaled_core.specs.Mark.{Mark}
 use Rattle.dvi_ops.specs.Forest.{Forest, flat, meaning, points, IsPoint}
 use Rattle.dvi_ops.specs.Fonts.{WidthsByName, definitions_in, definitions, selection_of, selections, first_definition_of, widths_in, known_after}
-use Rattle.dvi_ops.specs.Layout.{Sheet, Table, IsGood, define, table_widths}
+use Rattle.dvi_ops.specs.Layout.{FilePage, Table, IsGood, define, table_widths}
 use Rattle.dvi_ops.specs.Plain.{NamesNoRegister}
 use Rattle.dvi_ops.proofs.Ranges.{meaning-kept, kept-meaning}
 use Rattle.move_core.specs.Reused.{reused_body}
@@ -59,7 +59,7 @@ reused_kept widths f s marks last names here e =
     (found.0, meaning-kept (instruction_acts widths) (reused_body f) s within ∙ found.1)
 
 -- A good page stays good with its reused body, and has the same marks.
-pub good_reused : (metrics : WidthsByName) (table : Table) (known : List Definition) (p : Sheet) (marks : List Mark) →
+pub good_reused : (metrics : WidthsByName) (table : Table) (known : List Definition) (p : FilePage) (marks : List Mark) →
     AllByRecursion NamesNoRegister (flat p.body) → IsGood metrics table known p marks → IsGood metrics table known (record p { body = reused_body p.body }) marks
 good_reused metrics table known p marks names good =
     let fonts = sym (reused_selections p.body) in
