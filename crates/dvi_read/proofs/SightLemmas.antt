@@ -24,7 +24,7 @@ use Rattle.dvi_scan.proofs.TurnLemmas.{broken_turn}
 use Rattle.dvi_scan.proofs.WidthLemmas.{one_width}
 use Rattle.dvi_scan.specs.Drawing.{constant_width}
 use Rattle.dvi_scan.specs.Ends.{StandsAt}
-use Rattle.dvi_scan.specs.Execution.{HasRoom, IsAsked, TurnsPage, inside_of}
+use Rattle.dvi_scan.specs.Execution.{HasPageRoom, IsAsked, TurnsPage, inside_of}
 use Rattle.dvi_scan.specs.Pass.{PassStateView, Between, Inside, execute, passes}
 use Rattle.dvi_scan.specs.View.{mark_of, spot_position, standing_state}
 use Rattle.dvi_scan.specs.Private.View.{marks_in}
@@ -131,7 +131,7 @@ popped old (x ∷ new) (Some mark) e few none =
     more (y ∷ new) size = omega arith
 
 -- An open page is ready again after the mark was handed out.
-pub ready_again : (most : ℕ) (fonts : ReadFonts) (old mid new : OpenPage) → HasRoom most old → vec_capacity old.marks ≤ vec_capacity mid.marks → old.stack.capacity ≤ mid.stack.capacity
+pub ready_again : (most : ℕ) (fonts : ReadFonts) (old mid new : OpenPage) → HasPageRoom most old → vec_capacity old.marks ≤ vec_capacity mid.marks → old.stack.capacity ≤ mid.stack.capacity
     → new.marks.items ≡ [] → vec_capacity new.marks ≡ vec_capacity mid.marks → new.stack.capacity ≡ mid.stack.capacity → new.state ≡ mid.state
     → ((f : ℤ) → mid.state.font ≡ Some f → HasCurrent f fonts) → IsReady most fonts new
 ready_again most fonts old mid new room marks places none same_marks same_places state current =

@@ -9,7 +9,7 @@ use Rattle.dvi_ops.specs.File.{MarkedPage}
 use Rattle.dvi_ops.specs.Fonts.{selections}
 use Rattle.dvi_ops.specs.Instruction.{Instruction}
 use Rattle.dvi_ops.specs.Tokens.{Token, IsSpelled, token_instructions, token_bytes}
-use Rattle.dvi_scan.specs.Execution.{HasRoom}
+use Rattle.dvi_scan.specs.Execution.{HasPageRoom}
 use Rattle.dvi_scan.specs.Pass.{PassStateView, Between, Inside, passes}
 use Rattle.dvi_scan.specs.View.{mark_of, spot_position, standing_state}
 use Rattle.dvi_scan.specs.declared.executing.OpenPage.{OpenPage}
@@ -56,7 +56,7 @@ standing true pages marks page = Inside pages page.counts marks (reverse (map sp
 -- An open page has no mark, but room for one; and its font was selected last, if one was.
 pub record IsReady (most : ℕ) (fonts : ReadFonts) (page : OpenPage) : Type 0 where
   pub none : page.marks.items ≡ []
-  pub room : HasRoom most page
+  pub room : HasPageRoom most page
   pub current : (f : ℤ) → page.state.font ≡ Some f → HasCurrent f fonts
 
 -- What is still to be seen, where the instructions of `first` were read, but not taken.

@@ -7,7 +7,7 @@ ghost use Rattle.dvi_ops.specs.Fonts.{selection_of};
 ghost use Rattle.dvi_ops.specs.Instruction.{Bop, Do, Eop, SetChar};
 ghost use Rattle.dvi_ops.specs.View.{view};
 ghost use Rattle.scaled_core.specs.Mark.{Mark as MarkSeen};
-ghost use Rattle.dvi_scan.specs.Execution.{HasRoom};
+ghost use Rattle.dvi_scan.specs.Execution.{HasPageRoom};
 ghost use Rattle.dvi_scan.specs.Pass.{Between, PassStateView, execute};
 ghost use Rattle.dvi_scan.specs.View.{mark_of};
 ghost use Rattle.dvi_scan.specs.Private.View.{marks_in};
@@ -61,7 +61,7 @@ pub struct Sights<'a> {
 /// A page without marks, with room for one mark and for the places that pushes save.
 pub(crate) fn page_room<'a>(alloc: Global, most: usize) -> Result<OpenPage<'a>, AllocError>
     ensures none { IfOk result (λ page. page.marks.items ≡ []) }
-    ensures room { IfOk result (HasRoom most) }
+    ensures room { IfOk result (HasPageRoom most) }
     ensures font { IfOk result (λ page. page.state.font ≡ None) }
 {
     let marks = Vec::with_capacity(alloc, 1)?;

@@ -78,13 +78,13 @@ TurnsPage does most i pages old new (Ok done) = execute (bounded_acts does) most
 TurnsPage does most i pages old new (Err fault) = IsTurnFault does most i (inside_of pages old) fault × (inside_of pages new ≡ inside_of pages old)
 
 -- An open page has room for one more mark, and for as many saved places as pushes may be open.
-pub record HasRoom (most : ℕ) (page : OpenPage) : Type 0 where
+pub record HasPageRoom (most : ℕ) (page : OpenPage) : Type 0 where
   pub mark : vec_len page.marks < vec_capacity page.marks
   pub places : most ≤ page.stack.capacity
 
 -- Where an open page has room, memory is not refused. The room for marks and for saved places does not shrink.
 pub record KeepsRoom {A : Type 0} (most : ℕ) (old new : OpenPage) (result : Result A PassFault) : Type 0 where
-  pub taken : HasRoom most old → result ≢ Err OutOfMemory
+  pub taken : HasPageRoom most old → result ≢ Err OutOfMemory
   pub marks : vec_capacity old.marks ≤ vec_capacity new.marks
   pub places : old.stack.capacity ≤ new.stack.capacity
 
