@@ -13,7 +13,7 @@ ghost use Rattle.break_core.specs.Private.Active.{TrialsOnlyGrow, WasTried};
 use crate::active_list::{
     Live, add_group, first_waiting, keep_group, keep_over, remove_groups, rest_of,
 };
-use crate::offering::{Tried, offer_line, offer_waiting};
+use crate::offering::{TriedLine, offer_line, offer_waiting};
 use crate::pass_rules::Rules;
 use break_lines::{ActiveGroup, Entry, Meter, empty_row, flush_row};
 use std::alloc::{AllocError, Global};
@@ -69,7 +69,7 @@ fn try_lines<M: Meter>(
         let sums = meter.try_line(live.group.place, place);
         let width = sums.least_width();
         let left_out = rules.stop_rule.leaves_out(live.over, width);
-        let tried = Tried {
+        let tried = TriedLine {
             place,
             penalty: at.penalty,
             sums,

@@ -21,7 +21,7 @@ use node_core::Params;
 
 /// A line that was tried: the place where it ends, the penalty of a break there, and the sums over its items.
 #[derive(Clone, Copy, Debug, PartialEq, Eq)]
-pub(crate) struct Tried {
+pub(crate) struct TriedLine {
     pub(crate) place: usize,
     pub(crate) penalty: i32,
     pub(crate) sums: Sums,
@@ -39,7 +39,7 @@ struct OfferedLine {
 /// What is found of a line that was tried, besides its offers: whether it is overfull after any number of lines, and whether it is found so loose
 /// that a line that is stretched by more costs the same in the pass. The second is found only if no lines are counted.
 #[derive(Clone, Copy, Debug, PartialEq, Eq)]
-pub(crate) struct Judged {
+pub(crate) struct Judgement {
     pub(crate) overfull: bool,
     pub(crate) loosest: bool,
 }
@@ -51,7 +51,7 @@ fn offer_each(
     table: &[Entry],
     group: ActiveGroup,
     rules: &Rules,
-    tried: &Tried,
+    tried: &TriedLine,
     line: &LineFits,
 )
     requires can { CanOffer rules.now.params.now.first_lines row.old.items table.now group tried.now }
@@ -82,8 +82,8 @@ fn offer_counted(
     table: &[Entry],
     group: ActiveGroup,
     rules: &Rules,
-    tried: &Tried,
-) -> Judged
+    tried: &TriedLine,
+) -> Judgement
     requires can { CanOffer rules.now.params.now.first_lines row.old.items table.now group tried.now }
     ensures row { IsOfferingUnless left_out table.now rules.now.params.now rules.now.bound group tried.now.place tried.now.penalty
         (fits_of_sums rules.now.params.now tried.now.sums) row.old.items row.new.items }
@@ -93,7 +93,7 @@ fn offer_counted(
     ensures loosest { result.loosest ≡ false }
 {
     let line = fit_both(&tried.sums, rules.params);
-    let judged = Judged {
+    let judged = Judgement {
         overfull: line.is_overfull(),
         loosest: false,
     };
@@ -266,8 +266,8 @@ pub(crate) fn offer_line(
     table: &[Entry],
     live: &Live,
     rules: &Rules,
-    tried: Tried,
-) -> Judged
+    tried: TriedLine,
+) -> Judgement
     requires can { CanOffer rules.now.params.now.first_lines row.old.items table.now live.now.group tried }
     requires best { IsBestOf table.now live.now.group.start live.now.group.end live.now.best }
     ensures row { IsOfferingUnless left_out table.now rules.now.params.now rules.now.bound live.now.group tried.place tried.penalty
@@ -284,7 +284,7 @@ pub(crate) fn offer_line(
         return offer_counted(left_out, row, table, live.group, rules, &counted);
     }
     let line = fit_line(&tried.sums, rules.params.hsize);
-    let judged = Judged {
+    let judged = Judgement {
         overfull: line.overfull,
         loosest: is_loosest(&rules.bound, &line),
     };

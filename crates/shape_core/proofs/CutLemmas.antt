@@ -3,7 +3,7 @@ use Rattle.std.proofs.Common.{◌≡◌, ◌↔◌, ℕ, zero, suc, ◌+◌, ◌
 use Rattle.std.specs.List.{list_all, prefix_len}
 use Rattle.std.proofs.Math.Seq.{take-append_seam}
 use Rattle.std.proofs.lemmas.List.{take-append-drop}
-use Rattle.shape_core.specs.Texts.{IsCut, nothing, spaces_first, word_first, TextPart, spaces, word, is_other, is_space, parts_of}
+use Rattle.shape_core.specs.Texts.{HasParts, nothing, spaces_first, word_first, TextPart, spaces, word, is_other, is_space, parts_of}
 use Rattle.shape_core.proofs.TextLemmas.{drop_next, parts_of-space, parts_of-word, passes, stops, take_next}
 
 both : (a b : Bool) → (a && b) ≡ true → (a ≡ true) × (b ≡ true)
@@ -59,7 +59,7 @@ parts_of-whole (c ∷ w) rest some h e =
     ∙ ap (λ t. word (c ∷ take (length w) (w ++ rest)) ∷ parts_of t) (drop_all_of w rest)
     ∙ ap (λ v. word (c ∷ v) ∷ parts_of rest) (take-append_seam w rest)
 
-cut_is_parts : {text : List ℕ} {parts : List TextPart} → IsCut text parts → parts ≡ parts_of text
+cut_is_parts : {text : List ℕ} {parts : List TextPart} → HasParts text parts → parts ≡ parts_of text
 cut_is_parts nothing = refl
 cut_is_parts (spaces_first run rest some h e t later) =
     ap (λ p. spaces ∷ p) (cut_is_parts later) ∙ sym (parts_of-run run rest some h e) ∙ ap parts_of (sym t)
@@ -96,23 +96,23 @@ not_false false h = absurd (cc)
 space_where_no_other : (d : ℕ) → is_other d ≡ false → is_space d ≡ true
 space_where_no_other d h = not_false (is_space d) h
 
-cut_by : (c : ℕ) (text : List ℕ) (b : Bool) → is_space c ≡ b → ((n : ℕ) → IsCut (drop n text) (parts_of (drop n text))) → IsCut (c ∷ text) (parts_of (c ∷ text))
+cut_by : (c : ℕ) (text : List ℕ) (b : Bool) → is_space c ≡ b → ((n : ℕ) → HasParts (drop n text) (parts_of (drop n text))) → HasParts (c ∷ text) (parts_of (c ∷ text))
 cut_by c text true e later =
     let n : ℕ = prefix_len is_space text in
-    subst (λ parts. IsCut (c ∷ text) parts) (sym (parts_of-space c text e))
+    subst (λ parts. HasParts (c ∷ text) parts) (sym (parts_of-space c text e))
     (spaces_first (c ∷ take n text) (drop n text) (omega arith) (together _ _ e (front_passes is_space text)) (rest_stops is_space is_other other_where_no_space text) (ap (λ t. c ∷ t) (sym (take-append-drop n text))) (later n))
 cut_by c text false e later =
     let n : ℕ = prefix_len is_other text in
-    subst (λ parts. IsCut (c ∷ text) parts) (sym (parts_of-word c text e))
+    subst (λ parts. HasParts (c ∷ text) parts) (sym (parts_of-word c text e))
     (word_first (c ∷ take n text) (drop n text) (omega arith) (together _ _ (ap not e) (front_passes is_other text)) (rest_stops is_other is_space space_where_no_other text) (ap (λ t. c ∷ t) (sym (take-append-drop n text))) (later n))
 
-cut_within : (fuel : ℕ) (text : List ℕ) → length text ≤ fuel → IsCut text (parts_of text)
+cut_within : (fuel : ℕ) (text : List ℕ) → length text ≤ fuel → HasParts text (parts_of text)
 cut_within fuel [] h = nothing
 cut_within zero (c ∷ text) h = absurd (omega arith)
 cut_within (suc fuel) (c ∷ text) h =
     cut_by c text (is_space c) refl (λ n. cut_within fuel (drop n text) (omega (arith, length-drop n text)))
 
 -- The parts of a text are the only list into which it is cut.
-pub IsCut-is : (text : List ℕ) (parts : List TextPart) → (IsCut text parts ↔ (parts ≡ parts_of text))
-IsCut-is text parts =
-    (λ cut. cut_is_parts cut, λ e. subst (λ ps. IsCut text ps) (sym e) (cut_within (length text) text (omega arith)))
+pub HasParts-is : (text : List ℕ) (parts : List TextPart) → (HasParts text parts ↔ (parts ≡ parts_of text))
+HasParts-is text parts =
+    (λ cut. cut_is_parts cut, λ e. subst (λ ps. HasParts text ps) (sym e) (cut_within (length text) text (omega arith)))

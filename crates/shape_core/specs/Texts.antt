@@ -22,14 +22,14 @@ abbrev pub is_other : ℕ → Bool
 is_other c = not (is_space c)
 
 -- A text is cut into its parts: each is a run of one or more spaces or a word of one or more characters, as long as possible (own).
-pub data IsCut : List ℕ → List TextPart → Type 0 where
-  nothing : IsCut [] []
+pub data HasParts : List ℕ → List TextPart → Type 0 where
+  nothing : HasParts [] []
   spaces_first : (run rest : List ℕ) {text : List ℕ} {parts : List TextPart} → 0 < length run
       → list_all is_space run ≡ true → list_all is_other (take 1 rest) ≡ true → text ≡ run ++ rest
-      → IsCut rest parts → IsCut text (spaces ∷ parts)
+      → HasParts rest parts → HasParts text (spaces ∷ parts)
   word_first : (w rest : List ℕ) {text : List ℕ} {parts : List TextPart} → 0 < length w
       → list_all is_other w ≡ true → list_all is_space (take 1 rest) ≡ true → text ≡ w ++ rest
-      → IsCut rest parts → IsCut text (word w ∷ parts)
+      → HasParts rest parts → HasParts text (word w ∷ parts)
 
 -- The parts after a character is put before them: a space joins a run of spaces, and another character joins a word (own).
 abbrev pub parts_with : ℕ → Bool → List TextPart → List TextPart

@@ -5,7 +5,7 @@ ghost use Rattle.std.specs.List.{AllByRecursion};
 ghost use Rattle.node_core.specs.declared.tree.Glue.{Glue};
 ghost use Rattle.node_core.specs.declared.tree.Node.{Node};
 ghost use Rattle.shape_core.specs.Shaping.{IsGlyphOf, Shaping, shaped_items, shaped_missing};
-ghost use Rattle.shape_core.specs.Texts.{IsCut, TextPart, parts_of, text_items};
+ghost use Rattle.shape_core.specs.Texts.{HasParts, TextPart, parts_of, text_items};
 ghost use Rattle.tfm_core.specs.declared.font.GlyphSize.{GlyphSize};
 ghost use Rattle.tfm_core.specs.declared.font.Step.{Step};
 
@@ -17,7 +17,7 @@ pub fn words_have_one_shaping()
 
 /// `parts_of` gives the only way to cut a text into its parts.
 pub fn texts_are_cut_in_one_way()
-    ensures { (text : List ℕ) (parts : List TextPart) → (IsCut text parts ↔ (parts ≡ parts_of text)) }
+    ensures { (text : List ℕ) (parts : List TextPart) → (HasParts text parts ↔ (parts ≡ parts_of text)) }
 {}
 
 /// Each glyph among the items of a word or a text has the slot of the font, and the sizes that the font gives to its character.

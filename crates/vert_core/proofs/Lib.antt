@@ -19,7 +19,7 @@ pub mod Settings
 pub mod SettingIs
 pub mod Unbroken
 pub mod Unset
-pub mod Tried
+pub mod TrialSums
 pub mod BadLines
 pub mod Walks
 pub mod Openings

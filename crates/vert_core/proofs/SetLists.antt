@@ -6,7 +6,7 @@ use Rattle.node_core.specs.declared.tree.Node.{Node}
 use Rattle.break_lines.specs.Facts.{Facts}
 use Rattle.vert_core.specs.declared.paragraph.SetParagraph.{SetParagraph}
 use Rattle.vert_core.specs.Paragraphs.{set_empty, break_fault, IsSetParagraph}
-use Rattle.vert_core.specs.Tried.{AreFewTrials}
+use Rattle.vert_core.specs.TrialBounds.{AreFewTrials}
 
 pub empty_set :
     (list : List Node) (params : Params) (previous : ℤ) (set : SetParagraph) → length list ≡ 0 → set ≡ set_empty previous → IsSetParagraph list params previous set

@@ -9,7 +9,7 @@ pub mod Rows
 pub mod LeastLists
 pub mod Setting
 pub mod Appended
-pub mod Tried
+pub mod TrialBounds
 pub mod Places
 pub mod Costs
 pub mod Split

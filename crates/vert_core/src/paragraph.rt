@@ -12,7 +12,7 @@ ghost use Rattle.vert_core.specs.Finished.{finished_list};
 ghost use Rattle.vert_core.specs.Paragraphs.{set_empty, break_fault, unset_by, unstacked_by, IsSet, IsSetParagraph, IsUnsetList, IsUnset};
 ghost use Rattle.vert_core.specs.Private.Planned.{AreInOrder, moved_lines, stacked_nodes};
 ghost use Rattle.vert_core.specs.Private.PlannedParagraphs.{IsPlanned};
-ghost use Rattle.vert_core.specs.Tried.{TrialsAreBounded, AreFewTrials};
+ghost use Rattle.vert_core.specs.TrialBounds.{TrialsAreBounded, AreFewTrials};
 
 use crate::filling::move_items;
 use crate::finishing::{finish_paragraph, refusal_of_finished, unfinish_paragraph};

@@ -16,7 +16,7 @@ use Rattle.break_lines.specs.declared.sizes.LineFits.{LineFits}
 use Rattle.break_lines.specs.declared.cost.Bound.{Bound}
 use Rattle.break_lines.specs.Costs.{admitted_line, line_after}
 use Rattle.break_lines.specs.SmallCosts.{IsSmallSums}
-use Rattle.break_core.specs.declared.offering.Tried.{Tried}
+use Rattle.break_core.specs.declared.offering.TriedLine.{TriedLine}
 use Rattle.break_lines.specs.Sizes.{fit_after}
 use Rattle.break_lines.specs.Facts.{Facts}
 use Rattle.break_core.specs.Passes.{problem_of, bound_of, IsBefore}
@@ -51,7 +51,7 @@ IsOfferingUnless left_out table params bound group place penalty line old new =
     → IsRow p table place group.start old → IsRow p table place group.end new
 
 -- The entries of a group can be offered by a line that was tried.
-pub record CanOffer (first_lines : ℕ) (row : List (Option Entry)) (table : List Entry) (group : ActiveGroup) (tried : Tried) : Type 0 where
+pub record CanOffer (first_lines : ℕ) (row : List (Option Entry)) (table : List Entry) (group : ActiveGroup) (tried : TriedLine) : Type 0 where
   pub wide : length row ≡ slots first_lines
   pub rises : group.start ≤ group.end
   pub within : group.end ≤ length table

@@ -9,7 +9,7 @@ use Rattle.vert_core.specs.declared.paragraph.PlannedParagraph.{PlannedParagraph
 use Rattle.vert_core.specs.Lines.{last_depth, lines_fit}
 use Rattle.vert_core.specs.Paragraphs.{with_breaks}
 use Rattle.vert_core.specs.Private.Planned.{plan_of_line, stacked_nodes}
-use Rattle.vert_core.specs.Tried.{AreFewTrials}
+use Rattle.vert_core.specs.TrialBounds.{AreFewTrials}
 
 pub record IsPlanned (list : List Node) (params : Params) (previous_depth : ℤ) (paragraph : PlannedParagraph) : Type 0 where
   pub broken : IsBroken (facts_of list) params paragraph.breaks

@@ -1,5 +1,5 @@
-use Rattle.shape_core.proofs.CutLemmas.{IsCut-is}
+use Rattle.shape_core.proofs.CutLemmas.{HasParts-is}
 use Rattle.shape_core.proofs.laws.texts_are_cut_in_one_way.Goals as goal
 
 pub returns : goal.returns
-returns c = IsCut-is
+returns c = HasParts-is

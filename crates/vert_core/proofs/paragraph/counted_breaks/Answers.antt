@@ -3,8 +3,8 @@ use Rattle.std.specs.Int.{sum_through}
 use Rattle.break_lines.specs.Facts.{Facts, facts_of}
 use Rattle.break_lines.specs.Legal.{legal_places}
 use Rattle.break_core.specs.Trials.{passes_run, AreBounded}
-use Rattle.vert_core.specs.Tried.{TrialsAreBounded}
-use Rattle.vert_core.proofs.Tried.{first_of_all, few_together}
+use Rattle.vert_core.specs.TrialBounds.{TrialsAreBounded}
+use Rattle.vert_core.proofs.TrialSums.{first_of_all, few_together}
 use Rattle.vert_core.proofs.paragraph.counted_breaks.Goals as goal
 
 pub returns-clause-trials : goal.returns-clause-trials

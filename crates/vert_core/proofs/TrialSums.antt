@@ -5,7 +5,7 @@ use Rattle.node_core.specs.declared.params.Params.{Params}
 use Rattle.break_core.specs.declared.broken.Pass.{Pass}
 use Rattle.break_lines.specs.Facts.{Facts}
 use Rattle.break_core.specs.Trials.{places_up_to, AreBounded}
-use Rattle.vert_core.specs.Tried.{TrialsAreBounded}
+use Rattle.vert_core.specs.TrialBounds.{TrialsAreBounded}
 
 no_more : (f g : ℕ → ℕ) → ((a : ℕ) → f a ≤ g a) → (n : ℕ) → sum_through f n ≤ sum_through g n
 no_more f g below zero = below 0
