@@ -10,7 +10,7 @@ use Rattle.std.proofs.lemmas.List.Splits.{length-slice_split, slice_split-cons_y
 use Rattle.std.proofs.lemmas.List.Sums.{length-filter}
 use Rattle.boxglue_script.specs.declared.script.Line.{Line}
 use Rattle.boxglue_script.specs.Script.{SayFrom, IsScript}
-use Rattle.boxglue_script.specs.SaidLines.{IsWhole}
+use Rattle.boxglue_script.specs.LineContents.{IsWhole}
 use Rattle.boxglue_script.proofs.LineLemmas.{is_feed, lines_joined}
 use Rattle.boxglue_calls.specs.Numbers.{line_count, line_feeds, is_whole, number_after, numbered_lines}
 

@@ -21,7 +21,7 @@ use Rattle.dvi_scan.specs.View.{mark_of}
 use Rattle.boxglue_calls.specs.Buffers.{Holds}
 use Rattle.boxglue_calls.specs.MarkTables.{AreMarkRows, IsMarkRow, MarkOutputs, page_row, page_rows, text_start_of, text_starts}
 use Rattle.boxglue_calls.specs.Private.MarkRows.{AddsMark, BeginsPage, CanBeWritten, HasPlace, HasRowsFor, HoldsRows, WritesSight, marks_among, pages_among, row_of}
-use Rattle.boxglue_calls.specs.declared.mark_rows.Written.{Written}
+use Rattle.boxglue_calls.specs.declared.mark_rows.RowProgress.{RowProgress}
 use Rattle.boxglue_calls.specs.declared.mark_table.DviMark.{DviMark}
 use Rattle.boxglue_calls.specs.declared.mark_table.DviPage.{DviPage}
 use Rattle.boxglue_calls.proofs.MarkRowLaws.{is_row, length-pages, length-rows, start_of, starts_more, marks-among, marks-append, marks_seen_in, no_mark_first, one_seen, pages-among, pages_last, pages_seen_in, rows_more}
@@ -32,7 +32,7 @@ abbrev pub HasOpen : List MarkedPage → DviPage → Type 0
 HasOpen shown row = (shown ≡ []) ⊎ (before : List MarkedPage) × (page : MarkedPage) × (shown ≡ before ++ page ∷ []) × (row ≡ page_row (length (marks_of before)) page)
 
 -- The rows of the pages that were seen are written. The texts of their specials begin at these places.
-pub record HasWritten (bytes : List ℕ) (metrics : WidthsByName) (table : List Definition) (old new : MarkOutputs) (w : Written) (places : List ℕ) (shown : List MarkedPage) : Type 0 where
+pub record HasWritten (bytes : List ℕ) (metrics : WidthsByName) (table : List Definition) (old new : MarkOutputs) (w : RowProgress) (places : List ℕ) (shown : List MarkedPage) : Type 0 where
   pub rows : List DviMark
   pub are : AreMarkRows bytes (widths_of metrics table) rows (marks_of shown)
   pub starts : text_starts rows ≡ places
@@ -46,7 +46,7 @@ pub record HasWritten (bytes : List ℕ) (metrics : WidthsByName) (table : List 
 abbrev empty_page : List ℤ → MarkedPage
 empty_page counts = record { counts = counts; marks = [] }
 
-module _ (bytes : List ℕ) (metrics : WidthsByName) (table : List Definition) (old mid after : MarkOutputs) (w new : Written) (places : List ℕ) (shown : List MarkedPage) (has : HasWritten bytes metrics table old mid w places shown) where
+module _ (bytes : List ℕ) (metrics : WidthsByName) (table : List Definition) (old mid after : MarkOutputs) (w new : RowProgress) (places : List ℕ) (shown : List MarkedPage) (has : HasWritten bytes metrics table old mid w places shown) where
   page_more : (counts : List ℤ) → length shown + 1 ≤ length old.pages → BeginsPage counts w new mid.pages after.pages → after.marks ≡ mid.marks
       → HasWritten bytes metrics table old after new places (shown ++ empty_page counts ∷ [])
   page_more counts room begins same =
@@ -121,7 +121,7 @@ module _ (bytes : List ℕ) (metrics : WidthsByName) (table : List Definition) (
       }
 
 -- What is written, and what is still to be seen.
-pub record IsWriting (metrics : WidthsByName) (table : List Definition) (first : Sights) (old new : MarkOutputs) (w : Written) (places : List ℕ) (all : List MarkedPage) (s : Sights) : Type 0 where
+pub record IsWriting (metrics : WidthsByName) (table : List Definition) (first : Sights) (old new : MarkOutputs) (w : RowProgress) (places : List ℕ) (all : List MarkedPage) (s : Sights) : Type 0 where
   pub shown : List MarkedPage
   pub rest : List SeenItem
   pub passed : List ℕ
@@ -133,7 +133,7 @@ pub record IsWriting (metrics : WidthsByName) (table : List Definition) (first :
   pub same : IsSameFile first s
   pub has : HasWritten first.bytes.now metrics table old new w passed shown
 
-pub writing_first : (metrics : WidthsByName) (table : List Definition) (s : Sights) (old : MarkOutputs) (w : Written) (places : List ℕ) (all : List MarkedPage) → CanBeWritten metrics table s old places all
+pub writing_first : (metrics : WidthsByName) (table : List Definition) (s : Sights) (old : MarkOutputs) (w : RowProgress) (places : List ℕ) (all : List MarkedPage) → CanBeWritten metrics table s old places all
     → w.pages ≡ 0 → w.marks ≡ 0 → IsWriting metrics table s old old w places all s
 writing_first metrics table s old w places all can pages marks =
     record {
@@ -158,7 +158,7 @@ writing_first metrics table s old w places all can pages marks =
       };
     }
 
-module _ (metrics : WidthsByName) (table : List Definition) (first : Sights) (old mid : MarkOutputs) (w : Written) (places : List ℕ) (all : List MarkedPage) (s : Sights) (can : CanBeWritten metrics table first old places all)
+module _ (metrics : WidthsByName) (table : List Definition) (first : Sights) (old mid : MarkOutputs) (w : RowProgress) (places : List ℕ) (all : List MarkedPage) (s : Sights) (can : CanBeWritten metrics table first old places all)
     (writing : IsWriting metrics table first old mid w places all s) where
   abbrev shown : List MarkedPage
   shown = writing.shown
@@ -225,7 +225,7 @@ module _ (metrics : WidthsByName) (table : List Definition) (first : Sights) (ol
       (all_back (OfGlyph (IsGlyphWidth metrics table first.fonts)) (marks_of shown) (mark ∷ marks_among later) each).0 in
       subst (λ (fonts : ReadFonts). OfGlyph (IsGlyphWidth metrics table fonts) mark) (sym fonts) here
 
-  pub written_next : (new : Sights) (sight : Sight) (w_new : Written) (after : MarkOutputs) → IsSameFile s new → EndsText s.bytes.now new.at (Some sight)
+  pub written_next : (new : Sights) (sight : Sight) (w_new : RowProgress) (after : MarkOutputs) → IsSameFile s new → EndsText s.bytes.now new.at (Some sight)
       → PassesText writing.left new (Some sight) → ShowsNext writing.rest new (Some sight) → WritesSight sight new w w_new mid after → IsWriting metrics table first old after w_new places all new
   written_next new (sights.Page counts) w_new after same text (left, left_is, texts) (later, is, ahead) (begins, marks) =
       let page = empty_page counts in

@@ -26,7 +26,7 @@ pub(crate) struct RowCounts {
 
 /// How many rows are written, and the last row of a page, which is open.
 #[derive(Clone, Copy, Debug, PartialEq)]
-pub(crate) struct Written {
+pub(crate) struct RowProgress {
     pub pages: usize,
     pub marks: usize,
     pub row: DviPage,
@@ -122,7 +122,7 @@ fn mark_row(mark: &Mark<'_>, sights: &Sights<'_>) -> DviMark
 }
 
 /// Writes the row of a page that begins, as yet without marks.
-fn begin_page(counts: [i32; 10], written: &mut Written, pages: &mut [DviPage])
+fn begin_page(counts: [i32; 10], written: &mut RowProgress, pages: &mut [DviPage])
     requires { written.old.pages < length pages.old }
     ensures { BeginsPage counts written.old written.new pages.old pages.new }
 {
@@ -136,7 +136,7 @@ fn begin_page(counts: [i32; 10], written: &mut Written, pages: &mut [DviPage])
 }
 
 /// Writes the row of a mark, and that of its page again, which has one mark more.
-fn add_mark(row: DviMark, written: &mut Written, pages: &mut [DviPage], marks: &mut [DviMark])
+fn add_mark(row: DviMark, written: &mut RowProgress, pages: &mut [DviPage], marks: &mut [DviMark])
     requires opened { 0 < written.old.pages }
     requires page { written.old.pages ≤ length pages.old }
     requires mark { written.old.marks < length marks.old }
@@ -153,7 +153,7 @@ fn add_mark(row: DviMark, written: &mut Written, pages: &mut [DviPage], marks: &
 fn write_sight(
     sight: &Sight<'_>,
     sights: &Sights<'_>,
-    written: &mut Written,
+    written: &mut RowProgress,
     pages: &mut [DviPage],
     marks: &mut [DviMark],
 )
@@ -178,7 +178,7 @@ pub(crate) fn write_rows(sights: &mut Sights<'_>, pages: &mut [DviPage], marks: 
         → CanBeWritten metrics table sights.old (mark_outputs pages.old marks.old []) places all
         → HoldsRows metrics table sights.old.bytes.now (mark_outputs pages.old marks.old []) (mark_outputs pages.new marks.new []) places all }
 {
-    let mut written = Written {
+    let mut written = RowProgress {
         pages: 0,
         marks: 0,
         row: DviPage {

@@ -10,11 +10,11 @@ use Rattle.dvi_write.proofs.Writings.{goes_not}
 use Rattle.job_core.specs.Jobs.{JobView, RunsTo, writing_of}
 use Rattle.job_core.proofs.WholeRuns.{no_run}
 use Rattle.boxglue_script.specs.declared.cause.Cause.{Cause}
-use Rattle.boxglue_script.specs.declared.said.Said.TheVariants.{Nothing, Command, Bad}
+use Rattle.boxglue_script.specs.declared.line_content.LineContent.TheVariants.{Nothing, Command, Bad}
 use Rattle.boxglue_script.specs.ScriptLines.{is_passed_over}
 use Rattle.boxglue_script.specs.Causes.{IsCause}
 use Rattle.boxglue_script.specs.Script.{IsPassedOver, SaysLine}
-use Rattle.boxglue_script.specs.SaidLines.{IsWhole}
+use Rattle.boxglue_script.specs.LineContents.{IsWhole}
 use Rattle.boxglue_script.proofs.LineLemmas.{Splits, lines_joined}
 use Rattle.boxglue_script.specs.declared.script.Line.{Line}
 use Rattle.boxglue_program.specs.declared.outcome.Outcome.{Outcome}

@@ -4,9 +4,9 @@ use Rattle.std.specs.Prelude.{is_ok, if◌then◌else◌, Contains, IfSome, Resu
 use Rattle.std.specs.Io.KnownBytes.{Consumes}
 use Rattle.std.specs.Str.Lines.{lines}
 use Rattle.std.proofs.lemmas.List.{append-nil}
-use Rattle.boxglue_script.specs.SaidLines.{IsWhole}
+use Rattle.boxglue_script.specs.LineContents.{IsWhole}
 use Rattle.boxglue_program.specs.Sessions.{IsSent, DialogView, AnswersLines, SessionView, Exchanges, LacksRoom, StopsIn}
-use Rattle.boxglue_program.specs.Private.Dialogs.{IsCut}
+use Rattle.boxglue_program.specs.Private.Dialogs.{IsCutAfterLines}
 use Rattle.boxglue_program.proofs.SessionLaws.{none_answered, sent_none}
 use Rattle.boxglue_program.proofs.DialogLaws.{stops_further, stops_at_once, stops_at_rest}
 
@@ -30,7 +30,7 @@ text_and_rest kept piece whole rest text cut =
     ap (λ (l : List ℕ). l ++ rest) cut.text_is ∙ (append_assoc kept whole rest ∙ ap (λ (l : List ℕ). kept ++ l) (sym cut.split))
 
 -- The whole lines of a piece were put after the bytes kept before.
-pub cut_of : (kept piece whole rest joined text : List ℕ) → IsCut piece whole rest → 0 < length whole → joined ≡ kept ++ whole → text ≡ joined
+pub cut_of : (kept piece whole rest joined text : List ℕ) → IsCutAfterLines piece whole rest → 0 < length whole → joined ≡ kept ++ whole → text ≡ joined
     → Cut kept piece whole rest text
 cut_of kept piece whole rest joined text cut some is told = record { split = cut.split; ends = cut.ends; some = some; text_is = told ∙ is }
 

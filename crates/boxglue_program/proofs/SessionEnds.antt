@@ -8,7 +8,7 @@ use Rattle.tfm_core.specs.NamedBytes.{NamedBytes}
 use Rattle.job_machine.specs.Machine.{first_machine}
 use Rattle.job_machine.specs.Runs.{Run}
 use Rattle.job_core.specs.Jobs.{JobView, Represents}
-use Rattle.boxglue_script.specs.SaidLines.{IsWhole, lines_said, has_no_bad}
+use Rattle.boxglue_script.specs.LineContents.{IsWhole, lines_said, has_no_bad}
 use Rattle.boxglue_script.proofs.LineLemmas.{lines_joined}
 use Rattle.boxglue_program.specs.Texts.{end_line}
 use Rattle.boxglue_program.specs.Runs.{commands_of, WasRun}

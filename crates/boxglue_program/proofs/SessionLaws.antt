@@ -12,10 +12,10 @@ use Rattle.dvi_write.proofs.Writings.{goes_further, goes_not}
 use Rattle.job_core.specs.Jobs.{RunsTo, writing_of}
 use Rattle.job_core.proofs.WholeRuns.{runs_joined, no_run}
 use Rattle.boxglue_script.specs.declared.script.Line.{Line}
-use Rattle.boxglue_script.specs.declared.said.Said.{Said}
-use Rattle.boxglue_script.specs.declared.said.Said.TheVariants.{Nothing, Command, Bad}
-use Rattle.boxglue_script.specs.SaidLines.{SayEach, lines_said, has_no_bad}
-use Rattle.boxglue_script.proofs.SaidLaws.{say_joined}
+use Rattle.boxglue_script.specs.declared.line_content.LineContent.{LineContent}
+use Rattle.boxglue_script.specs.declared.line_content.LineContent.TheVariants.{Nothing, Command, Bad}
+use Rattle.boxglue_script.specs.LineContents.{SayEach, lines_said, has_no_bad}
+use Rattle.boxglue_script.proofs.LineContentLaws.{say_joined}
 use Rattle.boxglue_program.specs.Texts.{answer_line, script_refusal_text}
 use Rattle.boxglue_program.specs.Runs.{commands_of}
 use Rattle.boxglue_program.specs.Sessions.{session_text, are_accepted, IsSent, DialogView, AnswersLines}
@@ -29,10 +29,10 @@ same_number : (number : ℕ) → number ≡ number + 0
 same_number number = omega arith
 
 -- The number of the line after a first one and those that follow it.
-next_number : (number : ℕ) (first : List Said) (said : Said) → number + 1 + length first ≡ number + length (said ∷ first)
+next_number : (number : ℕ) (first : List LineContent) (said : LineContent) → number + 1 + length first ≡ number + length (said ∷ first)
 next_number number first said = omega arith
 
-pub said_joined : (number : ℕ) (first second : List Said) → lines_said number (first ++ second) ≡ lines_said number first ++ lines_said (number + length first) second
+pub said_joined : (number : ℕ) (first second : List LineContent) → lines_said number (first ++ second) ≡ lines_said number first ++ lines_said (number + length first) second
 said_joined number [] second = ap (λ (n : ℕ). lines_said n second) (same_number number)
 said_joined number (Nothing ∷ first) second = said_joined (number + 1) first second ∙ ap (λ (n : ℕ). lines_said (number + 1) first ++ lines_said n second) (next_number number first Nothing)
 said_joined number (Command command ∷ first) second =
@@ -40,7 +40,7 @@ said_joined number (Command command ∷ first) second =
     (said_joined (number + 1) first second ∙ ap (λ (n : ℕ). lines_said (number + 1) first ++ lines_said n second) (next_number number first (Command command)))
 said_joined number (Bad cause ∷ first) second = said_joined (number + 1) first second ∙ ap (λ (n : ℕ). lines_said (number + 1) first ++ lines_said n second) (next_number number first (Bad cause))
 
-pub text_joined : (number : ℕ) (first second : List Said) (replies others : List Reply) → length replies ≡ length (lines_said number first)
+pub text_joined : (number : ℕ) (first second : List LineContent) (replies others : List Reply) → length replies ≡ length (lines_said number first)
     → session_text number (first ++ second) (replies ++ others) ≡ session_text number first replies ++ session_text (number + length first) second others
 text_joined number [] second [] others each = ap (λ (n : ℕ). session_text n second others) (same_number number)
 text_joined number [] second (reply ∷ replies) others each = absurd (omega (arith, each))
@@ -59,7 +59,7 @@ text_joined number (Bad cause ∷ first) second replies others each =
     ∙ ap (λ (n : ℕ). session_text (number + 1) first replies ++ session_text n second others) (next_number number first (Bad cause)))
     ∙ sym (append_assoc (script_refusal_text number cause) (session_text (number + 1) first replies) (session_text (number + length (Bad cause ∷ first)) second others))
 
-no_bad_joined : (first second : List Said) → has_no_bad (first ++ second) ≡ (has_no_bad first && has_no_bad second)
+no_bad_joined : (first second : List LineContent) → has_no_bad (first ++ second) ≡ (has_no_bad first && has_no_bad second)
 no_bad_joined [] second = refl
 no_bad_joined (Nothing ∷ first) second = no_bad_joined first second
 no_bad_joined (Command command ∷ first) second = no_bad_joined first second
@@ -75,13 +75,13 @@ pub and_grouped : (a b c : Bool) → ((a && b) && c) ≡ (a && (b && c))
 and_grouped true b c = refl
 and_grouped false b c = refl
 
-accepted_joined : (first second : List Said) (replies others : List Reply) → are_accepted (first ++ second) (replies ++ others) ≡ (are_accepted first replies && are_accepted second others)
+accepted_joined : (first second : List LineContent) (replies others : List Reply) → are_accepted (first ++ second) (replies ++ others) ≡ (are_accepted first replies && are_accepted second others)
 accepted_joined first second replies others =
     ap (λ (b : Bool). b && list_all is_ok (replies ++ others)) (no_bad_joined first second)
     ∙ (ap (λ (b : Bool). (has_no_bad first && has_no_bad second) && b) (list_all-append is_ok replies others)
     ∙ both_pairs (has_no_bad first) (has_no_bad second) (list_all is_ok replies) (list_all is_ok others))
 
-pub said_size : (all : List (List ℕ)) (said : List Said) → SayEach all said → length said ≡ length all
+pub said_size : (all : List (List ℕ)) (said : List LineContent) → SayEach all said → length said ≡ length all
 said_size [] [] says = refl
 said_size [] (s ∷ said) says = absurd says
 said_size (line ∷ all) [] says = absurd says

@@ -10,12 +10,12 @@ use Rattle.tfm_core.specs.NamedBytes.{NamedBytes}
 use Rattle.job_machine.specs.Machine.{Machine, first_machine}
 use Rattle.job_machine.specs.Runs.{Run}
 use Rattle.boxglue_script.specs.declared.script.Line.{Line}
-use Rattle.boxglue_script.specs.declared.said.Said.{Said}
-use Rattle.boxglue_script.specs.declared.said.Said.TheVariants.{Nothing, Command, Bad}
+use Rattle.boxglue_script.specs.declared.line_content.LineContent.{LineContent}
+use Rattle.boxglue_script.specs.declared.line_content.LineContent.TheVariants.{Nothing, Command, Bad}
 use Rattle.boxglue_script.specs.Script.{IsScript}
-use Rattle.boxglue_script.specs.SaidLines.{SayEach, IsWhole, lines_said, has_no_bad}
+use Rattle.boxglue_script.specs.LineContents.{SayEach, IsWhole, lines_said, has_no_bad}
 use Rattle.boxglue_script.proofs.LineLemmas.{lines_joined}
-use Rattle.boxglue_script.proofs.SaidLaws.{each_one, say_in_pieces, say_one, script_said}
+use Rattle.boxglue_script.proofs.LineContentLaws.{each_one, say_in_pieces, say_one, script_said}
 use Rattle.boxglue_program.specs.Texts.{answer_line, answer_lines, answers_text, end_line}
 use Rattle.boxglue_program.specs.Runs.{commands_of, line_numbers, is_accepted, WasRun, RanScript}
 use Rattle.boxglue_program.specs.Sessions.{session_text, DialogView, AnswersLines, RanSession}
@@ -36,7 +36,7 @@ each_replied files n k found replies end bytes_written run =
     run_size (first_machine files) n (commands_of found) replies run.middle run.failed run.ran ∙ length-map found (λ (line : Line). line.command)
 
 -- Where no line is bad, the answers are those to the commands.
-answers_of_commands : (number : ℕ) (said : List Said) (replies : List Reply) → has_no_bad said ≡ true
+answers_of_commands : (number : ℕ) (said : List LineContent) (replies : List Reply) → has_no_bad said ≡ true
     → length replies ≡ length (lines_said number said)
     → session_text number said replies ≡ answer_lines (line_numbers (lines_said number said)) replies
 answers_of_commands number [] [] good each = refl
@@ -48,7 +48,7 @@ answers_of_commands number (Command command ∷ said) (reply ∷ replies) good e
 answers_of_commands number (Bad cause ∷ said) replies good each = absurd (cc)
 
 -- The answers of a session over a good script are the texts of its run.
-pub script_texts : (text : List ℕ) (found : List Line) (said : List Said) (replies : List Reply) (end : Result Summary Refusal)
+pub script_texts : (text : List ℕ) (found : List Line) (said : List LineContent) (replies : List Reply) (end : Result Summary Refusal)
     → IsScript text found → SayEach (lines text) said → length replies ≡ length found
     → session_text 1 said replies ++ end_line end ≡ answers_text (line_numbers found) replies end
 unfolding answers_text
@@ -94,7 +94,7 @@ run_is_session text answer files n k bytes_written accepted ran =
     }
 
 -- The answers to whole lines and to what follows them are those to the one and then those to the other.
-pub texts_in_pieces : (text more : List ℕ) (first second said : List Said) (replies : List Reply) → IsWhole text → SayEach (lines text) first
+pub texts_in_pieces : (text more : List ℕ) (first second said : List LineContent) (replies : List Reply) → IsWhole text → SayEach (lines text) first
     → SayEach (lines more) second → SayEach (lines (text ++ more)) said
     → length replies ≡ length (lines_said 1 said)
     → session_text 1 said replies ≡ session_text 1 first (take (length (lines_said 1 first)) replies) ++ session_text (length first + 1) second
@@ -107,10 +107,10 @@ texts_in_pieces text more first second said replies whole says then_says all_say
     each_one (lines (text ++ more)) (first ++ second) said (say_in_pieces text more first second whole says then_says) all_say in
     let sizes : length replies ≡ count + length (lines_said (1 + length first) second) =
     each
-    ∙ (ap (λ (s : List Said). length (lines_said 1 s)) is
+    ∙ (ap (λ (s : List LineContent). length (lines_said 1 s)) is
     ∙ (ap length (said_joined 1 first second) ∙ length-append (lines_said 1 first) (lines_said (1 + length first) second))) in
     let next : 1 + length first ≡ length first + 1 = omega arith in
-    ap (λ (s : List Said). session_text 1 s replies) is
+    ap (λ (s : List LineContent). session_text 1 s replies) is
     ∙ (ap (λ (all : List Reply). session_text 1 (first ++ second) all) (sym (take-append-drop count replies))
     ∙ (text_joined 1 first second front rest (length-take-le count replies (omega (arith, sizes)))
     ∙ ap (λ (number : ℕ). session_text 1 first front ++ session_text number second rest) next))

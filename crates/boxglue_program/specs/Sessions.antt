@@ -13,14 +13,14 @@ use Rattle.dvi_write.specs.Writing.{GoesOn}
 use Rattle.job_machine.specs.Machine.{Machine, first_machine}
 use Rattle.job_machine.specs.Runs.{Run}
 use Rattle.job_core.specs.Jobs.{JobView, Represents, RunsTo, writing_of}
-use Rattle.boxglue_script.specs.declared.said.Said.{Said}
-use Rattle.boxglue_script.specs.declared.said.Said.TheVariants.{Nothing, Command, Bad}
-use Rattle.boxglue_script.specs.SaidLines.{SayEach, IsWhole, lines_said, has_no_bad}
+use Rattle.boxglue_script.specs.declared.line_content.LineContent.{LineContent}
+use Rattle.boxglue_script.specs.declared.line_content.LineContent.TheVariants.{Nothing, Command, Bad}
+use Rattle.boxglue_script.specs.LineContents.{SayEach, IsWhole, lines_said, has_no_bad}
 use Rattle.boxglue_program.specs.Texts.{answer_line, script_refusal_text, end_line}
 use Rattle.boxglue_program.specs.Runs.{commands_of, is_accepted, WasRun, IsUntouched, WritesFront}
 
 -- The answers to lines, of which the first has this number: a line for each command, and one for each bad line.
-abbrev pub session_text : ℕ → List Said → List Reply → List ℕ
+abbrev pub session_text : ℕ → List LineContent → List Reply → List ℕ
 session_text number [] replies = []
 session_text number (Nothing ∷ more) replies = session_text (number + 1) more replies
 session_text number (Bad cause ∷ more) replies = script_refusal_text number cause ++ session_text (number + 1) more replies
@@ -28,7 +28,7 @@ session_text number (Command command ∷ more) [] = session_text (number + 1) mo
 session_text number (Command command ∷ more) (reply ∷ replies) = answer_line number reply ++ session_text (number + 1) more replies
 
 -- Whether nothing was refused, neither a line nor a command.
-abbrev pub are_accepted : List Said → List Reply → Bool
+abbrev pub are_accepted : List LineContent → List Reply → Bool
 are_accepted said replies = has_no_bad said && list_all is_ok replies
 
 -- A text was sent to a client that reads, or does not read any longer. All of it went out; or a beginning of it, and the client does not read any
@@ -47,7 +47,7 @@ pub record DialogView : Type 0 where
 
 -- Lines were run, and these are their answers.
 pub record AnswersLines (old : DialogView) (all : List (List ℕ)) (answers : List ℕ) (new : DialogView) : Type 0 where
-  pub said : List Said
+  pub said : List LineContent
   pub replies : List Reply
   pub says : SayEach all said
   pub ran : RunsTo old.job (commands_of (lines_said (old.lines + 1) said)) replies new.job
@@ -121,7 +121,7 @@ pub record EndsSession (old : SessionView) (k : ℕ) (bytes_written : Option (Li
 -- The whole input was run, and the job was finished. This is the text of all answers, and whether nothing was refused.
 pub record RanSession (text : List ℕ) (files : List NamedBytes) (n k : ℕ) (bytes_written : Option (List ℕ)) (answer : List ℕ)
     (accepted : Bool) : Type 0 where
-  pub said : List Said
+  pub said : List LineContent
   pub replies : List Reply
   pub end : Result Summary Refusal
   pub says : SayEach (lines text) said
@@ -135,7 +135,7 @@ pub record StoppedSession (text : List ℕ) (files : List NamedBytes) (n k : ℕ
   pub rest : List ℕ
   pub split : text ≡ whole ++ rest
   pub ends : IsWhole whole ⊎ (rest ≡ [])
-  pub said : List Said
+  pub said : List LineContent
   pub replies : List Reply
   pub says : SayEach (lines whole) said
   pub machine : Machine

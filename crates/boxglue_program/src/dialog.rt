@@ -13,7 +13,7 @@ ghost use Rattle.boxglue_program.specs.Private.Dialogs.{dialog_of, outbox_of, Se
 use crate::run::run_lines;
 use crate::texts::{ANSWER_SIZE, push_end_line, push_script_refusal};
 use crate::writing::write_text;
-use boxglue_script::{Line, Said, first_line, read_line};
+use boxglue_script::{Line, LineContent, first_line, read_line};
 use job_core::{Device, Job};
 use std::alloc::{AllocError, Global};
 use std::io::Write;
@@ -38,8 +38,8 @@ fn answer_line<D: Device>(
     ensures cut { OnErr result (answers.new.items ≡ answers.old.items) }
 {
     match read_line(alloc, line)? {
-        Said::Nothing => Ok(true),
-        Said::Command(command) => {
+        LineContent::Nothing => Ok(true),
+        LineContent::Command(command) => {
             answers.reserve(ANSWER_SIZE)?;
             let line = Line {
                 number: before + 1,
@@ -48,7 +48,7 @@ fn answer_line<D: Device>(
             let run = run_lines(job, from_ref(&line), answers);
             Ok(run.outcome.is_accepting())
         }
-        Said::Bad(cause) => {
+        LineContent::Bad(cause) => {
             push_script_refusal(before + 1, cause, answers)?;
             Ok(false)
         }

@@ -10,9 +10,9 @@ ghost use Rattle.job_machine.specs.declared.replies.Summary.{Summary};
 ghost use Rattle.job_machine.specs.Reply.{Reply};
 ghost use Rattle.tfm_core.specs.NamedBytes.{NamedBytes};
 ghost use Rattle.boxglue_script.specs.declared.script.Line.{Line};
-ghost use Rattle.boxglue_script.specs.declared.said.Said.{Said};
+ghost use Rattle.boxglue_script.specs.declared.line_content.LineContent.{LineContent};
 ghost use Rattle.boxglue_script.specs.Script.{IsScript};
-ghost use Rattle.boxglue_script.specs.SaidLines.{IsWhole, SayEach, lines_said};
+ghost use Rattle.boxglue_script.specs.LineContents.{IsWhole, SayEach, lines_said};
 ghost use Rattle.boxglue_program.specs.Rows.{OneRuleAnswers, TextAnswers};
 ghost use Rattle.boxglue_program.specs.Outcomes.{is_accepting, replies_outcome, run_outcome};
 ghost use Rattle.boxglue_program.specs.Runs.{is_accepted, line_numbers, RanScript, WasRun};
@@ -44,8 +44,8 @@ pub fn a_run_without_a_page_sends_nothing()
 
 /// A session over a good script has the answers, the file and the acceptance that the run of the whole script has, and no others.
 pub fn a_session_over_a_good_script()
-    ensures texts { (text : List ℕ) (found : List Line) (said : List Said) (replies : List Reply) (end : Result Summary Refusal) → IsScript text found
-        → SayEach (lines text) said
+    ensures texts { (text : List ℕ) (found : List Line) (said : List LineContent) (replies : List Reply) (end : Result Summary Refusal)
+        → IsScript text found → SayEach (lines text) said
         → length replies ≡ length found → session_text 1 said replies ++ end_line end ≡ answers_text (line_numbers found) replies end }
     ensures run { (text answer : List ℕ) (found : List Line) (files : List NamedBytes) (n k : ℕ) (bytes_written : Option (List ℕ)) (accepted : Bool)
         → IsScript text found
@@ -57,7 +57,7 @@ pub fn a_session_over_a_good_script()
 /// What is read in two pieces, the first of them with whole lines, is run and answered as what is read at once: the answers are those to the first
 /// piece and then those to the second, whose lines are counted on.
 pub fn a_session_in_pieces()
-    ensures texts { (text more : List ℕ) (first second said : List Said) (replies : List Reply) → IsWhole text → SayEach (lines text) first
+    ensures texts { (text more : List ℕ) (first second said : List LineContent) (replies : List Reply) → IsWhole text → SayEach (lines text) first
         → SayEach (lines more) second
         → SayEach (lines (text ++ more)) said → length replies ≡ length (lines_said 1 said)
         → session_text 1 said replies ≡ session_text 1 first (take (length (lines_said 1 first)) replies)

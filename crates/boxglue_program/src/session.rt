@@ -8,9 +8,9 @@ ghost use Rattle.std.specs.Io.KnownBytes.{Consumes, IsAtEnd, Keeps};
 ghost use Rattle.dvi_device.specs.Seen.{device_view};
 ghost use Rattle.dvi_write.specs.Writing.{IsDeviceOf};
 ghost use Rattle.job_core.specs.Jobs.{writing_of};
-ghost use Rattle.boxglue_script.specs.SaidLines.{IsWhole};
+ghost use Rattle.boxglue_script.specs.LineContents.{IsWhole};
 ghost use Rattle.boxglue_program.specs.Sessions.{AnswersLines, RanSession, LacksSessionMemory, IsUnreadable, IsCutOff, IsSent, StopsIn};
-ghost use Rattle.boxglue_program.specs.Private.Dialogs.{dialog_of, IsCut};
+ghost use Rattle.boxglue_program.specs.Private.Dialogs.{dialog_of, IsCutAfterLines};
 
 use crate::dialog::{Dialog, OUTBOX_SIZE, Outbox};
 use job_core::{Device, FontFile, Job};
@@ -113,7 +113,7 @@ fn whole_size(piece: &[u8]) -> usize
 
 /// Cuts a piece after its last line feed: the lines that end in it, and what follows them.
 fn split_lines(piece: &[u8]) -> (&[u8], &[u8])
-    ensures { IsCut piece.now result.0.now result.1.now }
+    ensures { IsCutAfterLines piece.now result.0.now result.1.now }
 {
     piece.split_at(whole_size(piece))
 }

@@ -25,6 +25,6 @@ pub mod FieldPlaces
 pub mod OneCause
 pub mod TextLines
 pub mod ScriptLaws
-pub mod SaidLaws
+pub mod LineContentLaws
 pub mod RowLaws
 pub mod BlockLemmas

@@ -9,7 +9,7 @@ use Rattle.std.proofs.lemmas.List.Splits.{slice_split_first, slice_split_none, s
 use Rattle.std.proofs.lemmas.List.Sums.{fails_before_first, prefix_len_is, prefix_len_stops}
 use Rattle.std.proofs.lemmas.List.{take_all, drop_all, take-append-drop, append-nil, append_cancel_right, length-append}
 use Rattle.memchr.specs.Find.{IsFirstByte, is_byte}
-use Rattle.boxglue_script.specs.SaidLines.{IsWhole}
+use Rattle.boxglue_script.specs.LineContents.{IsWhole}
 use Rattle.boxglue_script.specs.Private.Reading.{in_line}
 
 abbrev pub is_feed : ℕ → Bool

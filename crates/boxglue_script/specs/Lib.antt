@@ -3,7 +3,7 @@ pub mod ParameterNames
 pub mod Grammar
 pub mod Causes
 pub mod Script
-pub mod SaidLines
+pub mod LineContents
 pub mod Blocks
 pub mod Rows
 pub mod Private

@@ -2,10 +2,10 @@
 
 ghost use Rattle.std.specs.Prelude.{◌≡◌, ◌++◌, ℕ, true, List};
 ghost use Rattle.std.specs.Str.Lines.{lines};
-ghost use Rattle.boxglue_script.specs.declared.said.Said.{Said};
+ghost use Rattle.boxglue_script.specs.declared.line_content.LineContent.{LineContent};
 ghost use Rattle.boxglue_script.specs.declared.script.Line.{Line};
 ghost use Rattle.boxglue_script.specs.Script.{IsScript};
-ghost use Rattle.boxglue_script.specs.SaidLines.{SayEach, SayOne, IsWhole, lines_said, has_no_bad};
+ghost use Rattle.boxglue_script.specs.LineContents.{SayEach, SayOne, IsWhole, lines_said, has_no_bad};
 ghost use Rattle.boxglue_script.specs.declared.cause.Cause.{Cause};
 ghost use Rattle.boxglue_script.specs.declared.cause.Cause.TheVariants as causes;
 ghost use Rattle.boxglue_script.specs.Causes.{IsFieldCause, IsCause};
@@ -76,15 +76,16 @@ pub fn lines_say_one_thing()
 
 /// What the lines of an input say in pieces is what they say at once.
 pub fn reading_in_pieces()
-    ensures { (text more : List ℕ) (first second : List Said) → IsWhole text → SayEach (lines text) first → SayEach (lines more) second
+    ensures { (text more : List ℕ) (first second : List LineContent) → IsWhole text → SayEach (lines text) first → SayEach (lines more) second
         → SayEach (lines (text ++ more)) (first ++ second) }
 {}
 
 /// The lines of a good script say just its commands, and no line is bad. An input without a bad line is a good script.
 pub fn a_good_script_has_no_bad_line()
-    ensures commands { (text : List ℕ) (found : List Line) (said : List Said) → IsScript text found → SayEach (lines text) said
+    ensures commands { (text : List ℕ) (found : List Line) (said : List LineContent) → IsScript text found → SayEach (lines text) said
         → lines_said 1 said ≡ found }
-    ensures none { (text : List ℕ) (found : List Line) (said : List Said) → IsScript text found → SayEach (lines text) said
+    ensures none { (text : List ℕ) (found : List Line) (said : List LineContent) → IsScript text found → SayEach (lines text) said
         → has_no_bad said ≡ true }
-    ensures good { (text : List ℕ) (said : List Said) → SayEach (lines text) said → has_no_bad said ≡ true → IsScript text (lines_said 1 said) }
+    ensures good { (text : List ℕ) (said : List LineContent) → SayEach (lines text) said → has_no_bad said ≡ true
+        → IsScript text (lines_said 1 said) }
 {}

@@ -11,15 +11,15 @@ mod commands;
 mod field_value;
 mod fields;
 pub mod laws;
+mod line_content;
 mod lines;
 mod name;
 mod parameter;
-mod said;
 mod script;
 mod values;
 
 pub use blocks::LineBlocks;
 pub use cause::Cause;
+pub use line_content::{LineContent, read_line};
 pub use lines::first_line;
-pub use said::{Said, read_line};
 pub use script::{Line, ScriptFault, read_blocks, read_script};

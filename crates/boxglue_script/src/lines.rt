@@ -4,7 +4,7 @@ ghost use Rattle.std.specs.Prelude.{◌≡◌, ◌⊎◌, ◌∷◌, ◌++◌, �
 ghost use Rattle.std.specs.List.{list_all, prefix_len};
 ghost use Rattle.std.specs.Str.Lines.{lines, strip_carriage_return};
 ghost use Rattle.boxglue_script.specs.ScriptLines.{is_passed_over, is_printable, is_space};
-ghost use Rattle.boxglue_script.specs.SaidLines.{IsWhole};
+ghost use Rattle.boxglue_script.specs.LineContents.{IsWhole};
 ghost use Rattle.boxglue_script.specs.Private.Reading.{in_line, is_plain, in_field, front_field, after_field};
 
 use memchr::memchr;

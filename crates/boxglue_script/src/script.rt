@@ -10,8 +10,8 @@ ghost use Rattle.boxglue_script.specs.declared.script.ScriptFault.TheVariants.{O
 
 use crate::blocks::{BLOCK_SIZE, LineBlocks};
 use crate::cause::Cause;
+use crate::line_content::{LineContent, read_line_of};
 use crate::lines::{first_line, is_plain};
-use crate::said::{Said, read_line_of};
 use job_machine::Command;
 use std::alloc::{AllocError, AllocFailed, Global};
 use thiserror::Error;
@@ -115,9 +115,9 @@ fn take_line(
     ensures last { vec_len found.old.last < most → OnOk result (vec_len found.new.last ≤ vec_len found.old.last + 1) }
 {
     match read_line_of(*found.last.allocator(), line, plain)? {
-        Said::Nothing => Ok(()),
-        Said::Command(command) => Ok(found.push(most, Line { number, command })?),
-        Said::Bad(cause) => Err(ScriptFault::BadScript {
+        LineContent::Nothing => Ok(()),
+        LineContent::Command(command) => Ok(found.push(most, Line { number, command })?),
+        LineContent::Bad(cause) => Err(ScriptFault::BadScript {
             line: number,
             cause,
         }),

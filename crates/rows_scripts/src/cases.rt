@@ -1,7 +1,7 @@
 //! A case, and the output of its runs.
 
 use crate::devices::{DeviceKind, FuseKind, Rerun};
-use crate::runs::{Script, Written};
+use crate::runs::{Script, ScriptOutput};
 use anyhow::{Context, Result, bail, ensure};
 use boxglue_program::FontFile;
 use std::alloc::{AllocError, Global};
@@ -151,7 +151,7 @@ impl<'a> Case<'a> {
     }
 
     /// Prints the shown part of a text, and whether all was accepted.
-    fn print<W: Write>(&self, alloc: Global, written: &Written, output: &mut W) -> Result<()> {
+    fn print<W: Write>(&self, alloc: Global, written: &ScriptOutput, output: &mut W) -> Result<()> {
         self.print_last_lines(alloc, &written.text, output)?;
         writeln!(output, "{}", verdict(written.accepted))?;
         Ok(())

@@ -9,7 +9,7 @@ use std::io::Write;
 
 /// The output of a script, and whether all was accepted.
 #[derive(Drop)]
-pub struct Written {
+pub struct ScriptOutput {
     pub text: Vec<u8>,
     pub accepted: bool,
 }
@@ -34,13 +34,13 @@ impl FuseRun {
     }
 
     /// The answers, the bytes in hexadecimal digits, sixteen a line, and the count of failures.
-    pub fn outcome_text(&self, alloc: Global) -> Result<Written> {
+    pub fn outcome_text(&self, alloc: Global) -> Result<ScriptOutput> {
         let mut text = self.answers.clone()?;
         for line in self.bytes().chunks(16) {
             writeln!(text, "{}", hex::encode(alloc, line)?)?;
         }
         writeln!(text, "failures {}", self.device.failures())?;
-        Ok(Written {
+        Ok(ScriptOutput {
             text,
             accepted: self.accepted,
         })
@@ -56,20 +56,20 @@ pub struct Script<'a> {
 
 impl Script<'_> {
     /// The output of the script on a device in memory.
-    pub fn on_memory(&self, alloc: Global) -> Result<Written> {
+    pub fn on_memory(&self, alloc: Global) -> Result<ScriptOutput> {
         let mut text = Vec::new(alloc);
         let done = run_memory(alloc, self.text, self.fonts, &mut text).ok();
         let accepted = done.context("memory was refused")?;
-        Ok(Written { text, accepted })
+        Ok(ScriptOutput { text, accepted })
     }
 
     /// The output of the script on a device that takes nothing.
-    pub fn on_broken(&self, alloc: Global) -> Result<Written> {
+    pub fn on_broken(&self, alloc: Global) -> Result<ScriptOutput> {
         let mut text = Vec::new(alloc);
         let done = run_script(alloc, self.text, self.fonts, Broken::new(), &mut text).ok();
         let (accepted, device) = done.context("memory was refused")?;
         writeln!(text, "failures {}", device.failures())?;
-        Ok(Written { text, accepted })
+        Ok(ScriptOutput { text, accepted })
     }
 
     /// Runs the script on a new device that may fail.

@@ -14,7 +14,7 @@ use Rattle.dvi_scan.specs.View.{mark_of}
 use Rattle.scaled_core.specs.Mark.{Mark, Glyph, Rule, Special}
 use Rattle.boxglue_calls.specs.Buffers.{Holds}
 use Rattle.boxglue_calls.specs.MarkTables.{AreMarkRows, MarkOutputs, glyph_row, page_rows, rule_row, special_row, text_starts}
-use Rattle.boxglue_calls.specs.declared.mark_rows.Written.{Written}
+use Rattle.boxglue_calls.specs.declared.mark_rows.RowProgress.{RowProgress}
 use Rattle.boxglue_calls.specs.declared.mark_table.DviMark.{DviMark}
 use Rattle.boxglue_calls.specs.declared.mark_table.DviPage.{DviPage}
 
@@ -46,20 +46,20 @@ HasRowsFor metrics table bytes places marks =
     (rows : List DviMark) × AreMarkRows bytes (widths_of metrics table) rows marks × (text_starts rows ≡ places)
 
 -- The buffers have a place for the row of what is seen next: a mark comes after a page.
-abbrev pub HasPlace : Sight → Written → MarkOutputs → Type 0
+abbrev pub HasPlace : Sight → RowProgress → MarkOutputs → Type 0
 HasPlace (sights.Page counts) w buffers = w.pages < length buffers.pages
 HasPlace (sights.Mark mark) w buffers =
     (0 < w.pages) × (w.pages ≤ length buffers.pages) × (w.marks < length buffers.marks) × (w.row.marks ≤ w.marks)
 
 -- One row of a page is written, after the others.
-pub record BeginsPage (counts : List ℤ) (old new : Written) (before after : List DviPage) : Type 0 where
+pub record BeginsPage (counts : List ℤ) (old new : RowProgress) (before after : List DviPage) : Type 0 where
   pub row : new.row ≡ record { counts = counts; first_mark = old.marks; marks = 0 }
   pub pages_count : new.pages ≡ old.pages + 1
   pub marks_count : new.marks ≡ old.marks
   pub written : after ≡ take old.pages before ++ ((new.row ∷ []) ++ drop (old.pages + 1) before)
 
 -- One row of a mark is written, after the others, and the last row of a page has one mark more.
-pub record AddsMark (mark : DviMark) (old new : Written) (before after : MarkOutputs) : Type 0 where
+pub record AddsMark (mark : DviMark) (old new : RowProgress) (before after : MarkOutputs) : Type 0 where
   pub row : new.row ≡ record old.row { marks = old.row.marks + 1 }
   pub pages_count : new.pages ≡ old.pages
   pub marks_count : new.marks ≡ old.marks + 1
@@ -67,7 +67,7 @@ pub record AddsMark (mark : DviMark) (old new : Written) (before after : MarkOut
   pub mark_written : after.marks ≡ take old.marks before.marks ++ ((mark ∷ []) ++ drop (old.marks + 1) before.marks)
 
 -- The row of what is seen is written.
-abbrev pub WritesSight : Sight → Sights → (old new : Written) → (before after : MarkOutputs) → Type 0
+abbrev pub WritesSight : Sight → Sights → (old new : RowProgress) → (before after : MarkOutputs) → Type 0
 WritesSight (sights.Page counts) s old new before after = BeginsPage counts old new before.pages after.pages × (after.marks ≡ before.marks)
 WritesSight (sights.Mark mark) s old new before after = AddsMark (row_of s.fonts s.at (mark_of mark)) old new before after
 

@@ -4,7 +4,7 @@ ghost use Rattle.std.specs.Prelude.{◌≡◌, ◌<◌, ◌≤◌, ◌+◌, ◌-
 ghost use Rattle.std.specs.Str.Lines.{lines};
 ghost use Rattle.tfm_core.specs.NamedBytes.{NamedBytes};
 ghost use Rattle.job_core.specs.Jobs.{RunsTo};
-ghost use Rattle.boxglue_script.specs.SaidLines.{IsWhole};
+ghost use Rattle.boxglue_script.specs.LineContents.{IsWhole};
 ghost use Rattle.boxglue_script.specs.Script.{IsScript};
 ghost use Rattle.boxglue_program.specs.Runs.{commands_of, line_numbers};
 ghost use Rattle.boxglue_program.specs.Texts.{answer_lines};

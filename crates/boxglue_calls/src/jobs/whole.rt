@@ -32,14 +32,18 @@ pub struct ReplySizes {
 
 /// The rows of the replies to a script and its end, the device with the bytes of its DVI file, and the status.
 #[derive(Drop)]
-struct Replied {
+struct ScriptReplies {
     rows: Vec<ReplyRow>,
     device: Memory,
     status: u32,
 }
 
 /// Runs the lines of a script with these font files on a device in memory, and ends the job.
-fn reply_to_lines(alloc: Global, lines: &[Line], files: &[FontFile]) -> Result<Replied, AllocError>
+fn reply_to_lines(
+    alloc: Global,
+    lines: &[Line],
+    files: &[FontFile],
+) -> Result<ScriptReplies, AllocError>
     ensures { IfOk result (λ ran. (replies : List Reply) × (end : Result Summary Refusal)
         × WasRun files.now 0 (commands_of lines.now) replies end ran.device.failures (Some ran.device.bytes) × (length replies ≡ length lines.now)
         × (ran.rows.items ≡ reply_rows (line_numbers lines.now) replies ++ end_row end ∷ []) × (ran.status ≡ run_status replies end)) }
@@ -52,7 +56,7 @@ fn reply_to_lines(alloc: Global, lines: &[Line], files: &[FontFile]) -> Result<R
     let status = reply_to_each(&mut job, lines, &mut rows);
     let end = job.finish();
     rows.push(end_row(&end))?;
-    Ok(Replied {
+    Ok(ScriptReplies {
         rows,
         device: job.into_device(),
         status: status.max(reply_status(&end)),
@@ -60,14 +64,14 @@ fn reply_to_lines(alloc: Global, lines: &[Line], files: &[FontFile]) -> Result<R
 }
 
 /// The replies to a bad script: its one row, and no bytes.
-fn reply_to_bad(alloc: Global, line: usize, cause: Cause) -> Result<Replied, AllocError>
+fn reply_to_bad(alloc: Global, line: usize, cause: Cause) -> Result<ScriptReplies, AllocError>
     ensures rows { IfOk result (λ ran. ran.rows.items ≡ bad_row line cause ∷ []) }
     ensures device { IfOk result (λ ran. ran.device.bytes ≡ []) }
     ensures status { IfOk result (λ ran. ran.status ≡ 1) }
 {
     let mut rows = Vec::new(alloc);
     rows.push(bad_row(line, cause))?;
-    Ok(Replied {
+    Ok(ScriptReplies {
         rows,
         device: Memory::new(alloc),
         status: REFUSED,
@@ -75,7 +79,11 @@ fn reply_to_bad(alloc: Global, line: usize, cause: Cause) -> Result<Replied, All
 }
 
 /// Runs a script with these fonts, which have names, on a device in memory.
-fn reply_to_script(alloc: Global, script: &[u8], fonts: &[Font<'_>]) -> Result<Replied, AllocError>
+fn reply_to_script(
+    alloc: Global,
+    script: &[u8],
+    fonts: &[Font<'_>],
+) -> Result<ScriptReplies, AllocError>
     requires { are_named fonts.now ≡ true }
     ensures { IfOk result (λ ran. IsReplied script.now (files_of fonts.now) ran.rows.items ran.device.bytes ran.status) }
 {

@@ -3,7 +3,7 @@ use Rattle.std.specs.Prelude.{◌≡◌, ◌++◌, ℕ, Bool, List, Contains, Op
 use Rattle.std.specs.Coded.{Coded, code_by, coded×, coded_ℕ, coded_bool, coded_list}
 use Rattle.job_core.specs.Jobs.{JobView}
 use Rattle.job_core.specs.Private.JobViewCode.{coded_job_view}
-use Rattle.boxglue_script.specs.SaidLines.{IsWhole}
+use Rattle.boxglue_script.specs.LineContents.{IsWhole}
 use Rattle.boxglue_program.specs.Sessions.{DialogView, SessionView, IsSent}
 
 -- A dialog by its parts.
@@ -30,7 +30,7 @@ abbrev pub session_of : JobView → ℕ → Bool → Bool → List ℕ → ℕ �
 session_of job lines accepted reads kept left = record { dialog = dialog_of job lines accepted; reads = reads; kept = kept; left = left }
 
 -- A piece was cut after its last line feed.
-pub record IsCut (piece whole rest : List ℕ) : Type 0 where
+pub record IsCutAfterLines (piece whole rest : List ℕ) : Type 0 where
   pub split : piece ≡ whole ++ rest
   pub ends : IsWhole whole
   pub unended : Contains rest 10 → ⊥

@@ -1,5 +1,5 @@
 use Rattle.std.specs.Str.Lines.{lines}
-use Rattle.boxglue_script.proofs.SaidLaws.{script_said, said_script}
+use Rattle.boxglue_script.proofs.LineContentLaws.{script_said, said_script}
 use Rattle.boxglue_script.proofs.laws.a_good_script_has_no_bad_line.Goals as goal
 
 pub returns-clause-commands : goal.returns-clause-commands

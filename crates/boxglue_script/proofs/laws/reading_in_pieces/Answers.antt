@@ -1,4 +1,4 @@
-use Rattle.boxglue_script.proofs.SaidLaws.{say_in_pieces}
+use Rattle.boxglue_script.proofs.LineContentLaws.{say_in_pieces}
 use Rattle.boxglue_script.proofs.laws.reading_in_pieces.Goals as goal
 
 pub returns : goal.returns

@@ -3,7 +3,7 @@ use Rattle.std.proofs.Common.{inr, sym, subst, List}
 use Rattle.boxglue_script.specs.declared.script.Line.{Line}
 use Rattle.boxglue_script.specs.Blocks.{lines_of}
 use Rattle.boxglue_script.specs.Private.Reading.{ReadsOn}
-use Rattle.boxglue_script.proofs.SaidLaws.{gives_read, reads_on, stops_at}
+use Rattle.boxglue_script.proofs.LineContentLaws.{gives_read, reads_on, stops_at}
 use Rattle.boxglue_script.proofs.script.take_line.Goals as goal
 
 pub returns-in_err-read_line_of-clause-memory : goal.returns-in_err-read_line_of-clause-memory

@@ -1,7 +1,7 @@
 -- One more line was run and answered.
 use Rattle.std.proofs.Common.{◌<◌, ◌++◌, [], length, arith}
 use Rattle.std.proofs.lemmas.Bool.Decides.{nat_tests}
-use Rattle.boxglue_script.proofs.SaidLaws.{on_any_err}
+use Rattle.boxglue_script.proofs.LineContentLaws.{on_any_err}
 use Rattle.boxglue_program.specs.Private.Dialogs.{dialog_of, outbox_of}
 use Rattle.boxglue_program.proofs.DialogLaws.{up_to_start, up_to_more, up_to_end, stops_after, sends_none, sends_line, sends_no_line}
 use Rattle.boxglue_program.proofs.dialog.Outbox.answer_lines.Goals as goal

@@ -1,9 +1,9 @@
 -- What was read of the line.
 use Rattle.std.proofs.Common.{refl, sym, ◌∙◌}
-use Rattle.boxglue_script.specs.declared.said.Said.TheVariants.{Command, Bad}
+use Rattle.boxglue_script.specs.declared.line_content.LineContent.TheVariants.{Command, Bad}
 use Rattle.boxglue_script.proofs.ScriptLaws.{line_said, line_fault}
-use Rattle.boxglue_script.proofs.SaidLaws.{says_one, read_gives, on_any_err}
-use Rattle.boxglue_script.proofs.said.read_line_of.Goals as goal
+use Rattle.boxglue_script.proofs.LineContentLaws.{says_one, read_gives, on_any_err}
+use Rattle.boxglue_script.proofs.line_content.read_line_of.Goals as goal
 
 pub returns-in_err-command-clause-memory : goal.returns-in_err-command-clause-memory
 returns-in_err-command-clause-memory c =

@@ -1,34 +1,34 @@
 -- What the lines of an input say, when bad lines may be among them (own).
 use Rattle.std.specs.Prelude.{◌≡◌, ◌⊎◌, ℕ, ◌+◌, Bool, true, false, List, [], ◌∷◌, ◌++◌}
 use Rattle.boxglue_script.specs.declared.script.Line.{Line}
-use Rattle.boxglue_script.specs.declared.said.Said.{Said}
-use Rattle.boxglue_script.specs.declared.said.Said.TheVariants.{Nothing, Command, Bad}
+use Rattle.boxglue_script.specs.declared.line_content.LineContent.{LineContent}
+use Rattle.boxglue_script.specs.declared.line_content.LineContent.TheVariants.{Nothing, Command, Bad}
 use Rattle.boxglue_script.specs.ScriptLines.{is_passed_over}
 use Rattle.boxglue_script.specs.Causes.{IsCause}
 use Rattle.boxglue_script.specs.Script.{IsPassedOver, SaysLine}
 
 -- A line says nothing, since it is passed over; or it gives this command; or it is bad, and this is the cause.
-abbrev pub Says : List ℕ → Said → Type 0
+abbrev pub Says : List ℕ → LineContent → Type 0
 Says line Nothing = IsPassedOver line
 Says line (Command command) = SaysLine line command
 Says line (Bad cause) = (is_passed_over line ≡ false) × IsCause cause line
 
 -- Each of the lines says what stands at its place.
-abbrev pub SayEach : List (List ℕ) → List Said → Type 0
+abbrev pub SayEach : List (List ℕ) → List LineContent → Type 0
 SayEach [] [] = Unit {0}
 SayEach [] (said ∷ more) = ⊥
 SayEach (line ∷ rest) [] = ⊥
 SayEach (line ∷ rest) (said ∷ more) = Says line said × SayEach rest more
 
 -- The commands that lines give, each with the number of its line. The first line has this number.
-abbrev pub lines_said : ℕ → List Said → List Line
+abbrev pub lines_said : ℕ → List LineContent → List Line
 lines_said number [] = []
 lines_said number (Nothing ∷ more) = lines_said (number + 1) more
 lines_said number (Command command ∷ more) = record { number = number; command = command } ∷ lines_said (number + 1) more
 lines_said number (Bad cause ∷ more) = lines_said (number + 1) more
 
 -- No line is bad.
-abbrev pub has_no_bad : List Said → Bool
+abbrev pub has_no_bad : List LineContent → Bool
 has_no_bad [] = true
 has_no_bad (Nothing ∷ more) = has_no_bad more
 has_no_bad (Command command ∷ more) = has_no_bad more
@@ -40,4 +40,4 @@ IsWhole text = (text ≡ []) ⊎ ((front : List ℕ) × (text ≡ front ++ 10 �
 
 -- What lines say is one: there is such a list, and no other.
 abbrev pub SayOne : List (List ℕ) → Type 0
-SayOne lines = (said : List Said) × SayEach lines said × ((other : List Said) → SayEach lines other → other ≡ said)
+SayOne lines = (said : List LineContent) × SayEach lines said × ((other : List LineContent) → SayEach lines other → other ≡ said)

@@ -3,11 +3,11 @@
 ghost use Rattle.std.specs.Prelude.{◌≡◌, true, IfOk, OnErr, IsOk};
 ghost use Rattle.std.specs.List.{list_all};
 ghost use Rattle.job_machine.specs.declared.command.Command.{Command as ACommand};
-ghost use Rattle.boxglue_script.specs.declared.said.Said.{Said as ASaid};
+ghost use Rattle.boxglue_script.specs.declared.line_content.LineContent.{LineContent as ALineContent};
 ghost use Rattle.boxglue_script.specs.ScriptLines.{is_printable};
 ghost use Rattle.boxglue_script.specs.Causes.{IsPrintable};
 ghost use Rattle.boxglue_script.specs.Script.{SaysLine};
-ghost use Rattle.boxglue_script.specs.SaidLines.{Says};
+ghost use Rattle.boxglue_script.specs.LineContents.{Says};
 ghost use Rattle.boxglue_script.specs.Private.Reading.{command_of_line};
 
 use crate::cause::Cause;
@@ -18,7 +18,7 @@ use std::alloc::{AllocError, Global};
 
 /// What a line of an input says.
 #[derive(Debug, Drop)]
-pub enum Said {
+pub enum LineContent {
     /// The line is empty or begins with `%`.
     Nothing,
     /// The line gives this command.
@@ -28,27 +28,31 @@ pub enum Said {
 }
 
 /// Reads one line, without its end. The error is a refused growth, only where the line gives a command.
-pub fn read_line(alloc: Global, line: &[u8]) -> Result<Said, AllocError>
+pub fn read_line(alloc: Global, line: &[u8]) -> Result<LineContent, AllocError>
     ensures said { IfOk result (Says line.now) }
-    ensures only { IfOk result (λ said. (other : ASaid) → Says line.now other → other ≡ said) }
+    ensures only { IfOk result (λ said. (other : ALineContent) → Says line.now other → other ≡ said) }
     ensures memory { OnErr result ((command : ACommand) × SaysLine line.now command) }
 {
     read_line_of(alloc, line, false)
 }
 
 /// Reads one line, as `read_line`. A line of a plain text is printable, and is not tested again.
-pub(crate) fn read_line_of(alloc: Global, line: &[u8], plain: bool) -> Result<Said, AllocError>
+pub(crate) fn read_line_of(
+    alloc: Global,
+    line: &[u8],
+    plain: bool,
+) -> Result<LineContent, AllocError>
     requires { plain ≡ true → IsPrintable line.now }
     ensures said { IfOk result (Says line.now) }
-    ensures only { IfOk result (λ said. (other : ASaid) → Says line.now other → other ≡ said) }
+    ensures only { IfOk result (λ said. (other : ALineContent) → Says line.now other → other ≡ said) }
     ensures memory { OnErr result ((command : ACommand) × SaysLine line.now command) }
 {
     if is_passed_over(line) {
-        return Ok(Said::Nothing);
+        return Ok(LineContent::Nothing);
     }
     match command_of(alloc, line, plain)? {
-        Ok(command) => Ok(Said::Command(command)),
-        Err(cause) => Ok(Said::Bad(cause)),
+        Ok(command) => Ok(LineContent::Command(command)),
+        Err(cause) => Ok(LineContent::Bad(cause)),
     }
 }
 

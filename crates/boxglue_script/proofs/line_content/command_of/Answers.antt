@@ -4,7 +4,7 @@ use Rattle.std.proofs.lemmas.Grind.{common_steps}
 use Rattle.boxglue_script.specs.ScriptLines.{fields_of}
 use Rattle.boxglue_script.specs.Private.Reading.{first_word, command_by, command_of, command_of_printable, command_of_line}
 use Rattle.boxglue_script.proofs.FieldLemmas.{line_command}
-use Rattle.boxglue_script.proofs.said.command_of.Goals as goal
+use Rattle.boxglue_script.proofs.line_content.command_of.Goals as goal
 
 pub returns-clause-read : goal.returns-clause-read
 unfolding command_of_line command_of_printable

@@ -4,12 +4,12 @@ use Rattle.std.specs.Str.Lines.{lines}
 use Rattle.job_machine.specs.declared.command.Command.{Command as ACommand}
 use Rattle.boxglue_script.specs.declared.cause.Cause.{Cause}
 use Rattle.boxglue_script.specs.declared.script.Line.{Line}
-use Rattle.boxglue_script.specs.declared.said.Said.{Said}
-use Rattle.boxglue_script.specs.declared.said.Said.TheVariants.{Nothing, Command, Bad}
+use Rattle.boxglue_script.specs.declared.line_content.LineContent.{LineContent}
+use Rattle.boxglue_script.specs.declared.line_content.LineContent.TheVariants.{Nothing, Command, Bad}
 use Rattle.boxglue_script.specs.ScriptLines.{is_passed_over}
 use Rattle.boxglue_script.specs.Causes.{IsCause}
 use Rattle.boxglue_script.specs.Script.{SaysLine, SayFrom}
-use Rattle.boxglue_script.specs.SaidLines.{Says, SayEach, SayOne, IsWhole, lines_said, has_no_bad}
+use Rattle.boxglue_script.specs.LineContents.{Says, SayEach, SayOne, IsWhole, lines_said, has_no_bad}
 use Rattle.boxglue_script.specs.declared.script.ScriptFault.TheVariants.{BadScript}
 use Rattle.boxglue_script.specs.Private.Reading.{command_of_line, LinesOrFault, lines_then, reading_from, GivesCommand, ReadsOn, StopsAtLine}
 use Rattle.boxglue_script.proofs.LineLemmas.{lines_joined}
@@ -17,13 +17,13 @@ use Rattle.boxglue_script.proofs.ScriptLaws.{line_said, line_read, line_fault}
 use Rattle.boxglue_script.proofs.OneCause.{one_line_cause, not_said}
 
 -- Two lists of lines say what each says.
-pub say_joined : (all more : List (List ℕ)) (first second : List Said) → SayEach all first → SayEach more second → SayEach (all ++ more) (first ++ second)
+pub say_joined : (all more : List (List ℕ)) (first second : List LineContent) → SayEach all first → SayEach more second → SayEach (all ++ more) (first ++ second)
 say_joined [] more [] second h k = k
 say_joined [] more (said ∷ first) second h k = absurd h
 say_joined (line ∷ all) more [] second h k = absurd h
 say_joined (line ∷ all) more (said ∷ first) second h k = (h.0, say_joined all more first second h.1 k)
 
-pub say_in_pieces : (text more : List ℕ) (first second : List Said) → IsWhole text → SayEach (lines text) first → SayEach (lines more) second → SayEach (lines (text ++ more)) (first ++ second)
+pub say_in_pieces : (text more : List ℕ) (first second : List LineContent) → IsWhole text → SayEach (lines text) first → SayEach (lines more) second → SayEach (lines (text ++ more)) (first ++ second)
 say_in_pieces text more first second whole h k =
     subst (λ (all : List (List ℕ)). SayEach all (first ++ second)) (sym (lines_joined text more whole)) (say_joined (lines text) (lines more) first second h k)
 
@@ -36,12 +36,12 @@ pub fault_read : (line : List ℕ) (cause : Cause) → is_passed_over line ≡ f
 fault_read line cause counted holds = fault_by line cause (command_of_line line) refl counted holds
 
 -- What a line says, by what is read of it.
-said_by : Bool → Result ACommand Cause → Said
+said_by : Bool → Result ACommand Cause → LineContent
 said_by true read = Nothing
 said_by false (Ok command) = Command command
 said_by false (Err cause) = Bad cause
 
-abbrev what_says : List ℕ → Said
+abbrev what_says : List ℕ → LineContent
 what_says line = said_by (is_passed_over line) (command_of_line line)
 
 says_by : (line : List ℕ) (b : Bool) (r : Result ACommand Cause) → is_passed_over line ≡ b → command_of_line line ≡ r → Says line (said_by b r)
@@ -50,17 +50,17 @@ says_by line true r e read = e
 says_by line false (Ok command) e read = line_said line command e read
 says_by line false (Err cause) e read = (e, line_fault line cause _ refl read)
 
-says_only : (line : List ℕ) (said : Said) → Says line said → said ≡ what_says line
+says_only : (line : List ℕ) (said : LineContent) → Says line said → said ≡ what_says line
 unfolding said_by
 says_only line Nothing h = rw h refl
 says_only line (Command command) h = rw (h.counted, line_read line command h) refl
 says_only line (Bad cause) h = rw (h.0, fault_read line cause h.0 h.1) refl
 
 -- A line says one thing.
-pub says_one : (line : List ℕ) (said other : Said) → Says line said → Says line other → other ≡ said
+pub says_one : (line : List ℕ) (said other : LineContent) → Says line said → Says line other → other ≡ said
 says_one line said other h k = says_only line other k ∙ sym (says_only line said h)
 
-says_each : List (List ℕ) → List Said
+says_each : List (List ℕ) → List LineContent
 says_each [] = []
 says_each (line ∷ all) = what_says line ∷ says_each all
 
@@ -69,7 +69,7 @@ unfolding says_each
 each_says [] = tt
 each_says (line ∷ all) = (says_by line _ _ refl refl, each_says all)
 
-pub each_one : (all : List (List ℕ)) (said other : List Said) → SayEach all said → SayEach all other → other ≡ said
+pub each_one : (all : List (List ℕ)) (said other : List LineContent) → SayEach all said → SayEach all other → other ≡ said
 each_one [] [] [] h k = refl
 each_one [] [] (o ∷ other) h k = absurd k
 each_one [] (s ∷ said) other h k = absurd h
@@ -87,7 +87,7 @@ one_command : (line : List ℕ) (command other : ACommand) → SaysLine line com
 one_command line command other h k = let same : Ok other ≡ Ok command = sym (line_read line other k) ∙ line_read line command h in cc
 
 -- The lines of a good script say its commands, and none is bad.
-pub script_said : (number : ℕ) (all : List (List ℕ)) (found : List Line) (said : List Said) → SayFrom number all found → SayEach all said → (lines_said number said ≡ found) × (has_no_bad said ≡ true)
+pub script_said : (number : ℕ) (all : List (List ℕ)) (found : List Line) (said : List LineContent) → SayFrom number all found → SayEach all said → (lines_said number said ≡ found) × (has_no_bad said ≡ true)
 script_said number [] found [] h k = (sym h, refl)
 script_said number [] found (s ∷ said) h k = absurd k
 script_said number (line ∷ all) found [] h k = absurd k
@@ -101,7 +101,7 @@ script_said number (line ∷ all) found (Command other ∷ said) (inr (command, 
 script_said number (line ∷ all) found (Bad cause ∷ said) (inr (command, more, is, says, h)) k = absurd (not_said line cause command k.0.1 says)
 
 -- Lines of which none is bad are those of a good script.
-pub said_script : (number : ℕ) (all : List (List ℕ)) (said : List Said) → SayEach all said → has_no_bad said ≡ true → SayFrom number all (lines_said number said)
+pub said_script : (number : ℕ) (all : List (List ℕ)) (said : List LineContent) → SayEach all said → has_no_bad said ≡ true → SayFrom number all (lines_said number said)
 said_script number [] [] h good = refl
 said_script number [] (s ∷ said) h good = absurd h
 said_script number (line ∷ all) [] h good = absurd h
