@@ -213,4 +213,5 @@ def main():
     draw_memory(figures, words.out)
 
 
-main()
+if __name__ == "__main__":
+    main()

@@ -1,11 +1,15 @@
 """The documents: each crate has a README.md of the one form; links and the files that these name are there; nothing is said twice, and all together are no longer than allowed.
-Only texts are compared, and no program is run."""
+The tables and charts of docs/SPEED.md are those that bench/ makes of its data, and docs/EVIDENCE.md counts the edits. No program is run but these scripts."""
 import glob
 import os
 import re
+import shutil
+import subprocess
+import sys
+import tempfile
 from functools import partial
 
-TITLE = "the documents: the README.md of each crate, links, lengths, and no run of ten words that stands in two of them"
+TITLE = "the documents: the README.md of each crate, links, lengths, figures, and no run of ten words that stands in two of them"
 TRIES = False
 DOCUMENTS = ("README.md", "CHANGELOG.md", "docs/*.md", "crates/README.md", "crates/*/README.md", "tests/CASES.md", "bench/*/README.md", "examples/README.md", "examples/*/README.md",
              "bindings/python/README.md")
@@ -99,9 +103,30 @@ def lengths(root):
     return "; ".join([*wrong, *([f"all have {whole} words"] if whole > MOST_OF_ALL else [])]) or None
 
 
+def speed(root):
+    """What bench/ makes anew of docs/SPEED.md and its charts that is not as it stands."""
+    with tempfile.TemporaryDirectory() as folder:
+        shutil.copy(f"{root}/docs/SPEED.md", folder)
+        for words in (("tables.py", "--page", f"{folder}/SPEED.md"), ("charts.py", "--out", folder)):
+            ran = subprocess.run([sys.executable, "-B", f"{root}/bench/{words[0]}", *words[1:]], stdin=subprocess.DEVNULL, capture_output=True, text=True, timeout=60)
+            if ran.returncode:
+                return f"bench/{words[0]}: {ran.stderr}"
+        other = [it for it in sorted(os.listdir(folder)) if read(f"{folder}/{it}") != read(f"{root}/docs/{it}")]
+    return f"another run of bench/tables.py and bench/charts.py gives another {', '.join(other)}" if other else None
+
+
+def edits(root):
+    """Whether docs/EVIDENCE.md counts the edits as they are."""
+    counts = [f"{len(glob.glob(f'{root}/crates/*/{folder}/*.edit')):,}" for folder in ("must-fail", "wrong-bodies")]
+    line = f"{counts[0]} edits are in `must-fail/`, {counts[1]} in `wrong-bodies/`."
+    return None if line in read(f"{root}/docs/EVIDENCE.md").splitlines() else f"docs/EVIDENCE.md has no line {line!r}"
+
+
 def cases(_programs, root):
     """The cases, by name."""
     yield "README.md of each crate", partial(crates, root)
     yield "links", partial(links, root)
     yield "lengths", partial(lengths, root)
     yield "nothing twice", partial(said_twice, root)
+    yield "speed", partial(speed, root)
+    yield "edits", partial(edits, root)

@@ -1,0 +1,118 @@
+#!/usr/bin/env python3
+"""Writes the figures of a run into the tables of docs/SPEED.md: bench/tables.py [--data FILE] [--page FILE], by default docs/speed.tsv and docs/SPEED.md.
+
+A row is found by its first cells. Its last cell, the goal, stays: whether it is still met is for the reader to see."""
+
+import argparse
+import os
+import re
+
+from charts import DOCS, Figures
+
+# The rows with a peer, by how they begin: their case.
+BESIDE = {
+    "`paragraphs`, tolerance 200": "paragraphs_200", "`paragraphs`, tolerance 10000": "paragraphs_10000", "`list`": "list", "`paint`": "paint",
+    "`many_fonts`, 2 loaded": "many_fonts_2", "`many_fonts`, 256 loaded": "many_fonts_256",
+}
+# The rows of what one unit more takes: the two cases that differ in it.
+MORE = {
+    "`short_lines`, each line more": ("short_lines_100000", "short_lines_1000000"), "`fonts`, each reading more": ("fonts_1", "fonts_201"),
+    "`small_pages`, each box more that is shipped": ("small_pages_ship_6000", "small_pages_ship_60000"),
+    "`small_pages`, each box more that is made void": ("small_pages_void_6000", "small_pages_void_60000"),
+}
+
+
+def millions(count):
+    """A count of instructions in words, with a part where it is below a million."""
+    return f"{count / 1e6:,.{0 if count >= 1e6 else 1}f} million"
+
+
+def totals(row):
+    """The seconds, instructions and megabytes of a row."""
+    return f"{float(row['seconds']):.3f} s, {millions(int(row['instructions']))}, {int(row['memory']) / 1e6:.1f} MB"
+
+
+def beside(figures, case):
+    """The cells of a case with a peer."""
+    rows, peer = figures.rows[case], figures.peer(case)
+    ratios = [f"{figures.ratio(case, it):.2f}" for it in ("seconds", "instructions", "memory")]
+    return [totals(rows["boxglue"]), f"{peer['program']}: {totals(peer)}", *ratios]
+
+
+def more(figures, case):
+    """What one unit more takes: microseconds, instructions, and bytes of memory."""
+    few, many = (figures.rows[it]["boxglue"] for it in MORE[case])
+    units = int(many["units"]) - int(few["units"])
+    return [(float(many[it]) - float(few[it])) / units for it in ("seconds", "instructions", "memory")]
+
+
+def more_cells(figures, case):
+    """The cells of a row of what one unit more takes."""
+    seconds, instructions, memory = more(figures, case)
+    if case.startswith("`short_lines`"):
+        return [f"{memory:.0f} bytes"]
+    if case.startswith("`fonts`"):
+        return [f"{seconds * 1e3:.2f} ms, {instructions / 1e6:.2f} million, {memory:,.0f} bytes"]
+    return [f"{seconds * 1e6:.2f} us, {instructions:,.0f} instructions, {memory:.0f} bytes"]
+
+
+def lines_cells(figures, count):
+    """The cells of a row of so many short lines."""
+    case = f"short_lines_{count.replace(',', '')}"
+    return [f"{totals(figures.rows[case]['boxglue'])}: {figures.each(case, 'boxglue', 'seconds') * 1e6:.2f} us a line"]
+
+
+def start_cells(figures):
+    """The cells of the row of an empty script."""
+    row = figures.rows["start"]["boxglue"]
+    return [f"{float(row['seconds']) * 1e3:.1f} ms, {millions(int(row['instructions']))}, {int(row['memory']) / 1e6:.1f} MB"]
+
+
+def place_cells(figures, width, tolerance, places):
+    """The cells of a row of what a place takes."""
+    case = f"places_{width}_{tolerance}_{places.replace(',', '')}"
+    each = [f"{figures.each(case, it, 'seconds') * 1e6:.2f} us, {figures.each(case, it, 'instructions'):,.0f}" for it in ("boxglue", "tex")]
+    return [*each, *[f"{figures.ratio(case, it):.2f}" for it in ("seconds", "instructions")]]
+
+
+def cells_of(figures, cells):
+    """The cells of a row after its name, or None where the row has no figures."""
+    name = cells[0]
+    lines = re.fullmatch(r"`short_lines`, ([\d,]+) lines", name)
+    place = re.fullmatch(r"(\d+pt), (-?\d+)", name)
+    if name in BESIDE and len(cells) == 7:
+        return [*beside(figures, BESIDE[name]), cells[-1]]
+    if name in MORE:
+        return [*more_cells(figures, name), cells[-1]]
+    if lines:
+        return [*lines_cells(figures, lines[1]), cells[-1]]
+    if name == "`start`" and len(cells) == 3 and cells[-1]:
+        return [*start_cells(figures), cells[-1]]
+    if place:
+        return [cells[1], *place_cells(figures, place[1], place[2], cells[1])]
+    return None
+
+
+def changed(figures, line):
+    """A line of the page with these figures."""
+    if not line.startswith("| "):
+        return line
+    cells = [it.strip() for it in line.strip().strip("|").split("|")]
+    found = cells_of(figures, cells)
+    return f"| {' | '.join([cells[0], *found])} |".replace("|  |", "| |") if found else line
+
+
+def main():
+    """Reads the figures and writes the page."""
+    parser = argparse.ArgumentParser(description=__doc__, formatter_class=argparse.RawDescriptionHelpFormatter)
+    parser.add_argument("--data", default=os.path.join(DOCS, "speed.tsv"))
+    parser.add_argument("--page", default=os.path.join(DOCS, "SPEED.md"))
+    given = parser.parse_args()
+    figures = Figures([given.data])
+    with open(given.page) as page:
+        lines = page.read().split("\n")
+    with open(given.page, "w") as page:
+        page.write("\n".join(changed(figures, line) for line in lines))
+
+
+main()
