@@ -85,6 +85,9 @@ def main():
     parser.add_argument("--rounds", type=int, default=200, help="how often each makes all calls (200)")
     parser.add_argument("ways", nargs="*", metavar="WAY", help=", ".join(ways))
     words = parser.parse_args()
+    for way in words.ways:
+        if way not in ways:
+            parser.error(f"there is no way {way}")
     archive, wells = os.path.abspath(words.archive), []
     with tempfile.TemporaryDirectory(prefix="boxglue-callers-") as folder:
         with open(f"{ROOT}/examples/{SCRIPT}", encoding="ascii") as it:
