@@ -2,15 +2,13 @@
 growth_kinds.py says what may come of it. It proves nothing, and shows it for these scripts alone."""
 import functools
 import os
-import shutil
 import subprocess
 import tempfile
 from collections import Counter
 
-from steps import growth_kinds
+from steps import growth_kinds, preloads
 from steps.growth_kinds import ALONE, NOTHING, WHOLE, Ended, Kind, Wrong, answered, kind_of, order_wrong
 from steps.growth_scripts import FILES, HALFWAY, PAGES, READINGS, WITH_FONTS, read_script
-from steps.outcome import Skipped
 
 TITLE = "runs of the program in which each growth of memory is refused in turn"
 NEEDS_PROGRAM = True
@@ -19,29 +17,11 @@ LIMIT = 30
 MADE = "out.dvi"
 
 
-@functools.lru_cache(None)
-def compiler():
-    """The C compiler of the kit, whose first page `rt doc` names, or None where there is none."""
-    if not shutil.which("rt"):
-        return None
-    page = subprocess.run(["rt", "doc"], capture_output=True, text=True, timeout=LIMIT).stdout.strip()
-    return shutil.which(f"{os.path.dirname(page)}/toolchain/bin/clang")
-
-
-def build(folder):
-    """Builds the library that refuses a growth, and returns its path."""
-    source = os.path.join(os.path.dirname(os.path.abspath(__file__)), "refuse_growth.c")
-    path = f"{folder}/refuse_growth.so"
-    words = [compiler(), "-O1", "-shared", "-fPIC", "-nostdlib", "-fuse-ld=lld", "-o", path, source]
-    subprocess.run(words, check=True, capture_output=True, timeout=LIMIT)
-    return path
-
-
 class Refusing:
     """A program whose growths can be refused, with files in a folder."""
 
     def __init__(self, program, folder, files):
-        self.program, self.folder, self.library = program, folder, build(folder)
+        self.program, self.folder, self.library = program, folder, preloads.build("refuse_growth", folder)
         for name, data in files.items():
             with open(f"{folder}/{name}", "wb") as it:
                 it.write(data)
@@ -141,29 +121,22 @@ def reading_wrong(program, words, data, printed):
     return order_wrong(kinds, growth_kinds.ORDER_OF_A_READING)
 
 
-def on_each(programs, call):
-    """Does a call with each program, and says what is wrong, or returns None."""
-    if not compiler():
-        return Skipped("the kit's clang, which builds the library, is not there")
-    found = []
-    for program in programs:
-        try:
-            wrong = call(program)
-        except Wrong as it:
-            wrong = str(it)
-        if wrong:
-            found.append(f"{os.path.basename(program)}: {wrong}")
-    return "; ".join(found) or None
+def wrong_of(call, *words):
+    """What a call says that is wrong, returned or raised."""
+    try:
+        return call(*words)
+    except Wrong as it:
+        return str(it)
 
 
 def of_script(root, name, task, program):
     """The call of a case with a script."""
-    return script_wrong(program, read_script(name, root, task))
+    return wrong_of(script_wrong, program, read_script(name, root, task))
 
 
 def of_reading(reading, program):
     """The call of a case of `list`, `fonts` or `paint`."""
-    return reading_wrong(program, *reading)
+    return wrong_of(reading_wrong, program, *reading)
 
 
 def cases(programs, root):
@@ -171,4 +144,4 @@ def cases(programs, root):
     calls = {name: functools.partial(of_script, root, name, None) for name in PAGES if name not in WITH_FONTS}
     calls.update({f"{task}_{name}": functools.partial(of_script, root, name, task) for task in ("typeset", "session") for name in PAGES})
     calls.update({name: functools.partial(of_reading, it) for name, it in READINGS.items()})
-    return [(name, functools.partial(on_each, programs, call)) for name, call in calls.items()]
+    return [(name, functools.partial(preloads.on_each, programs, call)) for name, call in calls.items()]

@@ -5,9 +5,8 @@ import os
 import subprocess
 import tempfile
 
-from steps.growths import compiler
+from steps import preloads
 from steps.large_inputs import READ_LIMIT
-from steps.outcome import Skipped
 
 TITLE = "readings of the program that are always interrupted: 268,435,456 calls, and no more"
 NEEDS_PROGRAM = True
@@ -21,25 +20,12 @@ RUNS = {
 }
 
 
-@functools.lru_cache(None)
-def source():
-    """The path of the library's text."""
-    return os.path.join(os.path.dirname(os.path.abspath(__file__)), "interrupt_reads.c")
-
-
-def build(folder):
-    """Builds the library, and returns its path."""
-    path = f"{folder}/interrupt_reads.so"
-    subprocess.run([compiler(), "-O1", "-shared", "-fPIC", "-nostdlib", "-fuse-ld=lld", "-o", path, source()], check=True, capture_output=True, timeout=LIMIT)
-    return path
-
-
-def wrong_in(program, words, printed, named):
+def wrong_in(words, printed, named, program):
     """Says what is wrong with a run, or returns None."""
     with tempfile.TemporaryDirectory(prefix="boxglue-interrupted-") as folder:
         with open(f"{folder}/f.dvi", "wb") as it:
             it.write(b"\xf7")
-        env = {"LANG": "C.UTF-8", "LD_PRELOAD": build(folder)}
+        env = {"LANG": "C.UTF-8", "LD_PRELOAD": preloads.build("interrupt_reads", folder)}
         ran = subprocess.run([program, *words], stdin=subprocess.DEVNULL, capture_output=True, text=True, cwd=folder, env=env, timeout=LIMIT)
         made = sorted(set(os.listdir(folder)) - {"f.dvi", "interrupt_reads.so"})
     expected = (1, printed, f"boxglue: cannot read {named}\n{READ_LIMIT}\n", [])
@@ -47,14 +33,6 @@ def wrong_in(program, words, printed, named):
     return None if found == expected else f"status, output, errors with the number of calls, and files are {found} and not {expected}"
 
 
-def on_each(programs, run):
-    """Does a run with each program, and says what is wrong, or returns None."""
-    if not compiler():
-        return Skipped("the kit's clang, which builds the library, is not there")
-    found = ((os.path.basename(it), wrong_in(it, *run)) for it in programs)
-    return "; ".join(f"{name}: {wrong}" for name, wrong in found if wrong) or None
-
-
 def cases(programs, root):
     """The runs."""
-    return [(name, functools.partial(on_each, programs, run)) for name, run in RUNS.items()]
+    return [(name, functools.partial(preloads.on_each, programs, functools.partial(wrong_in, *run))) for name, run in RUNS.items()]

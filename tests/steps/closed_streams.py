@@ -1,0 +1,52 @@
+"""Standard streams that are closed, where folders cannot be opened: a small library that opens no file of some paths is put before a built program by
+LD_PRELOAD. The next file that is opened has the number of a closed stream; where that is the file of the pages, answers go into it."""
+import functools
+import itertools
+import subprocess
+import tempfile
+
+from steps import preloads
+from steps.case_folder import read
+
+TITLE = "standard streams that are closed, where folders cannot be opened"
+NEEDS_PROGRAM = True
+LIMIT = 60
+STREAMS = {"input": "<&-", "output": ">&-", "errors": "2>&-"}
+# By what a case says of them: the paths that cannot be opened.
+REFUSED = {"no root": ("/",), "no folder": ("/", ".")}
+TASKS = {"memory": (), "typeset": ("typeset", "out.dvi"), "session": ("session", "out.dvi")}
+
+
+def expected(case, words, closed):
+    """The status, both outputs and the file of a run: without its input nothing is written, and without its output the file is whole."""
+    made, pages = read(case, "made/out.dvi"), b""
+    if not words:
+        # The pages are printed in lines of sixteen bytes.
+        made, pages = None, b"".join(b"%s\n" % made[at:at + 16].hex().encode() for at in range(0, len(made), 16))
+    if "input" in closed:
+        return 1, b"", b"" if "errors" in closed else b"boxglue: cannot read -\n", None
+    if "output" in closed:
+        return 1, b"", b"", made
+    return 0, read(case, "stdout") + pages, b"", made
+
+
+def wrong_in(case, words, paths, closed, program):
+    """Says what is wrong with a run, or returns None."""
+    with tempfile.TemporaryDirectory(prefix="boxglue-closed-") as folder:
+        # The shell gets no library: it has to find the program, and closes the streams.
+        shell = f'LD_PRELOAD="$0" exec "$@" {" ".join(STREAMS[it] for it in closed)}'
+        env = {"LANG": "C.UTF-8", "REFUSE_OPEN": "".join(f" {it} " for it in paths)}
+        words = ["/bin/sh", "-c", shell, preloads.build("refuse_open", folder), program, *words]
+        ran = subprocess.run(words, input=read(case, "stdin"), capture_output=True, cwd=folder, env=env, timeout=LIMIT)
+        made = read(folder, "out.dvi", None)
+    found, wanted = (ran.returncode, ran.stdout, ran.stderr, made), expected(case, words[5:], closed)
+    return None if found == wanted else f"status, outputs and file are {found} and not {wanted}"
+
+
+def cases(programs, root):
+    """Each task with each set of closed streams, where the root or no folder can be opened."""
+    case = f"{root}/tests/program/typeset_a_page_to_its_file"
+    sets = [it for size in range(1, 4) for it in itertools.combinations(STREAMS, size)]
+    for (task, words), (what, paths), closed in itertools.product(TASKS.items(), REFUSED.items(), sets):
+        call = functools.partial(wrong_in, case, words, paths, closed)
+        yield f"{task}, {what}, closed: {', '.join(closed)}", functools.partial(preloads.on_each, programs, call)
