@@ -33,13 +33,13 @@ def expected(case, words, closed):
 def wrong_in(case, words, paths, closed, program):
     """Says what is wrong with a run, or returns None."""
     with tempfile.TemporaryDirectory(prefix="boxglue-closed-") as folder:
-        # The shell gets no library: it has to find the program, and closes the streams.
+        # The library is for the program alone: the shell closes the streams.
         shell = f'LD_PRELOAD="$0" exec "$@" {" ".join(STREAMS[it] for it in closed)}'
         env = {"LANG": "C.UTF-8", "REFUSE_OPEN": "".join(f" {it} " for it in paths)}
-        words = ["/bin/sh", "-c", shell, preloads.build("refuse_open", folder), program, *words]
-        ran = subprocess.run(words, input=read(case, "stdin"), capture_output=True, cwd=folder, env=env, timeout=LIMIT)
+        started = ["/bin/sh", "-c", shell, preloads.build("refuse_open", folder), program, *words]
+        ran = subprocess.run(started, input=read(case, "stdin"), capture_output=True, cwd=folder, env=env, timeout=LIMIT)
         made = read(folder, "out.dvi", None)
-    found, wanted = (ran.returncode, ran.stdout, ran.stderr, made), expected(case, words[5:], closed)
+    found, wanted = (ran.returncode, ran.stdout, ran.stderr, made), expected(case, words, closed)
     return None if found == wanted else f"status, outputs and file are {found} and not {wanted}"
 
 
