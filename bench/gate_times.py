@@ -113,7 +113,7 @@ def write(path, table, command):
     """Writes the table of a run, with its day, its commit and its command."""
     commit = subprocess.run(["git", "rev-parse", "--short=8", "HEAD"], capture_output=True, text=True).stdout.strip()
     with open(path, "w", encoding="utf-8") as it:
-        it.write("# seconds of processor of the prover, by bench/gate_times.py: %s, %s, %s, %d cores\n" % (" ".join(command), time.strftime("%d %B %Y"), commit, os.cpu_count()))
+        it.write("# seconds of processor of the prover, by bench/gate_times.py: %s, %s, %s, %d cores\n" % (" ".join(command), time.strftime("%d %B %Y"), commit, len(os.sched_getaffinity(0))))
         it.write("crate\tproof\ttests\tedits\tdearest edit\n" + "".join("%s\t%.0f\t%.0f\t%.0f\t%s\n" % row for row in table))
 
 
