@@ -1,10 +1,9 @@
 -- The values of one to four bytes.
-use Rattle.std.proofs.Common.{ℕ, zero, suc, ℤ, pos, ◌≡◌, ◌≤◌, ◌<◌, ◌+◌, ◌*◌, List, [], ◌∷◌, length, drop, slice_index, ◌-ℤ◌, nat_lt, if◌then◌else◌, arith, inl, inr, refl, sym, ap, ◌∙◌}
+use Rattle.std.proofs.Common.{ℕ, zero, suc, ℤ, ◌≡◌, ◌≤◌, ◌<◌, ◌+◌, ◌*◌, List, [], ◌∷◌, length, drop, slice_index, arith, inl, inr, refl, sym, ap, ◌∙◌}
 use Rattle.std.proofs.lemmas.Bool.{cases_lt, lt-ltb, le-ltb}
 use Rattle.std.proofs.lemmas.Int.{ints}
 use Rattle.std.proofs.lemmas.List.{drop-drop, get_or-drop}
 use Rattle.std.specs.Int.{w32, cast_signed}
-use Rattle.std.specs.Int.RustNames.{FitsSigned}
 use Rattle.byteorder.specs.Endian.{IsReadBy, big_number, twos_complement}
 use Rattle.byteorder.specs.Numbers.{big_from-lt}
 use Rattle.dvi_ops.specs.Private.Reading.{words}
@@ -18,22 +17,6 @@ four P (suc (suc zero)) low high a b c d = b
 four P (suc (suc (suc zero))) low high a b c d = c
 four P (suc (suc (suc (suc zero)))) low high a b c d = d
 four P (suc (suc (suc (suc (suc n))))) low high a b c d = absurd (omega arith)
-
--- A number in two's complement fits, where its field is small enough.
-complement_fits : (half x : ℕ) → half ≤ 2147483648 → x < 2 * half
-    → FitsSigned w32 (if nat_lt x half then pos x else pos x -ℤ pos (2 * half))
-complement_fits half x large h = elim (cases_lt x half) [
-  | inl below ↦ rw (lt-ltb x half below) (omega (arith, ints))
-  | inr above ↦ rw (le-ltb x half above) (omega (arith, ints))
-]
-
-pub signed_fits : (n : ℕ) (bytes : List ℕ) → 1 ≤ n → n ≤ 4 → ((k : ℕ) → slice_index bytes k < 256) → FitsSigned w32 (signed n bytes)
-signed_fits n bytes low high small =
-    four (λ m. FitsSigned w32 (signed m bytes)) n low high
-    (let h = big_from-lt 0 1 bytes small in complement_fits 128 (big_number 1 bytes) (omega arith) (omega arith))
-    (let h = big_from-lt 0 2 bytes small in complement_fits 32768 (big_number 2 bytes) (omega arith) (omega arith))
-    (let h = big_from-lt 0 3 bytes small in complement_fits 8388608 (big_number 3 bytes) (omega arith) (omega arith))
-    (let h = big_from-lt 0 4 bytes small in complement_fits 2147483648 (big_number 4 bytes) (omega arith) (omega arith))
 
 -- The value of up to three bytes is below 2^24.
 pub short_below : (n : ℕ) (bytes : List ℕ) → n ≤ 3 → ((k : ℕ) → slice_index bytes k < 256) → big_number n bytes < 16777216

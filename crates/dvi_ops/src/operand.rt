@@ -12,7 +12,12 @@ fn signed_of(operand: &[u8]) -> i32
     requires high { length operand.now ≤ 4 }
     ensures { result ≡ signed (length operand.now) operand.now }
 {
-    BigEndian::read_int(operand, operand.len()) as i32
+    match operand.len() {
+        1 => i32::from(operand[0].cast_signed()),
+        2 => i32::from(BigEndian::read_i16(operand)),
+        3 => BigEndian::read_i24(operand),
+        _ => BigEndian::read_i32(operand),
+    }
 }
 
 /// The number of a character or of a font: four bytes are signed, fewer are not.

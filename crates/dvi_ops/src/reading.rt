@@ -250,6 +250,7 @@ fn frame(operation: u8, rest: &[u8]) -> Option<(Op<'_>, &[u8])>
 
 /// The instruction at the start of some bytes, and the rest of the bytes.
 #[tactic(auto, unfolding(crate::specs::Private::Reading::read))]
+#[inline(always)]
 fn first_op(bytes: &[u8]) -> Option<(Op<'_>, &[u8])>
     ensures { option_map (λ found. (view found.0, found.1.now)) result ≡ read bytes.now }
 {
@@ -277,6 +278,8 @@ fn fault_of(bytes: &[u8]) -> OpFault
 
 /// Reads the instruction at the start of some bytes, and returns it with the number of bytes that spell it (DVItype, 15 to 20). Where no instruction
 /// begins there, the fault is `Opcode` if the first byte is 250 to 255, and `Truncated` otherwise. It takes no memory.
+// A caller that has it inside takes an instruction apart in registers, and not in memory.
+#[inline(always)]
 pub fn next(bytes: &[u8]) -> Result<(Op<'_>, usize), OpFault>
     ensures length { IfOk result (λ found. found.1 ≤ length bytes.now) }
     // The first bytes spell the instruction.

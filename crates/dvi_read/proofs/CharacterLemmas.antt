@@ -1,12 +1,10 @@
 -- A character of an open page: the place after it, and its mark.
-use Rattle.std.proofs.Common.{◌≡◌, ◌≤◌, ◌<◌, ◌+◌, ◌-◌, ◌++◌, ◌&&◌, if◌then◌else◌, min, [], ◌∷◌, Bool, true, false, List, drop, get_or, length, map, reverse, take, ℕ, ℤ, pos, Option, Some, None, append-nil, arith, refl, sym, ◌∙◌, ap, ap₂, subst, subst₂, inl}
-use Rattle.std.specs.List.{AllByRecursion}
-use Rattle.std.specs.Option.{option_map}
+use Rattle.std.proofs.Common.{◌≡◌, ◌<◌, ◌+◌, ◌-◌, ◌++◌, ◌&&◌, if◌then◌else◌, min, [], ◌∷◌, Bool, true, false, List, drop, get_or, length, map, reverse, take, ℕ, ℤ, pos, Option, Some, None, append-nil, arith, refl, sym, ◌∙◌, ap, subst, inl}
 use Rattle.scaled_core.specs.Mark.{Mark, Glyph}
 use Rattle.dvi_ops.specs.Body.{Position, DviState, Meaning, Widths, instruction_acts, glyph, glyph_of, in_range, bounded_acts, kept_in, place_after, right, set_glyph}
 use Rattle.dvi_ops.specs.File.{MarkedPage}
 use Rattle.dvi_ops.specs.Fonts.{WidthsByName, widths_of}
-use Rattle.dvi_ops.specs.Instruction.{Definition, SetChar, Instruction, Do, Across, By, Postamble}
+use Rattle.dvi_ops.specs.Instruction.{SetChar, Instruction, Do, Across, By, Postamble}
 use Rattle.dvi_ops.specs.Table.{Spells}
 use Rattle.dvi_scan.specs.Drawing.{reached_position}
 use Rattle.dvi_scan.specs.Execution.{inside_of, pass_at}
@@ -17,10 +15,9 @@ use Rattle.dvi_scan.specs.declared.executing.PassState.{PassState}
 use Rattle.dvi_scan.specs.declared.executing.PassState.TheVariants as stands
 use Rattle.dvi_scan.specs.declared.page.Position.{Position as Spot}
 use Rattle.dvi_scan.proofs.PlaceLemmas.{one_byte}
-use Rattle.dvi_read.specs.ReadFonts.{AreSound, FontIsRead, HasCurrent, IsCurrent, asked_width, selected_in}
-use Rattle.dvi_read.specs.Steps.{FontsAreRead, known_of, places_left, stand_of}
+use Rattle.dvi_read.specs.ReadFonts.{asked_width, selected_in}
+use Rattle.dvi_read.specs.Steps.{FontsAreRead, known_of, stand_of}
 use Rattle.dvi_read.specs.Private.Walks.{IsWalkedOver, bare}
-use Rattle.dvi_read.specs.declared.fonts.ReadFonts.{ReadFonts}
 use Rattle.dvi_read.specs.declared.check.walk.Walk.{Walk}
 use Rattle.dvi_read.proofs.HeldLemmas.{walked_over_turn}
 use Rattle.dvi_read.proofs.StepLemmas.{width_of_read}

@@ -1,15 +1,14 @@
 -- A file that was checked without keeping its marks: its pages are those of the file, and the fonts that were read have the widths of the files.
-use Rattle.std.proofs.Common.{◌≡◌, ◌≤◌, ◌<◌, ◌+◌, ◌*◌, ◌-◌, ◌++◌, min, [], ◌∷◌, List, drop, length, slice_index, take, ℕ, ℤ, Option, Some, None, append-nil, arith, refl, sym, ◌∙◌, ap, subst, inl, inr}
-use Rattle.std.specs.Prelude.{◌⊎◌, IsSome, option_and_then}
+use Rattle.std.proofs.Common.{◌≡◌, ◌≤◌, ◌<◌, ◌+◌, ◌*◌, ◌-◌, ◌++◌, min, [], ◌∷◌, List, drop, length, slice_index, take, ℕ, ℤ, Option, Some, append-nil, arith, refl, sym, ◌∙◌, ap, subst, inl, inr}
+use Rattle.std.specs.Prelude.{IsSome, option_and_then}
 use Rattle.std.proofs.lemmas.List.{length-drop, length-take-le}
 use Rattle.std.specs.List.{AllByRecursion}
 use Rattle.scaled_core.proofs.EachOf.{all_weaker}
-use Rattle.scaled_core.specs.Mark.{Mark}
 use Rattle.dvi_ops.specs.Body.{instruction_acts, bounded_acts}
 use Rattle.dvi_ops.specs.File.{Frame, IsFile, MarkedPage}
-use Rattle.dvi_ops.specs.Fonts.{WidthsByName, definitions, font, selections, widths_of, width_in as width_of_font}
+use Rattle.dvi_ops.specs.Fonts.{WidthsByName, definitions, selections, widths_of, width_in as width_of_font}
 use Rattle.dvi_ops.specs.Instruction.{Definition, Instruction, Postamble, Pre}
-use Rattle.dvi_ops.specs.Tokens.{Token, IsSpelled, token_instructions, token_bytes}
+use Rattle.dvi_ops.specs.Tokens.{token_instructions, token_bytes}
 use Rattle.dvi_ops.proofs.Frames.{begins}
 use Rattle.dvi_ops.proofs.SameMeaning.{SameWidths}
 use Rattle.dvi_scan.proofs.FontLemmas.{same_passes}
@@ -22,10 +21,10 @@ use Rattle.dvi_scan.specs.Reached.{IsReached, PlacesLeft, ReadSoFar}
 use Rattle.dvi_read.specs.Opening.{IsDviFault}
 use Rattle.dvi_read.specs.Private.OpeningParts.{HasPassed, IsFinishFault}
 use Rattle.dvi_read.specs.PageMarks.{HasGlyphWidths, HasRoomFor, IsGlyphWidth, marks_of, read_width}
-use Rattle.dvi_read.specs.ReadFonts.{AreSound, FontIsRead, HaveByteCodes, font_place, read_font_at, width_in}
+use Rattle.dvi_read.specs.ReadFonts.{AreSound, FontIsRead, font_place, read_font_at, width_in}
 use Rattle.dvi_read.specs.SeenAhead.{HasRest}
 use Rattle.dvi_read.specs.Steps.{FontsAreRead, known_of, places_left, stand_of}
-use Rattle.dvi_read.specs.Stops.{IsUnended, PagesHaveEnded}
+use Rattle.dvi_read.specs.Stops.{PagesHaveEnded}
 use Rattle.dvi_read.specs.Private.Walks.{bare, read_in}
 use Rattle.dvi_read.specs.declared.fault.DviFault.{DviFault}
 use Rattle.dvi_read.specs.declared.fault.DviFault.TheVariants as faults
@@ -35,7 +34,7 @@ use Rattle.dvi_read.proofs.FaultLemmas.{post_within}
 use Rattle.dvi_read.proofs.MarkLemmas.{least_of, least_written, more_widths, pass_bytes, pass_glyphs}
 use Rattle.dvi_read.proofs.OpenLemmas.{finish_refused, fonts_read, opened}
 use Rattle.dvi_read.proofs.SelectLemmas.{some_is}
-use Rattle.tfm_core.specs.FileWidths.{file_widths, width_at}
+use Rattle.tfm_core.specs.FileWidths.{file_widths}
 use Rattle.tfm_core.specs.Fonts.{SizedFont}
 use Rattle.tfm_core.specs.NamedBytes.{NamedBytes}
 

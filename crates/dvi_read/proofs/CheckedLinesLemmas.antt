@@ -8,7 +8,7 @@ use Rattle.dvi_scan.specs.View.{mark_of}
 use Rattle.dvi_scan.specs.declared.page.Mark.{Mark as PassMark}
 use Rattle.dvi_read.specs.Listing.{line, mark_line, text_ahead, text_line}
 use Rattle.dvi_read.specs.Seen.{SeenItem, seen_lines}
-use Rattle.dvi_read.specs.SeenAhead.{AreLinesAhead, GivesFirst, IsSeenAhead, ShowsNext, lines_left, text_left}
+use Rattle.dvi_read.specs.SeenAhead.{AreLinesAhead, GivesFirst, ShowsNext, lines_left, text_left}
 use Rattle.dvi_read.specs.declared.listings.checked_lines.CheckedLines.{CheckedLines}
 use Rattle.dvi_read.specs.declared.sights.Sight.{Sight}
 use Rattle.dvi_read.specs.declared.sights.Sight.TheVariants as sights

@@ -1,5 +1,5 @@
 -- The beginning of the line of a glyph.
-use Rattle.std.proofs.Common.{◌≡◌, ◌≤◌, ◌<◌, ◌+◌, ◌-◌, ◌++◌, ℕ, ℤ, SFits, w32, List, [], ◌∷◌, codes, length, take, ap, sym, refl, ◌∙◌, append_assoc, arith, length-append}
+use Rattle.std.proofs.Common.{◌≡◌, ◌<◌, ◌-◌, ◌++◌, ℕ, ℤ, SFits, w32, List, [], ◌∷◌, codes, length, take, ap, sym, refl, ◌∙◌, append_assoc, arith, length-append}
 use Rattle.std.proofs.lemmas.List.{take_at}
 use Rattle.std.specs.Fmt.{signed_decimal}
 use Rattle.dvi_read.specs.Private.GlyphHeads.{head_text}

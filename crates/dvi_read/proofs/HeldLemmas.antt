@@ -1,6 +1,6 @@
 -- A walk that drops the pages and the marks as they come: an instruction does there what it does where they are kept.
 use Rattle.std.proofs.Common.{◌≡◌, ◌≤◌, ◌-◌, ◌++◌, if◌then◌else◌, [], ◌∷◌, Bool, true, false, List, drop, length, map, min, nat_lt, take, ℕ, ℤ, Option, Some, None, append-nil, arith, refl, sym, ◌∙◌, ap, ap₂, subst, subst₂, inl, inr}
-use Rattle.std.specs.Prelude.{◌⊎◌, IsSome}
+use Rattle.std.specs.Prelude.{IsSome}
 use Rattle.std.specs.List.{AllByRecursion}
 use Rattle.std.specs.Option.{option_map}
 use Rattle.dvi_ops.specs.Body.{Position, DviState, Meaning, Acts, instruction_acts, bounded_acts, start}
@@ -11,7 +11,6 @@ use Rattle.dvi_ops.specs.Table.{Spells}
 use Rattle.dvi_ops.specs.Tokens.{bop_place}
 use Rattle.scaled_core.specs.Mark.{Mark}
 use Rattle.scaled_core.proofs.EachOf.{all_append, all_weaker}
-use Rattle.dvi_scan.specs.Ends.{StandsAt}
 use Rattle.dvi_scan.specs.Execution.{BreaksTurn, IsAllowed, TakesRoom, pass_at}
 use Rattle.dvi_scan.specs.Pass.{PassStateView, Between, Inside, execute, with_marks}
 use Rattle.dvi_scan.specs.Reached.{HasWidths, IsReached, IsRightAt, PlacesLeft, after_bops, before_pages, has_number}
@@ -25,7 +24,7 @@ use Rattle.dvi_scan.specs.declared.widths.FontRefusal.TheVariants as refusals
 use Rattle.dvi_scan.proofs.ReachedLemmas.{reached_next}
 use Rattle.dvi_read.specs.ReadFonts.{AreSound, FontIsRead, HasCurrent, IsCurrent, selected_in}
 use Rattle.dvi_read.specs.Steps.{FontsAreRead, known_of, places_left, so_far, stand_of}
-use Rattle.dvi_read.specs.Stops.{PageBytes, page_bytes, BreaksAt, BreaksPages, BreaksRule, InstructionAllocates, IsPagesFault, LacksRoom, LacksWidths, PassContinues, SelectsUnread}
+use Rattle.dvi_read.specs.Stops.{PageBytes, page_bytes, BreaksAt, BreaksPages, BreaksRule, InstructionAllocates, IsPagesFault, LacksRoom, LacksWidths}
 use Rattle.dvi_read.specs.Walks.{IsWalked}
 use Rattle.dvi_read.specs.Private.Walks.{IsBegun, IsWalkedOver, Reads, bare, held_state, read_in}
 use Rattle.dvi_read.specs.declared.fault.DviFault.{DviFault}

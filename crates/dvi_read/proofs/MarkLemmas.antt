@@ -8,7 +8,7 @@ use Rattle.byteorder.specs.Endian.{big_number}
 use Rattle.byteorder.specs.Numbers.{big_from-lt}
 use Rattle.dvi_ops.specs.Body.{Position, DviState, Meaning, Widths, Acts, instruction_acts, glyph, glyph_of, bounded_acts, kept_in, place_after, put_glyph, right, rule_at, set_glyph, start}
 use Rattle.dvi_ops.specs.File.{MarkedPage}
-use Rattle.dvi_ops.specs.Fonts.{WidthsByName, definitions, font, selection_of, selections, width_in as width_of_font}
+use Rattle.dvi_ops.specs.Fonts.{WidthsByName, font, selection_of, selections, width_in as width_of_font}
 use Rattle.dvi_ops.specs.Instruction.{Definition, BodyLeaf, SetChar, PutChar, SetRule, PutRule, Nop, Move, FontNum, FontDef, Xxx, Instruction, Do, Push, Pop, Bop, Eop}
 use Rattle.dvi_ops.specs.Table.{Spells}
 use Rattle.dvi_ops.specs.Tokens.{Token, IsSpelled, token_instructions, token_bytes}

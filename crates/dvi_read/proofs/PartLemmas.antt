@@ -1,10 +1,12 @@
--- The end of the last line is kept where bytes before it are written.
-use Rattle.std.proofs.Common.{◌≡◌, ℕ, ◌+◌, ◌-◌, ◌≤◌, ◌++◌, List, Option, None, Some, length, drop, ap, sym, ◌∙◌, arith}
+-- A part, into which bytes are written before those that it has.
+use Rattle.std.proofs.Common.{◌≡◌, ℕ, ◌+◌, ◌-◌, ◌≤◌, ◌++◌, List, Option, None, Some, length, drop, take, ap, sym, ◌∙◌, arith}
+use borrow.Rule.Slice.PartMut.{put_mid}
 use Rattle.std.proofs.Math.Seq.{drop-append_seam}
-use Rattle.std.proofs.lemmas.List.{drop-drop}
+use Rattle.std.proofs.lemmas.List.{drop-append-le, drop-drop, drop_at, length-take-le}
 use Rattle.dvi_read.specs.declared.listings.part.NumberEnd.{NumberEnd}
 use Rattle.dvi_read.specs.Private.ListingParts.{IsEnded}
 
+-- The end of the last line is kept.
 pub end_stays : (old new : List ℕ) (begin begin' : ℕ) (ended : Option NumberEnd) → begin' ≤ begin → drop begin new ≡ drop begin old → IsEnded old begin ended
     → IsEnded new begin' ended
 end_stays old new begin begin' None low same kept = tt
@@ -25,3 +27,20 @@ end_stays old new begin begin' (Some e) low same kept =
 pub after_digits : (new digits rest : List ℕ) (at begin : ℕ) → at + length digits ≡ begin → drop at new ≡ digits ++ rest → drop begin new ≡ rest
 after_digits new digits rest at begin is written =
     ap (λ (n : ℕ). drop n new) (sym is) ∙ (sym (drop-drop (length digits) at new) ∙ (ap (drop (length digits)) written ∙ drop-append_seam digits rest))
+
+-- Of the bytes that were written into the room before a part, the last ones are now before its own.
+pub last_written : (xs ys : List ℕ) (begin room size : ℕ) → room ≤ begin → begin ≤ length xs → length ys ≡ room → size ≤ room
+    → drop (begin - size) (put_mid (begin - room) (begin - (begin - room)) xs ys) ≡ drop (room - size) ys ++ drop begin xs
+last_written xs ys begin room size below within long short =
+    let at : ℕ = begin - room in
+    let k : ℕ = begin - at in
+    let rest : List ℕ = drop k (drop at xs) in
+    let whole : List ℕ = put_mid at k xs ys in
+    let steps : begin - size ≡ at + (room - size) = omega arith in
+    let sum : at + k ≡ begin = omega arith in
+    let written : drop at whole ≡ ys ++ rest = drop_at (take at xs) (ys ++ rest) at (length-take-le at xs (omega arith)) in
+    ap (λ (n : ℕ). drop n whole) steps
+    ∙ (sym (drop-drop (room - size) at whole)
+    ∙ (ap (drop (room - size)) written
+    ∙ (drop-append-le (room - size) ys rest (omega arith)
+    ∙ ap (λ (l : List ℕ). drop (room - size) ys ++ l) (drop-drop k at xs ∙ ap (λ (n : ℕ). drop n xs) sum))))

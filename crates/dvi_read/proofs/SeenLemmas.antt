@@ -1,11 +1,10 @@
 -- What is seen of the pages of a file, one instruction after the other.
-use Rattle.std.proofs.Common.{◌≡◌, ◌≢◌, ◌≤◌, ◌<◌, ◌+◌, ◌-◌, ◌++◌, if◌then◌else◌, [], ◌∷◌, Bool, true, false, List, codes, decimal, drop, length, map, nat_lt, take, ℕ, ℤ, Option, Some, None, append-nil, append_assoc, arith, refl, sym, ◌∙◌, ap, ap₂, subst, subst₂}
-use Rattle.std.specs.Prelude.{IsSome, option_and_then}
-use Rattle.std.specs.List.{AllByRecursion, enumerate_from, flat_map}
+use Rattle.std.proofs.Common.{◌≡◌, ◌≢◌, ◌+◌, ◌++◌, if◌then◌else◌, [], ◌∷◌, Bool, true, false, List, codes, decimal, length, map, nat_lt, ℕ, ℤ, Option, Some, None, append-nil, append_assoc, refl, sym, ◌∙◌, ap}
+use Rattle.std.specs.List.{flat_map}
 use Rattle.std.proofs.lemmas.Grind.{flat_map-append}
 use Rattle.std.proofs.lemmas.List.{append_cancel_left, map-append}
 use Rattle.scaled_core.specs.Mark.{Mark}
-use Rattle.dvi_ops.specs.Body.{Position, DviState, Meaning, Acts, Widths, instruction_acts, bounded_acts, start}
+use Rattle.dvi_ops.specs.Body.{Position, DviState, Meaning, Acts, start}
 use Rattle.dvi_ops.specs.File.{MarkedPage}
 use Rattle.dvi_ops.specs.Instruction.{Nop, FontDef, Instruction, Do, Push, Pop, Bop, Eop}
 use Rattle.dvi_scan.specs.Pass.{PassStateView, Between, Inside, execute, passes, then_pass, with_marks}

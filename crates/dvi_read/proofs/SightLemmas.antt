@@ -1,15 +1,15 @@
 -- One instruction of a checked file: no rule is broken, no memory is refused, and what is seen of it comes next.
-use Rattle.std.proofs.Common.{◌≡◌, ◌≢◌, ◌≤◌, ◌<◌, ◌+◌, ◌-◌, ◌++◌, [], ◌∷◌, Bool, true, false, List, drop, length, map, reverse, take, vec_capacity, vec_items, vec_len, zero, suc, ℕ, ℤ, Option, Some, None, Result, Ok, Err, append-nil, append_assoc, slice_index, arith, length-append, refl, sym, ◌∙◌, ap, ap₂, subst, subst₂, inl, inr}
-use Rattle.std.specs.Prelude.{◌⊎◌, IsSome, OnErr, option_and_then}
+use Rattle.std.proofs.Common.{◌≡◌, ◌≢◌, ◌≤◌, ◌<◌, ◌+◌, ◌-◌, ◌++◌, [], ◌∷◌, Bool, true, false, List, drop, length, map, reverse, take, vec_capacity, vec_items, vec_len, zero, suc, ℕ, ℤ, Option, Some, None, Result, Err, append-nil, append_assoc, slice_index, arith, length-append, refl, sym, ◌∙◌, ap, ap₂, subst}
+use Rattle.std.specs.Prelude.{IsSome, option_and_then}
 use Rattle.std.specs.List.{AllByRecursion}
 use Rattle.std.specs.Option.{option_map, option_to_list}
 use Rattle.std.proofs.lemmas.List.{append_cancel_left, drop-drop, length-drop, length-map, length-take-le, take-take, take_at}
 use Rattle.scaled_core.specs.Mark.{Mark, Glyph, Rule, Special}
 use Rattle.scaled_core.proofs.EachOf.{all_back, all_front}
-use Rattle.dvi_ops.specs.Body.{Position, DviState, Acts, Widths, instruction_acts, bounded_acts, start}
+use Rattle.dvi_ops.specs.Body.{instruction_acts, bounded_acts}
 use Rattle.dvi_ops.specs.File.{MarkedPage}
 use Rattle.dvi_ops.specs.Fonts.{selection_of, selections}
-use Rattle.dvi_ops.specs.Instruction.{SetChar, PutChar, FontNum, Xxx, Instruction, Do, Bop, Eop}
+use Rattle.dvi_ops.specs.Instruction.{SetChar, PutChar, Xxx, Instruction, Do, Bop, Eop}
 use Rattle.dvi_ops.specs.Table.{Spells}
 use Rattle.dvi_ops.specs.View.{view}
 use Rattle.dvi_ops.specs.declared.body_op.BodyOp.TheVariants as bodies
@@ -17,7 +17,6 @@ use Rattle.dvi_ops.specs.declared.op.Op.{Op}
 use Rattle.dvi_ops.specs.declared.op.Op.TheVariants as ops
 use Rattle.dvi_ops.specs.Tokens.{Token, IsSpelled, token_instructions, token_bytes}
 use Rattle.dvi_ops.proofs.Frames.{begins, one_list}
-use Rattle.dvi_scan.proofs.FontLemmas.{current_of}
 use Rattle.dvi_scan.proofs.OpLemmas.{IsInBody, in_body}
 use Rattle.dvi_scan.proofs.ReachedLemmas.{take_next, token}
 use Rattle.dvi_scan.proofs.TurnLemmas.{broken_turn}
@@ -36,7 +35,7 @@ use Rattle.dvi_scan.specs.declared.page.Mark.{Mark as PassMark}
 use Rattle.dvi_read.specs.PageMarks.{marks_of, read_width}
 use Rattle.dvi_read.specs.Private.PageMarks.{marks_so_far, text_put, texts_in}
 use Rattle.dvi_read.specs.Private.SeenTexts.{IsTextOf, ShowsTextOf}
-use Rattle.dvi_read.specs.ReadFonts.{FontIsRead, HasCurrent, HaveByteCodes, asked_width, code_in, font_place, read_font_at, width_in}
+use Rattle.dvi_read.specs.ReadFonts.{FontIsRead, HasCurrent, asked_width, code_in, read_font_at, width_in}
 use Rattle.dvi_read.specs.Private.ReadFonts.{Chooses}
 use Rattle.dvi_read.specs.Seen.{SeenItem, Counts, Marked, seen_of, seen_so_far}
 use Rattle.dvi_read.specs.SeenAhead.{EndsText, HasRest, TextEndsAt, IsReady, IsSeenAfter, IsSeenAhead, ShowsFirst, standing}
@@ -49,7 +48,6 @@ use Rattle.dvi_read.proofs.HeldLemmas.{onto, turn_onto}
 use Rattle.dvi_read.proofs.MarkLemmas.{text_stands, turn_adds}
 use Rattle.dvi_read.proofs.SeenLemmas.{Continues, counts_stay, end_turn, first_turn, idle_turn, more_marks, page_seen, rest_seen}
 use Rattle.dvi_read.proofs.StepLemmas.{current_next}
-use Rattle.tfm_core.specs.Fonts.{SizedFont}
 
 -- The width in the font that was selected last is that of the selected font.
 pub asked_here : (fonts : ReadFonts) (c f : ℤ) → HasCurrent f fonts → asked_width fonts (Some c) ≡ read_width fonts f c

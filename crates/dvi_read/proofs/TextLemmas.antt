@@ -1,14 +1,13 @@
 -- Where the texts of specials begin: those that an instruction passes, and those that are ahead.
 use Rattle.std.proofs.Common.{◌≡◌, ◌≤◌, ◌+◌, ◌-◌, ◌++◌, [], ◌∷◌, Bool, false, List, drop, length, map, take, ℕ, Option, Some, None, append-nil, arith, refl, sym, ◌∙◌, ap, subst}
 use Rattle.std.specs.Borrow.{Bor}
-use Rattle.std.specs.List.{AllByRecursion}
 use Rattle.std.specs.Option.{option_map}
 use Rattle.std.proofs.lemmas.List.{drop-drop, length-drop, length-take-le}
 use Rattle.dvi_ops.specs.Body.{Acts, instruction_acts, bounded_acts}
 use Rattle.dvi_ops.specs.File.{Frame, MarkedPage}
 use Rattle.dvi_ops.specs.Instruction.{Do, Instruction, Postamble, Pre, Xxx}
 use Rattle.dvi_ops.specs.Table.{Spells}
-use Rattle.dvi_ops.specs.Tokens.{Token, IsSpelled, token_bytes}
+use Rattle.dvi_ops.specs.Tokens.{Token, token_bytes}
 use Rattle.dvi_ops.proofs.Frames.{begins, one_list}
 use Rattle.dvi_scan.proofs.PassedLemmas.{frame_parts}
 use Rattle.dvi_scan.proofs.ReachedLemmas.{take_next, token}

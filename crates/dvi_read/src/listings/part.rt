@@ -142,6 +142,17 @@ impl ListingPart {
         self.bytes[self.begin..end].copy_from_slice(bytes);
     }
 
+    /// Writes the beginning of the line of a glyph before the others. The bytes before it are copied too, since a copy of a size that is known to the
+    /// compiler is faster.
+    fn put_head(&mut self, head: &GlyphHead)
+        requires { length self.old + HEAD ≤ PART }
+        ensures { self.new ≡ head_text head.now.font head.now.code ++ self.old }
+    {
+        let end = self.begin;
+        self.bytes[end - HEAD..end].copy_from_slice(&head.bytes);
+        self.begin -= head.size;
+    }
+
     /// The number of bytes.
     fn len(&self) -> usize
         ensures { result ≡ length self.now }
@@ -157,7 +168,7 @@ impl ListingPart {
         ensures { self.new ≡ self.old }
     {
         let mut bytes = [0; HEAD];
-        bytes[..size].copy_from_slice(&self.bytes[self.begin..self.begin + size]);
+        bytes[HEAD - size..].copy_from_slice(&self.bytes[self.begin..self.begin + size]);
         self.heads[(code.unsigned_abs() % 256) as usize] = Some(GlyphHead {
             font,
             code,
@@ -175,7 +186,7 @@ impl ListingPart {
     {
         if let Some(head) = self.heads[(code.unsigned_abs() % 256) as usize] {
             if head.font == font && head.code == code {
-                self.put_bytes(&head.bytes[..head.size]);
+                self.put_head(&head);
                 return;
             }
         }

@@ -1,5 +1,5 @@
 -- No rule is broken, no memory is refused, and the mark that an instruction makes comes after those that were seen.
-use Rattle.std.proofs.Common.{rules, ◌≡◌, [], ◌++◌, true, IfSome, List, Option, Some, Err, ℤ, map, ap, refl, sym, subst, ◌∙◌, to_z, of_z, w32}
+use Rattle.std.proofs.Common.{rules, ◌≡◌, [], ◌++◌, true, IfSome, List, Option, Some, Err, ℤ, ap, refl, sym, subst, ◌∙◌, to_z, of_z, w32}
 use Rattle.std.proofs.lemmas.Int.{ints}
 use Rattle.scaled_core.specs.Mark.{Mark}
 use Rattle.dvi_ops.specs.Body.{instruction_acts, bounded_acts}

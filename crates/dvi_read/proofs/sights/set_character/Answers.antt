@@ -1,11 +1,11 @@
 -- The pass goes on, so there are a font, a width and a place; the mark is the character's.
-use Rattle.std.proofs.Common.{rules, ◌≡◌, ◌++◌, [], ◌∷◌, List, Option, Some, ℤ, map, reverse, ap, sym, subst, ◌∙◌, to_z, of_z, w32}
+use Rattle.std.proofs.Common.{rules, ◌≡◌, ◌++◌, [], ◌∷◌, Some, map, reverse, ap, sym, ◌∙◌, to_z, of_z, w32}
 use Rattle.std.proofs.lemmas.Int.{ints}
-use Rattle.scaled_core.specs.Mark.{Mark, Glyph}
+use Rattle.scaled_core.specs.Mark.{Mark}
 use Rattle.dvi_ops.specs.Body.{place_after}
 use Rattle.dvi_ops.specs.Instruction.{Across, By}
 use Rattle.dvi_scan.specs.Drawing.{reached_position}
-use Rattle.dvi_scan.specs.Pass.{PassStateView, Inside}
+use Rattle.dvi_scan.specs.Pass.{Inside}
 use Rattle.dvi_scan.specs.View.{spot_position, standing_state}
 use Rattle.dvi_read.specs.PageMarks.{read_width}
 use Rattle.dvi_read.specs.ReadFonts.{asked_width}

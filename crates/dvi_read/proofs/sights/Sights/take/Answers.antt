@@ -1,5 +1,5 @@
 -- A page begins or ends, or the mark of an instruction comes next.
-use Rattle.std.proofs.Common.{rules, ◌≡◌, false, true, ℕ, ap, refl, sym}
+use Rattle.std.proofs.Common.{rules, ◌≡◌, false, true, ap, refl, sym}
 use Rattle.dvi_ops.specs.Body.{instruction_acts, bounded_acts}
 use Rattle.dvi_ops.specs.Instruction.{Instruction}
 use Rattle.dvi_ops.specs.View.{view}

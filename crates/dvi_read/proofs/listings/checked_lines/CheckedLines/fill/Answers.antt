@@ -1,5 +1,5 @@
 -- One more line is appended, or none is left.
-use Rattle.std.proofs.Common.{◌≡◌, [], ◌++◌, List, ℕ, length, vec_items, vec_len, arith, ap, inl, inr, refl, sym, ◌∙◌}
+use Rattle.std.proofs.Common.{◌≡◌, [], ◌++◌, List, ℕ, length, vec_items, arith, ap, inl, inr, refl, sym, ◌∙◌}
 use Rattle.dvi_read.specs.SeenAhead.{lines_left}
 use Rattle.dvi_read.proofs.CheckedLinesLemmas.{below, not_above, nothing_filled, the_other, whole_next}
 use Rattle.dvi_read.proofs.AgainLemmas.{same_file, same_then}

@@ -1,5 +1,5 @@
 -- The piece was empty before.
-use Rattle.std.proofs.Common.{◌≡◌, true, ◌++◌, List, ℕ, vec_len, arith, ap, sym, ◌∙◌}
+use Rattle.std.proofs.Common.{◌≡◌, ◌++◌, List, ℕ, vec_len, arith, ap, sym, ◌∙◌}
 use Rattle.std.proofs.lemmas.Bool.{eqb-true}
 use Rattle.dvi_read.proofs.CheckedLinesLemmas.{is_true, no_items}
 use Rattle.dvi_read.proofs.AgainLemmas.{same_lines}

@@ -1,12 +1,12 @@
-use Rattle.std.proofs.Common.{rules, ◌≡◌, ◌++◌, ◌-◌, ℤ, List, ℕ, SFits, w32, ap₂, sym, ◌∙◌, to_z-of_z}
+use Rattle.std.proofs.Common.{rules, ◌≡◌, ◌++◌, ◌-◌, ℤ, ℕ, SFits, w32, ap₂, sym, ◌∙◌, to_z-of_z}
 use Rattle.dvi_read.specs.Private.GlyphHeads.{head_text}
 use Rattle.dvi_read.proofs.HeadLemmas.{head_first, head_grows, head_size, head_written}
 use Rattle.dvi_read.proofs.listings.part.ListingPart.put_glyph.Goals as goal
 
 pub returns-then-head-code-clause-len : goal.returns-then-head-code-clause-len
 returns-then-head-code-clause-len c =
-    let whole : c.put_bytes.new.self ≡ head_text c.args.font c.args.code ++ c.args.self.now = search rules in
-    head_grows c.args.font c.args.code c.args.self.now c.put_bytes.new.self whole
+    let whole : c.put_head.new.self ≡ head_text c.args.font c.args.code ++ c.args.self.now = search rules in
+    head_grows c.args.font c.args.code c.args.self.now c.put_head.new.self whole
 
 pub keep_head-requires-clause-text : goal.keep_head-requires-clause-text
 keep_head-requires-clause-text c =
