@@ -74,12 +74,12 @@ fn try_lines<M: Meter>(
             penalty: at.penalty,
             sums,
         };
-        let judged = offer_line(left_out, row, table, live, rules, tried);
-        let stopped = rules.stop_rule.stops_after(judged.overfull, left_out);
-        keep_over(lives, index, judged.overfull, width);
+        let judgement = offer_line(left_out, row, table, live, rules, tried);
+        let stopped = rules.stop_rule.stops_after(judgement.overfull, left_out);
+        keep_over(lives, index, judgement.overfull, width);
         kept = keep_group(lives, stopped, kept, index);
         index += 1;
-        end = first_waiting(judged.loosest, rules.waits, index, end);
+        end = first_waiting(judgement.loosest, rules.waits, index, end);
     }
     offer_waiting(row, table, rest_of(lives, end), rules, place, at.penalty);
     remove_groups(lives, kept, end);

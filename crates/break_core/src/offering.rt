@@ -93,15 +93,15 @@ fn offer_counted(
     ensures loosest { result.loosest ≡ false }
 {
     let line = fit_both(&tried.sums, rules.params);
-    let judged = Judgement {
+    let judgement = Judgement {
         overfull: line.is_overfull(),
         loosest: false,
     };
     if left_out {
-        return judged;
+        return judgement;
     }
     offer_each(row, table, group, rules, tried, &line);
-    judged
+    judgement
 }
 
 /// The offer of an entry of a table for a place by a line, if no lines are counted.
@@ -284,19 +284,19 @@ pub(crate) fn offer_line(
         return offer_counted(left_out, row, table, live.group, rules, &counted);
     }
     let line = fit_line(&tried.sums, rules.params.hsize);
-    let judged = Judgement {
+    let judgement = Judgement {
         overfull: line.overfull,
         loosest: is_loosest(&rules.bound, &line),
     };
     if left_out {
-        return judged;
+        return judgement;
     }
     let Some(alone) = line_alone(rules.params, &rules.bound, tried.penalty, &line) else {
-        return judged;
+        return judgement;
     };
     let line = offered_line(rules.params, tried.place, alone);
     offer_best(row, table, live, rules.params, &line);
-    judged
+    judgement
 }
 
 /// Offers the entries of groups that wait by a line, one after the other, if no lines are counted. The function is not inlined, so that its loop has

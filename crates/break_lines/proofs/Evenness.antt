@@ -1,21 +1,20 @@
 -- Even lists: the places next to one another decide for all.
-use Rattle.std.proofs.Common.{◌≡◌, ◌∙◌, ℕ, zero, suc, ◌+◌, ◌-◌, ◌<◌, ◌≤◌, min, true, false, List, length, take, drop, ap, sym, subst, arith, Some}
-use Rattle.std.specs.Prelude.{pos, slice_get, nat_lt}
+use Rattle.std.proofs.Common.{◌≡◌, ◌∙◌, ℕ, zero, suc, ◌+◌, ◌-◌, ◌<◌, ◌≤◌, min, List, length, take, drop, ap, sym, subst, arith, Some}
+use Rattle.std.specs.Prelude.{slice_get}
 use Rattle.std.proofs.Math.Logic.{◌⊎◌, inl, inr}
 use Rattle.std.proofs.lemmas.Int.{ints}
-use Rattle.std.proofs.lemmas.Bool.{cases_lt, cond-true, cond-false}
-use Rattle.std.proofs.lemmas.Bool.Decides.{nat_tests}
+use Rattle.std.proofs.lemmas.Bool.{cases_lt}
 use Rattle.node_core.specs.declared.tree.Node.{Node}
 use Rattle.break_lines.specs.declared.sums.Sums.{Sums}
 use Rattle.break_lines.specs.declared.mark.MeasuredBreak.{MeasuredBreak}
 use Rattle.break_lines.specs.Legal.{legal_places}
 use Rattle.break_lines.specs.LineItems.{sums_of, first_item_kept, minus}
 use Rattle.break_lines.specs.Facts.{facts_of, position_of, begins_at}
-use Rattle.break_lines.specs.Private.Marks.{measured_break, marks_of, no_sums, line_between, GoesOnEvenly}
-use Rattle.break_lines.specs.Even.{Covers, HasNoNegativeFil, IsEven}
+use Rattle.break_lines.specs.Private.Marks.{measured_break, marks_of, no_sums, GoesOnEvenly}
+use Rattle.break_lines.specs.Even.{Covers, IsEven}
 use Rattle.break_lines.proofs.KeptSums.{kept_sums, kept_nothing, kept_some}
 use Rattle.break_lines.proofs.Places.{rising_places, begins_some, begins_before}
-use Rattle.break_lines.proofs.Marked.{place_is, begin_is, line_at, turned}
+use Rattle.break_lines.proofs.Marked.{place_is, begin_is, turned}
 use Rattle.break_lines.proofs.Rising.{first_same}
 
 -- The sums over the items before a position.

@@ -3,8 +3,8 @@ use Rattle.std.proofs.Common.{◌≡◌, ◌∙◌, ℕ, zero, suc, ◌+◌, ◌
 use Rattle.std.specs.Prelude.{slice_get}
 use Rattle.std.proofs.Math.Logic.{◌⊎◌, inl, inr}
 use Rattle.std.proofs.lemmas.Bool.{cases_eq, cases_lt}
-use Rattle.std.proofs.lemmas.List.{length-replicate, take_more, append_assoc}
-use Rattle.std.proofs.lemmas.Option.{same_Some}
+use Rattle.std.proofs.lemmas.List.{length-replicate, take_more, append_assoc, append-nil}
+use Rattle.std.proofs.lemmas.Option.{same_Some, slice_get-get_or}
 use Rattle.break_lines.specs.declared.state.BreakState.{BreakState}
 use Rattle.break_lines.specs.Problems.{Problem}
 use Rattle.break_lines.specs.Tables.{Entry, compared_numbers, slot, slots, offer, IsOffered, IsHeld, IsMet, IsRow, IsKept, row_entries}
@@ -12,7 +12,7 @@ use Rattle.break_lines.specs.Private.Live.{IsSilent}
 use Rattle.break_lines.specs.Orders.{NotAfter}
 use Rattle.break_lines.proofs.Dictionary.{state_same, rank_few, rank_apart, not_after_refl, not_after_trans}
 use Rattle.break_lines.proofs.Reached.{extended_is}
-use Rattle.break_lines.proofs.Entries.{get-set_same, get-set_other, get-replicate}
+use Rattle.break_lines.proofs.Entries.{get-set_same, get-set_other, get-replicate, set-get_same}
 
 -- States of one place with the same slot are equal.
 pub slot_apart : (s t : BreakState) → s.place ≡ t.place → slot s ≡ slot t → s ≡ t
@@ -188,15 +188,13 @@ held-append [] row = refl
 held-append (None ∷ front) row = held-append front row
 held-append (Some e ∷ front) row = ap (λ xs. e ∷ xs) (held-append front row)
 
--- The offer in one more slot was appended.
-pub appended_more :
-    (table first new : List Entry) (row : List (Option Entry)) (n : ℕ) (x d : Option Entry)
-    → n < length row → table ≡ first ++ row_entries (take n row) → get_or row n d ≡ x → new ≡ table ++ row_entries (x ∷ [])
-    → new ≡ first ++ row_entries (take (n + 1) row)
-appended_more table first new row n x d within before here made =
-    let more : row_entries (take (n + 1) row) ≡ row_entries (take n row) ++ row_entries (x ∷ []) =
-    ap row_entries (take_more row n d within) ∙ held-append (take n row) (get_or row n d ∷ []) ∙ ap (λ y. row_entries (take n row) ++ row_entries (y ∷ [])) here in
-    made ∙ ap (λ xs. xs ++ row_entries (x ∷ [])) before ∙ append_assoc first (row_entries (take n row)) (row_entries (x ∷ [])) ∙ ap (λ xs. first ++ xs) (sym more)
+-- A row whose first slots were emptied still has its old content in the next slot.
+emptied_next :
+    (n : ℕ) (row : List (Option Entry)) (d : Option Entry)
+    → n < length row → get_or (replicate n None ++ drop n row) n d ≡ get_or row n d
+emptied_next zero row d within = refl
+emptied_next (suc n) [] d within = absurd (omega (arith, within))
+emptied_next (suc n) (x ∷ row) d within = emptied_next n row d (omega (arith, within))
 
 emptied_set :
     (n : ℕ) (row : List (Option Entry)) → n < length row → set (replicate n None ++ drop n row) n None ≡ replicate (suc n) None ++ drop (suc n) row
@@ -205,9 +203,27 @@ emptied_set zero (x ∷ row) within = refl
 emptied_set (suc n) [] within = absurd (omega (arith, within))
 emptied_set (suc n) (x ∷ row) within = ap (λ l. None ∷ l) (emptied_set n row (omega (arith, within)))
 
--- One more slot was emptied.
+-- One more slot was emptied, and its content was appended.
 pub emptied_more :
-    (n : ℕ) (row : List (Option Entry)) → n < length row → set (replicate n None ++ drop n row) n None ≡ replicate (n + 1) None ++ drop (n + 1) row
-emptied_more n row within =
+    (table first new : List Entry) (row cur : List (Option Entry)) (n : ℕ) (x d : Option Entry)
+    → n < length row → table ≡ first ++ row_entries (take n row) → cur ≡ replicate n None ++ drop n row → get_or cur n d ≡ x
+    → new ≡ table ++ row_entries (x ∷ [])
+    → (new ≡ first ++ row_entries (take (n + 1) row)) × (set cur n None ≡ replicate (n + 1) None ++ drop (n + 1) row)
+emptied_more table first new row cur n x d within before is here made =
     let one : suc n ≡ n + 1 = omega arith in
-    emptied_set n row within ∙ ap (λ k. replicate k None ++ drop k row) one
+    let value : x ≡ get_or row n d = sym here ∙ ap (λ l. get_or l n d) is ∙ emptied_next n row d within in
+    let more : row_entries (take (n + 1) row) ≡ row_entries (take n row) ++ row_entries (x ∷ []) =
+    ap row_entries (take_more row n d within) ∙ held-append (take n row) (get_or row n d ∷ []) ∙ ap (λ y. row_entries (take n row) ++ row_entries (y ∷ [])) (sym value) in (
+      made ∙ ap (λ xs. xs ++ row_entries (x ∷ [])) before ∙ append_assoc first (row_entries (take n row)) (row_entries (x ∷ [])) ∙ ap (λ xs. first ++ xs) (sym more),
+      ap (λ l. set l n None) is ∙ emptied_set n row within ∙ ap (λ k. replicate k None ++ drop k row) one,
+    )
+
+-- One more slot was empty.
+pub emptied_none :
+    (table first : List Entry) (row cur : List (Option Entry)) (n : ℕ) (d : Option Entry)
+    → n < length row → n < length cur → table ≡ first ++ row_entries (take n row) → cur ≡ replicate n None ++ drop n row → get_or cur n d ≡ None
+    → (table ≡ first ++ row_entries (take (n + 1) row)) × (cur ≡ replicate (n + 1) None ++ drop (n + 1) row)
+emptied_none table first row cur n d within here before is none =
+    let more = emptied_more table first table row cur n None d within before is none (sym (append-nil table)) in
+    let stands : slice_get cur n ≡ Some None = slice_get-get_or cur n d here ∙ ap Some none in
+    (more.0, sym (set-get_same cur n None stands) ∙ more.1)

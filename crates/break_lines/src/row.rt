@@ -1,6 +1,6 @@
 //! The row of a place: the best offer so far for each state.
 
-ghost use Rattle.std.specs.Prelude.{◌≡◌, ◌<◌, ◌≤◌, ◌++◌, length, take, replicate, None, IfSome, IfOk, OnOk, OnErr};
+ghost use Rattle.std.specs.Prelude.{◌≡◌, ◌<◌, ◌≤◌, ◌+◌, ◌++◌, length, replicate, vec_capacity, vec_len, None, IfSome, IfOk, OnOk, OnErr};
 ghost use Rattle.break_lines.specs.Tables.{slots, row_entries, IsSmallLine, IsPut, IsImproved};
 ghost use Rattle.break_lines.specs.Problems.{max_places};
 
@@ -59,32 +59,23 @@ pub fn offer(
     put(row, entry.with_line(index, place, line, cut), cut);
 }
 
-/// Appends the offers of a row to a table.
+/// Moves the offers of a row to the end of a table that has room for a whole row.
 #[inline]
-fn append_offers(table: &mut Vec<Entry>, row: &Vec<Option<Entry>>) -> Result<(), AllocError>
-    ensures front { take (length table.old.items) table.new.items ≡ table.old.items }
-    ensures table { OnOk result (table.new.items ≡ table.old.items ++ row_entries row.now.items) }
+fn move_offers(table: &mut Vec<Entry>, row: &mut Vec<Option<Entry>>)
+    requires { vec_len table.old + vec_len row.old ≤ vec_capacity table.old }
+    ensures table { table.new.items ≡ table.old.items ++ row_entries row.old.items }
+    ensures row { row.new.items ≡ replicate (length row.old.items) None }
 {
     for index in 0..row.len() {
         if let Some(entry) = row[index] {
-            table.push(entry)?;
+            table.push_reserved(entry);
+            row[index] = None;
         }
     }
-    Ok(())
 }
 
-/// Empties the slots of a row.
-#[inline]
-fn empty_slots(row: &mut Vec<Option<Entry>>)
-    ensures { row.new.items ≡ replicate (length row.old.items) None }
-{
-    for index in 0..row.len() {
-        row[index] = None;
-    }
-}
-
-/// Appends the offers of a row to a table, and empties the row. If memory is refused, both are as they were before the call: the row is emptied only
-/// after all its offers were appended.
+/// Appends the offers of a row to a table, and empties the row. If memory is refused, both are as they were before the call: room for a whole row is
+/// taken before anything moves.
 #[inline]
 pub fn flush_row(table: &mut Vec<Entry>, row: &mut Vec<Option<Entry>>) -> Result<(), AllocError>
     ensures table { OnOk result (table.new.items ≡ table.old.items ++ row_entries row.old.items) }
@@ -93,11 +84,7 @@ pub fn flush_row(table: &mut Vec<Entry>, row: &mut Vec<Option<Entry>>) -> Result
     ensures kept { OnErr result (row.new.items ≡ row.old.items) }
     ensures wide { length row.new.items ≡ length row.old.items }
 {
-    let count = table.len();
-    if let Err(refused) = append_offers(table, row) {
-        table.truncate(count);
-        return Err(refused);
-    }
-    empty_slots(row);
+    table.reserve(row.len())?;
+    move_offers(table, row);
     Ok(())
 }

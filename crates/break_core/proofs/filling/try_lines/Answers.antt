@@ -54,8 +54,8 @@ try_line-sums-requires-clause-trials_bounded g c =
     let next = both.0 in
     omega (arith, c.requires.trials_bounded live.group.place, inv.fresh live.group.place next.later)
 
-pub offer_line-judged-requires : goal.offer_line-judged-requires
-offer_line-judged-requires g c =
+pub offer_line-judgement-requires : goal.offer_line-judgement-requires
+offer_line-judgement-requires g c =
     let inv = c.loop-index.invariant in
     let rules_now = c.args.rules.now in
     let f = g.M.Meter.facts c.args.meter.now in
@@ -89,7 +89,7 @@ pub keep_group-kept-requires : goal.keep_group-kept-requires
 keep_group-kept-requires g c =
     let items = c.loop-index.lives.items in
     let live = c.index-live.result.now in
-    let overfull = c.offer_line-judged.result.overfull in
+    let overfull = c.offer_line-judgement.result.overfull in
     let within : c.loop-index.index < length items = omega (arith, c.loop-index-test.true, c.loop-index.invariant.end_bounded, c.loop-index.invariant.count) in
     let at_index = slice_get_read items (length items) c.loop-index.index live refl within c.index-live.ensures in
     let kept : Live =
@@ -126,12 +126,12 @@ loop-index-preserved g c =
     let width = to_z w64 (of_z w64 c.least_width-width.result) in
     let exact : to_z w64 (of_z w64 c.least_width-width.result) ≡ c.least_width-width.result = omega (arith, ints) in
     let is_width : to_z w64 (of_z w64 c.least_width-width.result) ≡ least_width c.try_line-sums.result = exact ∙ c.least_width-width.ensures in
-    let overfull = c.offer_line-judged.result.overfull in
+    let overfull = c.offer_line-judgement.result.overfull in
     let long = is_more live.over width in
     let over = c.requires.over index live here in
     let penalty : to_z w32 (of_z w32 c.place-at.result.penalty) ≡ c.place-at.result.penalty = omega (arith, ints) in
     let is_over : overfull ≡ is_overfull f params group.place c.args.place =
-    c.offer_line-judged.ensures.overfull ∙ overfull_of f h params group.place c.args.place sums line refl c.try_line-sums.ensures.sums inv.facts in
+    c.offer_line-judgement.ensures.overfull ∙ overfull_of f h params group.place c.args.place sums line refl c.try_line-sums.ensures.sums inv.facts in
     let is_long_line : long ≡ is_long f params group.place c.args.place =
     long_found f h params group.place c.args.place sums live.over width long refl over is_width
     c.try_line-sums.ensures.sums inv.facts in
@@ -153,7 +153,7 @@ loop-index-preserved g c =
     let made : new ≡ cond c.stops_after-stopped.result old (old ++ kept ∷ []) =
     c.keep_group-kept.ensures.front kept stands ∙ ap (λ xs. cond c.stops_after-stopped.result xs (xs ++ kept ∷ [])) same_front in
     record {
-      wide = c.offer_line-judged.ensures.wide;
+      wide = c.offer_line-judgement.ensures.wide;
       facts = c.try_line-sums.ensures.facts ∙ inv.facts;
       swept = swept_more stop c.args.place inv.low group.place (g.M.Meter.trials c.args.meter.now) (g.M.Meter.trials c.loop-index.meter)
           (g.M.Meter.trials c.try_line-sums.new.self) inv.swept inv.fresh next.later next.group.earlier next.not_stopped c.try_line-sums.ensures.counted
@@ -168,7 +168,7 @@ loop-index-preserved g c =
       fresh = fresh_more inv.low group.place (g.M.Meter.trials c.args.meter.now) (g.M.Meter.trials c.loop-index.meter)
           (g.M.Meter.trials c.try_line-sums.new.self) inv.fresh next.later c.try_line-sums.ensures.others;
       live = both.1;
-      row = c.offer_line-judged.ensures.row p refl next.group.since tried
+      row = c.offer_line-judgement.ensures.row p refl next.group.since tried
           (row_silent p table c.args.place inv.at group.start c.loop-index.row.items next.gap c.requires.last next.silent inv.row);
       kept_bounded = omega (arith, inv.kept_bounded, c.keep_group-kept.ensures.result_bounded);
       count = c.keep_group-kept.ensures.count ∙ ap length marked ∙ length-set items index kept ∙ inv.count;
@@ -190,7 +190,7 @@ loop-index-preserved g c =
     }
   where
     loosest : Bool
-    loosest = c.offer_line-judged.result.loosest
+    loosest = c.offer_line-judgement.result.loosest
 
     both_wait : Bool
     both_wait = loosest && c.args.rules.now.waits
@@ -246,7 +246,7 @@ loop-index-preserved g c =
         let both = both_true loosest c.args.rules.now.waits is in
         inr (later_loosest (g.M.Meter.facts c.args.meter.now) (g.M.Meter.facts c.loop-index.meter) c.args.rules.now.params.now c.args.rules.now.bound
         place c.args.place c.try_line-sums.result (c.requires.waits both.1) next.group.earlier c.requires.last c.try_line-sums.ensures.sums
-        c.loop-index.invariant.facts (c.offer_line-judged.ensures.uncounted both.0) (c.offer_line-judged.ensures.loosest both.0))
+        c.loop-index.invariant.facts (c.offer_line-judgement.ensures.uncounted both.0) (c.offer_line-judgement.ensures.loosest both.0))
     waits (inr is) =
         subst (λ n. (length c.args.lives.now.items ≤ n)
         ⊎ AreLoosest (g.M.Meter.facts c.args.meter.now) c.args.rules.now.params.now c.args.rules.now.bound (place + 1) c.args.place) (sym (goes is))
