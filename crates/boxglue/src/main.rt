@@ -37,9 +37,7 @@ const INPUT: i32 = 0;
 
 /// Opens `NULL` for reading, so that a write to it fails, or where it has the number of standard input for writing, so that a reading fails.
 fn null_file(rt: &HostRuntime) -> Option<File> {
-    let Ok(file) = File::open(rt, NULL) else {
-        return None;
-    };
+    let file = File::open(rt, NULL).ok()?;
     if file.as_raw_fd() != INPUT {
         return Some(file);
     }
