@@ -14,6 +14,7 @@ LIMIT = 60
 STREAMS = {"input": "<&-", "output": ">&-", "errors": "2>&-"}
 # By what a case says of them: the paths that cannot be opened.
 REFUSED = {"no root": ("/",), "no folder": ("/", ".")}
+FOLDERS = ("/", ".")
 TASKS = {"memory": (), "typeset": ("typeset", "out.dvi"), "session": ("session", "out.dvi")}
 
 
@@ -30,21 +31,38 @@ def expected(case, words, closed):
     return 0, read(case, "stdout") + pages, b"", made
 
 
+def run(words, paths, closed, folder, stdin=b""):
+    """A run in a folder where these paths cannot be opened and these streams are closed."""
+    # The library is for the program alone: the shell closes the streams.
+    shell = f'LD_PRELOAD="$0" exec "$@" {" ".join(STREAMS[it] for it in closed)}'
+    env = {"LANG": "C.UTF-8", "REFUSE_OPEN": "".join(f" {it} " for it in paths)}
+    started = ["/bin/sh", "-c", shell, preloads.build("refuse_open", folder), *words]
+    return subprocess.run(started, input=stdin, capture_output=True, cwd=folder, env=env, timeout=LIMIT)
+
+
 def wrong_in(case, words, paths, closed, program):
     """Says what is wrong with a run, or returns None."""
     with tempfile.TemporaryDirectory(prefix="boxglue-closed-") as folder:
-        # The library is for the program alone: the shell closes the streams.
-        shell = f'LD_PRELOAD="$0" exec "$@" {" ".join(STREAMS[it] for it in closed)}'
-        env = {"LANG": "C.UTF-8", "REFUSE_OPEN": "".join(f" {it} " for it in paths)}
-        started = ["/bin/sh", "-c", shell, preloads.build("refuse_open", folder), program, *words]
-        ran = subprocess.run(started, input=read(case, "stdin"), capture_output=True, cwd=folder, env=env, timeout=LIMIT)
+        ran = run([program, *words], paths, closed, folder, read(case, "stdin"))
         made = read(folder, "out.dvi", None)
     found, wanted = (ran.returncode, ran.stdout, ran.stderr, made), expected(case, words, closed)
     return None if found == wanted else f"status, outputs and file are {found} and not {wanted}"
 
 
+def wrong_refusals(paths):
+    """Says which folders a shell opens although it must not, or does not open although it may; or returns None."""
+    if not preloads.compiler():
+        return preloads.NO_COMPILER
+    with tempfile.TemporaryDirectory(prefix="boxglue-closed-") as folder:
+        opened = {it for it in FOLDERS if run(["/bin/sh", "-c", 'exec 3< "$0"', it], paths, (), folder).returncode == 0}
+    wanted = set(FOLDERS) - set(paths)
+    return None if opened == wanted else f"a shell opens {sorted(opened)} and not {sorted(wanted)}"
+
+
 def cases(programs, root):
-    """Each task with each set of closed streams, where the root or no folder can be opened."""
+    """The folders that a shell can open, so that a library that refuses nothing is seen; then each task with each set of closed streams."""
+    for what, paths in REFUSED.items():
+        yield f"a shell, {what}", functools.partial(wrong_refusals, paths)
     case = f"{root}/tests/program/typeset_a_page_to_its_file"
     sets = [it for size in range(1, 4) for it in itertools.combinations(STREAMS, size)]
     for (task, words), (what, paths), closed in itertools.product(TASKS.items(), REFUSED.items(), sets):

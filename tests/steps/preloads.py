@@ -7,6 +7,7 @@ import subprocess
 from steps.outcome import Skipped
 
 LIMIT = 60
+NO_COMPILER = Skipped("the kit's clang, which builds the library, is not there")
 
 
 @functools.lru_cache(None)
@@ -30,6 +31,6 @@ def build(name, folder):
 def on_each(programs, call):
     """Does a call that needs such a library with each program, and says what is wrong, or returns None."""
     if not compiler():
-        return Skipped("the kit's clang, which builds the library, is not there")
+        return NO_COMPILER
     found = ((os.path.basename(it), call(it)) for it in programs)
     return "; ".join(f"{name}: {wrong}" for name, wrong in found if wrong) or None
