@@ -8,7 +8,7 @@ import subprocess
 import sys
 import tempfile
 
-RUNS = 5
+RUNS = 15
 CORE = max(os.sched_getaffinity(0))
 # A program is started by a small shell and inherited by this process, so that its peak memory is its own and not that of this process.
 ctypes.CDLL(None).prctl(36, 1, 0, 0, 0)

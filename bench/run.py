@@ -2,7 +2,7 @@
 """Measures boxglue beside tex, dvitype and dvipng: bench/run.py [--boxglue PROGRAM] [--instructions] [--large] [--data FILE] [ITEM ..], all items if none is named.
 
 The large items, whose cases are run once, are not among these: name them, or take all of them by --large.
-Each case says user + system time (the least of five runs on one core), peak memory, with --instructions also the instructions (by callgrind, on all cores before the times
+Each case says user + system time (the least of fifteen runs on one core), peak memory, with --instructions also the instructions (by callgrind, on all cores before the times
 are taken), and the ratios to the peer. --data writes all figures of the run into a file, from which bench/charts.py draws. docs/SPEED.md has the results."""
 
 import argparse
