@@ -297,7 +297,7 @@ enum boxglue_reply_kind {
     BOXGLUE_REPLY_END = 12
 };
 
-/* Why a command, the end of a job, a piece or a script is refused: the numbers of docs/COMMANDS.md, section 2. */
+/* Why a command, the end of a job, a piece or a script is refused: the numbers of docs/REFUSALS.md. */
 enum boxglue_refusal {
     BOXGLUE_REFUSAL_OUT_OF_MEMORY = 1,
     BOXGLUE_REFUSAL_BAD_SCRIPT = 2,

@@ -1,5 +1,5 @@
-"""The manual page, docs/boxglue.1: its lists of refusals and of bad scripts are those of COMMANDS.md and FORMATS.md, the program refuses its usual mistakes,
-its lines for many scripts at once run 200 of them, its calls of the library are those of the header, and it fits into 80 columns."""
+"""The manual page, docs/boxglue.1: its lines for many scripts at once run 200 of them, its calls of the library are those of the header, and it fits into 80
+columns. Its table of refusals is compared by refusals.py."""
 import os
 import re
 import subprocess
@@ -11,12 +11,10 @@ from steps.outcome import lacks
 from steps.plain_font import metric_file
 from tools.exports import calls
 
-TITLE = "the manual page: refusals, usual mistakes, and lines for many scripts at once"
+TITLE = "the manual page: its calls of the library, its columns, and its lines for many scripts at once"
 NEEDS_PROGRAM = True
 LIMIT = 120
 SCRIPTS, PT = 200, 65536
-# The mistakes that are described in words, with an example and the right line.
-DESCRIBED = {"a tab between words": ("hbox into\t0", "hbox into 0"), "a comment that begins with a space": (" % a comment", "% a comment")}
 
 
 def read(path):
@@ -27,7 +25,7 @@ def read(path):
 
 def plain(text):
     """A text of the manual page without its escapes."""
-    for written, shown in (("\\-", "-"), ("\\e", "\\"), ("\\&", ""), ("\\('e", "\u00e9")):
+    for written, shown in (("\\-", "-"), ("\\e", "\\"), ("\\&", "")):
         text = text.replace(written, shown)
     return text
 
@@ -40,41 +38,6 @@ def part(page, title):
 def blocks(page, before):
     """The unfilled texts of the page that come after a line with these words, each as its lines."""
     return plain(re.search(rf"{before}.*?\.nf\n(.*?)\.fi", page, re.S)[1])
-
-
-def refusals(root):
-    """The numbers and names of the refusals."""
-    here = re.findall(r"^(\d+);(\w+);", part(read(f"{root}/docs/boxglue.1"), "Refusals"), re.M)
-    table = read(f"{root}/docs/COMMANDS.md").partition("\n## 2. Refusals\n")[2].partition("\n## ")[0]
-    there = re.findall(r"^\| (\d+) \| (\w+) \|", table, re.M) + [("20", "BadDvi")]
-    return None if len(there) == 22 and here == sorted(there, key=lambda it: int(it[0])) else f"these are not in both: {sorted({*here} ^ {*there})}"
-
-
-def mistakes(page):
-    """The table of bad scripts: cause, mistaken line, right line. The last line of each text is the example."""
-    rows = re.findall(r"^(\w+);T\{\n(.*?)\nT\};T\{\n(.*?)\nT\}$", plain(part(page, "Bad scripts")), re.M | re.S)
-    for cause, wrong, right in rows:
-        wrong, right = wrong.splitlines()[-1], right.splitlines()[-1]
-        yield cause, *DESCRIBED.get(wrong, (wrong, right))
-
-
-def causes(root):
-    """The causes of bad scripts."""
-    here = {cause for cause, _, _ in mistakes(read(f"{root}/docs/boxglue.1"))}
-    table = read(f"{root}/docs/FORMATS.md").partition("\n### Bad scripts\n")[2].partition("\n## ")[0]
-    there = {*re.findall(r"^\| (\w+) \|", table, re.M)} - {"cause"}
-    return None if len(there) == 7 and here == there else f"these are not in both: {sorted(here ^ there)}"
-
-
-def usual_mistakes(programs, root):
-    """Each mistake is refused for its cause, and the right line is not refused."""
-    rows = [*mistakes(read(f"{root}/docs/boxglue.1"))]
-    for program in programs:
-        for cause, *lines in rows:
-            wrong, right = (subprocess.run([program], input=f"\n{line}\n".encode(), capture_output=True, env={}, timeout=LIMIT).stdout.decode() for line in lines)
-            if wrong != f"refused 2 BadScript 2 {cause}\n" or "BadScript" in right or not right:
-                return f"{os.path.basename(program)}: {lines} are answered {wrong!r} and {right!r}"
-    return None
 
 
 def make_room(room, program):
@@ -149,10 +112,7 @@ def library(root):
 
 def cases(programs, root):
     """The cases, by name."""
-    yield "refusals", partial(refusals, root)
-    yield "causes of bad scripts", partial(causes, root)
     yield "calls of the library", partial(library, root)
     yield "80 columns", partial(columns, root)
-    yield "usual mistakes", partial(usual_mistakes, programs, root)
     yield "200 scripts by xargs", partial(many, programs, root, "xargs", "For all scripts of a folder")
     yield "200 scripts by make", partial(many, programs, root, "make", "begins with a tab.*?\\.fi")

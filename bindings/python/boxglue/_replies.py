@@ -11,7 +11,7 @@ from ._status import Refused
 from ._tables import Table
 
 _BOX_KINDS: tuple[Literal["hbox"], Literal["vbox"]] = "hbox", "vbox"
-# The names of refusals and of their causes by their numbers (docs/COMMANDS.md, section 2; docs/FORMATS.md, sections 9 and 2).
+# The names of refusals and of their causes by their numbers (docs/REFUSALS.md; docs/FORMATS.md, sections 9 and 2).
 _REFUSALS = {
     1: "OutOfMemory", 2: "BadScript", 3: "DimensionTooLarge", 4: "NoFont", 5: "BadTfm", 6: "SlotTaken", 7: "NoOpenList", 8: "WrongMode", 9: "WrongKind",
     10: "ListTooLong", 11: "TooDeep", 12: "InfiniteShrink", 13: "TooManyBreaks", 14: "HugePage", 15: "TooManyPages", 16: "TooMuchShipped", 17: "ListsOpen",

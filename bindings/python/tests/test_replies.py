@@ -97,19 +97,22 @@ class Numbers(unittest.TestCase):
 class Names(unittest.TestCase):
     """The names of refusals and causes are those of the documents, in their order."""
 
-    def rows(self, document, above):
-        """The first two cells of the rows of the first table after a text."""
-        path = f"{EXAMPLES}/../docs/{document}.md"
+    def document(self, name):
+        """The text of a document."""
+        path = f"{EXAMPLES}/../docs/{name}.md"
         if not os.path.exists(path):
             self.skipTest("there are no documents beside the package")
         with open(path, encoding="utf-8") as it:
-            text = it.read().partition(above)[2]
-        table = re.search(r"^\|(?:.*\n\|)*.*$", text, re.M)[0]
+            return it.read()
+
+    def rows(self, document, above):
+        """The first two cells of the rows of the first table after a text."""
+        table = re.search(r"^\|(?:.*\n\|)*.*$", self.document(document).partition(above)[2], re.M)[0]
         return [[cell.strip() for cell in line.split("|")[1:3]] for line in table.splitlines()[2:]]
 
     def test_refusals(self):
-        named = {int(number): name for number, name in self.rows("COMMANDS", "## 2. Refusals\n")}
-        self.assertEqual(named, _replies._REFUSALS)
+        named = {int(number): name for number, name in re.findall(r"^## (\d+) (\w+)$", self.document("REFUSALS"), re.M)}
+        self.assertEqual(named, {**_replies._REFUSALS, 20: "BadDvi"})
 
     def test_causes(self):
         self.assertEqual([it[0] for it in self.rows("FORMATS", "### Bad scripts\n")], [*_replies._LINE_CAUSES[1:]])

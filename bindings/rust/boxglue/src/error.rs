@@ -8,7 +8,7 @@ use std::fmt;
 pub struct Refusal {
     /// The line of the command that was refused; none where no command was.
     pub line: Option<u64>,
-    /// Its number (docs/COMMANDS.md, section 2), such as 4.
+    /// Its number (docs/REFUSALS.md), such as 4.
     pub number: u32,
     /// Its name, such as "NoFont".
     pub name: String,

@@ -4,7 +4,7 @@ use crate::buffers::{buffer, given, DVI_ROOM};
 use crate::{Error, Font, Refusal};
 use boxglue_sys as sys;
 
-/// The name of a refusal (docs/COMMANDS.md, section 2).
+/// The name of a refusal (docs/REFUSALS.md).
 fn refusal_name(number: u32) -> Option<&'static str> {
     Some(match number {
         sys::BOXGLUE_REFUSAL_OUT_OF_MEMORY => "OutOfMemory",
