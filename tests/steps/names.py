@@ -8,15 +8,17 @@ from functools import partial
 
 from steps.reached import DECLARED
 
-TITLE = "the names of code in documents and in each crate's README.md are in the sources, as the clauses that PROVED.md and these name; no comment writes the test attribute, no code has floating-point numbers; the job knows no crate of DVI; no export has a premise; no line of code is above 150 columns; no definition and no function is named by a bare participle"
+TITLE = "the names of code in documents and in each crate's README.md are in the sources, as the clauses that PROVED.md and these name, and definitions where documents place them; no comment writes the test attribute, no code has floating-point numbers; the job knows no crate of DVI; no export has a premise; no line of code is above 150 columns; no definition and no function is named by a bare participle"
 TRIES = False
-DOCUMENTS = ("docs/PROVED.md", "docs/ARCHITECTURE.md", "docs/EVIDENCE.md", "docs/DECISIONS.md", "docs/LIBRARY.md", "CHANGELOG.md", "bench/trials/README.md", "crates/*/README.md")
+DOCUMENTS = ("docs/PROVED.md", "docs/TOUR.md", "docs/ARCHITECTURE.md", "docs/EVIDENCE.md", "docs/DECISIONS.md", "docs/LIBRARY.md", "CHANGELOG.md", "bench/trials/README.md", "crates/*/README.md")
 SOURCES = ("crates/*/src/**/*.rt", "crates/*/specs/**/*.antt", "crates/*/proofs/**/*.antt", "crates/rows_scripts/stdin", "tests/steps/*.py", "bindings/python/boxglue/*.py", "bindings/rust/*/src/*.rs", "include/*.h", "crates.txt")
 # These crates know pages, and no crate of DVI.
 BEFORE_DVI = ("page_core", "job_machine", "job_lists", "job_state")
 WORD = re.compile(r"[A-Za-z_][A-Za-z_0-9]*")
 FUNCTION = re.compile(r"\s*(?:pub(?:\(crate\))? )?(?:(?:const|unsafe|extern \"C\") )*fn (\w+)")
 MOST_COLUMNS = 150
+# A definition, and the file or folder where a document places it.
+PLACED = re.compile(r"`(\w+)` \(`(crates/\w+/specs[\w/.]*)`\)")
 # A participle tells not what a thing is. Those that are also an infinitive, as read, set and cut, are left out, since a function may be called so.
 IRREGULAR = "broken built chosen drawn found given held hidden kept left lost made met said seen sent shown sought spoken struck taken thrown told woven written".split()
 PARTICIPLE = re.compile(rf"[A-Z]?[a-z]*[^e]ed|{'|'.join(f'[{it[0].upper()}{it[0]}]{it[1:]}' for it in IRREGULAR)}")
@@ -61,6 +63,17 @@ def outcome(root, pattern):
     words = known_words(root)
     wrong = {path: sorted({it for it in named(read(f"{root}/{path}")) if it not in words}) for path in documents(root, pattern)}
     return "; ".join(f"{path} names what is not in the sources: {', '.join(absent)}" for path, absent in wrong.items() if absent) or (None if wrong else f"no {pattern}")
+
+
+def misplaced(root):
+    """Definitions that are not in the file or folder of definitions where a document places them."""
+    wrong = []
+    for path in sorted({it for pattern in DOCUMENTS for it in documents(root, pattern)}):
+        for name, place in PLACED.findall(read(f"{root}/{path}")):
+            files = [f"{root}/{place}"] if place.endswith(".antt") else glob.glob(f"{root}/{place}/**/*.antt", recursive=True)
+            declared = {found[1] for it in files if os.path.exists(it) for found in map(DECLARED.match, read(it).split("\n")) if found}
+            wrong += [] if name in declared else [f"{path}: no {name} in {place}"]
+    return "; ".join(wrong) or None
 
 
 def test_attributes(root):
@@ -152,6 +165,7 @@ def cases(_programs, root):
     for pattern in DOCUMENTS:
         yield pattern, partial(outcome, root, pattern)
     yield "clauses", partial(clauses, root)
+    yield "places_of_definitions", partial(misplaced, root)
     yield "test_attributes", partial(test_attributes, root)
     yield "float_types", partial(float_types, root)
     yield "exports_without_premises", partial(premises_of_exports, root)
