@@ -13,6 +13,8 @@ import math
 import os
 
 DOCS = os.path.join(os.path.dirname(os.path.dirname(os.path.abspath(__file__))), "docs")
+# The data of the runs that docs/SPEED.md shows.
+KNOWN = [os.path.join(DOCS, name) for name in ("speed.tsv", "speed_large.tsv")]
 COLOURS = {"boxglue": "#0b62a4", "tex": "#b5532a", "time": "#0b62a4", "instructions": "#5a9bd0", "memory": "#a9b4bd"}
 INK, FAINT, GRID = "#222222", "#666666", "#dddddd"
 
@@ -203,8 +205,7 @@ def draw_memory(figures, out):
 
 def main():
     parser = argparse.ArgumentParser(description=__doc__, formatter_class=argparse.RawDescriptionHelpFormatter)
-    known = [os.path.join(DOCS, name) for name in ("speed.tsv", "speed_large.tsv")]
-    parser.add_argument("data", nargs="*", default=[it for it in known if os.path.exists(it)], metavar="DATA")
+    parser.add_argument("data", nargs="*", default=KNOWN, metavar="DATA")
     parser.add_argument("--out", default=DOCS, metavar="FOLDER")
     words = parser.parse_args()
     figures = Figures(words.data)

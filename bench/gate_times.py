@@ -2,7 +2,7 @@
 """Runs a command, as `rt ci --anew`, and prints the seconds of processor that the prover took: bench/gate_times.py [--every SECONDS] [--write FILE] COMMAND..
 
 For each crate: its proof, its tests, its edits with the second proof that they begin with, and the dearest edit. It reads /proc a few times a second, so what
-a process did after its last sample is missing. What else the command runs (compilers, programs) is in the total alone. With --write the times by crate go into a table too, as docs/gate.tsv."""
+a process did after its last sample is missing. What else the command runs (compilers, programs) is in the total alone. With --write the times by crate go into a table too, as docs/internal/gate.tsv."""
 
 import argparse
 import os

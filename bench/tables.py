@@ -1,18 +1,24 @@
 #!/usr/bin/env python3
-"""Writes the figures of a run into the tables of docs/SPEED.md: bench/tables.py [--data FILE] [--page FILE], by default docs/speed.tsv and docs/SPEED.md.
+"""Writes the figures of runs into the tables of docs/SPEED.md: bench/tables.py [DATA ..] [--page FILE], by default docs/speed.tsv, docs/speed_large.tsv and docs/SPEED.md.
 
-A row is found by its first cells. Its last cell, the goal, stays: whether it is still met is for the reader to see."""
+A row is found by its first cell, and by the number of its cells. docs/internal/MEASURING.md has the goals: read there which of them are still met."""
 
 import argparse
+import math
 import os
 import re
 
-from charts import DOCS, Figures
+from charts import DOCS, KNOWN, Figures
 
 # The rows with a peer, by how they begin: their case.
 BESIDE = {
     "`paragraphs`, tolerance 200": "paragraphs_200", "`paragraphs`, tolerance 10000": "paragraphs_10000", "`list`": "list", "`paint`": "paint",
     "`many_fonts`, 2 loaded": "many_fonts_2", "`many_fonts`, 256 loaded": "many_fonts_256",
+}
+# The rows of large inputs, whose cases have run once: their case.
+LARGE = {
+    "`large_script`, 10,000,000 lines": "large_script_10000000", "`large_pages`, 60,000 pages, 2 fonts": "large_pages_2_60000",
+    "`large_pages`, 60,000 pages, 256 fonts": "large_pages_256_60000", "`large_list`, 140 MB": "large_list_140",
 }
 # The rows of what one unit more takes: the two cases that differ in it.
 MORE = {
@@ -37,6 +43,18 @@ def beside(figures, case):
     rows, peer = figures.rows[case], figures.peer(case)
     ratios = [f"{figures.ratio(case, it):.2f}" for it in ("seconds", "instructions", "memory")]
     return [totals(rows["boxglue"]), f"{peer['program']}: {totals(peer)}", *ratios]
+
+
+def once(row):
+    """The seconds, with two digits that count, and the megabytes of a case that has run once."""
+    seconds, memory = float(row["seconds"]), int(row["memory"]) / 1e6
+    return f"{seconds:.{max(0, 1 - math.floor(math.log10(seconds)))}f} s, {memory:.{0 if memory >= 100 else 1}f} MB"
+
+
+def large_cells(figures, case):
+    """The cells of a case of a large input."""
+    rows, peer = figures.rows[case], figures.peer(case)
+    return [once(rows["boxglue"]), f"{peer['program']}: {once(peer)}" if peer else ""]
 
 
 def more(figures, case):
@@ -80,14 +98,16 @@ def cells_of(figures, cells):
     name = cells[0]
     lines = re.fullmatch(r"`short_lines`, ([\d,]+) lines", name)
     place = re.fullmatch(r"(\d+pt), (-?\d+)", name)
-    if name in BESIDE and len(cells) == 7:
-        return [*beside(figures, BESIDE[name]), cells[-1]]
+    if name in BESIDE and len(cells) == 6:
+        return beside(figures, BESIDE[name])
+    if name in LARGE:
+        return large_cells(figures, LARGE[name])
     if name in MORE:
-        return [*more_cells(figures, name), cells[-1]]
+        return more_cells(figures, name)
     if lines:
-        return [*lines_cells(figures, lines[1]), cells[-1]]
-    if name == "`start`" and len(cells) == 3 and cells[-1]:
-        return [*start_cells(figures), cells[-1]]
+        return lines_cells(figures, lines[1])
+    if name == "`start`" and len(cells) == 2:
+        return start_cells(figures)
     if place:
         return [cells[1], *place_cells(figures, place[1], place[2], cells[1])]
     return None
@@ -105,14 +125,15 @@ def changed(figures, line):
 def main():
     """Reads the figures and writes the page."""
     parser = argparse.ArgumentParser(description=__doc__, formatter_class=argparse.RawDescriptionHelpFormatter)
-    parser.add_argument("--data", default=os.path.join(DOCS, "speed.tsv"))
+    parser.add_argument("data", nargs="*", default=KNOWN, metavar="DATA")
     parser.add_argument("--page", default=os.path.join(DOCS, "SPEED.md"))
     given = parser.parse_args()
-    figures = Figures([given.data])
+    figures = Figures(given.data)
     with open(given.page) as page:
         lines = page.read().split("\n")
     with open(given.page, "w") as page:
         page.write("\n".join(changed(figures, line) for line in lines))
 
 
-main()
+if __name__ == "__main__":
+    main()

@@ -5,7 +5,7 @@ import time
 
 from tools.crates import crates_below
 
-# About how long the proofs of a crate take, in seconds: this, and so much for each of its lines. Fitted to docs/gate.tsv.
+# About how long the proofs of a crate take, in seconds: this, and so much for each of its lines. Fitted to docs/internal/gate.tsv.
 CRATE, LINE = 72, 0.011
 # About how long `rt all check` first reads what it will prove, for each crate that no other uses.
 READING = 80

@@ -4,7 +4,7 @@
 Each part prints one line of counts and differences, and below it the causes that are known, and the first N of the others; or which tools it lacks, and then the status is 1.
 With `--by session` scripts are given to `boxglue session` line by line; with `--by library` all but `large` goes through the package for Python: replies, marks, fonts and bitmaps.
 Everything random has a fixed seed. The inputs and outputs stay in FOLDER, if one is named. It needs Debian's packages texlive-base, texlive-latex-base, dvipng, ghostscript and poppler-utils;
-with texlive-fonts-recommended, texlive-latex-recommended, texlive-pictures and texlive-extra-utils it has more metric files and documents. docs/EVIDENCE.md has the results."""
+with texlive-fonts-recommended, texlive-latex-recommended, texlive-pictures and texlive-extra-utils it has more metric files and documents. docs/internal/EVIDENCE.md has the results."""
 
 import argparse
 import glob

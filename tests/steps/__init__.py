@@ -10,7 +10,7 @@
 
   None              if the case passed
   Skipped(REASON)   if it could not be run here (`from steps.outcome import Skipped`); for a tool outside of the repository that may be
-                    missing, lacks("TOOL") or without("TOOL"), and a line for it in the table of docs/GATE.md
+                    missing, lacks("TOOL") or without("TOOL"), and a line for it in the table of docs/internal/GATE.md
   a text            about what is wrong, on one line, with the base name of the program that is wrong
 
 An exception counts as a failure, with its text. A case with several programs counts once.

@@ -1,6 +1,6 @@
 """The commands of docs/AUTHORS.md, run in their order in a copy of examples/, with a metric file of plain width for cmr10: none is refused anything. What the pages of
 examples/layout show follows from the texts that they were given. The script, the answers, the listing, the bytes and the edit of docs/TOUR.md are those that there are.
-The two times of README.md are those of docs/GATE.md, rounded."""
+The two times of README.md are those of docs/internal/GATE.md, rounded."""
 import glob
 import os
 import re
@@ -203,9 +203,9 @@ def asking(programs, root):
 
 def times(root):
     """README.md rounds to whole minutes how long its first command takes, and to whole hours how long the proofs do."""
-    gate, readme = content(f"{root}/docs/GATE.md"), content(f"{root}/README.md")
-    minutes = round(int(re.search(r"README's first command took (\d+) s of the clock", gate)[1]) / 60)
-    hours = round(int(re.search(r"`bench/gate_times.py ./install --library` took (\d+) minutes on four cores", gate)[1]) / 60)
+    gate, readme = content(f"{root}/docs/internal/GATE.md"), content(f"{root}/README.md")
+    minutes = round(int(re.search(r"(?m)^\| README's first command \| four cores of [^|]* \| (\d+) s by the clock \|", gate)[1]) / 60)
+    hours = round(int(re.search(r"(?m)^\| `bench/gate_times.py ./install --library` \| four cores of [^|]* \| (\d+) minutes,", gate)[1]) / 60)
     said = f"in {SMALL[minutes]} minutes on four free cores", f"in {'an hour' if hours == 1 else f'{SMALL[hours]} hours'} on four cores"
     lost = [it for it in said if it not in readme]
     return f"README.md does not say {' and '.join(lost)}" if lost else None

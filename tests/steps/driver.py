@@ -25,9 +25,9 @@ crates/boxglue makes out/boxglue; `rt ci` makes out/boxglue and out/boxglue.by-r
 With --library the parts library_.. run over this archive, which `rt lib` in crates/boxglue_c makes as out/libboxglue_c.a; else over one that is built
 without proofs. They compare it with the first --program.
 
-With --gate, which needs those three, a case is skipped only where a tool is missing that docs/GATE.md lists: every other skip is a failure.
+With --gate, which needs those three, a case is skipped only where a tool is missing that docs/internal/GATE.md lists: every other skip is a failure.
 
-The parts `callers`, `claims`, `damaged_files`, `definitions`, `documents`, `header`, `known_devices`, `known_files`, `known_growths`, `library`, `names`, `outside_tools`, `placed` and `rooms` run no program.
+The parts `callers`, `claims`, `damaged_files`, `definitions`, `documents`, `english`, `header`, `known_devices`, `known_files`, `known_growths`, `library`, `names`, `outside_tools`, `placed` and `rooms` run no program.
 
 A line is printed for each part: ok, FAILED or skipped, its seconds, how many of its cases passed; and a line at least every ten seconds.
 The last line is `N passed, M failed, K skipped`. The status is 0 where nothing failed, 1 where something did, 2 where the words are wrong."""
@@ -52,7 +52,7 @@ def words_of(given):
     parser.add_argument("--program", metavar="PATH", nargs="+", default=[], help="run over these builds of boxglue, in place of building")
     parser.add_argument("--rows", metavar="PATH", nargs="+", default=[], help="run rows_scripts over these builds of it, in place of building")
     parser.add_argument("--library", metavar="ARCHIVE", help="run the tests of the library for C over this archive, in place of building it without proofs")
-    parser.add_argument("--gate", action="store_true", help="let no case be skipped but for a missing tool that docs/GATE.md lists")
+    parser.add_argument("--gate", action="store_true", help="let no case be skipped but for a missing tool that docs/internal/GATE.md lists")
     parser.add_argument("--list", action="store_true", help="print the names of the parts, and what each tests")
     return parser, parser.parse_intermixed_args(given)
 

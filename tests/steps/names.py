@@ -10,8 +10,8 @@ from steps.reached import DECLARED
 
 TITLE = "the names of code in documents and in each crate's README.md are in the sources, as the clauses that PROVED.md and these name, and definitions where documents place them; no comment writes the test attribute, no code has floating-point numbers; the job knows no crate of DVI; no export has a premise; no line of code is above 150 columns; no definition and no function is named by a bare participle"
 TRIES = False
-DOCUMENTS = ("docs/PROVED.md", "docs/TOUR.md", "docs/ARCHITECTURE.md", "docs/EVIDENCE.md", "docs/DECISIONS.md", "docs/LIBRARY.md", "CHANGELOG.md", "bench/trials/README.md", "crates/*/README.md")
-SOURCES = ("crates/*/src/**/*.rt", "crates/*/specs/**/*.antt", "crates/*/proofs/**/*.antt", "crates/rows_scripts/stdin", "tests/steps/*.py", "bindings/python/boxglue/*.py", "bindings/rust/*/src/*.rs", "include/*.h", "crates.txt")
+DOCUMENTS = ("docs/PROVED.md", "docs/TOUR.md", "docs/ARCHITECTURE.md", "docs/internal/*.md", "docs/DECISIONS.md", "docs/LIBRARY.md", "CHANGELOG.md", "bench/trials/README.md", "crates/*/README.md")
+SOURCES = ("crates/*/src/**/*.rt", "crates/*/specs/**/*.antt", "crates/*/proofs/**/*.antt", "crates/rows_scripts/stdin", "tests/steps/*.py", "bindings/python/boxglue/*.py", "bindings/rust/*/src/*.rs", "include/*.h", "crates.txt", "bench/items.py")
 # These crates know pages, and no crate of DVI.
 BEFORE_DVI = ("page_core", "job_machine", "job_lists", "job_state")
 WORD = re.compile(r"[A-Za-z_][A-Za-z_0-9]*")

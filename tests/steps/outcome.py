@@ -10,7 +10,7 @@ class Skipped:
 
 
 def without(tool):
-    """The result of a case for which this tool has to be there, and is not. docs/GATE.md lists the tool: the gate lets no other case be skipped."""
+    """The result of a case for which this tool has to be there, and is not. docs/internal/GATE.md lists the tool: the gate lets no other case be skipped."""
     return Skipped(f"no {tool}")
 
 

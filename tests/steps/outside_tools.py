@@ -1,16 +1,16 @@
-"""The tools outside of the repository that a case may need: docs/GATE.md lists them, and in the gate a case is skipped only where one of them is missing."""
+"""The tools outside of the repository that a case may need: docs/internal/GATE.md lists them, and in the gate a case is skipped only where one of them is missing."""
 import glob
 import re
 from functools import partial
 
-TITLE = "the list of outside tools in docs/GATE.md: it has each tool that a case names, and no other"
+TITLE = "the list of outside tools in docs/internal/GATE.md: it has each tool that a case names, and no other"
 TRIES = False
-HEAD = "| outside tool | without it |"
+HEAD = "| outside tool | what is skipped without it |"
 
 
 def listed(root):
     """The tools of the list."""
-    with open(f"{root}/docs/GATE.md", encoding="utf-8") as it:
+    with open(f"{root}/docs/internal/GATE.md", encoding="utf-8") as it:
         table = it.read().partition(f"\n{HEAD}\n")[2].partition("\n\n")[0]
     return re.findall(r"^\| ([\w+.-]+) \|", table, re.M)
 
@@ -40,13 +40,13 @@ def sources(root):
 def not_listed(root):
     """Tools that a case names, and the list does not have."""
     missing = {*re.findall(r"\b(?:lacks|without)\(\"([^\"]+)\"\)", sources(root))} - {*listed(root)} - {"TOOL"}
-    return f"docs/GATE.md does not list {', '.join(sorted(missing))}" if missing else None
+    return f"docs/internal/GATE.md does not list {', '.join(sorted(missing))}" if missing else None
 
 
 def not_named(root):
     """Tools of the list that stand in no part."""
     more = [it for it in listed(root) if f'"{it}"' not in sources(root)]
-    return f"docs/GATE.md lists {', '.join(more)}, which no case needs" if more or not listed(root) else None
+    return f"docs/internal/GATE.md lists {', '.join(more)}, which no case needs" if more or not listed(root) else None
 
 
 def held(root):
