@@ -1,7 +1,9 @@
 """Makes large inputs and the expected answers: by arithmetic from docs/COMMANDS.md and docs/FORMATS.md, never by the program.
 
 Each function returns a `Work`: files, and runs over them. The lengths 80,104 and 230,341 are asserted, since they were worked out by hand."""
-from steps.dvi_writer import Font, Page, down, dvi_file, put_rule, right, select, set_char, set_rule
+from dataclasses import replace
+
+from steps.dvi_writer import Font, Page, definition, down, dvi_file, put_rule, right, select, set_char, set_rule
 from steps.long_runs import Run, Sparse, Work
 
 PT = 65536
@@ -280,6 +282,24 @@ def long_paragraph():
     return Work({}, [Run(("typeset", "out.dvi"), script(head + items + tail), stdout=(printed,), status=1, made={"out.dvi": file.data})])
 
 
+# A paragraph of the most lines
+
+MOST_PLACES = 8192
+
+
+def most_lines():
+    """A paragraph of 8,192 lines, as many as it may have places: after each rule but the last is a forced place. The glue between lines is 1pt, and
+    16,383pt is the greatest height of whole points. A line fits exactly, so it costs 100, by the 10 of linepenalty."""
+    height = (2 * MOST_PLACES - 1) * PT
+    rules = ["rule 1pt 1pt 0pt", *["penalty -10000", "rule 1pt 1pt 0pt"] * (MOST_PLACES - 1)]
+    lines = ["set hsize 1pt", "set baselineskip 2pt", "vbox into 0", "par", *rules, "end", "end", "ship 0"]
+    ends = [f"paragraph lines {MOST_PLACES} pass 1 overhang 0 demerits {100 * MOST_PLACES}", packed(PT, height, 0), "shipped 1"]
+    places = [PT + 2 * PT * at for at in range(MOST_PLACES)]
+    file = dvi_file([Page([[down(it), set_rule(PT, PT)] for it in places])], height, PT)
+    marks = [rule_mark(0, it, PT, PT) for it in places]
+    return Work({}, typeset_and_list(file, answers(["ok"] * (4 + len(rules)) + ends, summary(1, file)), lines, marks))
+
+
 # Splits of 65,536 items
 
 def split_and_measured(front, rest):
@@ -341,19 +361,23 @@ class Blocks:
         return self.make()
 
 
-# A file of 65,536 pages
+# A file of 131,072 pages
 
 def many_pages():
-    """A DVI file of 65,536 pages, of which post says 0. The first count is the page; the last page has a rule."""
-    pages = [Page([], (at, *[0] * 9)) for at in range(1, 65536)] + [Page([down(PT), set_rule(PT, PT)], (-1, *[7] * 9))]
-    file = dvi_file(pages, PT, PT)
+    """A DVI file of 131,072 pages, of which post says 0. The first count is the page; page 65,537 and the last one have a rule."""
+    count, body = 131072, [down(PT), set_rule(PT, PT)]
+    counts = [(at, *[0] * 9) for at in range(1, count)] + [(-1, *[7] * 9)]
+    bodies = {65537: body, count: body}
+    file = dvi_file([Page(bodies.get(at, []), it) for at, it in enumerate(counts, 1)], PT, PT)
     assert file.data[file.post + 27:file.post + 29] == b"\0\0"
     wrong = file.data[:file.post + 28] + b"\1" + file.data[file.post + 29:]
-    listing = listed([(f"{at} 0 0 0 0 0 0 0 0 0", ()) for at in range(1, 65536)] + [("-1 7 7 7 7 7 7 7 7 7", [rule_mark(0, PT, PT, PT)])])
+    marks = {at: [rule_mark(0, PT, PT, PT)] for at in bodies}
+    listing = listed([(" ".join(map(str, it)), marks.get(at, ())) for at, it in enumerate(counts, 1)])
+    black, white = (f"P1\n3 3\n000\n{it}00\n000\n".encode() for it in (1, 0))
     return Work({"f.dvi": file.data, "wrong.dvi": wrong}, [
         Run(("list", "f.dvi"), stdout=(listing,)),
-        Run(paint_words(65536, 72, 3, 3, "f.dvi"), stdout=(b"P1\n3 3\n000\n100\n000\n",)),
-        Run(paint_words(65537, 72, 3, 3, "f.dvi"), stderr=b"boxglue: no such page\n", status=2),
+        *[Run(paint_words(at, 72, 3, 3, "f.dvi"), stdout=(text,)) for at, text in ((65536, white), (65537, black), (count, black))],
+        Run(paint_words(count + 1, 72, 3, 3, "f.dvi"), stderr=b"boxglue: no such page\n", status=2),
         Run(("list", "wrong.dvi"), stdout=(f"refused 20 BadDvi {file.post} Count\n".encode(),), status=1),
     ])
 
@@ -393,6 +417,48 @@ def high_font_numbers():
     return Work({"f.dvi": file.data, "tiny.tfm": TINY}, [
         Run(("list", "f.dvi", "tiny=tiny.tfm"), stdout=(listed([(ZERO_COUNTS, marks)]),)),
         Run(("list", "f.dvi"), stdout=(b"refused 4 NoFont\n",), status=1),
+    ])
+
+
+def font_lines(fonts):
+    """What `fonts` prints for a file with these definitions, whose names are words."""
+    lines = [f"font {it.number} {it.name.decode()} {it.size} {it.design_size} {it.check_sum:08x}\n" for it in fonts]
+    return "".join(["units 25400000 473628672 1000\n", *lines]).encode()
+
+
+def many_definitions():
+    """A file with 1,000 definitions of fonts, which is shorter than 64 KiB."""
+    fonts = [Font(at, b"f%d" % at, 1 + at, 1 + 2 * at, at) for at in range(1000)]
+    file = dvi_file([Page([], new_fonts=tuple(fonts))], 0, 0)
+    assert len(file.data) < 1 << 16
+    return Work({"f.dvi": file.data}, [Run(("fonts", "f.dvi"), stdout=(font_lines(fonts),))])
+
+
+FONTS_OF_RULES = (Font(0, b"tiny"), Font(70000, b"large", 20 * PT, 5 * PT, 0x01234567))
+
+
+def rules_and_fonts():
+    """A file above 64 KiB that defines two fonts: a page of 8,000 rules."""
+    file = dvi_file([Page([down(PT), put_rule(PT, PT)] * 8000, new_fonts=FONTS_OF_RULES)], 8000 * PT, PT)
+    assert file.post > 1 << 16
+    return file
+
+
+def with_bad_font(file):
+    """The bytes of this file with the size 0 in the last definition after post, and the place of this definition."""
+    font = FONTS_OF_RULES[1]
+    place = file.data.rindex(definition(font))
+    assert place > file.post
+    return file.data[:place] + definition(replace(font, size=0)) + file.data[place + len(definition(font)):], place
+
+
+def fonts_of_rules():
+    """The fonts of this file, and its refusal with a bad one."""
+    file = rules_and_fonts()
+    wrong, place = with_bad_font(file)
+    return Work({"f.dvi": file.data, "wrong.dvi": wrong}, [
+        Run(("fonts", "f.dvi"), stdout=(font_lines(FONTS_OF_RULES),)),
+        Run(("fonts", "wrong.dvi"), stdout=(f"refused 20 BadDvi {place} Font\n".encode(),), status=1),
     ])
 
 
@@ -445,6 +511,18 @@ def long_texts():
     lines, replies = zip(*rows)
     run = Run(("typeset", "out.dvi", "tiny=tiny.tfm"), script(lines), stdout=(answers(replies, summary(1, file)),), status=1, made={"out.dvi": file.data})
     return Work({"tiny.tfm": TINY}, [run])
+
+
+def many_characters():
+    """A page of 262,144 characters, in four boxes of 65,536, typeset, listed and painted: a bitmap shows no character."""
+    width = 65536 * 50
+    lines = ["font 0 tiny at 100sp", "use 0", "hbox into 1", text_of(65536), "end", "hbox into 0", *["copy 1"] * 4, "end", "ship 0"]
+    replies = ["ok", "ok", "ok", "added 65536 missing 0", packed(width, 50, 0), "ok", *["added 1"] * 4, packed(4 * width, 50, 0), "shipped 1"]
+    boxes = [[down(50), select(0), set_char(99) * 65536], *[[right(at * width), down(50), set_char(99) * 65536] for at in range(1, 4)]]
+    file = dvi_file([Page(boxes, new_fonts=(Font(0, b"tiny", 100),))], 50, 4 * width)
+    marks = [f"glyph 0 99 {50 * at} 50" for at in range(4 * 65536)]
+    runs = typeset_and_list(file, answers(replies, summary(1, file)), lines, marks, ("tiny=tiny.tfm",))
+    return Work({"tiny.tfm": TINY}, [*runs, Run(paint_words(1, 72, 2, 1, "out.dvi", "tiny=tiny.tfm"), stdout=(b"P1\n2 1\n00\n",))])
 
 
 STEPS, KERNS = 16203, 16000

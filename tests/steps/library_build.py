@@ -34,8 +34,8 @@ def heap_archive():
 
 
 @functools.lru_cache(None)
-def folder():
-    """A folder for what is built, which is removed at the end."""
+def folder(archive=None):
+    """A folder for what is built, for that of an archive a folder of its own; it is removed at the end."""
     room = tempfile.mkdtemp(prefix="boxglue-library-")
     atexit.register(shutil.rmtree, room, ignore_errors=True)
     return room
@@ -55,7 +55,7 @@ def compile_c(root, archive, sources, out, flags):
 
 def build_calls(root, archive):
     """Builds the program in C, and returns its path."""
-    out, sources = f"{folder()}/library_calls", sorted(glob.glob(f"{root}/bindings/c/*.c"))
+    out, sources = f"{folder(archive)}/library_calls", sorted(glob.glob(f"{root}/bindings/c/*.c"))
     wrong = None
     for flags in SANITIZERS:
         wrong = compile_c(root, archive, sources, out, [*flags, WRAPPED])
@@ -66,7 +66,7 @@ def build_calls(root, archive):
 
 def build_shared(root, archive):
     """Builds the shared object, and returns its path."""
-    out = f"{folder()}/libboxglue.so"
+    out = f"{folder(archive)}/libboxglue.so"
     wrong = run_build([f"{root}/bindings/build", archive, out])
     if wrong:
         raise Unbuilt(f"libboxglue.so is not built: {wrong}")

@@ -13,7 +13,7 @@ from steps.library_inputs import Input, Printed, Room
 from steps.part import Part
 from steps.texts import first_difference, last_lines
 
-TITLE = "the library for C: many fonts and definitions, long answers, refused files"
+TITLE = "the library for C: many fonts and definitions, large files, long answers, refused files"
 POST_SIZE = 29
 NOP, BOP, PUSH, POP, EOP, PRE = b"\x8a", b"\x8b", b"\x8d", b"\x8e", b"\x8c", b"\xf7"
 FIRST, SECOND = Font(0, b"tiny"), Font(1, b"tiny", 20 * PT, 5 * PT, -0x01234568)
@@ -21,7 +21,7 @@ FIRST, SECOND = Font(0, b"tiny"), Font(1, b"tiny", 20 * PT, 5 * PT, -0x01234568)
 
 @dataclass(frozen=True)
 class Calls:
-    """Files, and calls on them: the words of each, and what it prints: `Printed`, or for the fonts of a file the status and the lines."""
+    """Files, and calls on them: the words of each, and what it prints: `Printed`, or for the fonts or marks of a file the status and the lines."""
     files: dict
     calls: list = field(default_factory=list)
 
@@ -59,10 +59,11 @@ def all_slots():
 
 
 def definitions_of_another_program():
-    """1,000 definitions, with numbers from 100 on; of each third font the name has another length, and of the last one no byte."""
+    """1,000 definitions in less than 64 KiB, with numbers from 100 on; of each third font the name has another length, and of the last one no byte."""
     names = [b"n%d" % at * (1 + at % 3) for at in range(999)] + [b""]
     fonts = [Font(100 + at, name, 1 + at) for at, name in enumerate(names)]
     file = dvi_file([Page([put_rule(1, 1)], new_fonts=tuple(fonts))], 0, 0)
+    assert len(file.data) < 1 << 16
     return Calls({"f.dvi": file.data}, [(["fonts", "f.dvi"], (0, rows_of(fonts))), (["list", "f.dvi"], Printed(0, listed([(ZERO_COUNTS, ["rule 0 0 1 1"])])))])
 
 
@@ -155,19 +156,48 @@ def files_with_broken_pages():
     return Calls({"tiny.tfm": TINY, **files}, [*((["fonts", name], (0, rows_of([FIRST, SECOND]))) for name in files), *lists])
 
 
+def large_files():
+    """A page of 8,000 rules, whose file is above 64 KiB, and its marks; and those of the file of a page of 80,000 rules."""
+    calls = calls_of_work(large_inputs.page_of_rules)
+    typeset, listing = large_inputs.page_of_instructions().runs
+    marks = [(["marks", "out.dvi"], (0, listed([(ZERO_COUNTS, large_inputs.rules_marks())]))), (["marks", "more.dvi"], (0, b"".join(listing.stdout)))]
+    return Calls({**calls.files, "more.dvi": typeset.made["out.dvi"]}, [*calls.calls, *marks])
+
+
+def fonts_of_large_file():
+    """The fonts of a file above 64 KiB."""
+    return Calls({"f.dvi": large_inputs.rules_and_fonts().data}, [(["fonts", "f.dvi"], (0, rows_of(large_inputs.FONTS_OF_RULES)))])
+
+
+def large_broken_files():
+    """A file whose last rule is no instruction, and one with a bad definition of a font after post: both places are above 65,536."""
+    file = large_inputs.rules_and_fonts()
+    last_rule = file.page_ends[0] - 1 - len(put_rule(PT, PT))
+    assert last_rule > 1 << 16 and file.data[last_rule:-1].startswith(put_rule(PT, PT) + EOP)
+    bad_font, place = large_inputs.with_bad_font(file)
+    lines = {"page.dvi": b"refused 20 BadDvi %d Opcode\n" % last_rule, "font.dvi": b"refused 20 BadDvi %d Font\n" % place}
+    calls = [call for name, line in lines.items() for call in ((["marks", name], (1, line)), (["list", name], Printed(1, line)),
+                                                              (["paint", "1", "72", "2", "1", name], Printed(1, line)))]
+    return Calls({"page.dvi": changed(file.data, last_rule, b"\xfa"), "font.dvi": bad_font}, [*calls, (["fonts", "font.dvi"], (1, lines["font.dvi"]))])
+
+
 CASES = {
     "256 fonts and definitions": all_slots,
     "298 fonts": partial(calls_of_work, large_inputs.many_words),
     "300 fonts": three_hundred_fonts,
     "1,000 definitions": definitions_of_another_program,
+    "files above 64 KiB": large_files,
+    "fonts of a file above 64 KiB": fonts_of_large_file,
+    "files that are broken above 64 KiB": large_broken_files,
     "answers above 2 MiB": partial(calls_of_work, large_inputs.long_answers),
     "files that the call for fonts refuses": refused_files,
     "files with broken pages": files_with_broken_pages,
 }
 
 
-def font_lines(ran):
-    """The status and the lines that a call for fonts printed. From C its first line has the number of the fonts and the size of their names, or of the refusal."""
+def status_and_lines(ran):
+    """The status and the lines that a call for fonts or marks printed. From C the first line also has the number of the fonts and the size of their names or of the
+    refusal; or the units of the file."""
     line, _, rest = ran.stdout.partition(b"\n")
     return f"the status is {ran.returncode}: {last_lines(ran.stderr)}" if ran.returncode else (int(line.split()[0]), rest)
 
@@ -177,10 +207,10 @@ def call_wrong(ran, words, wanted):
     call = " ".join(words[:3])
     if isinstance(wanted, Printed):
         return differs(call, printed(ran), wanted)
-    found = font_lines(ran)
+    found = status_and_lines(ran)
     if isinstance(found, str) or found[0] != wanted[0]:
         return f"{call}: {found} and not {wanted}"
-    return first_difference(f"{call}: the fonts", found[1], wanted[1])
+    return first_difference(f"{call}: the lines", found[1], wanted[1])
 
 
 def outcome(command, make, root, archive=None, *_programs):

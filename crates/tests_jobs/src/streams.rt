@@ -120,10 +120,15 @@ impl Write for Idle {
 }
 
 #[test]
-fn a_writer_that_takes_nothing(rt: HostRuntime) {
+fn a_piece_for_a_writer_that_takes_nothing(rt: HostRuntime) {
     let mut writer = Idle { calls: 0 };
     assert_eq!(rt; write_some(&mut writer, b"ab"), Err(HostFault::Failed));
     assert_eq!(rt; writer.calls, 1);
+}
+
+#[test]
+fn a_text_for_a_writer_that_takes_nothing(rt: HostRuntime) {
+    let mut writer = Idle { calls: 0 };
     assert_eq!(rt; write_text(&mut writer, b"1: ok\n"), Err(Unwritten));
-    assert_eq!(rt; writer.calls, 2);
+    assert_eq!(rt; writer.calls, 1);
 }
