@@ -1,56 +1,62 @@
-"""Calls that nobody calls: each `pub fn` of a crate, but laws, has a caller in the product, in the tests or in the examples. Only texts are compared, and no program is run.
+"""Calls that nothing reaches: each `pub fn` of a crate of the product, but laws, is reached from `main`, from the exports of the library for C or from the programs of
+docs/LIBRARY.md, or is on the list of calls that stay for callers in Rattle. A test is not a caller.
 
-A caller is known by the name alone, in a body of the same crate or of one above it. So a call of another function of the name hides one that nobody calls."""
+What is reached is read from the modules that the toolchain makes of these programs before anything is optimized: they have a function for each that is reached, under its
+crate, its module, its type and its name. Nothing is proved, and no program is run."""
+import functools
 import glob
 import os
 import re
+import sys
+import tempfile
 from dataclasses import dataclass
 from functools import partial
 
 from statements import body_of, end_of, tokens_of
-from tools.crates import crates_below, libraries
+from steps.texts import last_lines
+from steps.trying import run_tried
+from tools.crates import libraries
 
-TITLE = "each function that a crate exports, but laws, has a caller in the product, the tests or the examples"
+TITLE = "each function that a crate of the product exports, but laws, is reached from main, from the library for C or from the programs of docs/LIBRARY.md"
 TRIES = False
-# `tests/run header` compares its functions with the header, by which programs call them.
-FOR_C = "boxglue_c"
+WEIGHT = 3
+# The programs from which the walk begins; of the library's crate it is each call of the header.
+PROGRAMS = ("boxglue", "boxglue_c", "examples_scripts", "examples_jobs")
+# Crates that only test.
+BESIDE = ("tests_", "rows_", "examples_")
+# Calls that stay for callers in Rattle, though the program has them in another form or does not need them; `is_plain_body` tests the premise of `reuse`.
+FOR_CALLERS = """tfm_core::scaled pack_core::offset break_core::breaks vert_core::append_box vert_core::lines vert_core::split ship_core::plan
+    move_core::is_plain_body boxglue_program::run_rest""".split()
 EMPTY = ["{", "}"]
-# A file in which only some functions have callers, and what is found there.
-MADE = """pub fn called() -> u8 ensures { uncalled 3 } { 1 }
-pub fn by_path() -> u8 { 2 }
-pub fn as_a_value() -> u8 { 3 }
+# A file with methods and functions, and how the exported ones are named.
+MADE = """pub fn free() -> u8 ensures { uncalled 3 } { 1 }
+fn private() -> u8 { called() }
 pub fn is_a_law() ensures { true } {}
-fn private() -> u8 { called() + inner::by_path() + [1].map(as_a_value) }
-pub fn uncalled() -> u8 { let uncalled = 4; uncalled }
-pub fn by_itself(more: bool) -> u8 { if more { by_itself(false) } else { 5 } }
-impl Kind {
-    pub fn method(self) -> u8 { self.uncalled }
-    pub fn alone<'a>(&'a mut self) -> u8 { alone(self.method()) }
-    pub const fn made() -> Kind { Self::made() }
-}
+impl<'a, T: Copy> Kind<'a, T> { pub const fn method(self) -> u8 { 2 } fn inner(&self) -> u8 { 3 } }
+impl Trait for Kind { fn of_the_trait(&self) -> u8 { 4 } }
+pub trait Trait { fn of_the_trait(&self) -> u8; fn with_a_body(&self) -> u8 { 5 } }
+mod tests { pub fn of_a_test() -> u8 { 6 } }
+impl Other { pub unsafe fn last(&mut self) { self.last() } }
 """
-FOUND = ["alone", "by_itself", "made", "uncalled"]
+NAMED = ["made::file::free", "made::Kind::method", "made::Other::last"]
 
 
 @dataclass(frozen=True)
 class Function:
-    """A function, with the tokens of its body."""
+    """An exported function that has a body: its crate, its file, its type if it is a method, and its name."""
     crate: str
     path: str
+    type: str
     name: str
-    is_public: bool
-    is_method: bool
-    body: tuple
 
-    def is_law(self):
-        """Whether it has only to state something: its body is empty, or its module is one of laws."""
-        return [*self.body] == EMPTY or "laws" in os.path.basename(self.path)
+    def key(self):
+        """Its name as a module of a program has it. The methods of a type are named by the module of the type, which is left out."""
+        module = re.sub(r"(::)?(lib|main)$", "", self.path.removesuffix(".rt").replace("/", "::"))
+        return "::".join(filter(None, (self.crate, self.type or module, self.name)))
 
-
-def is_method(tokens, at):
-    """Whether the first parameter of the function whose `fn` is at this token is `self`, `&mut self` or the like."""
-    first = tokens.index("(", at)
-    return "self" in tokens[first:first + 6]
+    def short(self):
+        """Its name as callers of its crate write it."""
+        return "::".join(filter(None, (self.crate, self.type, self.name)))
 
 
 def is_public(tokens, at):
@@ -60,64 +66,90 @@ def is_public(tokens, at):
     return tokens[at - 1] == "pub"
 
 
-def functions_of(crate, path, text):
-    """The functions of a file that have a body."""
-    tokens, at = tokens_of(text), 0
+def opening(tokens, at):
+    """The place of the brace that opens the body of the `impl`, `trait` or `mod` at this token, or None if it has none."""
+    while tokens[at] != "{":
+        if tokens[at] == ";":
+            return None
+        at += 1
+    return at
+
+
+def type_of(head):
+    """The type of an `impl` by the tokens between `impl` and its body; None for an `impl` of a trait."""
+    if "for" in head:
+        return None
+    at = depth = 0
+    while head[at] == "<" or depth:
+        depth += (head[at] == "<") - (head[at] == ">")
+        at += 1
+    return head[at]
+
+
+def functions_of(crate, path, tokens, of_type=""):
+    """The exported functions of a file, or of the body of an `impl`. Those of traits, of their `impl`s and of modules within the file are left out."""
+    at = 0
     while at < len(tokens):
-        if tokens[at] != "fn" or not re.match(r"\w", tokens[at + 1]):
-            at += 1
-            continue
-        body = body_of(tokens, at + 1)
-        end = end_of(tokens, body) if tokens[body] == "{" else body
-        if end > body:
-            yield Function(crate, path, tokens[at + 1], is_public(tokens, at), is_method(tokens, at), tuple(tokens[body:end]))
+        token, body = tokens[at], None
+        if token in ("impl", "trait", "mod") and (body := opening(tokens, at)):
+            end = end_of(tokens, body)
+            found = type_of(tokens[at + 1:body]) if token == "impl" else None
+            if found:
+                yield from functions_of(crate, path, tokens[body + 1:end - 1], found)
+        elif token == "fn" and re.match(r"\w", tokens[at + 1]):
+            body = body_of(tokens, at + 1)
+            end = end_of(tokens, body) if tokens[body] == "{" else body
+            if is_public(tokens, at) and end > body and tokens[body:end] != EMPTY:
+                yield Function(crate, path, of_type, tokens[at + 1])
+        else:
+            end = at
         at = max(end, at + 1)
 
 
-def called_in(body):
-    """The names that a body calls: as functions or by paths, and as methods. A name that is an argument may be a function's."""
-    free, methods = set(), set()
-    for before, name, after in zip(("", *body), body, (*body[1:], "")):
-        if before == ".":
-            methods.add(name)
-        elif before == ":":
-            free.add(name)
-            methods.add(name)
-        elif after == "(" or (before in ("(", ",") and after in (")", ",")):
-            free.add(name)
-    return free, methods
+def exported(root):
+    """All exported functions of the product, but laws."""
+    for crate in (it for it in libraries(root) if not it.startswith(BESIDE)):
+        for path in sorted(glob.glob(f"{root}/crates/{crate}/src/**/*.rt", recursive=True)):
+            if "laws" not in os.path.basename(path):
+                with open(path, encoding="utf-8") as it:
+                    yield from functions_of(crate, os.path.relpath(path, f"{root}/crates/{crate}/src"), tokens_of(it.read()))
 
 
-def uncalled(functions, above):
-    """The exported functions, but laws, that no other function of their crate or of one above it calls."""
-    calls = [(it, *called_in(it.body)) for it in functions]
-
-    def has_caller(one):
-        return any(one.name in (methods if one.is_method else free) for it, free, methods in calls if it is not one and it.crate in above[one.crate])
-    return [it for it in functions if it.is_public and not it.is_law() and it.crate != FOR_C and not has_caller(it)]
+def keys_of(name):
+    """What a function of a module may be called here: with its modules, and by its crate and the last two names, of a type without its parameters and of itself."""
+    name = name.partition("::<")[0]
+    *before, kind, last = ["", *name.split("::")][-3:]
+    return {name, "::".join((name.partition("::")[0], kind.partition("+")[0], last))}
 
 
-def crates_above(root):
-    """For each crate, it and all that are built of it."""
-    uses = libraries(root)
-    built_of = {crate: crates_below(uses, [crate]) for crate in uses}
-    return {crate: {it for it in uses if crate in built_of[it]} for crate in uses}
+@functools.lru_cache(None)
+def reached(root, crate):
+    """The keys of all functions that a program reaches, or what is wrong with its module."""
+    with tempfile.TemporaryDirectory() as folder:
+        status, _, errors = run_tried([sys.executable, f"{root}/tools/unproved.py", "--names", crate, f"{folder}/names"], root)
+        if status:
+            return f"{crate} has no module: {last_lines(errors)}"
+        with open(f"{folder}/names", encoding="utf-8") as it:
+            return frozenset(key for line in it for key in keys_of(line.rstrip("\n")))
 
 
 def of_sources(root):
-    """What is exported and not called, of the repository."""
-    functions = []
-    for path in sorted(glob.glob(f"{root}/crates/*/src/**/*.rt", recursive=True)):
-        with open(path, encoding="utf-8") as it:
-            functions += functions_of(os.path.relpath(path, f"{root}/crates").split("/")[0], os.path.relpath(path, root), it.read())
-    found = [f"{it.name} of {it.path}" for it in uncalled(functions, crates_above(root))]
-    return f"nobody calls {', '.join(found)}" if found else None
+    """What is exported and not reached, and what is on the list and should not be."""
+    modules = [reached(root, it) for it in PROGRAMS]
+    if wrong := [it for it in modules if isinstance(it, str)]:
+        return "; ".join(wrong)
+    keys = frozenset().union(*modules)
+    lost = {it.short() for it in exported(root) if it.key() not in keys}
+    wrong = {"nothing reaches": sorted(lost - {*FOR_CALLERS}), "reached or not there, but on the list:": sorted({*FOR_CALLERS} - lost)}
+    return "; ".join(f"{what} {', '.join(names)}" for what, names in wrong.items() if names) or None
 
 
 def of_made(_root):
-    """What is found in a made file."""
-    found = sorted(it.name for it in uncalled([*functions_of("made", "made.rt", MADE)], {"made": {"made"}}))
-    return None if found == FOUND else f"found is {found}"
+    """How the functions of a made file are named, and what is found of a name in a module."""
+    found = [it.key() for it in functions_of("made", "file.rt", tokens_of(MADE))]
+    keys = keys_of("made::inner::Kind+Dimen::method::<i8>")
+    wrong = {f"the names are {found}": found != NAMED, f"the keys are {sorted(keys)}": "made::Kind::method" not in keys or "made::Other::method" in keys}
+    return "; ".join(it for it, is_wrong in wrong.items() if is_wrong) or None
 
 
 def cases(_programs, root):

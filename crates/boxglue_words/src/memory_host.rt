@@ -93,13 +93,6 @@ impl MemoryFiles {
         }
     }
 
-    /// Whether a file was created.
-    pub fn is_created(&self) -> bool
-        ensures { result ≡ self.now.is_created }
-    {
-        self.is_created
-    }
-
     /// The path of the file that was created last; empty if there is none.
     pub fn created_path(&self) -> &[u8]
         ensures { result.now ≡ self.now.created }

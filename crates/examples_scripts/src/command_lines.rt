@@ -13,7 +13,7 @@ fn owned_words(alloc: Global, words: &[&str]) -> Result<Vec<String>, AllocError>
 }
 
 /// Runs the program with words, such as `typeset`, `out.dvi`, `tiny=tiny.tfm`, on a script and with this one file. Returns its status, its output,
-/// its errors, and the files, whose `written_bytes()` is the DVI file.
+/// its errors, and the files, whose `created_path()` and `written_bytes()` are the path and the bytes of the DVI file.
 pub fn run(
     alloc: Global,
     words: &[&str],

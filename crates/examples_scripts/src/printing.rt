@@ -1,5 +1,6 @@
 //! The output of each example, as text.
 
+use boxglue_lib::MemoryFiles;
 use std::io;
 use std::io::Write;
 
@@ -10,18 +11,18 @@ pub fn print_answers<W: Write>(output: &mut W, answers: &[u8], length: usize) ->
     writeln!(output, "{length} bytes")
 }
 
-/// The answers of the program, its status, and the lengths of its errors and of the file.
+/// The answers of the program, its status, the length of its errors, and the length and the path of the file.
 pub fn print_end<W: Write>(
     output: &mut W,
     answers: &[u8],
     status: u8,
     errors: usize,
-    length: usize,
+    files: &MemoryFiles,
 ) -> io::Result<()> {
     writeln!(output, "== run")?;
     output.write_all(answers)?;
-    writeln!(
-        output,
-        "status {status}, {errors} bytes of errors\n{length} bytes"
-    )
+    writeln!(output, "status {status}, {errors} bytes of errors")?;
+    write!(output, "{} bytes in ", files.written_bytes().len())?;
+    output.write_all(files.created_path())?;
+    writeln!(output)
 }

@@ -20,13 +20,7 @@ pub fn run_answered<W: Write>(alloc: Global, output: &mut W) -> Result<()> {
 pub fn run_program<W: Write>(alloc: Global, output: &mut W) -> Result<()> {
     let words = ["typeset", "out.dvi", "tiny=tiny.tfm"];
     let script = Vec::from_slice(alloc, ONE_GLYPH.as_bytes())?;
-    let (status, answers, errors, host) = run(alloc, &words, script, tiny(alloc)?)?;
-    print_end(
-        output,
-        &answers,
-        status,
-        errors.len(),
-        host.written_bytes().len(),
-    )?;
+    let (status, answers, errors, files) = run(alloc, &words, script, tiny(alloc)?)?;
+    print_end(output, &answers, status, errors.len(), &files)?;
     Ok(())
 }

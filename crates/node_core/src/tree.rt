@@ -323,19 +323,6 @@ impl NodeList {
         push_box(&mut self.nodes, shift, box_node)
     }
 
-    /// Appends nodes in order; the list then has at most `MAX_NODES`. If memory is refused, the list is as it was before the call, and the nodes are
-    /// dropped.
-    #[tactic(auto, using(crate::proofs::NodeLemmas::nodes))]
-    pub fn extend(&mut self, mut nodes: Vec<Node>) -> Result<(), AllocError>
-        requires list_bounded { length (nodes_of self.old) + length nodes.items ≤ max_nodes }
-        ensures ok { OnOk result (self.new ≡ items_of (nodes_of self.old ++ nodes.items)) }
-        ensures nodes { OnOk result (nodes_of self.new ≡ nodes_of self.old ++ nodes.items) }
-        ensures err { OnErr result (self.new ≡ self.old) }
-    {
-        self.plain = false;
-        self.nodes.append(&mut nodes)
-    }
-
     /// Moves the nodes of another list to the end of this one, in order; together they are at most `MAX_NODES`. If memory is refused, both lists are
     /// as they were before the call.
     #[tactic(auto, using(crate::proofs::NodeLemmas::nodes))]

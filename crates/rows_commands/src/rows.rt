@@ -117,11 +117,9 @@ fn command_lines_over_a_host_in_memory(rt: HostRuntime) {
         assert_eq!(rt; ran.errors.as_slice(), row.errors.as_bytes());
         assert_eq!(rt; ran.output.as_slice(), row.output.as_bytes());
         assert_eq!(rt; ran.status, row.status);
-        assert_eq!(rt; ran.files.is_created(), !row.file.is_empty());
+        let path: &[u8] = if row.file.is_empty() { b"" } else { b"out.dvi" };
+        assert_eq!(rt; ran.files.created_path(), path);
         assert_eq!(rt; ran.files.written_bytes(), file.as_slice());
-        if ran.files.is_created() {
-            assert_eq!(rt; ran.files.created_path(), b"out.dvi".as_slice());
-        }
     }
 }
 

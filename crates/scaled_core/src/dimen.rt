@@ -119,11 +119,4 @@ impl Dimen {
     {
         Dimen::try_new(self.exact_add(other))
     }
-
-    /// This dimension minus another, or `None` exactly when the difference does not fit.
-    pub fn checked_sub(self, other: Dimen) -> Option<Dimen>
-        ensures { result ≡ dimension_of (self -ℤ other) }
-    {
-        Dimen::try_new(self.exact_sub(other))
-    }
 }

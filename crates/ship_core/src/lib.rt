@@ -7,5 +7,5 @@ pub mod page_plan;
 mod pushes;
 
 pub use page_core::{PagePoint, is_huge};
-pub use page_plan::{ShipFault, plan, plan_runs, plan_with_room};
+pub use page_plan::{ShipFault, plan, plan_runs};
 pub use pushes::pushed_after;

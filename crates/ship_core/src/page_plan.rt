@@ -61,22 +61,7 @@ pub fn plan(alloc: Global, box_node: &BoxNode, at: PagePoint) -> Result<Vec<Body
     ensures huge { IfErr result (λ fault. (counts : List ℤ)
         → (fault ≡ ShipFault.HugePage) ↔ (is_huge (page_at counts at.h at.v box_node.now) ≡ true)) }
 {
-    plan_with_room(alloc, box_node, at, 0)
-}
-
-/// As `plan`, with capacity for `room` characters from the start.
-pub fn plan_with_room(
-    alloc: Global,
-    box_node: &BoxNode,
-    at: PagePoint,
-    room: usize,
-) -> Result<Vec<BodyOp<'_>>, ShipFault>
-    ensures ok { IfOk result (λ ops. (counts : List ℤ) → map body_view ops.items ≡ flat (body_of (page_at counts at.h at.v box_node.now))) }
-    ensures fits { OnOk result ((counts : List ℤ) → is_huge (page_at counts at.h at.v box_node.now) ≡ false) }
-    ensures huge { IfErr result (λ fault. (counts : List ℤ)
-        → (fault ≡ ShipFault.HugePage) ↔ (is_huge (page_at counts at.h at.v box_node.now) ≡ true)) }
-{
-    let runs = plan_runs(alloc, box_node, at, room)?;
+    let runs = plan_runs(alloc, box_node, at, 0)?;
     match runs.instructions(alloc) {
         Ok(ops) => Ok(ops),
         Err(_) => Err(ShipFault::OutOfMemory),

@@ -87,13 +87,6 @@ impl Tfm {
 }
 
 impl Tfm {
-    /// The checksum: word 0 of the header (TFtoPL, 10).
-    pub fn check_sum(&self) -> i32
-        ensures { result ≡ self.now.check_sum }
-    {
-        self.entries.check_sum
-    }
-
     /// The design size in scaled points: a sixteenth of word 1 of the header (TFtoPL, 10).
     pub fn design_size(&self) -> FontSize
         ensures { result ≡ design_size_of self.now.design_word }
