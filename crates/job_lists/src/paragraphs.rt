@@ -1,7 +1,7 @@
 //! Paragraphs are opened inside vertical lists, and end as lines in the list around them.
 
 ghost use Rattle.std.specs.Prelude.{◌≡◌, ◌++◌, ◌∷◌, [], None, Ok, IfOk, OnOk, OnErr};
-ghost use Rattle.vert_core.specs.declared.paragraph.SetParagraph.{SetParagraph};
+ghost use Rattle.vert_core.specs.Paragraphs.{SetParagraph};
 ghost use Rattle.job_lists.specs.Private.EndedParagraphs.{refusal_of};
 ghost use Rattle.job_machine.specs.State.{innermost, outer, items_in};
 ghost use Rattle.job_machine.specs.OpenLists.{opened_list};

@@ -25,7 +25,7 @@ use Rattle.node_core.specs.Nodes.{nodes_of}
 use Rattle.job_machine.specs.State.{State, innermost, outer, items_in, open_count, held_in}
 use Rattle.job_machine.specs.declared.ListPurpose.{ListPurpose}
 use Rattle.job_machine.specs.declared.ListPurpose.TheVariants as purposes
-use Rattle.vert_core.specs.declared.paragraph.SetParagraph.{SetParagraph}
+use Rattle.vert_core.specs.Paragraphs.{SetParagraph}
 use Rattle.vert_core.specs.declared.paragraph.ParagraphFault.{ParagraphFault}
 use Rattle.vert_core.specs.declared.paragraph.ParagraphFault.TheVariants as faults
 use Rattle.job_machine.specs.OpenLists.{packed_list}

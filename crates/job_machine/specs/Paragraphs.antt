@@ -9,10 +9,9 @@ use Rattle.break_core.specs.declared.broken.Pass.TheVariants.{First, Second, Thi
 use Rattle.break_lines.specs.declared.fault.BreakFault.{BreakFault}
 use Rattle.break_lines.specs.declared.fault.BreakFault.TheVariants as breaking
 use Rattle.vert_core.specs.Interline.{ignored_depth}
-use Rattle.vert_core.specs.declared.paragraph.SetParagraph.{SetParagraph}
 use Rattle.vert_core.specs.declared.paragraph.ParagraphFault.{ParagraphFault}
 use Rattle.vert_core.specs.declared.paragraph.ParagraphFault.TheVariants as faults
-use Rattle.vert_core.specs.Paragraphs.{break_fault}
+use Rattle.vert_core.specs.Paragraphs.{SetParagraph, break_fault}
 use Rattle.vert_core.specs.Setting.{setting}
 use Rattle.job_machine.specs.declared.replies.Answer.{Answer}
 use Rattle.job_machine.specs.declared.replies.Answer.TheVariants as answers

@@ -17,7 +17,7 @@ use Rattle.break_lines.specs.declared.fault.BreakFault.TheVariants as breaking
 use Rattle.pack_core.specs.Boxes.{hbox}
 use Rattle.pack_core.specs.Glue.{is_zero}
 use Rattle.vert_core.specs.Interline.{interline, glue_of, appended_nodes}
-use Rattle.vert_core.specs.declared.paragraph.SetParagraph.{SetParagraph}
+use Rattle.vert_core.specs.Paragraphs.{SetParagraph}
 use Rattle.vert_core.specs.declared.paragraph.ParagraphFault.{ParagraphFault}
 use Rattle.vert_core.specs.declared.paragraph.ParagraphFault.TheVariants.{DimensionTooLarge}
 use Rattle.vert_core.specs.Lines.{BrokenParagraph, boxed_line, line_box, line_begin, line_items, depth_before, penalty_after, penalty_nodes, brought_by, vertical_items, lines_fit}

@@ -39,7 +39,7 @@ use Rattle.job_machine.proofs.PackedItems.{packed_items}
 use Rattle.job_state.proofs.SplitParts.{inner_nodes, rest_sound, front_sound}
 use Rattle.job_state.specs.Private.Sized.{HasSizes, IsSizedLeaf, IsSoundBox, IsSized, AreSized, IsSizedList, IsSizedHeld, HasSizedGlyphs}
 use Rattle.job_state.proofs.SetLines.{set_sized}
-use Rattle.vert_core.specs.declared.paragraph.SetParagraph.{SetParagraph}
+use Rattle.vert_core.specs.Paragraphs.{SetParagraph}
 use Rattle.vert_core.specs.declared.paragraph.ParagraphFault.{ParagraphFault}
 use Rattle.job_machine.specs.Paragraphs.{depth_in, set_after, set_checks, with_lines}
 use Rattle.job_machine.specs.declared.ListPurpose.{ListPurpose}

@@ -1,4 +1,4 @@
-//! The number of lines that `active_breaks` tries, and `set_paragraph` by it.
+//! The number of lines that `append_paragraph` tries, and those that `active_breaks` tries from each place.
 
 use crate::four_methods::FourMethods;
 use crate::items::points;
@@ -8,7 +8,7 @@ use node_core::{IntParameter, Node, NodeList, Params};
 use scaled_core::Dimen;
 use std::alloc::Global;
 use std::process::Abort;
-use vert_core::set_paragraph;
+use vert_core::{AppendedParagraph, append_paragraph};
 
 /// Lines of 40pt with any badness, in the second pass.
 fn very_narrow(rt: &impl Abort) -> Params {
@@ -64,9 +64,8 @@ fn expect_counts(
         assert!(rt; meter.trials(place) <= each);
     }
     assert_eq!(rt; meter.all_trials(), trials);
-    assert!(rt; trials <= 335_872);
     assert_eq!(rt; trials_by_four_methods(rt, alloc, &nodes, &params), four);
-    expect_trials_of_paragraph(rt, alloc, words(rt, alloc, kerned), &params, trials);
+    expect_appended(rt, alloc, kerned, lines, trials);
 }
 
 /// The number of lines that `active_breaks` tries of a finished list by a meter with four methods.
@@ -78,19 +77,28 @@ fn trials_by_four_methods(rt: &impl Abort, alloc: Global, nodes: &[Node], params
     meter.inner.all_trials()
 }
 
-/// Asserts how many lines were tried to set a paragraph of these items.
-fn expect_trials_of_paragraph(
+/// Appends the lines of a paragraph of these items to an empty list.
+fn append_to_nothing(
     rt: &impl Abort,
     alloc: Global,
     items: Vec<Node>,
     params: &Params,
-    trials: u128,
-) {
+) -> AppendedParagraph {
     assert!(rt; items.len() <= 131_070);
     let mut list = NodeList::from_vec(items);
-    let set = set_paragraph(alloc, &mut list, params, Dimen::ZERO);
-    let set = set.expect(rt, "it is set");
-    assert_eq!(rt; set.trials, trials);
+    let mut around = NodeList::new(alloc);
+    let told = append_paragraph(alloc, &mut list, &mut around, params, Dimen::ZERO);
+    told.ok().expect(rt, "its lines are appended")
+}
+
+/// Asserts the number of lines into which 8,192 words are broken and appended, and how many were tried.
+fn expect_appended(rt: &impl Abort, alloc: Global, kerned: bool, lines: usize, trials: u128) {
+    let items = words(rt, alloc, kerned);
+    let told = append_to_nothing(rt, alloc, items, &very_narrow(rt));
+    assert_eq!(rt; told.lines, lines);
+    assert!(rt; told.pass == Some(Pass::Second) && told.overhang == 0);
+    assert_eq!(rt; told.trials, trials);
+    assert!(rt; told.trials <= 335_872);
 }
 
 #[test]
@@ -188,6 +196,22 @@ fn last_pass_over_many_words(rt: HostRuntime) {
     assert_eq!(rt; meter.trials(0), 19);
     assert_eq!(rt; meter.trials(8_185), 3);
     assert_eq!(rt; meter.all_trials(), 24_581);
+    let items = rigid_words(&rt, rt.alloc(), 8_192);
+    let told = append_to_nothing(&rt, rt.alloc(), items, &params);
+    assert!(rt; told.pass == Some(Pass::Third));
+    assert_eq!(rt; told.trials, 24_581);
+}
+
+#[test]
+fn trials_of_paragraphs(rt: HostRuntime) {
+    // 1,505 lines of 500 words that cannot stretch are tried (`last_pass_by_four_methods`). One word is one line, which the first pass admits. An
+    // empty paragraph has no line to try.
+    let params = narrow(&rt);
+    for (count, trials) in [(500, 1_505), (1, 1), (0, 0)] {
+        let items = rigid_words(&rt, rt.alloc(), count);
+        let told = append_to_nothing(&rt, rt.alloc(), items, &params);
+        assert_eq!(rt; told.trials, trials);
+    }
 }
 
 #[test]

@@ -11,12 +11,11 @@ use Rattle.vert_core.specs.declared.appending.UnappendedLines.{UnappendedLines}
 use Rattle.vert_core.specs.declared.appending.UnappendedLines.TheVariants as unappended
 use Rattle.vert_core.specs.declared.paragraph.ParagraphFault.{ParagraphFault}
 use Rattle.vert_core.specs.declared.paragraph.PlannedParagraph.{PlannedParagraph}
-use Rattle.vert_core.specs.declared.paragraph.SetParagraph.{SetParagraph}
 use Rattle.vert_core.specs.declared.planning.PlannedLine.{PlannedLine}
 use Rattle.vert_core.specs.Appended.{IsAppended, IsUnappended}
 use Rattle.vert_core.specs.Finished.{finished_list}
 use Rattle.vert_core.specs.Lines.{vertical_items}
-use Rattle.vert_core.specs.Paragraphs.{set_empty, with_breaks, IsSet}
+use Rattle.vert_core.specs.Paragraphs.{SetParagraph, set_empty, with_breaks, IsSet}
 use Rattle.vert_core.specs.Private.Planned.{copied_line, stacked_nodes}
 use Rattle.vert_core.specs.Private.PlannedParagraphs.{IsPlanned}
 use Rattle.vert_core.specs.Setting.{list_setting, setting}

@@ -12,8 +12,6 @@ pub mod PlannedOrder
 pub mod Nesting
 pub mod AppendedLines
 pub mod Endings
-pub mod FewLines
-pub mod SetLists
 pub mod LeastLists
 pub mod Settings
 pub mod SettingIs

@@ -20,13 +20,12 @@ use Rattle.break_core.specs.declared.broken.Pass.{Pass}
 use Rattle.break_core.specs.declared.broken.Pass.TheVariants.{First, Second, Third}
 use Rattle.break_core.specs.Passes.{bound_of, problem_of, line_end_at, IsBefore, IsBroken}
 use Rattle.break_core.proofs.Admitting.{last_admits}
-use Rattle.vert_core.specs.declared.paragraph.SetParagraph.{SetParagraph}
 use Rattle.vert_core.specs.declared.paragraph.ParagraphFault.{ParagraphFault}
 use Rattle.vert_core.specs.declared.paragraph.ParagraphFault.TheVariants.{InfiniteShrink, TooManyBreaks, DimensionTooLarge, OutOfMemory}
 use Rattle.vert_core.specs.LeastLists.{least_path}
 use Rattle.vert_core.specs.Lines.{lines_fit}
 use Rattle.vert_core.specs.Finished.{finished_list}
-use Rattle.vert_core.specs.Paragraphs.{break_fault, IsSet, IsSetParagraph, IsUnsetList, IsUnset}
+use Rattle.vert_core.specs.Paragraphs.{SetParagraph, break_fault, IsSet, IsSetParagraph, IsUnsetList, IsUnset}
 use Rattle.vert_core.specs.Setting.{ChosenLines, chosen_or, chosen_lines, ends_by, paragraph_in_lines, set_by, set_if_fit, set_or, list_setting, setting}
 use Rattle.vert_core.proofs.LeastLists.{none_least, least_chosen}
 use Rattle.vert_core.proofs.Unbroken.{not_for_memory}

@@ -2,6 +2,7 @@
 use Rattle.std.proofs.Common.{◌≡◌, ◌≢◌, ◌∙◌, ◌<◌, ℕ, true, false, List, [], ◌∷◌, length, refl, ap, sym, arith, Option, Some, None, Ok, Err}
 use Rattle.std.specs.Prelude.{ℤ}
 use Rattle.node_core.specs.declared.params.Params.{Params}
+use Rattle.node_core.specs.declared.tree.Glue.{Glue}
 use Rattle.node_core.specs.declared.tree.Node.{Node}
 use Rattle.node_core.specs.Items.{Items}
 use Rattle.node_core.specs.Nodes.{items_of}
@@ -14,12 +15,11 @@ use Rattle.break_core.specs.declared.broken.Pass.{Pass}
 use Rattle.break_core.specs.declared.broken.Pass.TheVariants.{First, Second, Third}
 use Rattle.break_lines.specs.Facts.{Facts, facts_of, refusal}
 use Rattle.break_core.specs.Passes.{bound_of, problem_of, IsBefore, IsBroken}
-use Rattle.vert_core.specs.declared.paragraph.SetParagraph.{SetParagraph}
 use Rattle.vert_core.specs.declared.paragraph.ParagraphFault.{ParagraphFault}
 use Rattle.vert_core.specs.declared.paragraph.ParagraphFault.TheVariants.{InfiniteShrink, TooManyBreaks, DimensionTooLarge, OutOfMemory}
 use Rattle.vert_core.specs.Lines.{BrokenParagraph, broken_list, vertical_items, last_depth, lines_fit}
 use Rattle.vert_core.specs.Finished.{finished_list}
-use Rattle.vert_core.specs.Paragraphs.{with_breaks, break_fault, HasLargeLine, IsSet, IsSetParagraph, IsUnsetList, IsUnset}
+use Rattle.vert_core.specs.Paragraphs.{SetParagraph, with_breaks, break_fault, HasLargeLine, IsSet, IsSetParagraph, IsUnsetList, IsUnset}
 use Rattle.vert_core.specs.Setting.{chosen_lines, paragraph_in_lines, set_by, list_setting, setting}
 use Rattle.vert_core.proofs.LeastLists.{no_least, chosen_least}
 
@@ -134,14 +134,12 @@ pub unset_some :
 unset_some [] params previous fault some is = absurd (omega arith)
 unset_some (x ∷ rest) params previous fault some is = is
 
+-- An empty paragraph can be broken.
+pub empty_unbroken : (list : List Node) (skip : Glue) → length list ≡ 0 → break_fault list skip ≡ None
+empty_unbroken [] skip empty = refl
+empty_unbroken (x ∷ rest) skip empty = absurd (omega arith)
+
 -- If memory was refused, the paragraph can be broken.
 pub memory_free : (list : List Node) (params : Params) (previous : ℤ) → IsUnset list params previous OutOfMemory → break_fault list params.par_fill_skip ≡ None
 memory_free [] params previous is = refl
 memory_free (x ∷ rest) params previous is = is
-
--- A list that is not empty is set as its finished list.
-pub some_set :
-    (list : List Node) (params : Params) (previous : ℤ) (set : SetParagraph) → 0 < length list
-    → IsSet (finished_list list params.par_fill_skip) params previous set → IsSetParagraph list params previous set
-some_set [] params previous set some is = absurd (omega arith)
-some_set (x ∷ rest) params previous set some is = is

@@ -8,7 +8,7 @@ use Rattle.vert_core.specs.declared.appending.AppendedParagraph.{AppendedParagra
 use Rattle.vert_core.specs.declared.appending.UnappendedLines.{UnappendedLines}
 use Rattle.vert_core.specs.declared.appending.UnappendedLines.TheVariants.{Unset, TooDeep, TooLong}
 use Rattle.vert_core.specs.declared.paragraph.ParagraphFault.{ParagraphFault}
-use Rattle.vert_core.specs.declared.paragraph.SetParagraph.{SetParagraph}
+use Rattle.vert_core.specs.Paragraphs.{SetParagraph}
 
 -- A paragraph with this setting was appended to a list: its lines do not nest too deep and the list is not too long, it has their items at its end,
 -- and what is told of the paragraph is that of its setting.

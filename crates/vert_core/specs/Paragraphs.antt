@@ -1,22 +1,32 @@
 -- Setting a paragraph: it is finished, broken into lines, and the lines are stacked (TeX: The Program, part 38, §815).
-use Rattle.std.specs.Prelude.{◌≡◌, ℤ, pos, true, false, List, [], ◌∷◌, length, Option, Some, None}
+use Rattle.std.specs.Prelude.{◌≡◌, ℕ, ℤ, pos, true, false, List, [], ◌∷◌, length, Option, Some, None}
 use Rattle.node_core.specs.declared.params.Params.{Params}
 use Rattle.node_core.specs.declared.tree.Glue.{Glue}
 use Rattle.node_core.specs.declared.tree.Node.{Node}
-use Rattle.node_core.specs.Items.{none}
+use Rattle.node_core.specs.Items.{Items, none}
 use Rattle.node_core.specs.Nodes.{items_of}
 use Rattle.break_core.specs.declared.broken.Breaks.{Breaks}
+use Rattle.break_core.specs.declared.broken.Pass.{Pass}
 use Rattle.break_lines.specs.declared.fault.BreakFault.{BreakFault}
 use Rattle.break_lines.specs.declared.fault.BreakFault.TheVariants as breaking
 use Rattle.break_lines.specs.Facts.{facts_of, refusal}
 use Rattle.break_core.specs.Passes.{IsBroken}
 use Rattle.vert_core.specs.declared.line_boxes.LinesFault.{LinesFault}
 use Rattle.vert_core.specs.declared.line_boxes.LinesFault.TheVariants as stacking
-use Rattle.vert_core.specs.declared.paragraph.SetParagraph.{SetParagraph}
 use Rattle.vert_core.specs.declared.paragraph.ParagraphFault.{ParagraphFault}
 use Rattle.vert_core.specs.declared.paragraph.ParagraphFault.TheVariants.{InfiniteShrink, TooManyBreaks, DimensionTooLarge, OutOfMemory}
 use Rattle.vert_core.specs.Lines.{BrokenParagraph, broken_list, vertical_items, last_depth, lines_fit}
 use Rattle.vert_core.specs.Finished.{finished_list}
+
+-- A paragraph that is set: the items that its lines add to the vertical list around it, the new previous depth of that list, the number of its lines,
+-- the pass that admitted its breaks (None if the paragraph is empty), the total overhang of its overfull lines in scaled points, and its demerits.
+pub record SetParagraph : Type 0 where
+  pub items : Items
+  pub depth : ℤ
+  pub lines : ℕ
+  pub pass : Option Pass
+  pub overhang : ℤ
+  pub demerits : ℤ
 
 -- A finished list with its breaks, after this previous depth.
 abbrev pub with_breaks : List Node → Params → (previous_depth : ℤ) → Breaks → BrokenParagraph

@@ -1,5 +1,5 @@
--- The setting of a paragraph as a function, which the machine's table uses (own; `set_paragraph` and the law `one_setting` say that it agrees with
--- `IsSetParagraph` and `IsUnset`).
+-- The setting of a paragraph as a function, by which `append_paragraph` sets it, and which the machine's table uses (own; the law `one_setting` says
+-- that it agrees with `IsSetParagraph` and `IsUnset`).
 use Rattle.std.specs.Prelude.{ℤ, if◌then◌else◌, List, [], ◌∷◌, length, map, reverse, Option, Some, None, Result, Ok, Err}
 use Rattle.node_core.specs.declared.params.Params.{Params}
 use Rattle.node_core.specs.declared.tree.Node.{Node}
@@ -12,13 +12,12 @@ use Rattle.break_lines.specs.declared.fault.BreakFault.{BreakFault}
 use Rattle.break_lines.specs.declared.fault.BreakFault.TheVariants as breaking
 use Rattle.break_lines.specs.Facts.{Facts, facts_of, refusal}
 use Rattle.break_core.specs.Passes.{bound_of, problem_of, line_end_at}
-use Rattle.vert_core.specs.declared.paragraph.SetParagraph.{SetParagraph}
 use Rattle.vert_core.specs.declared.paragraph.ParagraphFault.{ParagraphFault}
 use Rattle.vert_core.specs.declared.paragraph.ParagraphFault.TheVariants.{InfiniteShrink, TooManyBreaks, DimensionTooLarge, OutOfMemory}
 use Rattle.vert_core.specs.LeastLists.{least_path}
 use Rattle.vert_core.specs.Lines.{BrokenParagraph, broken_list, vertical_items, last_depth, lines_fit}
 use Rattle.vert_core.specs.Finished.{finished_list}
-use Rattle.vert_core.specs.Paragraphs.{set_empty}
+use Rattle.vert_core.specs.Paragraphs.{SetParagraph, set_empty}
 
 -- A pass, and the lines that are chosen in it.
 pub record ChosenLines : Type 0 where

@@ -3,11 +3,12 @@
 ghost use Rattle.std.specs.Prelude.{◌≡◌, ◌≤◌, ◌+◌, [], length, None, IfOk, IfErr, OnOk, OnErr};
 ghost use Rattle.node_core.specs.Items.{none};
 ghost use Rattle.node_core.specs.Nodes.{max_nodes, nodes_of};
-ghost use Rattle.break_lines.specs.Facts.{refusal};
+ghost use Rattle.break_lines.specs.Facts.{facts_of, refusal};
 ghost use Rattle.vert_core.specs.Appended.{IsAppended, IsUnappended};
 ghost use Rattle.vert_core.specs.Finished.{finished_list};
 ghost use Rattle.vert_core.specs.Paragraphs.{break_fault, IsUnset, IsUnsetList};
 ghost use Rattle.vert_core.specs.Setting.{list_setting, setting};
+ghost use Rattle.vert_core.specs.TrialBounds.{AreFewTrials};
 
 use crate::finishing::{finish_paragraph, unfinish_paragraph};
 use crate::levels::levels_of_lines;
@@ -34,6 +35,8 @@ pub struct AppendedParagraph {
     /// The total overhang of the overfull lines, in scaled points.
     pub overhang: i64,
     pub demerits: i64,
+    /// The number of lines that were tried.
+    pub trials: u128,
 }
 
 /// Why the lines of a paragraph were not appended to a list.
@@ -62,6 +65,7 @@ fn append_finished(
     requires { length nodes.old.items ≤ max_nodes }
     ensures ok { IfOk result (IsAppended (list_setting nodes.old.items params.now previous_depth) around.old.items around.new.items) }
     ensures fits { OnOk result (refusal nodes.old.items ≡ None) }
+    ensures trials { IfOk result (λ told. AreFewTrials (facts_of nodes.old.items) params.now told.pass told.trials) }
     ensures emptied { OnOk result (nodes.new.items ≡ []) }
     ensures refused { IfErr result (IsUnappended (list_setting nodes.old.items params.now previous_depth)
         (IsUnsetList nodes.old.items params.now previous_depth) around.old.items) }
@@ -75,8 +79,8 @@ fn append_finished(
     let PlannedParagraph {
         plan,
         breaks,
+        trials,
         plain,
-        ..
     } = planned;
     if levels_of_lines(nodes, &plan.lines, plain) > MAX_DEPTH {
         return Err(UnappendedLines::TooDeep);
@@ -90,6 +94,7 @@ fn append_finished(
         pass: Some(breaks.pass),
         overhang: breaks.overhang,
         demerits: breaks.demerits,
+        trials,
     };
     match stack_planned(nodes, plan, plain, around) {
         Ok(()) => Ok(told),
@@ -110,6 +115,8 @@ fn append_items(
     ensures ok { IfOk result (IsAppended (list_setting (finished_list nodes.old.items params.now.par_fill_skip) params.now previous_depth)
         around.old.items around.new.items) }
     ensures fits { OnOk result (refusal (finished_list nodes.old.items params.now.par_fill_skip) ≡ None) }
+    ensures trials { IfOk result (λ told. AreFewTrials (facts_of (finished_list nodes.old.items params.now.par_fill_skip)) params.now told.pass
+        told.trials) }
     ensures emptied { OnOk result (nodes.new.items ≡ []) }
     ensures refused { IfErr result (IsUnappended (list_setting (finished_list nodes.old.items params.now.par_fill_skip) params.now previous_depth)
         (IsUnsetList (finished_list nodes.old.items params.now.par_fill_skip) params.now previous_depth) around.old.items) }
@@ -129,10 +136,14 @@ fn append_items(
 }
 
 /// Sets a paragraph of at most `MAX_NODES` less two items after a previous depth, and appends its lines to a list of at most `MAX_ITEMS` items. Its
-/// items go into its lines, so its list is then empty. Where the lines are not appended, both lists are as they were before the call.
+/// items go into its lines, so its list is then empty. If the lines are not appended, both lists are as they were before the call.
 ///
-/// The fault is `Unset` with the fault of `set_paragraph` where it is not set, else `TooDeep` where boxes of its lines nest more than `MAX_DEPTH`
-/// deep, else `TooLong` where the other list would have more than `MAX_ITEMS` items, else `Unset` for refused memory.
+/// The fault is `Unset` if the paragraph is not set, else `TooDeep` if boxes of its lines nest more than `MAX_DEPTH` deep, else `TooLong` if the
+/// other list would have more than `MAX_ITEMS` items, else `Unset` for refused memory. `Unset` comes with `InfiniteShrink` exactly if glue of the
+/// finished list shrinks in an infinite order, and with `TooManyBreaks` exactly if there is no such glue but more than `max_places` legal places;
+/// refused memory hides neither. Otherwise it comes with `DimensionTooLarge` if a line does not fit, which refused memory hides only if the breaks
+/// were not found because of it, or with `OutOfMemory`. For a paragraph with items at least one line is tried, and at most as many lines as there are
+/// places after each place up to the place where trying stops.
 pub fn append_paragraph(
     alloc: Global,
     list: &mut NodeList,
@@ -144,6 +155,8 @@ pub fn append_paragraph(
     requires around_bounded { length (nodes_of around.old) ≤ MAX_ITEMS }
     ensures ok { IfOk result (IsAppended (setting (nodes_of list.old) params.now previous_depth) (nodes_of around.old) (nodes_of around.new)) }
     ensures fits { OnOk result (break_fault (nodes_of list.old) params.now.par_fill_skip ≡ None) }
+    ensures trials { IfOk result (λ told. AreFewTrials (facts_of (finished_list (nodes_of list.old) params.now.par_fill_skip)) params.now
+        told.pass told.trials) }
     ensures emptied { OnOk result (list.new ≡ none) }
     ensures refused { IfErr result (IsUnappended (setting (nodes_of list.old) params.now previous_depth)
         (IsUnset (nodes_of list.old) params.now previous_depth) (nodes_of around.old)) }
@@ -157,6 +170,7 @@ pub fn append_paragraph(
             pass: None,
             overhang: 0,
             demerits: 0,
+            trials: 0,
         });
     }
     let mut nodes = replace(list, NodeList::new(alloc)).into_vec();

@@ -1,8 +1,9 @@
 //! Vertical lists: the glue between boxes, the lines of a paragraph, and splits.
 //!
-//! `append_box` puts a box into a vertical list, with the glue before it. `set_paragraph` finishes the list of a paragraph, breaks it by the counted
-//! breaker, packs its lines, and puts them together with the glue and the penalties between them; `lines` does the last of these. `split_list` and
-//! `split` make of a vertical list a front of a given height and a rest. Sizes are dimensions: whole numbers of scaled points.
+//! `interline_glue` is the glue that a box gets in a vertical list, and `append_with_glue` puts both at its end. `append_paragraph` finishes the list
+//! of a paragraph, breaks it by the counted breaker, packs its lines, and appends them to a vertical list, with the glue and the penalties between
+//! them. `split_list` makes of a vertical list a front of a given height and a rest. `append_box`, `lines` and `split` do these steps for callers who
+//! have a vector or a slice of nodes. Sizes are dimensions: whole numbers of scaled points.
 #![tactic(auto)]
 
 mod append;
@@ -33,7 +34,7 @@ pub use cut::{split, split_list};
 pub use finishing::{finish_paragraph, unfinish_paragraph};
 pub use interline::{DimensionTooLarge, interline_glue};
 pub use line_boxes::LinesFault;
-pub use paragraph::{CountedParagraph, ParagraphFault, SetParagraph, set_paragraph};
+pub use paragraph::ParagraphFault;
 pub use parts::{Split, SplitFault, Unsplit};
 pub use stacking::{VerticalItems, lines};
 pub use trials::split_place;

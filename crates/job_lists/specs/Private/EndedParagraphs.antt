@@ -6,10 +6,9 @@ use Rattle.node_core.specs.Items.{Items, items_depth}
 use Rattle.node_core.specs.Nodes.{nodes_of}
 use Rattle.vert_core.specs.declared.appending.AppendedParagraph.{AppendedParagraph}
 use Rattle.vert_core.specs.declared.appending.UnappendedLines.{UnappendedLines}
-use Rattle.vert_core.specs.declared.paragraph.SetParagraph.{SetParagraph}
 use Rattle.vert_core.specs.declared.appending.UnappendedLines.TheVariants as unappended
 use Rattle.vert_core.specs.Appended.{IsUnappended}
-use Rattle.vert_core.specs.Paragraphs.{IsUnset}
+use Rattle.vert_core.specs.Paragraphs.{SetParagraph, IsUnset}
 use Rattle.job_machine.specs.declared.replies.Refusal.{Refusal}
 use Rattle.job_machine.specs.declared.replies.Refusal.TheVariants.{TooDeep, ListTooLong}
 use Rattle.job_machine.specs.declared.OpenList.{OpenList}

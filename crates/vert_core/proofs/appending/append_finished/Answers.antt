@@ -89,3 +89,8 @@ returns-in-Ok-stack_planned-clause-ok c =
       overhang = search rules;
       demerits = search rules;
     }
+
+pub returns-in-Ok-stack_planned-clause-trials : goal.returns-in-Ok-stack_planned-clause-trials
+returns-in-Ok-stack_planned-clause-trials c =
+    let planned = subst (λ (l : List Node). IsPlanned l c.args.params.now c.args.previous_depth c.in-Ok.planned) c.deref.ensures.value c.in-Ok.ensures.ok in
+    planned.trials
