@@ -224,7 +224,7 @@ def times(root):
 
 def first_page(root, _archive=None, program=None, *_programs):
     """Whether README.md shows the last answers to its script, and begins with this document's line that builds and sets a page, and with tests/run."""
-    script, answers, builds, *_ = (textwrap.dedent(it) for it in re.findall(r"(?:^    .*\n)+", document(root, "README.md"), re.M))
+    script, answers, builds, *_ = (textwrap.dedent(it) for it in re.findall(r"(?:^    +.*\n)+", document(root, "README.md"), re.M))
     if program is None:
         return lacking()
     with tempfile.TemporaryDirectory() as path:
