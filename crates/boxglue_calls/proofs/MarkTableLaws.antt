@@ -1,13 +1,17 @@
 -- The tables of a file, and how they are handed over.
-use Rattle.std.proofs.Common.{◌≡◌, ◌≢◌, ◌≤◌, ◌<◌, ◌+◌, ◌/◌, ◌++◌, [], Bool, true, false, List, length, ℕ, arith, inl, inr, refl, sym, ◌∙◌, subst}
+use Rattle.std.proofs.Common.{◌≡◌, ◌≢◌, ◌≤◌, ◌<◌, ◌+◌, ◌/◌, ◌++◌, [], Bool, true, false, List, length, ℕ, arith, inl, inr, refl, sym, ◌∙◌, ap, subst}
 use Rattle.std.specs.Prelude.{◌⊎◌}
-use Rattle.dvi_ops.specs.File.{MarkedPage}
+use Rattle.dvi_ops.specs.File.{Frame, IsFile, MarkedPage}
 use Rattle.dvi_ops.specs.Fonts.{definitions, widths_of}
 use Rattle.dvi_ops.specs.Instruction.{Definition}
 use Rattle.dvi_ops.specs.Tokens.{token_instructions}
 use Rattle.dvi_ops.specs.View.{units as view_units}
 use Rattle.dvi_ops.specs.declared.op.Units.{Units as UnitsOf}
-use Rattle.dvi_read.specs.PageMarks.{marks_of, text_places}
+use Rattle.dvi_read.specs.Opened.{HasUnitsOf, OpenedFile}
+use Rattle.dvi_read.specs.PageMarks.{HasGlyphWidths, HasRoomFor, marks_of, text_places}
+use Rattle.dvi_read.specs.Seen.{seen_of}
+use Rattle.dvi_read.specs.SeenAhead.{HasCheckedPages, HasCheckedTexts, IsSeenAhead}
+use Rattle.dvi_read.specs.declared.check.checked_file.CheckedFile.{CheckedFile}
 use Rattle.dvi_read.specs.declared.sights.Sights.{Sights}
 use Rattle.tfm_core.specs.FileWidths.{file_widths}
 use Rattle.tfm_core.specs.NamedBytes.{NamedBytes}
@@ -22,6 +26,25 @@ use Rattle.boxglue_calls.specs.declared.mark_table.DviPage.{DviPage}
 use Rattle.boxglue_calls.specs.declared.mark_table.MarkSizes.{MarkSizes}
 use Rattle.boxglue_calls.proofs.MarkRowLaws.{length-pages, length-rows}
 use Rattle.boxglue_calls.proofs.WrittenParts.{holds_none}
+
+-- A file that was opened, and what is to be seen of it.
+pub opened_checked : (files : List NamedBytes) (bytes : List ℕ) (dvi : OpenedFile) (units : UnitsOf) (s : Sights) → (file : IsFile (file_widths files) bytes dvi.pages) → HasUnitsOf bytes dvi → dvi.file.bytes.now ≡ bytes
+    → ((f : Frame bytes) → HasGlyphWidths (file_widths files) (definitions (token_instructions f.front ++ token_instructions f.tail)) dvi.file.fonts (marks_of dvi.pages)) → HasRoomFor bytes dvi.pages
+    → ((f : Frame bytes) → HasCheckedTexts dvi.file (text_places 0 f.front)) → view_units units ≡ dvi.units → IsSeenAhead s (seen_of dvi.pages) → HasCheckedPages s.file.now dvi.pages → s.at ≡ s.file.now.from
+    → s.file.now ≡ dvi.file → IsChecked files bytes units s dvi.pages
+opened_checked files bytes dvi units s file units_are bytes_are widths room texts units_is ahead all begun same =
+    record {
+      file = file;
+      units_are = units_is ∙ units_are file.frame;
+      ahead = ahead;
+      all = all;
+      texts = subst (λ (f : CheckedFile). HasCheckedTexts f (text_places 0 file.frame.front)) (sym same) (texts file.frame);
+      begun = begun;
+      bytes_are = ap (λ (f : CheckedFile). f.bytes.now) same ∙ bytes_are;
+      widths = subst (λ (f : CheckedFile). HasGlyphWidths (file_widths files) (definitions (token_instructions file.frame.front ++ token_instructions file.frame.tail)) f.fonts (marks_of dvi.pages)) (sym same)
+          (widths file.frame);
+      room = room;
+    }
 
 -- The tables of a checked file.
 module _ (files : List NamedBytes) (bytes : List ℕ) (units : UnitsOf) (s : Sights) (all : List MarkedPage) (checked : IsChecked files bytes units s all) (sizes : MarkSizes)
@@ -52,7 +75,7 @@ module _ (files : List NamedBytes) (bytes : List ℕ) (units : UnitsOf) (s : Sig
         record { pages_fit = omega arith; marks_fit = omega arith; text_fits = omega arith },
       )
 
-  pub rows_lack : HasRowsFor (file_widths files) table s.bytes.now places (marks_of all) → (pages : List DviPage) (marks : List DviMark) (text : List ℕ) (n m : ℕ) → n ≡ length all → m ≡ length (marks_of all)
+  pub rows_lack : HasRowsFor (file_widths files) table s.file.now.bytes.now places (marks_of all) → (pages : List DviPage) (marks : List DviMark) (text : List ℕ) (n m : ℕ) → n ≡ length all → m ≡ length (marks_of all)
       → (length pages < n) ⊎ (length marks < m) → HandsOverFully files bytes (mark_outputs pages marks text) (mark_outputs pages marks text) sizes 4
   rows_lack (rows, are, starts) pages marks text n m n_is m_is few =
       let here = subst (λ (b : List ℕ). AreMarkRows b (widths_of (file_widths files) table) rows (marks_of all)) checked.bytes_are are in
@@ -65,7 +88,7 @@ module _ (files : List NamedBytes) (bytes : List ℕ) (units : UnitsOf) (s : Sig
       lacks rows pages_is marks_is (inl few) = inl (omega arith)
       lacks rows pages_is marks_is (inr few) = inr (inl (omega arith))
 
-  pub rows_handed : (pages pages_new : List DviPage) (marks marks_new : List DviMark) (text : List ℕ) → HoldsRows (file_widths files) table s.bytes.now (mark_outputs pages marks []) (mark_outputs pages_new marks_new []) places all
+  pub rows_handed : (pages pages_new : List DviPage) (marks marks_new : List DviMark) (text : List ℕ) → HoldsRows (file_widths files) table s.file.now.bytes.now (mark_outputs pages marks []) (mark_outputs pages_new marks_new []) places all
       → HandsOverFully files bytes (mark_outputs pages marks text) (mark_outputs pages_new marks_new text) sizes 0
   rows_handed pages pages_new marks marks_new text has =
       let here = subst (λ (b : List ℕ). AreMarkRows b (widths_of (file_widths files) table) has.rows (marks_of all)) checked.bytes_are has.are in

@@ -8,12 +8,11 @@ use Rattle.scaled_core.specs.Mark.{Mark}
 use Rattle.dvi_ops.specs.File.{MarkedPage}
 use Rattle.dvi_ops.specs.Fonts.{WidthsByName, widths_of}
 use Rattle.dvi_ops.specs.Instruction.{Definition}
-use Rattle.dvi_read.proofs.AgainLemmas.{same_file, same_then}
 use Rattle.dvi_read.proofs.SeenLemmas.{more_marks, page_seen}
 use Rattle.dvi_read.specs.PageMarks.{HasGlyphWidths, IsGlyphWidth, OfGlyph, marks_of}
 use Rattle.dvi_read.specs.Seen.{SeenItem, Counts, Marked, seen_of}
-use Rattle.dvi_read.specs.SeenAhead.{AreTextsAhead, EndsText, IsSameFile, IsSeenAhead, PassesText, ShowsNext, TextEndsAt}
-use Rattle.dvi_read.specs.declared.fonts.ReadFonts.{ReadFonts}
+use Rattle.dvi_read.specs.SeenAhead.{AreTextsAhead, EndsText, IsSeenAhead, PassesText, ShowsNext, TextEndsAt}
+use Rattle.dvi_read.specs.declared.check.checked_file.CheckedFile.{CheckedFile}
 use Rattle.dvi_read.specs.declared.sights.Sight.{Sight}
 use Rattle.dvi_read.specs.declared.sights.Sight.TheVariants as sights
 use Rattle.dvi_read.specs.declared.sights.Sights.{Sights}
@@ -130,8 +129,8 @@ pub record IsWriting (metrics : WidthsByName) (table : List Definition) (first :
   pub ahead : IsSeenAhead s rest
   pub texts_parts : places ≡ passed ++ left
   pub texts : AreTextsAhead s left
-  pub same : IsSameFile first s
-  pub has : HasWritten first.bytes.now metrics table old new w passed shown
+  pub same : s.file ≡ first.file
+  pub has : HasWritten first.file.now.bytes.now metrics table old new w passed shown
 
 pub writing_first : (metrics : WidthsByName) (table : List Definition) (s : Sights) (old : MarkOutputs) (w : RowProgress) (places : List ℕ) (all : List MarkedPage) → CanBeWritten metrics table s old places all
     → w.pages ≡ 0 → w.marks ≡ 0 → IsWriting metrics table s old old w places all s
@@ -145,7 +144,7 @@ writing_first metrics table s old w places all can pages marks =
       ahead = can.ahead;
       texts_parts = refl;
       texts = can.texts;
-      same = same_file s;
+      same = refl;
       has = record {
         rows = [];
         are = tt;
@@ -217,15 +216,14 @@ module _ (metrics : WidthsByName) (table : List Definition) (first : Sights) (ol
       (omega arith, omega arith, omega arith, omega arith)
 
   -- The glyph has its width in the fonts as they are now.
-  glyph_now : (new : Sights) (mark : Mark) (later : List SeenItem) → IsSameFile first new → writing.rest ≡ Marked mark ∷ later → OfGlyph (IsGlyphWidth metrics table new.fonts) mark
+  glyph_now : (new : Sights) (mark : Mark) (later : List SeenItem) → new.file ≡ first.file → writing.rest ≡ Marked mark ∷ later → OfGlyph (IsGlyphWidth metrics table new.file.now.fonts) mark
   glyph_now new mark later same is =
-      let (place, fonts) = same.fonts in
-      let each = subst (λ (ms : List Mark). AllByRecursion (OfGlyph (IsGlyphWidth metrics table first.fonts)) ms) (marks_parts mark later is) can.widths.widths in
-      let here : OfGlyph (IsGlyphWidth metrics table first.fonts) mark =
-      (all_back (OfGlyph (IsGlyphWidth metrics table first.fonts)) (marks_of shown) (mark ∷ marks_among later) each).0 in
-      subst (λ (fonts : ReadFonts). OfGlyph (IsGlyphWidth metrics table fonts) mark) (sym fonts) here
+      let each = subst (λ (ms : List Mark). AllByRecursion (OfGlyph (IsGlyphWidth metrics table first.file.now.fonts)) ms) (marks_parts mark later is) can.widths.widths in
+      let here : OfGlyph (IsGlyphWidth metrics table first.file.now.fonts) mark =
+      (all_back (OfGlyph (IsGlyphWidth metrics table first.file.now.fonts)) (marks_of shown) (mark ∷ marks_among later) each).0 in
+      subst (λ (file : Bor CheckedFile). OfGlyph (IsGlyphWidth metrics table file.now.fonts) mark) (sym same) here
 
-  pub written_next : (new : Sights) (sight : Sight) (w_new : RowProgress) (after : MarkOutputs) → IsSameFile s new → EndsText s.bytes.now new.at (Some sight)
+  pub written_next : (new : Sights) (sight : Sight) (w_new : RowProgress) (after : MarkOutputs) → new.file ≡ s.file → EndsText s.file.now.bytes.now new.at (Some sight)
       → PassesText writing.left new (Some sight) → ShowsNext writing.rest new (Some sight) → WritesSight sight new w w_new mid after → IsWriting metrics table first old after w_new places all new
   written_next new (sights.Page counts) w_new after same text (left, left_is, texts) (later, is, ahead) (begins, marks) =
       let page = empty_page counts in
@@ -240,18 +238,18 @@ module _ (metrics : WidthsByName) (table : List Definition) (first : Sights) (ol
         left = left;
         texts_parts = writing.texts_parts ∙ ap (λ (ps : List ℕ). writing.passed ++ ps) left_is;
         texts = texts;
-        same = same_then first s new writing.same same;
-        has = page_more first.bytes.now metrics table old mid after w w_new writing.passed shown writing.has counts (page_room counts later is) begins marks;
+        same = same ∙ writing.same;
+        has = page_more first.file.now.bytes.now metrics table old mid after w w_new writing.passed shown writing.has counts (page_room counts later is) begins marks;
       }
   written_next new (sights.Mark mark) w_new after same text (left, left_is, texts) (later, is, ahead) adds =
       let m = mark_of mark in
       let (before, page, shown_is, row_is) = opened m later is in
       let next : MarkedPage = record page { marks = page.marks ++ m ∷ [] } in
-      let all_same = same_then first s new writing.same same in
-      let ends : TextEndsAt first.bytes.now new.at m = subst (λ (bytes : Bor (List ℕ)). TextEndsAt bytes.now new.at m) writing.same.bytes text in
-      let row = is_row first.bytes.now metrics table new.fonts new.at m (glyph_now new m later all_same is) ends in
-      let start : List ℕ = text_start_of (row_of new.fonts new.at m) in
-      let left_parts : writing.left ≡ start ++ left = left_is ∙ ap (λ (ps : List ℕ). ps ++ left) (sym (start_of new.fonts new.at m)) in
+      let all_same = same ∙ writing.same in
+      let ends : TextEndsAt first.file.now.bytes.now new.at m = subst (λ (file : Bor CheckedFile). TextEndsAt file.now.bytes.now new.at m) writing.same text in
+      let row = is_row first.file.now.bytes.now metrics table new.file.now.fonts new.at m (glyph_now new m later all_same is) ends in
+      let start : List ℕ = text_start_of (row_of new.file.now.fonts new.at m) in
+      let left_parts : writing.left ≡ start ++ left = left_is ∙ ap (λ (ps : List ℕ). ps ++ left) (sym (start_of new.file.now.fonts new.at m)) in
       let seen : seen_of shown ++ (Marked m ∷ []) ≡ seen_of (before ++ next ∷ []) =
       ap (λ (ss : List SeenItem). ss ++ (Marked m ∷ [])) (ap (λ (ps : List MarkedPage). seen_of ps) shown_is ∙ page_seen before page)
       ∙ (sym (more_marks before page.counts page.marks (m ∷ [])) ∙ sym (page_seen before next)) in
@@ -267,10 +265,10 @@ module _ (metrics : WidthsByName) (table : List Definition) (first : Sights) (ol
         texts_parts = writing.texts_parts ∙ (ap (λ (ps : List ℕ). writing.passed ++ ps) left_parts ∙ sym (append_assoc writing.passed start left));
         texts = texts;
         same = all_same;
-        has = mark_more first.bytes.now metrics table old mid after w w_new writing.passed shown writing.has (row_of new.fonts new.at m) m before page shown_is row_is (mark_room m later is) row adds;
+        has = mark_more first.file.now.bytes.now metrics table old mid after w w_new writing.passed shown writing.has (row_of new.file.now.fonts new.at m) m before page shown_is row_is (mark_room m later is) row adds;
       }
 
-  pub written_all : writing.rest ≡ [] → writing.left ≡ [] → HoldsRows metrics table first.bytes.now old mid places all
+  pub written_all : writing.rest ≡ [] → writing.left ≡ [] → HoldsRows metrics table first.file.now.bytes.now old mid places all
   written_all none no_texts =
       let whole : seen_of all ≡ seen_of shown =
       writing.parts ∙ (ap (λ (ss : List SeenItem). seen_of shown ++ ss) none ∙ append-nil (seen_of shown)) in
@@ -278,7 +276,7 @@ module _ (metrics : WidthsByName) (table : List Definition) (first : Sights) (ol
       record {
         pages = subst (λ (ps : List MarkedPage). Holds old.pages mid.pages (page_rows 0 ps)) is writing.has.pages;
         rows = writing.has.rows;
-        are = subst (λ (ps : List MarkedPage). AreMarkRows first.bytes.now (widths_of metrics table) writing.has.rows (marks_of ps)) is writing.has.are;
+        are = subst (λ (ps : List MarkedPage). AreMarkRows first.file.now.bytes.now (widths_of metrics table) writing.has.rows (marks_of ps)) is writing.has.are;
         starts = writing.has.starts ∙ (sym (append-nil writing.passed) ∙ (ap (λ (ps : List ℕ). writing.passed ++ ps) (sym no_texts) ∙ sym writing.texts_parts));
         marks = writing.has.marks;
       }
@@ -293,10 +291,10 @@ pub record HasCounted (metrics : WidthsByName) (table : List Definition) (first 
   pub parts : marks_among seen ≡ done ++ marks_among rest
   pub texts_parts : places ≡ passed ++ left
   pub texts : AreTextsAhead s left
-  pub rows : HasRowsFor metrics table first.bytes.now passed done
+  pub rows : HasRowsFor metrics table first.file.now.bytes.now passed done
 
-pub counted_row : (metrics : WidthsByName) (table : List Definition) (first : Sights) (places : List ℕ) (seen : List SeenItem) (s new : Sights) (sight : Sight) → HasGlyphWidths metrics table first.fonts (marks_among seen)
-    → IsSameFile first s → IsSameFile s new → EndsText s.bytes.now new.at (Some sight) → (c : HasCounted metrics table first places seen s) → PassesText c.left new (Some sight) → ShowsNext c.rest new (Some sight)
+pub counted_row : (metrics : WidthsByName) (table : List Definition) (first : Sights) (places : List ℕ) (seen : List SeenItem) (s new : Sights) (sight : Sight) → HasGlyphWidths metrics table first.file.now.fonts (marks_among seen)
+    → s.file ≡ first.file → new.file ≡ s.file → EndsText s.file.now.bytes.now new.at (Some sight) → (c : HasCounted metrics table first places seen s) → PassesText c.left new (Some sight) → ShowsNext c.rest new (Some sight)
     → HasCounted metrics table first places seen new
 counted_row metrics table first places seen s new (sights.Page counts) widths before same text c (left, left_is, texts) (later, is, ahead) =
     record {
@@ -312,17 +310,16 @@ counted_row metrics table first places seen s new (sights.Page counts) widths be
     }
 counted_row metrics table first places seen s new (sights.Mark mark) widths before same text c (left, left_is, texts) (later, is, ahead) =
     let m = mark_of mark in
-    let (place, fonts) = (same_then first s new before same).fonts in
     let parts : marks_among seen ≡ c.done ++ (m ∷ marks_among later) = c.parts ∙ ap (λ (ss : List SeenItem). c.done ++ marks_among ss) is in
-    let each = subst (λ (ms : List Mark). AllByRecursion (OfGlyph (IsGlyphWidth metrics table first.fonts)) ms) parts widths.widths in
-    let here : OfGlyph (IsGlyphWidth metrics table first.fonts) m =
-    (all_back (OfGlyph (IsGlyphWidth metrics table first.fonts)) c.done (m ∷ marks_among later) each).0 in
-    let now : OfGlyph (IsGlyphWidth metrics table new.fonts) m = subst (λ (fonts : ReadFonts). OfGlyph (IsGlyphWidth metrics table fonts) m) (sym fonts) here in
-    let ends : TextEndsAt first.bytes.now new.at m = subst (λ (bytes : Bor (List ℕ)). TextEndsAt bytes.now new.at m) before.bytes text in
-    let row = is_row first.bytes.now metrics table new.fonts new.at m now ends in
-    let made : DviMark = row_of new.fonts new.at m in
+    let each = subst (λ (ms : List Mark). AllByRecursion (OfGlyph (IsGlyphWidth metrics table first.file.now.fonts)) ms) parts widths.widths in
+    let here : OfGlyph (IsGlyphWidth metrics table first.file.now.fonts) m =
+    (all_back (OfGlyph (IsGlyphWidth metrics table first.file.now.fonts)) c.done (m ∷ marks_among later) each).0 in
+    let now : OfGlyph (IsGlyphWidth metrics table new.file.now.fonts) m = subst (λ (file : Bor CheckedFile). OfGlyph (IsGlyphWidth metrics table file.now.fonts) m) (sym (same ∙ before)) here in
+    let ends : TextEndsAt first.file.now.bytes.now new.at m = subst (λ (file : Bor CheckedFile). TextEndsAt file.now.bytes.now new.at m) before text in
+    let row = is_row first.file.now.bytes.now metrics table new.file.now.fonts new.at m now ends in
+    let made : DviMark = row_of new.file.now.fonts new.at m in
     let start : List ℕ = text_start_of made in
-    let left_parts : c.left ≡ start ++ left = left_is ∙ ap (λ (ps : List ℕ). ps ++ left) (sym (start_of new.fonts new.at m)) in
+    let left_parts : c.left ≡ start ++ left = left_is ∙ ap (λ (ps : List ℕ). ps ++ left) (sym (start_of new.file.now.fonts new.at m)) in
     let (rows, are, starts) = c.rows in
     record {
       done = c.done ++ m ∷ [];
@@ -333,21 +330,20 @@ counted_row metrics table first places seen s new (sights.Mark mark) widths befo
       parts = parts ∙ sym (append_assoc c.done (m ∷ []) (marks_among later));
       texts_parts = c.texts_parts ∙ (ap (λ (ps : List ℕ). c.passed ++ ps) left_parts ∙ sym (append_assoc c.passed start left));
       texts = texts;
-      rows = (rows ++ made ∷ [], rows_more first.bytes.now metrics table rows c.done made m are row, starts_more rows made c.passed starts);
+      rows = (rows ++ made ∷ [], rows_more first.file.now.bytes.now metrics table rows c.done made m are row, starts_more rows made c.passed starts);
     }
 
 pub counted_rows : (metrics : WidthsByName) (table : List Definition) (first : Sights) (places : List ℕ) (seen : List SeenItem) (s : Sights) (c : HasCounted metrics table first places seen s) → c.rest ≡ [] → c.left ≡ []
-    → HasRowsFor metrics table first.bytes.now places (marks_among seen)
+    → HasRowsFor metrics table first.file.now.bytes.now places (marks_among seen)
 counted_rows metrics table first places seen s c none no_texts =
     let whole : marks_among seen ≡ c.done = c.parts ∙ (ap (λ (ss : List SeenItem). c.done ++ marks_among ss) none ∙ append-nil c.done) in
     let all : places ≡ c.passed = c.texts_parts ∙ (ap (λ (ps : List ℕ). c.passed ++ ps) no_texts ∙ append-nil c.passed) in
-    subst₂ (λ (ps : List ℕ) (ms : List Mark). HasRowsFor metrics table first.bytes.now ps ms) (sym all) (sym whole) c.rows
+    subst₂ (λ (ps : List ℕ) (ms : List Mark). HasRowsFor metrics table first.file.now.bytes.now ps ms) (sym all) (sym whole) c.rows
 
 -- The glyphs have their widths in the same file.
-pub same_widths : (metrics : WidthsByName) (table : List Definition) (a b : Sights) (marks : List Mark) → IsSameFile a b → HasGlyphWidths metrics table a.fonts marks → HasGlyphWidths metrics table b.fonts marks
-same_widths metrics table a b marks same has =
-    let (place, fonts) = same.fonts in
-    subst (λ (f : ReadFonts). HasGlyphWidths metrics table f marks) (sym fonts) (record { codes = has.codes; widths = has.widths })
+pub same_widths : (metrics : WidthsByName) (table : List Definition) (a b : Sights) (marks : List Mark) → b.file ≡ a.file → HasGlyphWidths metrics table a.file.now.fonts marks
+    → HasGlyphWidths metrics table b.file.now.fonts marks
+same_widths metrics table a b marks same has = subst (λ (file : Bor CheckedFile). HasGlyphWidths metrics table file.now.fonts marks) (sym same) has
 
 -- One more row is counted.
 pub counted_next : (rest later : List SeenItem) (seen : SeenItem) (pages marks pages_new marks_new pages_all marks_all : ℕ) → rest ≡ seen ∷ later → pages + pages_among rest ≡ pages_all

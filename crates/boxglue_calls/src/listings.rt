@@ -1,22 +1,21 @@
 //! The listing of a checked DVI file, counted and then written into the memory of a caller.
 
 ghost use Rattle.std.specs.Prelude.{◌≡◌, ◌≤◌, ℕ, List, length, vec_capacity, IfOk, IfSome, OnErr};
-ghost use Rattle.dvi_ops.specs.File.{MarkedPage};
 ghost use Rattle.dvi_read.specs.Listing.{listing};
-ghost use Rattle.dvi_read.specs.SeenAhead.{AreLinesAhead, HasAllLines, HasCheckedPages};
+ghost use Rattle.dvi_read.specs.SeenAhead.{AreLinesAhead, HasAllLines};
 ghost use Rattle.dvi_read.specs.declared.listings.part.TheConstants.{PART};
 ghost use Rattle.boxglue_calls.specs.Buffers.{HandsOver, Holds};
 
 use crate::buffers::put_after;
 use crate::status::{ACCEPTED, BUFFER_TOO_SMALL};
-use dvi_read::{CheckedDvi, CheckedLines};
+use dvi_read::{Dvi, Lines};
 use std::alloc::{AllocError, Global};
 
 /// The most bytes of a listing that are made at once. It must be at least PART, the longest line.
 const PIECE: usize = 65_536;
 
 /// The number of bytes of a listing, if it is below 2^64.
-fn listing_size(lines: &mut CheckedLines<'_>, piece: &mut Vec<u8>) -> Option<usize>
+fn listing_size(lines: &mut Lines<'_, '_>, piece: &mut Vec<u8>) -> Option<usize>
     requires room { PART ≤ vec_capacity piece.old }
     requires ahead { (text : List ℕ) × AreLinesAhead lines.old text }
     ensures size { (text : List ℕ) → AreLinesAhead lines.old text → IfSome result (λ size. size ≡ length text) }
@@ -32,7 +31,7 @@ fn listing_size(lines: &mut CheckedLines<'_>, piece: &mut Vec<u8>) -> Option<usi
 }
 
 /// Writes a listing to the front of a buffer that has room for it.
-fn write_listing(lines: &mut CheckedLines<'_>, piece: &mut Vec<u8>, text: &mut [u8])
+fn write_listing(lines: &mut Lines<'_, '_>, piece: &mut Vec<u8>, text: &mut [u8])
     requires room { PART ≤ vec_capacity piece.old }
     requires ahead { (whole : List ℕ) × AreLinesAhead lines.old whole × (length whole ≤ length text.old) }
     ensures { (whole : List ℕ) → AreLinesAhead lines.old whole → length whole ≤ length text.old → Holds text.old text.new whole }
@@ -47,7 +46,7 @@ fn write_listing(lines: &mut CheckedLines<'_>, piece: &mut Vec<u8>, text: &mut [
 /// Hands a listing over: its bytes are counted, and where the buffer has room for them they are made once more, and written into it. Where memory is
 /// refused, or the number of bytes is not below 2^64, nothing is written.
 fn hand_over_listing(
-    lines: &mut CheckedLines<'_>,
+    lines: &mut Lines<'_, '_>,
     piece: &mut Vec<u8>,
     text: &mut [u8],
     size: &mut usize,
@@ -71,20 +70,19 @@ fn hand_over_listing(
     Ok(ACCEPTED)
 }
 
-/// Hands the listing of a checked file over. All memory is taken before.
-pub(crate) fn list_checked(
+/// Hands the listing of a file over. All memory is taken before.
+pub(crate) fn list_opened(
     alloc: Global,
-    checked: CheckedDvi<'_>,
+    dvi: &Dvi<'_>,
     text: &mut [u8],
     size: &mut usize,
 ) -> Result<u32, AllocError>
-    requires { (pages : List MarkedPage) × HasCheckedPages checked pages }
-    ensures handed { (pages : List MarkedPage) → HasCheckedPages checked.entry pages
-        → IfOk result (λ status. HandsOver text.old text.new (listing pages) 0 status × (size.new ≡ length (listing pages))) }
+    ensures handed { IfOk result (λ status. HandsOver text.old text.new (listing dvi.now.pages) 0 status
+        × (size.new ≡ length (listing dvi.now.pages))) }
     ensures text { OnErr result (text.new ≡ text.old) }
     ensures size { OnErr result (size.new ≡ size.old) }
 {
-    let mut lines = checked.lines(alloc)?;
+    let mut lines = dvi.lines()?;
     let mut piece = Vec::with_capacity(alloc, PIECE)?;
     hand_over_listing(&mut lines, &mut piece, text, size)
 }

@@ -6,7 +6,7 @@ ghost use Rattle.dvi_ops.specs.Fonts.{WidthsByName};
 ghost use Rattle.dvi_ops.specs.Instruction.{Definition};
 ghost use Rattle.dvi_read.specs.PageMarks.{HasGlyphWidths};
 ghost use Rattle.dvi_read.specs.Seen.{SeenItem};
-ghost use Rattle.dvi_read.specs.SeenAhead.{AreTextsAhead, IsSameFile, IsSeenAhead, sight_of};
+ghost use Rattle.dvi_read.specs.SeenAhead.{AreTextsAhead, IsSeenAhead, sight_of};
 ghost use Rattle.dvi_scan.specs.View.{mark_of};
 ghost use Rattle.boxglue_calls.specs.MarkTables.{empty_row, mark_outputs};
 ghost use Rattle.boxglue_calls.specs.Private.MarkRows.{AddsMark, BeginsPage, CanBeWritten, HasPlace, HasRowsFor, HoldsRows, WritesSight};
@@ -46,16 +46,16 @@ fn count_sight(sight: &Sight<'_>, counts: &mut RowCounts)
 }
 
 /// The numbers of pages and marks that are still to be seen. Each takes a byte of the file, so they fit.
-pub(crate) fn count_rows(sights: &mut Sights<'_>) -> RowCounts
+pub(crate) fn count_rows(sights: &mut Sights<'_, '_>) -> RowCounts
     requires { (seen : List SeenItem) × IsSeenAhead sights.old seen }
     ensures pages { (seen : List SeenItem) → IsSeenAhead sights.old seen → result.pages ≡ pages_among seen }
     ensures marks { (seen : List SeenItem) → IsSeenAhead sights.old seen → result.marks ≡ length (marks_among seen) }
     // There is a row for each mark.
     ensures rows { (metrics : WidthsByName) (table : List Definition) (places : List ℕ) (seen : List SeenItem) → IsSeenAhead sights.old seen
-        → AreTextsAhead sights.old places → HasGlyphWidths metrics table sights.old.fonts (marks_among seen)
-        → HasRowsFor metrics table sights.old.bytes.now places (marks_among seen) }
+        → AreTextsAhead sights.old places → HasGlyphWidths metrics table sights.old.file.now.fonts (marks_among seen)
+        → HasRowsFor metrics table sights.old.file.now.bytes.now places (marks_among seen) }
     ensures ahead { (seen : List SeenItem) × IsSeenAhead sights.new seen }
-    ensures same { IsSameFile sights.old sights.new }
+    ensures same { sights.new.file ≡ sights.old.file }
 {
     let mut counts = RowCounts { pages: 0, marks: 0 };
     while let Some(sight) = sights.next_sight() {
@@ -89,9 +89,9 @@ fn size_in_32(size: usize) -> u32
 }
 
 /// The row of the mark that was seen last.
-fn mark_row(mark: &Mark<'_>, sights: &Sights<'_>) -> DviMark
+fn mark_row(mark: &Mark<'_>, sights: &Sights<'_, '_>) -> DviMark
     requires { (seen : List SeenItem) × IsSeenAhead sights.now seen }
-    ensures { result ≡ row_of sights.now.fonts sights.now.at (mark_of mark.now) }
+    ensures { result ≡ row_of sights.now.file.now.fonts sights.now.at (mark_of mark.now) }
 {
     match *mark {
         Mark::Glyph { font, code, h, v } => {
@@ -152,7 +152,7 @@ fn add_mark(row: DviMark, written: &mut RowProgress, pages: &mut [DviPage], mark
 /// Writes the row of what was seen last.
 fn write_sight(
     sight: &Sight<'_>,
-    sights: &Sights<'_>,
+    sights: &Sights<'_, '_>,
     written: &mut RowProgress,
     pages: &mut [DviPage],
     marks: &mut [DviMark],
@@ -171,12 +171,13 @@ fn write_sight(
 }
 
 /// Writes the rows of all pages that are still to be seen, and of their marks, to the fronts of buffers that have room for them.
-pub(crate) fn write_rows(sights: &mut Sights<'_>, pages: &mut [DviPage], marks: &mut [DviMark])
+pub(crate) fn write_rows(sights: &mut Sights<'_, '_>, pages: &mut [DviPage], marks: &mut [DviMark])
     requires { (metrics : WidthsByName) × (table : List Definition) × (places : List ℕ) × (all : List MarkedPage)
         × CanBeWritten metrics table sights.old (mark_outputs pages.old marks.old []) places all }
     ensures { (metrics : WidthsByName) (table : List Definition) (places : List ℕ) (all : List MarkedPage)
         → CanBeWritten metrics table sights.old (mark_outputs pages.old marks.old []) places all
-        → HoldsRows metrics table sights.old.bytes.now (mark_outputs pages.old marks.old []) (mark_outputs pages.new marks.new []) places all }
+        → HoldsRows metrics table sights.old.file.now.bytes.now (mark_outputs pages.old marks.old []) (mark_outputs pages.new marks.new [])
+        places all }
 {
     let mut written = RowProgress {
         pages: 0,

@@ -1,18 +1,18 @@
 //! The pages of a DVI file and their marks, as tables.
 
-ghost use Rattle.std.specs.Prelude.{◌≡◌, ◌≢◌, ◌↔◌, ◌⊎◌, ◌≤◌, ◌<◌, ◌/◌, ℕ, List, length, false, true, IfOk};
+ghost use Rattle.std.specs.Prelude.{◌≡◌, ◌≢◌, ◌↔◌, ◌⊎◌, ◌≤◌, ◌<◌, ◌/◌, ℕ, List, length, false, true, IfOk, OnErr};
 ghost use Rattle.dvi_ops.specs.File.{MarkedPage};
 ghost use Rattle.dvi_ops.specs.View.{units as view_units};
 ghost use Rattle.tfm_core.specs.NamedBytes.{NamedBytes};
 ghost use Rattle.boxglue_calls.specs.Fonts.{are_named, files_of};
-ghost use Rattle.boxglue_calls.specs.Private.MarkFiles.{HandsOverFully, IsChecked, IsReadFile, IsRefusal, IsShortRefusal, place_of};
+ghost use Rattle.boxglue_calls.specs.Private.MarkFiles.{HandsOverFully, IsChecked, IsRefusal, IsShortRefusal, place_of};
 ghost use Rattle.boxglue_calls.specs.MarkTables.{HandsOverMarks, mark_outputs};
 
 use crate::buffers::hand_over;
 use crate::given::{Font, are_named, font_files};
 use crate::mark_rows::{RowCounts, count_rows, write_rows};
 use crate::status::{ACCEPTED, BAD_FONT_NAME, BUFFER_TOO_SMALL, OUT_OF_MEMORY, REFUSED};
-use boxglue_print::{CheckedDvi, DviFault, Output, refusal};
+use boxglue_print::{Dvi, DviFault, Output, refusal};
 use dvi_ops::Units;
 use dvi_read::Sights;
 use std::alloc::{AllocError, Global};
@@ -62,13 +62,6 @@ pub struct MarkSizes {
     pub mag: i32,
 }
 
-/// A file that was checked: its units and what is to be seen of it; or the line of its refusal.
-#[derive(Drop)]
-enum ReadFile<'a> {
-    Checked(Units, Sights<'a>),
-    Refused(Output),
-}
-
 /// The place of a broken rule, or 0 for another fault.
 fn place_of(fault: DviFault) -> usize
     ensures { result ≡ place_of fault }
@@ -86,29 +79,6 @@ fn short_refusal(alloc: Global, fault: DviFault) -> Result<Output, AllocError>
     let _ = place_of(fault);
     let output = refusal(alloc, fault)?;
     Ok(output)
-}
-
-/// Checks a file with these fonts, which have names. No more memory is taken for what is to be seen of it.
-fn read_file<'a>(
-    alloc: Global,
-    dvi: &'a [u8],
-    fonts: &[Font<'_>],
-) -> Result<ReadFile<'a>, AllocError>
-    requires { are_named fonts.now ≡ true }
-    ensures { IfOk result (IsReadFile (files_of fonts.now) dvi.now) }
-{
-    let files = font_files(alloc, fonts)?;
-    match CheckedDvi::open(alloc, dvi, &files) {
-        Ok(checked) => {
-            let units = checked.units();
-            let sights = checked.sights(alloc)?;
-            Ok(ReadFile::Checked(units, sights))
-        }
-        Err(fault) => {
-            let output = short_refusal(alloc, fault)?;
-            Ok(ReadFile::Refused(output))
-        }
-    }
 }
 
 /// The sizes of the tables of a file, and its units.
@@ -138,7 +108,7 @@ fn have_room(counts: RowCounts, pages: &[DviPage], marks: &[DviMark]) -> bool
 
 /// Hands the tables of a checked file over: its rows are counted, and where the buffers have room for them they are written. It takes no memory.
 fn hand_over_rows(
-    sights: &mut Sights<'_>,
+    sights: &mut Sights<'_, '_>,
     units: Units,
     pages: &mut [DviPage],
     marks: &mut [DviMark],
@@ -174,6 +144,38 @@ fn hand_over_refusal(output: &Output, text: &mut [u8], sizes: &mut MarkSizes) ->
     hand_over(&output.text, text, REFUSED)
 }
 
+/// Hands over the tables of a DVI file with these fonts, which have names, or the line of its refusal. All memory is taken before.
+fn hand_over_marks(
+    alloc: Global,
+    dvi: &[u8],
+    fonts: &[Font<'_>],
+    pages: &mut [DviPage],
+    marks: &mut [DviMark],
+    text: &mut [u8],
+    sizes: &mut MarkSizes,
+) -> Result<u32, AllocError>
+    requires { are_named fonts.now ≡ true }
+    ensures handed { IfOk result (HandsOverFully (files_of fonts.now) dvi.now (mark_outputs pages.old marks.old text.old)
+        (mark_outputs pages.new marks.new text.new) sizes.new) }
+    ensures pages { OnErr result (pages.new ≡ pages.old) }
+    ensures marks { OnErr result (marks.new ≡ marks.old) }
+    ensures text { OnErr result (text.new ≡ text.old) }
+    ensures sizes { OnErr result (sizes.new ≡ sizes.old) }
+{
+    let files = font_files(alloc, fonts)?;
+    match Dvi::open(alloc, dvi, &files) {
+        Ok(opened) => {
+            let mut sights = opened.sights()?;
+            let units = opened.units();
+            Ok(hand_over_rows(&mut sights, units, pages, marks, sizes))
+        }
+        Err(fault) => {
+            let output = short_refusal(alloc, fault)?;
+            Ok(hand_over_refusal(&output, text, sizes))
+        }
+    }
+}
+
 /// Reads the marks of all pages of a DVI file with these fonts, as `list`. The pages go into `pages`, their marks one after the other into `marks`,
 /// and the numbers of both and the units of the file into `sizes`. Of a file that is refused there are no pages, no marks and no units, and the line
 /// of the refusal goes into `text`. The file is checked, its rows are counted, and where they fit they are written: no more memory is taken for more
@@ -202,11 +204,8 @@ pub fn marks(
     if !are_named(fonts) {
         return BAD_FONT_NAME;
     }
-    match read_file(alloc, dvi, fonts) {
-        Ok(ReadFile::Checked(units, mut sights)) => {
-            hand_over_rows(&mut sights, units, pages, marks, sizes)
-        }
-        Ok(ReadFile::Refused(output)) => hand_over_refusal(&output, text, sizes),
+    match hand_over_marks(alloc, dvi, fonts, pages, marks, text, sizes) {
+        Ok(status) => status,
         Err(AllocError) => OUT_OF_MEMORY,
     }
 }

@@ -10,9 +10,9 @@ ghost use Rattle.raster_core.specs.Sheets.{sheet_of};
 
 use crate::buffers::hand_over;
 use crate::given::{Font, are_named, font_files};
-use crate::listings::list_checked;
+use crate::listings::list_opened;
 use crate::status::{ACCEPTED, BAD_FONT_NAME, NO_SUCH_PAGE, OUT_OF_MEMORY, OUT_OF_RANGE, REFUSED};
-use boxglue_print::{CheckedDvi, Output, PaintFault, PaintOptions, paint_text, refusal};
+use boxglue_print::{Dvi, Output, PaintFault, PaintOptions, paint_text, refusal};
 use std::alloc::{AllocError, Global};
 
 /// The status of a DVI file that was read.
@@ -45,8 +45,8 @@ fn list_named(
     ensures size { OnErr result (size.new ≡ size.old) }
 {
     let files = font_files(alloc, fonts)?;
-    match CheckedDvi::open(alloc, dvi, &files) {
-        Ok(checked) => list_checked(alloc, checked, text, size),
+    match Dvi::open(alloc, dvi, &files) {
+        Ok(opened) => list_opened(alloc, &opened, text, size),
         Err(fault) => {
             let output = refusal(alloc, fault)?;
             Ok(hand_over_output(&output, text, size))

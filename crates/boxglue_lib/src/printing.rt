@@ -11,8 +11,7 @@ ghost use Rattle.boxglue_program.specs.Runs.{WritesFront};
 ghost use Rattle.boxglue_lib.specs.declared.printing.PrintFault.TheVariants.{OutOfMemory, Unwritten};
 
 use boxglue_print::{
-    Bitmap, CheckedDvi, CheckedLines, Output, PaintFault, PaintOptions, Painting, page_bitmap,
-    refusal,
+    Bitmap, Dvi, Lines, Output, PaintFault, PaintOptions, Painting, page_bitmap, refusal,
 };
 use boxglue_program::{FontFile, Unwritten, write_text};
 use std::alloc::{AllocError, Global};
@@ -54,7 +53,7 @@ const PIECE: usize = 65_536;
 
 /// Writes the lines of a listing in pieces. All memory is taken before: a piece has room for PART bytes, so memory is never refused within the text.
 fn write_listing<W: Write>(
-    lines: &mut CheckedLines<'_>,
+    lines: &mut Lines<'_, '_>,
     piece: &mut Vec<u8>,
     writer: &mut W,
 ) -> Result<(), Unwritten>
@@ -86,15 +85,15 @@ pub fn list_file<W: Write>(
     ensures silent { result ≡ Err PrintFault.OutOfMemory → Keeps (W.contents writer.old) (W.contents writer.new) }
     ensures always { result ≢ Err PrintFault.NoSuchPage }
 {
-    let checked = match CheckedDvi::open(alloc, dvi, files) {
-        Ok(checked) => checked,
+    let opened = match Dvi::open(alloc, dvi, files) {
+        Ok(opened) => opened,
         Err(fault) => {
             let Output { text, accepted } = refusal(alloc, fault)?;
             write_text(writer, &text)?;
             return Ok(accepted);
         }
     };
-    let mut lines = checked.lines(alloc)?;
+    let mut lines = opened.lines()?;
     let mut piece = Vec::with_capacity(alloc, PIECE)?;
     write_listing(&mut lines, &mut piece, writer)?;
     Ok(true)

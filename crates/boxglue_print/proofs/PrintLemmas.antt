@@ -1,16 +1,14 @@
 -- The texts for refused files, and for pages.
-use Rattle.std.proofs.Common.{◌≡◌, ◌≤◌, ◌-◌, [], ◌∷◌, ℕ, zero, suc, Bool, true, false, List, length, Some, None, Result, Ok, Err, OnOk, IfOk, inl, inr, refl, arith, ◌∙◌, ap}
+use Rattle.std.proofs.Common.{◌≡◌, ◌-◌, ℕ, Bool, true, false, List, length, Some, inl, inr, refl, arith, ◌∙◌, ap}
 use Rattle.std.proofs.lemmas.Option.{slice_get_within}
 use Rattle.std.specs.Prelude.{◌≢◌, slice_get}
-use Rattle.std.specs.declared.alloc.AllocError.{AllocError}
 use Rattle.dvi_ops.specs.File.{Frame, IsFile, MarkedPage}
 use Rattle.dvi_ops.proofs.Frames.{one_list_of_pages}
 use Rattle.dvi_ops.specs.Instruction.{Units}
 use Rattle.std.specs.Fmt.{digits}
 use Rattle.boxglue_program.specs.Texts.{refusal_line, refusal_text}
 use Rattle.boxglue_print.specs.Faults.{KnownLines, fault_line}
-use Rattle.boxglue_print.specs.Outputs.{IsListed, IsPainted, LacksPage, Paints, RefusesFile}
-use Rattle.boxglue_print.specs.declared.output.Output.{Output}
+use Rattle.boxglue_print.specs.Outputs.{IsPainted, LacksPage, Paints, RefusesFile}
 use Rattle.dvi_read.specs.Opened.{IsNoFile}
 use Rattle.dvi_read.specs.Opening.{IsDviFault}
 use Rattle.dvi_read.specs.declared.fault.DviFault.{DviFault}
@@ -34,14 +32,6 @@ refuses files bytes text fault accepted other broken none text_is accepted_is = 
   accepted_is = accepted_is;
 }
 
--- The same where memory may be refused for the line.
-pub listed_refusal : (files : List NamedBytes) (bytes : List ℕ) (fault : DviFault) (r : Result Output AllocError) → IsDviFault files bytes fault
-    → (fault ≢ OutOfMemory → IsNoFile files bytes) → OnOk r (fault ≢ OutOfMemory) → IfOk r (λ output. output.text.items ≡ fault_line fault)
-    → IfOk r (λ output. output.accepted ≡ false) → IfOk r (λ output. IsListed files bytes output.text.items output.accepted)
-listed_refusal files bytes fault (Ok output) broken none other text accepted =
-    inr (refuses files bytes output.text.items fault output.accepted other broken none text accepted)
-listed_refusal files bytes fault (Err e) broken none other text accepted = tt
-
 -- The bitmap of a page is printed.
 pub paints : (files : List NamedBytes) (bytes : List ℕ) (sheet : Sheet) (pages : List MarkedPage) (units : Units) (shown : MarkedPage) (picture : PixelGrid)
     → IsFile (file_widths files) bytes pages → ((f : Frame bytes) → units ≡ f.stop.units) → slice_get pages (sheet.page - 1) ≡ Some shown
@@ -54,17 +44,6 @@ paints files bytes sheet pages units shown picture file same page_is picture_is 
   text_is = ap pbm picture_is ∙ ap (λ (u : Units). pbm (painted_picture (is_covered (scale_of u sheet.dpi) shown.marks) (white sheet.width sheet.height))) (same file.frame);
   accepted_is = refl;
 }
-
--- A file in which this page is not found has fewer pages.
-no_more : (index : ℕ) (pages : List MarkedPage) → slice_get pages index ≡ None → length pages ≤ index
-no_more index [] none = omega arith
-no_more zero (first ∷ pages) none = absurd cc
-no_more (suc index) (first ∷ pages) none = let later = no_more index pages none in omega arith
-
-pub lacks_page : (files : List NamedBytes) (bytes : List ℕ) (page : ℕ) (pages : List MarkedPage) → IsFile (file_widths files) bytes pages → 1 ≤ page
-    → slice_get pages (page - 1) ≡ None → LacksPage files bytes page
-lacks_page files bytes page pages file first none =
-    let most = no_more (page - 1) pages none in record { pages = pages; file = file; few = omega arith }
 
 -- A file whose page is painted has that page.
 pub has_page : (files : List NamedBytes) (bytes : List ℕ) (sheet : Sheet) (text : List ℕ) (accepted : Bool) → IsPainted files bytes sheet text accepted

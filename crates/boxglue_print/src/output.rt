@@ -1,4 +1,4 @@
-//! The listing of a DVI file and the bitmap of one of its pages.
+//! The text for a DVI file that is refused, and the bitmap of one of its pages.
 
 ghost use Rattle.std.specs.Prelude.{◌≡◌, ◌≢◌, ◌↔◌, ◌⊎◌, false, Err, IfOk, IsTrue, OnOk};
 ghost use Rattle.dvi_ops.specs.File.{AreUnits};
@@ -6,13 +6,13 @@ ghost use Rattle.dvi_ops.specs.View.{units as units_of};
 ghost use Rattle.dvi_scan.specs.View.{marked_page};
 ghost use Rattle.boxglue_print.specs.Faults.{fault_line};
 ghost use Rattle.boxglue_print.specs.declared.output.PaintFault.TheVariants.{OutOfMemory};
-ghost use Rattle.boxglue_print.specs.Outputs.{IsListed, IsPainted, IsPainting, LacksPage};
+ghost use Rattle.boxglue_print.specs.Outputs.{IsPainted, IsPainting, LacksPage};
 ghost use Rattle.raster_core.specs.Pictures.{painted_picture, white};
 ghost use Rattle.raster_core.specs.Pixels.{is_covered, scale_of};
 
 use crate::faults::push_fault;
 use dvi_ops::Units;
-use dvi_read::{CheckedDvi, Dvi, DviFault};
+use dvi_read::{Dvi, DviFault};
 use dvi_scan::Page;
 use raster_core::{Bitmap, PaintOptions};
 use std::alloc::{AllocError, Global};
@@ -80,22 +80,6 @@ pub fn refusal(alloc: Global, fault: DviFault) -> Result<Output, AllocError>
     })
 }
 
-/// The listing of a DVI file with these metric files, or the line of its refusal. The result is an Err where memory was refused.
-pub fn list_text(alloc: Global, dvi: &[u8], files: &[FontFile]) -> Result<Output, AllocError>
-    ensures { IfOk result (λ output. IsListed files.now dvi.now output.text.items output.accepted) }
-{
-    let opened = match Dvi::open(alloc, dvi, files) {
-        Ok(opened) => opened,
-        Err(fault) => return refusal(alloc, fault),
-    };
-    let mut text = Vec::new(alloc);
-    opened.listing(&mut text)?;
-    Ok(Output {
-        text,
-        accepted: true,
-    })
-}
-
 /// The bitmap of a page.
 fn painted_page(
     alloc: Global,
@@ -127,15 +111,17 @@ pub fn page_bitmap(
     ensures missing { result ≡ Err PaintFault.NoSuchPage → LacksPage files.now dvi.now sheet.page }
     ensures found { LacksPage files.now dvi.now sheet.page → (result ≡ Err PaintFault.NoSuchPage) ⊎ (result ≡ Err PaintFault.OutOfMemory) }
 {
-    let checked = match CheckedDvi::open(alloc, dvi, files) {
-        Ok(checked) => checked,
+    let opened = match Dvi::open(alloc, dvi, files) {
+        Ok(opened) => opened,
         Err(fault) => return Ok(Painting::Refusal(refusal(alloc, fault)?)),
     };
-    let units = checked.units();
-    let Some(page) = checked.page(alloc, sheet.page() as usize - 1)? else {
+    let index = sheet.page() as usize - 1;
+    if opened.pages() <= index {
         return Err(PaintFault::NoSuchPage);
-    };
-    Ok(Painting::Picture(painted_page(alloc, &page, units, sheet)?))
+    }
+    let page = opened.page(index)?;
+    let bitmap = painted_page(alloc, &page, opened.units(), sheet)?;
+    Ok(Painting::Picture(bitmap))
 }
 
 /// The text of the bitmap of a page of a DVI file, or the line of the file's refusal, as `page_bitmap`.

@@ -26,7 +26,7 @@ pub fn finished_files_are_read_back()
 /// Where a script was run to a good end and its device reports the bytes of at least one page, `list` accepts these bytes with the same font files,
 /// and lists the marks of the pages of the machine that ran the script's commands, in order.
 ///
-/// It follows from what `run_script` and `list_text` ensure (`answers`; `IsListed`).
+/// It follows from what `run_script` ensures (`answers`), and what each call that lists a file does (`IsListed`).
 pub fn typeset_scripts_are_listed()
     ensures { (text answer bytes : List ℕ) (files : List NamedBytes) (n k : ℕ) (fine : Bool)
         (ran : RanScript text files n k (Some bytes) answer fine) (summary : Summary)

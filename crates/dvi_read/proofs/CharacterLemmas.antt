@@ -17,9 +17,9 @@ use Rattle.dvi_scan.specs.declared.page.Position.{Position as Spot}
 use Rattle.dvi_scan.proofs.PlaceLemmas.{one_byte}
 use Rattle.dvi_read.specs.ReadFonts.{asked_width, selected_in}
 use Rattle.dvi_read.specs.Steps.{FontsAreRead, known_of, stand_of}
-use Rattle.dvi_read.specs.Private.Walks.{IsWalkedOver, bare}
+use Rattle.dvi_read.specs.Walks.{IsWalked, bare}
 use Rattle.dvi_read.specs.declared.check.walk.Walk.{Walk}
-use Rattle.dvi_read.proofs.HeldLemmas.{walked_over_turn}
+use Rattle.dvi_read.proofs.HeldLemmas.{walked_turn}
 use Rattle.dvi_read.proofs.StepLemmas.{width_of_read}
 
 -- The state with h after a character of this width.
@@ -81,11 +81,11 @@ abbrev placed_at : DviState → PassStateView → PassStateView
 placed_at s (Between pages) = Between pages
 placed_at s (Inside pages counts marks stack old) = Inside pages counts marks stack s
 
--- A walk that keeps no mark passes over a character of one byte.
+-- A walk passes over a character of one byte.
 module _ (metrics : WidthsByName) (ahead : List ℤ) (bytes : List ℕ) (stop : Postamble) (chain : List ℕ) (at : ℕ) (old : Walk) (page : OpenPage) (inside : old.stand ≡ stands.Inside page) where
   pub character_passed : (place : Spot) (n : ℕ) (f w : ℤ) → at < length bytes → get_or bytes at 0 ≡ n → n < 128 → page.state.font ≡ Some f → asked_width old.fonts (Some (pos n)) ≡ Some w
-      → Some (spot_position place) ≡ reached_position (moved_by w (spot_position page.state.place)) → IsWalkedOver false metrics ahead bytes stop chain at old
-      → IsWalkedOver false metrics ahead bytes stop chain (at + 1) (record old { stand = stands.Inside (record page { state = record page.state { place = place } }) })
+      → Some (spot_position place) ≡ reached_position (moved_by w (spot_position page.state.place)) → IsWalked metrics ahead bytes stop chain at old
+      → IsWalked metrics ahead bytes stop chain (at + 1) (record old { stand = stands.Inside (record page { state = record page.state { place = place } }) })
   character_passed place n f w within byte small font width there walked =
       let pages = map marked_page old.done.items in
       let marks = map mark_of page.marks.items in
@@ -106,7 +106,7 @@ module _ (metrics : WidthsByName) (ahead : List ℤ) (bytes : List ℕ) (stop : 
       let one : at + 1 - at ≡ 1 = omega arith in
       let spelled : Spells i (take (at + 1 - at) (drop at bytes)) =
       inl (n, small, refl, one_byte bytes at within ∙ ap (λ (k : ℕ). k ∷ []) byte) in
-      walked_over_turn false metrics ahead bytes stop chain at (at + 1) old new i after (omega arith) (omega arith) walked spelled goes (ap (placed_at s) alone) refl tt (sym (append-nil (known_of old))) tt tt
+      walked_turn metrics ahead bytes stop chain at (at + 1) old new i after (omega arith) (omega arith) walked spelled goes (ap (placed_at s) alone) refl tt (sym (append-nil (known_of old))) tt tt
       (subst (λ (fs : List ℤ). FontsAreRead old.fonts fs) (sym (append-nil walked.selected)) walked.read) walked.sound (λ g e. walked.current g (ap selected_in inside ∙ e))
 
 -- Two states that are some.

@@ -1,5 +1,5 @@
--- A file that was checked without keeping its marks: its pages are those of the file, and the fonts that were read have the widths of the files.
-use Rattle.std.proofs.Common.{◌≡◌, ◌≤◌, ◌<◌, ◌+◌, ◌*◌, ◌-◌, ◌++◌, min, [], ◌∷◌, List, drop, length, slice_index, take, ℕ, ℤ, Option, Some, append-nil, arith, refl, sym, ◌∙◌, ap, subst, inl, inr}
+-- A file that was checked: its pages are those of the file, and the fonts that were read have the widths of the files.
+use Rattle.std.proofs.Common.{◌≡◌, ◌≤◌, ◌<◌, ◌+◌, ◌*◌, ◌-◌, ◌++◌, min, [], ◌∷◌, List, drop, length, reverse, slice_index, take, ℕ, ℤ, Option, Some, append-nil, arith, refl, sym, ◌∙◌, ap, subst, inl, inr}
 use Rattle.std.specs.Prelude.{IsSome, option_and_then}
 use Rattle.std.proofs.lemmas.List.{length-drop, length-take-le}
 use Rattle.std.specs.List.{AllByRecursion}
@@ -8,16 +8,17 @@ use Rattle.dvi_ops.specs.Body.{instruction_acts, bounded_acts}
 use Rattle.dvi_ops.specs.File.{Frame, IsFile, MarkedPage}
 use Rattle.dvi_ops.specs.Fonts.{WidthsByName, definitions, selections, widths_of, width_in as width_of_font}
 use Rattle.dvi_ops.specs.Instruction.{Definition, Instruction, Postamble, Pre}
-use Rattle.dvi_ops.specs.Tokens.{token_instructions, token_bytes}
+use Rattle.dvi_ops.specs.Tokens.{Token, places, token_instructions, token_bytes}
 use Rattle.dvi_ops.proofs.Frames.{begins}
 use Rattle.dvi_ops.proofs.SameMeaning.{SameWidths}
 use Rattle.dvi_scan.proofs.FontLemmas.{same_passes}
+use Rattle.dvi_scan.proofs.LeftLemmas.{none_missed}
 use Rattle.dvi_scan.proofs.ReachedLemmas.{take_next, token}
 use Rattle.dvi_scan.specs.Closing.{ClosesTo}
 use Rattle.dvi_scan.specs.Pass.{PassStateView, Between, Inside, passes}
 use Rattle.dvi_scan.specs.Passed.{file_framing}
 use Rattle.dvi_scan.specs.Preamble.{HasPreamble}
-use Rattle.dvi_scan.specs.Reached.{IsReached, PlacesLeft, ReadSoFar}
+use Rattle.dvi_scan.specs.Reached.{IsReached, PlacesLeft, ReadSoFar, all_left}
 use Rattle.dvi_read.specs.Opening.{IsDviFault}
 use Rattle.dvi_read.specs.Private.OpeningParts.{HasPassed, IsFinishFault}
 use Rattle.dvi_read.specs.PageMarks.{HasGlyphWidths, HasRoomFor, IsGlyphWidth, marks_of, read_width}
@@ -25,7 +26,7 @@ use Rattle.dvi_read.specs.ReadFonts.{AreSound, FontIsRead, font_place, read_font
 use Rattle.dvi_read.specs.SeenAhead.{HasRest}
 use Rattle.dvi_read.specs.Steps.{FontsAreRead, known_of, places_left, stand_of}
 use Rattle.dvi_read.specs.Stops.{PagesHaveEnded}
-use Rattle.dvi_read.specs.Private.Walks.{bare, read_in}
+use Rattle.dvi_read.specs.Walks.{bare, read_in}
 use Rattle.dvi_read.specs.declared.fault.DviFault.{DviFault}
 use Rattle.dvi_read.specs.declared.fault.DviFault.TheVariants as faults
 use Rattle.dvi_read.specs.declared.fonts.ReadFonts.{ReadFonts}
@@ -48,9 +49,9 @@ same_read metrics table fonts f sound is_read c =
 
 -- The instructions after the preamble make the pages of the file.
 pub checked_rest : (metrics : WidthsByName) (ahead : List ℤ) (bytes : List ℕ) (stop : Postamble) (chain : List ℕ) (from post : ℕ) (s : ReadSoFar) (fonts : ReadFonts) (pages : List MarkedPage)
-    → ((k : ℕ) → slice_index bytes k < 256) → post ≤ length bytes → HasPreamble bytes post stop from → IsReached metrics ahead bytes stop chain post s → s.pass ≡ Between pages → FontsAreRead fonts s.selected → AreSound metrics s.known fonts
-    → HasRest bytes from post (min 1024 stop.stack_depth) fonts [] (Between []) pages
-checked_rest metrics ahead bytes stop chain from post s fonts pages small high preamble r between read sound =
+    → ((k : ℕ) → slice_index bytes k < 256) → post ≤ length bytes → HasPreamble bytes post stop from → IsReached metrics ahead bytes stop chain post s → s.pass ≡ Between pages → s.left ≡ all_left []
+    → FontsAreRead fonts s.selected → AreSound metrics s.known fonts → (rest : HasRest bytes from post (min 1024 stop.stack_depth) fonts [] (Between []) pages) × (places from rest.rest ≡ reverse chain)
+checked_rest metrics ahead bytes stop chain from post s fonts pages small high preamble r between none read sound =
     let within = preamble.within in
     let most : ℕ = min 1024 stop.stack_depth in
     let front : List ℕ = take from bytes in
@@ -66,17 +67,23 @@ checked_rest metrics ahead bytes stop chain from post s fonts pages small high p
     let passed =
     (same_passes (widths_of metrics s.known) (read_width fonts) most r.body (Between []) s.pass (λ f e. absurd cc)
     (all_weaker (λ f. FontIsRead f fonts) (SameWidths (widths_of metrics s.known) (read_width fonts)) (selections r.body) (λ f is_read. same_read metrics s.known fonts f sound is_read) all_read) r.passed).0 in
-    record {
-      low = within;
-      high = high;
-      rest = more;
-      spelled = spelled;
-      whole = more_whole;
-      passed = subst (λ (is : List Instruction). passes (bounded_acts (instruction_acts (read_width fonts))) most is (Between []) ≡ Some (Between pages)) body (passed ∙ ap (λ (p : PassStateView). Some p) between);
-      read = subst (λ (is : List Instruction). FontsAreRead fonts (selections is)) body all_read;
-      codes = sound.codes;
-      small = small;
-    }
+    let taken = length-take-le from bytes (omega (arith, within, high)) in
+    let place : 0 + length front ≡ from = omega (arith, taken) in
+    let all_placed : places 0 r.before ≡ places from more = ap (λ (ts : List Token). places 0 ts) same ∙ ap (λ (n : ℕ). places n more) place in
+    let met : places 0 r.before ++ [] ≡ reverse chain = (none_missed (places 0 r.before) (all_left chain) [] (r.bops ∙ ap (λ (l : PlacesLeft). Some l) none)).1 in (
+      record {
+        low = within;
+        high = high;
+        rest = more;
+        spelled = spelled;
+        whole = more_whole;
+        passed = subst (λ (is : List Instruction). passes (bounded_acts (instruction_acts (read_width fonts))) most is (Between []) ≡ Some (Between pages)) body (passed ∙ ap (λ (p : PassStateView). Some p) between);
+        read = subst (λ (is : List Instruction). FontsAreRead fonts (selections is)) body all_read;
+        codes = sound.codes;
+        small = small;
+      },
+      sym all_placed ∙ (sym (append-nil (places 0 r.before)) ∙ met),
+    )
 
 -- The glyphs of the rest have widths.
 read_glyph : (metrics : WidthsByName) (table : List Definition) (fonts : ReadFonts) (f c : ℤ) → AreSound metrics table fonts → FontIsRead f fonts → IsSome (read_width fonts f c) → IsGlyphWidth metrics table fonts f c
@@ -141,12 +148,16 @@ module _ (files : List NamedBytes) (bytes : List ℕ) (post after last : ℕ) (s
       (rest_widths (file_widths files) (known_of walk) bytes from post most walk.fonts pages passed.sound rest))
 
   pub checked_pages : (pages : List MarkedPage) (new : List Definition) → ((k : ℕ) → slice_index bytes k < 256) → PagesHaveEnded (stand_of walk) (places_left walk) pages → ClosesTo bytes after (last - 5) (known_of walk) new
-      → (all : List MarkedPage) × IsFile (file_widths files) bytes all × HasRest bytes from post (min 1024 stop.stack_depth) walk.fonts [] (Between []) all
+      → (all : List MarkedPage) × IsFile (file_widths files) bytes all
+      × (rest : HasRest bytes from post (min 1024 stop.stack_depth) walk.fonts [] (Between []) all) × (places from rest.rest ≡ reverse chain)
   checked_pages pages new small ended closes =
       let (all, done) = bare_ended passed.pass (places_left walk) pages (subst (λ (p : PassStateView). PagesHaveEnded p (places_left walk) pages) passed.stand ended) in
       let has = passed.has in
-      let high = post_within files bytes post after last stop chain has.starts.chained.framed in (
+      let high = post_within files bytes post after last stop chain has.starts.chained.framed in
+      let (rest, placed) =
+      checked_rest (file_widths files) passed.ahead bytes stop chain from post (read_in passed.pass passed.selected walk) walk.fonts all small high has.starts.preamble has.reached done.between done.none passed.read passed.sound in (
         all,
         opened files bytes post after last stop chain from passed.ahead (read_in passed.pass passed.selected walk) all new has done closes,
-        checked_rest (file_widths files) passed.ahead bytes stop chain from post (read_in passed.pass passed.selected walk) walk.fonts all small high has.starts.preamble has.reached done.between passed.read passed.sound,
+        rest,
+        placed,
       )

@@ -1,5 +1,5 @@
 -- A walk that drops the pages and the marks as they come: an instruction does there what it does where they are kept.
-use Rattle.std.proofs.Common.{◌≡◌, ◌≤◌, ◌-◌, ◌++◌, if◌then◌else◌, [], ◌∷◌, Bool, true, false, List, drop, length, map, min, nat_lt, take, ℕ, ℤ, Option, Some, None, append-nil, arith, refl, sym, ◌∙◌, ap, ap₂, subst, subst₂, inl, inr}
+use Rattle.std.proofs.Common.{◌≡◌, ◌≤◌, ◌-◌, ◌++◌, if◌then◌else◌, [], ◌∷◌, Bool, true, false, List, drop, length, min, nat_lt, take, ℕ, ℤ, Option, Some, None, append-nil, arith, refl, sym, ◌∙◌, ap, subst, subst₂, inl, inr}
 use Rattle.std.specs.Prelude.{IsSome}
 use Rattle.std.specs.List.{AllByRecursion}
 use Rattle.std.specs.Option.{option_map}
@@ -11,27 +11,23 @@ use Rattle.dvi_ops.specs.Table.{Spells}
 use Rattle.dvi_ops.specs.Tokens.{bop_place}
 use Rattle.scaled_core.specs.Mark.{Mark}
 use Rattle.scaled_core.proofs.EachOf.{all_append, all_weaker}
-use Rattle.dvi_scan.specs.Execution.{BreaksTurn, IsAllowed, TakesRoom, pass_at}
+use Rattle.dvi_scan.specs.Execution.{BreaksTurn, IsAllowed, TakesRoom}
 use Rattle.dvi_scan.specs.Pass.{PassStateView, Between, Inside, execute, with_marks}
-use Rattle.dvi_scan.specs.Reached.{HasWidths, IsReached, IsRightAt, PlacesLeft, after_bops, before_pages, has_number}
-use Rattle.dvi_scan.specs.View.{marked_page}
-use Rattle.dvi_scan.specs.declared.executing.PassState.{PassState}
+use Rattle.dvi_scan.specs.Reached.{HasWidths, IsRightAt, PlacesLeft, after_bops, has_number}
 use Rattle.dvi_scan.specs.declared.fault.DviCause.{DviCause}
 use Rattle.dvi_scan.specs.declared.fault.DviCause.TheVariants.{Opcode, Stack, Glyph, Range, Truncated}
-use Rattle.dvi_scan.specs.declared.page.Page.{Page}
 use Rattle.dvi_scan.specs.declared.widths.FontRefusal.{FontRefusal}
 use Rattle.dvi_scan.specs.declared.widths.FontRefusal.TheVariants as refusals
 use Rattle.dvi_scan.proofs.ReachedLemmas.{reached_next}
 use Rattle.dvi_read.specs.ReadFonts.{AreSound, FontIsRead, HasCurrent, IsCurrent, selected_in}
 use Rattle.dvi_read.specs.Steps.{FontsAreRead, known_of, places_left, so_far, stand_of}
 use Rattle.dvi_read.specs.Stops.{PageBytes, page_bytes, BreaksAt, BreaksPages, BreaksRule, InstructionAllocates, IsPagesFault, LacksRoom, LacksWidths}
-use Rattle.dvi_read.specs.Walks.{IsWalked}
-use Rattle.dvi_read.specs.Private.Walks.{IsBegun, IsWalkedOver, Reads, bare, held_state, read_in}
+use Rattle.dvi_read.specs.Walks.{IsWalked, bare, read_in}
+use Rattle.dvi_read.specs.Private.Walks.{Reads}
 use Rattle.dvi_read.specs.declared.fault.DviFault.{DviFault}
 use Rattle.dvi_read.specs.declared.fault.DviFault.TheVariants as faults
 use Rattle.dvi_read.specs.declared.fonts.ReadFonts.{ReadFonts}
 use Rattle.dvi_read.specs.declared.check.walk.Walk.{Walk}
-use Rattle.dvi_read.proofs.WalkLemmas.{walked_first}
 use Rattle.tfm_core.specs.FileWidths.{file_widths}
 use Rattle.tfm_core.specs.NamedBytes.{NamedBytes}
 
@@ -73,14 +69,13 @@ bare_onto pages marks (Inside [] counts more stack s) = refl
 bare_onto pages marks (Inside (page ∷ rest) counts more stack s) = refl
 
 -- Where an instruction is accepted in what a walk holds, it is accepted in the whole state, and the walk holds what it keeps of the state after it.
-pub held_turn : (keeps : Bool) (does : Acts) (most : ℕ) (i : Instruction) (p q : PassStateView) → execute does most i (held_state keeps p) ≡ Some q
-    → (r : PassStateView) × (execute does most i p ≡ Some r) × (held_state keeps r ≡ held_state keeps q)
-held_turn true does most i p q e = (q, e, refl)
-held_turn false does most (Do Nop) (Between pages) q e = let same : Between [] ≡ q = cc in (Between pages, refl, ap bare same)
-held_turn false does most (Do (FontDef d)) (Between pages) q e = let same : Between [] ≡ q = cc in (Between pages, refl, ap bare same)
-held_turn false does most (Bop counts pointer) (Between pages) q e = let same : Inside [] counts [] [] start ≡ q = cc in (Inside pages counts [] [] start, refl, ap bare same)
-held_turn false does most i (Between pages) q e = absurd cc
-held_turn false does most i (Inside pages counts marks stack s) q e =
+pub held_turn : (does : Acts) (most : ℕ) (i : Instruction) (p q : PassStateView) → execute does most i (bare p) ≡ Some q
+    → (r : PassStateView) × (execute does most i p ≡ Some r) × (bare r ≡ bare q)
+held_turn does most (Do Nop) (Between pages) q e = let same : Between [] ≡ q = cc in (Between pages, refl, ap bare same)
+held_turn does most (Do (FontDef d)) (Between pages) q e = let same : Between [] ≡ q = cc in (Between pages, refl, ap bare same)
+held_turn does most (Bop counts pointer) (Between pages) q e = let same : Inside [] counts [] [] start ≡ q = cc in (Inside pages counts [] [] start, refl, ap bare same)
+held_turn does most i (Between pages) q e = absurd cc
+held_turn does most i (Inside pages counts marks stack s) q e =
     (onto pages marks q, turn_onto does most i pages counts marks stack s ∙ ap (λ (o : Option PassStateView). option_map (onto pages marks) o) e, bare_onto pages marks q)
 
 allowed_bare : (p : PassStateView) (i : Instruction) → IsAllowed p i → IsAllowed (bare p) i
@@ -110,10 +105,6 @@ bare_breaks does most (Do leaf) (Between pages) cause b = absurd b
 bare_breaks does most i (Inside pages counts marks stack s) cause b = absurd b
 bare_breaks does most i (Between pages) cause b = absurd b
 
-held_breaks : (keeps : Bool) (does : Acts) (most : ℕ) (i : Instruction) (p : PassStateView) (cause : DviCause) → BreaksTurn does most i (held_state keeps p) cause → BreaksTurn does most i p cause
-held_breaks true does most i p cause b = b
-held_breaks false does most i p cause b = bare_breaks does most i p cause b
-
 bare_room : (does : Acts) (most : ℕ) (i : Instruction) (p : PassStateView) → TakesRoom does most i (bare p) → TakesRoom does most i p
 bare_room does most Push (Inside pages counts marks stack s) b = b
 bare_room does most Push (Between pages) b = absurd b
@@ -124,65 +115,61 @@ bare_room does most (Do leaf) (Between pages) b = absurd b
 bare_room does most i (Inside pages counts marks stack s) b = absurd b
 bare_room does most i (Between pages) b = absurd b
 
-held_room : (keeps : Bool) (does : Acts) (most : ℕ) (i : Instruction) (p : PassStateView) → TakesRoom does most i (held_state keeps p) → TakesRoom does most i p
-held_room true does most i p b = b
-held_room false does most i p b = bare_room does most i p b
-
-held_goes : (keeps : Bool) (does : Acts) (most : ℕ) (i : Instruction) (p : PassStateView) → IsSome (execute does most i (held_state keeps p)) → IsSome (execute does most i p)
-held_goes keeps does most i p some = by_turn (execute does most i (held_state keeps p)) refl some
+held_goes : (does : Acts) (most : ℕ) (i : Instruction) (p : PassStateView) → IsSome (execute does most i (bare p)) → IsSome (execute does most i p)
+held_goes does most i p some = by_turn (execute does most i (bare p)) refl some
   where
-    by_turn : (o : Option PassStateView) → execute does most i (held_state keeps p) ≡ o → IsSome o → IsSome (execute does most i p)
+    by_turn : (o : Option PassStateView) → execute does most i (bare p) ≡ o → IsSome o → IsSome (execute does most i p)
     by_turn None e some = absurd cc
-    by_turn (Some q) e some = let (r, turned, same) = held_turn keeps does most i p q e in subst (λ (o : Option PassStateView). IsSome o) (sym turned) refl
+    by_turn (Some q) e some = let (r, turned, same) = held_turn does most i p q e in subst (λ (o : Option PassStateView). IsSome o) (sym turned) refl
 
 -- The same for a fault of the pages.
-module _ (files : List NamedBytes) (part : PageBytes) (at : ℕ) (keeps : Bool) (pass : PassStateView) (selected : List ℤ) (walk : Walk) where
-  lacks_held : (i : Instruction) → LacksRoom files part.ahead (read_in (held_state keeps pass) selected walk) i → LacksRoom files part.ahead (read_in pass selected walk) i
+module _ (files : List NamedBytes) (part : PageBytes) (at : ℕ) (pass : PassStateView) (selected : List ℤ) (walk : Walk) where
+  lacks_held : (i : Instruction) → LacksRoom files part.ahead (read_in (bare pass) selected walk) i → LacksRoom files part.ahead (read_in pass selected walk) i
   lacks_held (Do (FontDef d)) b = b
   lacks_held (Do (FontNum f)) b = record { named = b.named; new = b.new; font = b.font; found = b.found; file = b.file }
   lacks_held i b = absurd b
 
-  rule_held : (i : Instruction) (cause : DviCause) → BreaksRule (file_widths files) part.ahead part.most at (read_in (held_state keeps pass) selected walk) i cause
+  rule_held : (i : Instruction) (cause : DviCause) → BreaksRule (file_widths files) part.ahead part.most at (read_in (bare pass) selected walk) i cause
       → BreaksRule (file_widths files) part.ahead part.most at (read_in pass selected walk) i cause
-  rule_held i cause (inl b) = inl (held_breaks keeps (instruction_acts (widths_of (file_widths files) (known_of walk))) part.most i pass cause b)
-  rule_held i cause (inr (on, b)) = inr (held_goes keeps (bounded_acts (instruction_acts (widths_of (file_widths files) (known_of walk)))) part.most i pass on, b)
+  rule_held i cause (inl b) = inl (bare_breaks (instruction_acts (widths_of (file_widths files) (known_of walk))) part.most i pass cause b)
+  rule_held i cause (inr (on, b)) = inr (held_goes (bounded_acts (instruction_acts (widths_of (file_widths files) (known_of walk)))) part.most i pass on, b)
 
-  at_held : (cause : DviCause) → BreaksAt (file_widths files) part at (read_in (held_state keeps pass) selected walk) cause → BreaksAt (file_widths files) part at (read_in pass selected walk) cause
+  at_held : (cause : DviCause) → BreaksAt (file_widths files) part at (read_in (bare pass) selected walk) cause → BreaksAt (file_widths files) part at (read_in pass selected walk) cause
   at_held cause (i, stands, b) = (i, stands, rule_held i cause b)
 
-  pages_held : (cause : DviCause) → BreaksPages (file_widths files) part at (read_in (held_state keeps pass) selected walk) cause → BreaksPages (file_widths files) part at (read_in pass selected walk) cause
+  pages_held : (cause : DviCause) → BreaksPages (file_widths files) part at (read_in (bare pass) selected walk) cause → BreaksPages (file_widths files) part at (read_in pass selected walk) cause
   pages_held Truncated b = b
   pages_held Opcode (inl b) = inl b
   pages_held Opcode (inr b) = inr (at_held Opcode b)
   pages_held cause b = at_held cause b
 
-  widths_held : (refusal : FontRefusal) → LacksWidths files part at (read_in (held_state keeps pass) selected walk) refusal → LacksWidths files part at (read_in pass selected walk) refusal
+  widths_held : (refusal : FontRefusal) → LacksWidths files part at (read_in (bare pass) selected walk) refusal → LacksWidths files part at (read_in pass selected walk) refusal
   widths_held refusal (f, stands, selects) =
-      (f, stands, record { goes_on = held_goes keeps (bounded_acts (instruction_acts (widths_of (file_widths files) (known_of walk)))) part.most (Do (FontNum f)) pass selects.goes_on; unread = selects.unread })
+      (f, stands, record { goes_on = held_goes (bounded_acts (instruction_acts (widths_of (file_widths files) (known_of walk)))) part.most (Do (FontNum f)) pass selects.goes_on; unread = selects.unread })
 
-  allocates_held : (i : Instruction) → InstructionAllocates files part.ahead part.most (read_in (held_state keeps pass) selected walk) i → InstructionAllocates files part.ahead part.most (read_in pass selected walk) i
-  allocates_held i (inl b) = inl (held_room keeps (instruction_acts (widths_of (file_widths files) (known_of walk))) part.most i pass b)
-  allocates_held i (inr (on, b)) = inr (held_goes keeps (bounded_acts (instruction_acts (widths_of (file_widths files) (known_of walk)))) part.most i pass on, lacks_held i b)
+  allocates_held : (i : Instruction) → InstructionAllocates files part.ahead part.most (read_in (bare pass) selected walk) i → InstructionAllocates files part.ahead part.most (read_in pass selected walk) i
+  allocates_held i (inl b) = inl (bare_room (instruction_acts (widths_of (file_widths files) (known_of walk))) part.most i pass b)
+  allocates_held i (inr (on, b)) = inr (held_goes (bounded_acts (instruction_acts (widths_of (file_widths files) (known_of walk)))) part.most i pass on, lacks_held i b)
 
-  by_fault : (fault : DviFault) → IsPagesFault files part at (read_in (held_state keeps pass) selected walk) fault → IsPagesFault files part at (read_in pass selected walk) fault
+  by_fault : (fault : DviFault) → IsPagesFault files part at (read_in (bare pass) selected walk) fault → IsPagesFault files part at (read_in pass selected walk) fault
   by_fault faults.OutOfMemory (i, stands, b) = (i, stands, allocates_held i b)
   by_fault (faults.Bad bad) (place, b) = (place, pages_held bad.cause b)
   by_fault faults.NoFont b = widths_held refusals.NoFont b
   by_fault (faults.BadTfm cause) b = widths_held (refusals.BadTfm cause) b
   by_fault faults.DimensionTooLarge b = widths_held refusals.DimensionTooLarge b
 
-  pub fault_held : (fault : DviFault) → stand_of walk ≡ held_state keeps pass → IsPagesFault files part at (so_far selected walk) fault → IsPagesFault files part at (read_in pass selected walk) fault
+  pub fault_held : (fault : DviFault) → stand_of walk ≡ bare pass → IsPagesFault files part at (so_far selected walk) fault → IsPagesFault files part at (read_in pass selected walk) fault
   fault_held fault stand b = by_fault fault (subst (λ (p : PassStateView). IsPagesFault files part at (read_in p selected walk) fault) stand b)
 
--- One more instruction of a walk that drops what it does not keep.
-pub walked_over_turn : (keeps : Bool) (metrics : WidthsByName) (ahead : List ℤ) (bytes : List ℕ) (stop : Postamble) (chain : List ℕ) (at next : ℕ) (old new : Walk) (i : Instruction) (q : PassStateView)
-    → at ≤ next → next ≤ length bytes → (walked : IsWalkedOver keeps metrics ahead bytes stop chain at old) → Spells i (take (next - at) (drop at bytes))
-    → execute (bounded_acts (instruction_acts (widths_of metrics (known_of old)))) (min 1024 stop.stack_depth) i (held_state keeps walked.pass) ≡ Some q → stand_of new ≡ held_state keeps q
+-- One more instruction of a walk.
+pub walked_turn : (metrics : WidthsByName) (ahead : List ℤ) (bytes : List ℕ) (stop : Postamble) (chain : List ℕ) (at next : ℕ) (old new : Walk) (i : Instruction) (q : PassStateView)
+    → at ≤ next → next ≤ length bytes → (walked : IsWalked metrics ahead bytes stop chain at old) → Spells i (take (next - at) (drop at bytes))
+    → execute (bounded_acts (instruction_acts (widths_of metrics (known_of old)))) (min 1024 stop.stack_depth) i (bare walked.pass) ≡ Some q → stand_of new ≡ bare q
     → after_bops (bop_place at i) (places_left old) ≡ Some (places_left new) → IsRightAfter (known_of old) i → known_of new ≡ known_of old ++ definitions_in i
     → AllByRecursion (HasWidths metrics (known_of old)) (selection_of i) → AllByRecursion (λ f. has_number ahead f ≡ true) (selection_of i) → FontsAreRead new.fonts (walked.selected ++ selection_of i)
-    → AreSound metrics (known_of new) new.fonts → IsCurrent new.fonts new.stand → IsWalkedOver keeps metrics ahead bytes stop chain next new
-walked_over_turn keeps metrics ahead bytes stop chain at next old new i q forward high walked spelled goes stand bop fonts known closing named read sound current =
-    let (pass, turned, same) = held_turn keeps (bounded_acts (instruction_acts (widths_of metrics (known_of old)))) (min 1024 stop.stack_depth) i walked.pass q goes in
+    → AreSound metrics (known_of new) new.fonts → IsCurrent new.fonts new.stand → IsWalked metrics ahead bytes stop chain next new
+walked_turn metrics ahead bytes stop chain at next old new i q forward high walked spelled goes stand bop fonts known closing named read sound current =
+    let (pass, turned, same) = held_turn (bounded_acts (instruction_acts (widths_of metrics (known_of old)))) (min 1024 stop.stack_depth) i walked.pass q goes in
     let selected : List ℤ = walked.selected ++ selection_of i in
     let right : IsRightAt metrics ahead stop at (read_in walked.pass walked.selected old) i (read_in pass selected new) =
     record { goes_on = turned; bop = bop; fonts = fonts; known_is = known; selected_is = refl; closing = closing; named = named } in
@@ -197,17 +184,17 @@ walked_over_turn keeps metrics ahead bytes stop chain at next old new i q forwar
     }
 
 -- The same for what the walk has read of it.
-pub walked_over_next : (keeps : Bool) (metrics : WidthsByName) (ahead : List ℤ) (bytes : List ℕ) (stop : Postamble) (chain : List ℕ) (at post next : ℕ) (old mid new : Walk) → post ≤ length bytes
-    → IsWalkedOver keeps metrics ahead bytes stop chain at old → Reads metrics (page_bytes ahead bytes (min 1024 stop.stack_depth) post) at old mid next → stand_of new ≡ held_state keeps (stand_of mid)
-    → selected_in new.stand ≡ selected_in mid.stand → new.fonts ≡ mid.fonts → known_of new ≡ known_of mid → places_left new ≡ places_left mid → IsWalkedOver keeps metrics ahead bytes stop chain next new
-walked_over_next keeps metrics ahead bytes stop chain at post next old mid new high walked reads stand chosen fonts known left =
+pub walked_next : (metrics : WidthsByName) (ahead : List ℤ) (bytes : List ℕ) (stop : Postamble) (chain : List ℕ) (at post next : ℕ) (old mid new : Walk) → post ≤ length bytes
+    → IsWalked metrics ahead bytes stop chain at old → Reads metrics (page_bytes ahead bytes (min 1024 stop.stack_depth) post) at old mid next → stand_of new ≡ bare (stand_of mid)
+    → selected_in new.stand ≡ selected_in mid.stand → new.fonts ≡ mid.fonts → known_of new ≡ known_of mid → places_left new ≡ places_left mid → IsWalked metrics ahead bytes stop chain next new
+walked_next metrics ahead bytes stop chain at post next old mid new high walked reads stand chosen fonts known left =
     let steps = reads.steps in
     let forward = reads.forward in
     let within = reads.within in
     let does : Acts = bounded_acts (instruction_acts (widths_of metrics (known_of old))) in
-    let goes : execute does (min 1024 stop.stack_depth) reads.here (held_state keeps walked.pass) ≡ Some (stand_of mid) =
+    let goes : execute does (min 1024 stop.stack_depth) reads.here (bare walked.pass) ≡ Some (stand_of mid) =
     subst (λ (p : PassStateView). execute does (min 1024 stop.stack_depth) reads.here p ≡ Some (stand_of mid)) walked.stand steps.goes_on in
-    walked_over_turn keeps metrics ahead bytes stop chain at next old new reads.here (stand_of mid) (omega arith) (omega arith) walked reads.spelled goes stand
+    walked_turn metrics ahead bytes stop chain at next old new reads.here (stand_of mid) (omega arith) (omega arith) walked reads.spelled goes stand
     (steps.bop ∙ ap (λ (l : PlacesLeft). Some l) (sym left)) steps.right (known ∙ steps.known_is) steps.widths steps.named
     (subst (λ (fonts : ReadFonts). FontsAreRead fonts (walked.selected ++ selection_of reads.here)) (sym fonts)
     (all_append (λ f. FontIsRead f mid.fonts) walked.selected (selection_of reads.here)
@@ -216,37 +203,6 @@ walked_over_next keeps metrics ahead bytes stop chain at post next old mid new h
     (λ f e. subst (λ (fonts : ReadFonts). HasCurrent f fonts) (sym fonts) (steps.current f (sym chosen ∙ e)))
 
 -- The same walk.
-pub walked_same : (keeps : Bool) (metrics : WidthsByName) (ahead : List ℤ) (bytes : List ℕ) (stop : Postamble) (chain : List ℕ) (at : ℕ) (old new : Walk) → new ≡ old
-    → IsWalkedOver keeps metrics ahead bytes stop chain at old → IsWalkedOver keeps metrics ahead bytes stop chain at new
-walked_same keeps metrics ahead bytes stop chain at old new same walked = subst (λ (walk : Walk). IsWalkedOver keeps metrics ahead bytes stop chain at walk) (sym same) walked
-
--- A walk before the first page.
-held_first : (keeps : Bool) (p : PassStateView) → p ≡ Between [] → p ≡ held_state keeps p
-held_first true p e = refl
-held_first false p e = e ∙ sym (ap bare e)
-
-pub walked_over_first : (keeps : Bool) (metrics : WidthsByName) (ahead : List ℤ) (bytes : List ℕ) (stop : Postamble) (chain : List ℕ) (from : ℕ) (walk : Walk) → IsBegun chain walk
-    → IsReached metrics ahead bytes stop chain from (before_pages chain) → IsWalkedOver keeps metrics ahead bytes stop chain from walk
-walked_over_first keeps metrics ahead bytes stop chain from walk begun reached =
-    let walked = walked_first metrics ahead bytes stop chain from walk begun reached in
-    record {
-      selected = walked.selected;
-      pass = stand_of walk;
-      reached = walked.reached;
-      stand = held_first keeps (stand_of walk) (ap₂ (λ (pages : List Page) (stand : PassState). pass_at (map marked_page pages) stand) begun.done begun.stand);
-      read = walked.read;
-      sound = walked.sound;
-      current = walked.current;
-    }
-
--- A walk that keeps the marks has all of them.
-pub walked_kept : (metrics : WidthsByName) (ahead : List ℤ) (bytes : List ℕ) (stop : Postamble) (chain : List ℕ) (at : ℕ) (walk : Walk) → IsWalkedOver true metrics ahead bytes stop chain at walk
-    → IsWalked metrics ahead bytes stop chain at walk
-walked_kept metrics ahead bytes stop chain at walk walked =
-    record {
-      selected = walked.selected;
-      reached = subst (λ (p : PassStateView). IsReached metrics ahead bytes stop chain at (read_in p walked.selected walk)) (sym walked.stand) walked.reached;
-      read = walked.read;
-      sound = walked.sound;
-      current = walked.current;
-    }
+pub walked_same : (metrics : WidthsByName) (ahead : List ℤ) (bytes : List ℕ) (stop : Postamble) (chain : List ℕ) (at : ℕ) (old new : Walk) → new ≡ old
+    → IsWalked metrics ahead bytes stop chain at old → IsWalked metrics ahead bytes stop chain at new
+walked_same metrics ahead bytes stop chain at old new same walked = subst (λ (walk : Walk). IsWalked metrics ahead bytes stop chain at walk) (sym same) walked

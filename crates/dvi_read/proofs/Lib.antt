@@ -8,8 +8,10 @@ mod SightLemmas
 pub mod TextLemmas
 pub mod AgainLemmas
 mod CheckedLemmas
+mod ShownLemmas
+mod Walks
 mod CharacterLemmas
-mod CheckedLinesLemmas
+mod LineLemmas
 mod OnePageLemmas
 mod MarkLines
 mod HeadLemmas

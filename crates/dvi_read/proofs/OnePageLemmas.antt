@@ -1,7 +1,6 @@
 -- The instructions of a checked file up to the beginning of a page, and those of the page.
-use Rattle.std.proofs.Common.{◌≡◌, ◌≢◌, ◌≤◌, ◌<◌, ◌+◌, ◌-◌, ◌++◌, if◌then◌else◌, [], ◌∷◌, Bool, true, false, List, drop, length, map, nat_lt, reverse, slice_get, take, suc, ℕ, ℤ, Option, Some, None, append-nil, append_assoc, arith, length-append, refl, sym, ◌∙◌, ap, ap₂, subst}
+use Rattle.std.proofs.Common.{◌≡◌, ◌≤◌, ◌<◌, ◌+◌, ◌-◌, ◌++◌, if◌then◌else◌, [], ◌∷◌, Bool, true, false, List, drop, length, map, nat_lt, reverse, slice_get, take, suc, ℕ, ℤ, Option, Some, None, append-nil, append_assoc, arith, length-append, refl, sym, ◌∙◌, ap, ap₂, subst}
 use Rattle.std.proofs.lemmas.Bool.{ltb-false, ltb-true}
-use Rattle.std.proofs.lemmas.Option.{slice_get_past}
 use Rattle.scaled_core.specs.Mark.{Mark}
 use Rattle.scaled_core.proofs.EachOf.{all_front}
 use Rattle.dvi_ops.specs.Body.{Position, DviState, Meaning, Acts, instruction_acts, bounded_acts, start}
@@ -9,7 +8,9 @@ use Rattle.dvi_ops.specs.File.{MarkedPage}
 use Rattle.dvi_ops.specs.Fonts.{selection_of, selections}
 use Rattle.dvi_ops.specs.Instruction.{Nop, FontDef, Instruction, Do, Push, Pop, Bop, Eop}
 use Rattle.dvi_ops.specs.Table.{Spells}
-use Rattle.dvi_ops.specs.Tokens.{token_instructions}
+use Rattle.dvi_ops.specs.Tokens.{Token, token_instructions}
+use Rattle.dvi_scan.proofs.ReachedLemmas.{token}
+use Rattle.dvi_scan.specs.Ends.{StandsAt}
 use Rattle.dvi_scan.proofs.TurnLemmas.{broken_turn}
 use Rattle.dvi_scan.proofs.WidthLemmas.{one_width}
 use Rattle.dvi_scan.specs.Drawing.{constant_width}
@@ -23,20 +24,20 @@ use Rattle.dvi_scan.specs.declared.page.Position.{Position as Spot}
 use Rattle.dvi_read.specs.PageMarks.{read_width}
 use Rattle.dvi_read.specs.ReadFonts.{FontIsRead, HasCurrent, asked_width, code_in}
 use Rattle.dvi_read.specs.Private.OnePage.{EndsPage, HasRestAt}
-use Rattle.dvi_read.specs.SeenAhead.{HasCheckedPages, HasRest}
+use Rattle.dvi_read.specs.SeenAhead.{HasRest}
 use Rattle.dvi_read.specs.Steps.{FontsAreRead}
-use Rattle.dvi_read.specs.declared.check.checked_dvi.CheckedDvi.{CheckedDvi}
+use Rattle.dvi_read.specs.declared.check.checked_file.CheckedFile.{CheckedFile}
 use Rattle.dvi_read.specs.declared.fonts.ReadFonts.{ReadFonts}
 use Rattle.dvi_read.proofs.SeenLemmas.{Continues, end_turn}
-use Rattle.dvi_read.proofs.SightLemmas.{asked_now, first_read, goes_on, none_left, rest_after}
+use Rattle.dvi_read.proofs.SightLemmas.{asked_now, first_read, first_split, goes_on, no_tokens, none_left, rest_after, some_there}
 
 -- The pages that have ended.
-abbrev pages_ended : PassStateView → List MarkedPage
+abbrev pub pages_ended : PassStateView → List MarkedPage
 pages_ended (Between pages) = pages
 pages_ended (Inside pages counts marks stack s) = pages
 
 -- The number of pages that have begun.
-abbrev pages_begun : PassStateView → ℕ
+abbrev pub pages_begun : PassStateView → ℕ
 pages_begun (Between pages) = length pages
 pages_begun (Inside pages counts marks stack s) = suc (length pages)
 
@@ -46,7 +47,7 @@ begins (Bop counts pointer) = 1
 begins i = 0
 
 -- What an instruction does to the pages: those that have ended stay, and so many more have begun.
-record KeepsPages (more_begun : ℕ) (p q : PassStateView) : Type 0 where
+pub record KeepsPages (more_begun : ℕ) (p q : PassStateView) : Type 0 where
   pub more : List MarkedPage
   pub ended : pages_ended q ≡ pages_ended p ++ more
   pub begun : pages_begun q ≡ more_begun + pages_begun p
@@ -67,7 +68,7 @@ push_keeps true pages counts marks stack more s q e =
     let same : Inside pages counts marks more s ≡ q = cc in none_ended 0 (Inside pages counts marks stack s) (Inside pages counts marks more s) q same refl (omega arith)
 push_keeps false pages counts marks stack more s q e = absurd cc
 
-turn_keeps : (does : Acts) (most : ℕ) (i : Instruction) (p q : PassStateView) → execute does most i p ≡ Some q → KeepsPages (begins i) p q
+pub turn_keeps : (does : Acts) (most : ℕ) (i : Instruction) (p q : PassStateView) → execute does most i p ≡ Some q → KeepsPages (begins i) p q
 turn_keeps does most (Do Nop) (Between pages) q e = let same : Between pages ≡ q = cc in none_ended 0 (Between pages) (Between pages) q same refl (omega arith)
 turn_keeps does most (Do (FontDef d)) (Between pages) q e = let same : Between pages ≡ q = cc in none_ended 0 (Between pages) (Between pages) q same refl (omega arith)
 turn_keeps does most (Bop counts pointer) (Between pages) q e =
@@ -100,60 +101,57 @@ ended_pass does most (i ∷ is) p q e = by_turn (execute does most i p) refl (λ
         let keeps = turn_keeps does most i p r turn in
         let (more, rest) = later r e in (keeps.more ++ more, rest ∙ (ap (λ (ps : List MarkedPage). ps ++ more) keeps.ended ∙ append_assoc (pages_ended p) keeps.more more))
 
+-- The instruction of the first of some tokens.
+first_says : (t u : Token) (ts us : List Token) → t ∷ ts ≡ u ∷ us → t.says ≡ u.says
+first_says t u ts us e = cc
+
 -- A bop begins a page, where none is open.
 bop_turn : (does : Acts) (most : ℕ) (counts : List ℤ) (pointer : ℤ) (p q : PassStateView) → execute does most (Bop counts pointer) p ≡ Some q
     → (before : List MarkedPage) × (p ≡ Between before) × (q ≡ Inside before counts [] [] start)
 bop_turn does most counts pointer (Between pages) q e = (pages, refl, cc)
 bop_turn does most counts pointer (Inside pages found marks stack s) q e = absurd cc
 
--- An instruction that begins no page.
-pub begins_none : (i : Instruction) → ((counts : List ℤ) (pointer : ℤ) → i ≢ Bop counts pointer) → begins i ≡ 0
-begins_none (Bop counts pointer) other = absurd (other counts pointer refl)
-begins_none i other = refl
-
--- The page with this index is that with the index `left` of those that have not begun.
-pub record IsBefore (c : CheckedDvi) (pages : List MarkedPage) (index at left : ℕ) : Type 0 where
+-- A bop stands at a place, where a page with this index begins.
+pub record IsAtBop (file : CheckedFile) (pages : List MarkedPage) (index place : ℕ) : Type 0 where
   pub here : PassStateView
-  pub count : pages_begun here + left ≡ index
-  pub rest : HasRestAt c at here pages
+  pub count : pages_begun here ≡ index
+  pub rest : HasRestAt file place here pages
+  pub counts : List ℤ
+  pub pointer : ℤ
+  pub bytes : List ℕ
+  pub later : List Token
+  pub first : rest.rest ≡ token (Bop counts pointer) bytes ∷ later
 
-pub before_all : (c : CheckedDvi) (pages : List MarkedPage) (index : ℕ) → HasCheckedPages c pages → IsBefore c pages index c.from index
-before_all c pages index has = record { here = Between []; count = omega arith; rest = has }
+module _ (file : CheckedFile) (pages : List MarkedPage) (index place : ℕ) (bop : IsAtBop file pages index place) where
+  -- An instruction is there.
+  pub bop_there : ((i : Instruction) → StandsAt file.bytes.now place file.post i → ⊥) → ⊥
+  bop_there none = by_size (nat_lt place file.post) refl
+    where
+      by_size : (b : Bool) → nat_lt place file.post ≡ b → ⊥
+      by_size true is = some_there file.bytes.now place file.post file.most file.fonts bop.here pages (ltb-true place file.post is) bop.rest none
+      by_size false is =
+          let nothing = no_tokens file.bytes.now place file.post file.most file.fonts bop.here pages (ltb-false place file.post is) bop.rest in
+          let both : token (Bop bop.counts bop.pointer) bop.bytes ∷ bop.later ≡ [] = sym bop.first ∙ nothing in cc
 
-module _ (c : CheckedDvi) (pages : List MarkedPage) (index at left : ℕ) (before : IsBefore c pages index at left) where
-  -- The file has no such page.
-  pub none_begins : c.post ≤ at → slice_get pages index ≡ None
-  none_begins past =
-      let here = none_left c.bytes.now at c.post c.most c.fonts before.here pages past before.rest in
-      let count = before.count in
-      let begun : pages_begun before.here ≡ length pages = ap pages_begun here in slice_get_past pages index (omega (arith, count, begun))
+  module _ (i : Instruction) (next : ℕ) (forward : place < next) (within : next ≤ file.post) (spelled : Spells i (take (next - place) (drop place file.bytes.now))) where
+    -- It is the bop.
+    pub bop_is : i ≡ Bop bop.counts bop.pointer
+    bop_is =
+        let (more, same, more_spelled, more_whole) = first_split file.bytes.now place file.post file.most file.fonts bop.here pages i next forward within spelled bop.rest in
+        let both : token i (take (next - place) (drop place file.bytes.now)) ∷ more ≡ token (Bop bop.counts bop.pointer) bop.bytes ∷ bop.later = sym same ∙ bop.first in
+        first_says _ _ more bop.later both
 
-  module _ (i : Instruction) (next : ℕ) (forward : at < next) (within : next ≤ c.post) (spelled : Spells i (take (next - at) (drop at c.bytes.now))) where
-    read : HasRest c.bytes.now next c.post c.most c.fonts (i ∷ []) before.here pages
-    read = first_read c.bytes.now at c.post c.most c.fonts before.here pages i next forward within spelled before.rest
-
-    turned : Continues (bounded_acts (instruction_acts (read_width c.fonts))) c.most i (token_instructions read.rest) before.here (Between pages)
-    turned = goes_on c.bytes.now next c.post c.most c.fonts before.here pages i read
-
-    rest : HasRestAt c next turned.after pages
-    rest = rest_after c.bytes.now next c.post c.most c.fonts before.here pages i turned.after c.fonts c.fonts.current refl read turned.later
-
-    -- The instruction is passed over, and so is the page that it begins, if it begins one.
-    pub passed_over : (less : ℕ) → left ≡ begins i + less → IsBefore c pages index next less
-    passed_over less is =
-        let keeps = turn_keeps (bounded_acts (instruction_acts (read_width c.fonts))) c.most i before.here turned.after turned.turns in
-        let begun = keeps.begun in
-        let count = before.count in record { here = turned.after; count = omega (arith, begun, count, is); rest = rest }
-
-    -- It begins the page.
-    pub page_begins : (counts : List ℤ) (pointer : ℤ) → i ≡ Bop counts pointer → left ≡ 0
-        → (earlier : List MarkedPage) × (length earlier ≡ index) × HasRestAt c next (Inside earlier counts [] [] start) pages
-    page_begins counts pointer is now =
-        let turns = subst (λ (i : Instruction). execute (bounded_acts (instruction_acts (read_width c.fonts))) c.most i before.here ≡ Some turned.after) is turned.turns in
-        let (earlier, here, after) = bop_turn (bounded_acts (instruction_acts (read_width c.fonts))) c.most counts pointer before.here turned.after turns in
-        let begun : pages_begun before.here ≡ length earlier = ap pages_begun here in
-        let count = before.count in
-        (earlier, omega (arith, begun, count, now), subst (λ (p : PassStateView). HasRestAt c next p pages) after rest)
+    -- The page begins with it.
+    pub page_begins : (counts : List ℤ) (pointer : ℤ) → i ≡ Bop counts pointer → (earlier : List MarkedPage) × (length earlier ≡ index) × HasRestAt file next (Inside earlier counts [] [] start) pages
+    page_begins counts pointer is =
+        let does = bounded_acts (instruction_acts (read_width file.fonts)) in
+        let read = first_read file.bytes.now place file.post file.most file.fonts bop.here pages i next forward within spelled bop.rest in
+        let turned = goes_on file.bytes.now next file.post file.most file.fonts bop.here pages i read in
+        let turns = subst (λ (i : Instruction). execute does file.most i bop.here ≡ Some turned.after) is turned.turns in
+        let (earlier, here, after) = bop_turn does file.most counts pointer bop.here turned.after turns in
+        let begun : pages_begun bop.here ≡ length earlier = ap pages_begun here in
+        let rest = rest_after file.bytes.now next file.post file.most file.fonts bop.here pages i turned.after file.fonts file.fonts.current refl read turned.later in
+        (earlier, sym begun ∙ bop.count, subst (λ (p : PassStateView). HasRestAt file next p pages) after rest)
 
 -- An instruction of an open page.
 module _ (most : ℕ) (fonts : ReadFonts) (i : Instruction) (page : OpenPage) (current : (f : ℤ) → page.state.font ≡ Some f → HasCurrent f fonts) (pages : List MarkedPage) (after : PassStateView)
@@ -204,12 +202,12 @@ module _ (bytes : List ℕ) (at post most : ℕ) (fonts : ReadFonts) (before : L
     fonts_read = all_front (λ f. FontIsRead f fonts) (selection_of i) (selections (token_instructions read_here.rest)) read_here.read
 
     -- The page goes on after it.
-    pub rest_drawn : (new : OpenPage) (chosen : ReadFonts) (place : ℕ) → chosen ≡ record fonts { current = place }
+    pub rest_drawn : (new : OpenPage)
         → ((pages : List MarkedPage) (after : PassStateView) → execute (bounded_acts (instruction_acts (read_width fonts))) most i (inside_of pages page) ≡ Some after → after ≡ inside_of pages new)
-        → HasRest bytes next post most chosen [] (inside_of before new) pages
-    rest_drawn new chosen place same draws =
-        subst (λ (p : PassStateView). HasRest bytes next post most chosen [] p pages) (draws before turned_here.after turned_here.turns)
-        (rest_after bytes next post most fonts (inside_of before page) pages i turned_here.after chosen place same read_here turned_here.later)
+        → HasRest bytes next post most fonts [] (inside_of before new) pages
+    rest_drawn new draws =
+        subst (λ (p : PassStateView). HasRest bytes next post most fonts [] p pages) (draws before turned_here.after turned_here.turns)
+        (rest_after bytes next post most fonts (inside_of before page) pages i turned_here.after fonts fonts.current refl read_here turned_here.later)
 
     -- The page ends with it.
     pub page_ends : i ≡ Eop → EndsPage before page pages

@@ -1,5 +1,5 @@
 -- A whole file: its parts make a file, and each refusal has a reason.
-use Rattle.std.proofs.Common.{◌≡◌, ◌≢◌, ◌-◌, ◌++◌, List, length, map, ℕ, ℤ, Result, Ok, Err, refl, sym, ◌∙◌, ap, ap₂, subst, inl, inr, arith}
+use Rattle.std.proofs.Common.{◌≡◌, ◌≢◌, ◌-◌, ◌++◌, List, length, ℕ, ℤ, Result, Ok, Err, refl, sym, ◌∙◌, ap, ap₂, subst, inl, inr, arith}
 use Rattle.std.specs.Prelude.{IfOk, IfErr, IsErrAnd}
 use Rattle.std.proofs.lemmas.Grind.{flat_map-append}
 use Rattle.dvi_scan.specs.Closing.{ClosesTo, IsClosingFault}
@@ -21,17 +21,12 @@ use Rattle.dvi_scan.specs.Passed.{file_framing, IsFramed}
 use Rattle.dvi_scan.specs.Reached.{IsReached, IsTail, PlacesLeft, ReadSoFar, before_pages}
 use Rattle.dvi_scan.proofs.PassedLemmas.{frame_parts, passed_file}
 use Rattle.dvi_scan.proofs.ReachedLemmas.{reached_end, reached_first}
-use Rattle.dvi_scan.specs.View.{marked_page}
-use Rattle.dvi_scan.specs.declared.page.Page.{Page}
 use Rattle.dvi_read.specs.Opened.{OpenedFile, GivesPages, IsExact, IsNoFile}
-use Rattle.dvi_read.specs.Private.Opened.{IsReadFrom}
 use Rattle.dvi_read.specs.Opening.{HasPages, IsDviFault, IsFrontFault, IsStray, StartsAt, ForPlaces, InTheChain, InThePages, AtPost, AfterPost, ForDefinitions}
-use Rattle.dvi_read.specs.Private.OpeningParts.{HoldsPages, IsFinishFault}
+use Rattle.dvi_read.specs.Private.OpeningParts.{IsFinishFault}
 use Rattle.dvi_read.proofs.FaultLemmas.{after_within, no_fault, post_within}
 use Rattle.dvi_read.specs.Faults.{of_frame}
-use Rattle.dvi_read.specs.Steps.{known_of, places_left, so_far, stand_of}
 use Rattle.dvi_read.specs.Stops.{PagesHaveEnded, IsWalkFault}
-use Rattle.dvi_read.specs.declared.check.walk.Walk.{Walk}
 use Rattle.dvi_read.specs.declared.fault.DviFault.{DviFault}
 use Rattle.dvi_read.specs.declared.fault.DviFault.TheVariants as faults
 use Rattle.dvi_read.proofs.PointerLemmas.{stray_bop, stray_pointer, unmet_pointer}
@@ -101,17 +96,6 @@ fonts_read metrics ahead bytes post after last stop chain seen new framed r (tai
     ∙ (sym (flat_map-append definitions_in (token_instructions r.before) (token_instructions tail))
     ∙ ap₂ (λ (a b : List Token). definitions (token_instructions a ++ token_instructions b)) front after_it))
 
--- The result of reading a whole file.
-pub read_from : (files : List NamedBytes) (bytes : List ℕ) (post after last : ℕ) (stop : Postamble) (chain : List ℕ) (from : ℕ) (ahead : List ℤ) (seen : ReadSoFar) (pages : List MarkedPage) (new : List Definition)
-    → HasPages files bytes (file_framing post after last stop chain) from ahead seen → PagesHaveEnded seen.pass seen.left pages → ClosesTo bytes after (last - 5) seen.known new
-    → IsReadFrom files bytes (record { units = stop.units; pages = pages; fonts = new })
-read_from files bytes post after last stop chain from ahead seen pages new has ended closes =
-    record {
-      pages = opened files bytes post after last stop chain from ahead seen pages new has ended closes;
-      units = units_of_post bytes post last stop has.starts.chained.framed.ends;
-      fonts = fonts_read (file_widths files) ahead bytes post after last stop chain seen new has.starts.chained.framed has.reached closes;
-    }
-
 -- A fault, if it is none of memory, is of no file.
 abbrev pub IsRefused : List NamedBytes → List ℕ → DviFault → Type 0
 IsRefused files bytes fault = fault ≢ faults.OutOfMemory → IsNoFile files bytes
@@ -124,19 +108,23 @@ pub not_opened : {A E : Type 0} (r : Result A E) (e : E) (P : A → Type 0) → 
 not_opened (Ok x) e P given = absurd given
 not_opened (Err y) e P given = tt
 
-exactly : (files : List NamedBytes) (bytes : List ℕ) (result : Result OpenedFile DviFault) (pages : List MarkedPage) → IfOk result (IsReadFrom files bytes) → IfErr result (IsDviFault files bytes)
+-- The pages that an opened file has are those of the file.
+abbrev HasFilePages : List NamedBytes → List ℕ → OpenedFile → Type 0
+HasFilePages files bytes dvi = IsFile (file_widths files) bytes dvi.pages
+
+exactly : (files : List NamedBytes) (bytes : List ℕ) (result : Result OpenedFile DviFault) (pages : List MarkedPage) → IfOk result (HasFilePages files bytes) → IfErr result (IsDviFault files bytes)
     → IsFile (file_widths files) bytes pages → GivesPages pages result
-exactly files bytes (Ok dvi) pages read bad f = one_list_of_pages (file_widths files) bytes dvi.pages pages read.pages f
+exactly files bytes (Ok dvi) pages read bad f = one_list_of_pages (file_widths files) bytes dvi.pages pages read f
 exactly files bytes (Err faults.OutOfMemory) pages read bad f = refl
 exactly files bytes (Err fault) pages read bad f = absurd (no_fault files bytes fault pages (λ e. absurd cc) bad f)
 
-pub exact_open : (files : List NamedBytes) (bytes : List ℕ) (result : Result OpenedFile DviFault) → IfOk result (IsReadFrom files bytes) → IfErr result (IsDviFault files bytes) → IsExact files bytes result
+pub exact_open : (files : List NamedBytes) (bytes : List ℕ) (result : Result OpenedFile DviFault) → IfOk result (HasFilePages files bytes) → IfErr result (IsDviFault files bytes) → IsExact files bytes result
 exact_open files bytes result read bad = λ pages f. exactly files bytes result pages read bad f
 
 -- The same where a fault is handed on.
 pub exact_refused : (files : List NamedBytes) (bytes : List ℕ) (result : Result OpenedFile DviFault) (fault : DviFault) → IsErrAnd result (λ y. y ≡ fault) → IsDviFault files bytes fault → IsExact files bytes result
 exact_refused files bytes result fault is bad =
-    exact_open files bytes result (not_opened result fault (IsReadFrom files bytes) is) (handed_on (IsDviFault files bytes) result fault is bad)
+    exact_open files bytes result (not_opened result fault (HasFilePages files bytes) is) (handed_on (IsDviFault files bytes) result fault is bad)
 
 -- A fault of the pages.
 pub walk_refused : (files : List NamedBytes) (ahead : List ℤ) (bytes : List ℕ) (post after last : ℕ) (stop : Postamble) (chain : List ℕ) (from : ℕ) → StartsAt bytes post after last stop chain from
@@ -149,25 +137,3 @@ pub tail_refused : (bytes : List ℕ) (post after last : ℕ) (p : PassStateView
     → IsClosingFault bytes after (last - 5) known new fault → IsFinishFault bytes post after last p left known (of_frame fault)
 tail_refused bytes post after last p left pages known new frames.OutOfMemory ended wants = (pages, ended, new, wants)
 tail_refused bytes post after last p left pages known new (frames.Bad fault) ended broken = inr (pages, ended, new, broken)
-
--- The same for pages that are equal to those of the walk.
-pub read_kept : (files : List NamedBytes) (bytes : List ℕ) (post after last : ℕ) (stop : Postamble) (chain : List ℕ) (from : ℕ) (ahead : List ℤ) (seen : ReadSoFar) (pages kept : List MarkedPage)
-    (new : List Definition) → HasPages files bytes (file_framing post after last stop chain) from ahead seen → PagesHaveEnded seen.pass seen.left pages → ClosesTo bytes after (last - 5) seen.known new → kept ≡ pages
-    → IsReadFrom files bytes (record { units = stop.units; pages = kept; fonts = new })
-read_kept files bytes post after last stop chain from ahead seen pages kept new has ended closes same =
-    subst (λ (ps : List MarkedPage). IsReadFrom files bytes (record { units = stop.units; pages = ps; fonts = new })) (sym same)
-    (read_from files bytes post after last stop chain from ahead seen pages new has ended closes)
-
--- A walk that has come to post.
-module _ (files : List NamedBytes) (bytes : List ℕ) (post after last : ℕ) (stop : Postamble) (chain : List ℕ) (from : ℕ) (walk : Walk) (holds : HoldsPages files bytes (file_framing post after last stop chain) from walk) where
-  pub held_fault : (fault : DviFault) → IsFinishFault bytes post after last (stand_of walk) (places_left walk) (known_of walk) fault → IsDviFault files bytes fault
-  held_fault fault b = let (ahead, selected, has) = holds in finish_refused files bytes post after last stop chain from ahead (so_far selected walk) fault has b
-
-  -- It has ended, and what is kept of it is the file.
-  pub held_file : (new : Walk) (dvi : OpenedFile) → PagesHaveEnded (stand_of walk) (places_left walk) (map marked_page walk.done.items) → ClosesTo bytes after (last - 5) (known_of walk) (known_of new)
-      → new.done.items ≡ walk.done.items → dvi ≡ record { units = stop.units; pages = map marked_page new.done.items; fonts = known_of new } → IsReadFrom files bytes dvi
-  held_file new dvi ended closes done is =
-      let (ahead, selected, has) = holds in
-      subst (λ (dvi : OpenedFile). IsReadFrom files bytes dvi) (sym is)
-      (read_kept files bytes post after last stop chain from ahead (so_far selected walk) (map marked_page walk.done.items) (map marked_page new.done.items) (known_of new) has ended closes
-      (ap (λ (pages : List Page). map marked_page pages) done))

@@ -35,7 +35,7 @@ use Rattle.dvi_scan.specs.declared.page.Mark.{Mark as PassMark}
 use Rattle.dvi_read.specs.PageMarks.{marks_of, read_width}
 use Rattle.dvi_read.specs.Private.PageMarks.{marks_so_far, text_put, texts_in}
 use Rattle.dvi_read.specs.Private.SeenTexts.{IsTextOf, ShowsTextOf}
-use Rattle.dvi_read.specs.ReadFonts.{FontIsRead, HasCurrent, asked_width, code_in, read_font_at, width_in}
+use Rattle.dvi_read.specs.ReadFonts.{FontIsRead, HasCurrent, asked_width, code_in, read_font_at, width_in, with_current}
 use Rattle.dvi_read.specs.Private.ReadFonts.{Chooses}
 use Rattle.dvi_read.specs.Seen.{SeenItem, Counts, Marked, seen_of, seen_so_far}
 use Rattle.dvi_read.specs.SeenAhead.{EndsText, HasRest, TextEndsAt, IsReady, IsSeenAfter, IsSeenAhead, ShowsFirst, standing}
@@ -185,9 +185,9 @@ module _ (bytes : List ℕ) (at post most : ℕ) (fonts : ReadFonts) (here : Pas
           none t.says (length t.bytes, omega arith, subst (λ (x : List ℕ). Spells t.says x) (sym front) spelled.0)
 
   -- The instruction that was read is the first of them.
-  pub first_read : (i : Instruction) (next : ℕ) → at < next → next ≤ post → Spells i (take (next - at) (drop at bytes)) → HasRest bytes at post most fonts [] here all
-      → HasRest bytes next post most fonts (i ∷ []) here all
-  first_read i next forward within spelled r =
+  pub first_split : (i : Instruction) (next : ℕ) → at < next → next ≤ post → Spells i (take (next - at) (drop at bytes)) → (r : HasRest bytes at post most fonts [] here all)
+      → (more : List Token) × (r.rest ≡ token i (take (next - at) (drop at bytes)) ∷ more) × AllByRecursion IsSpelled more × (token_bytes more ≡ take (post - next) (drop next bytes))
+  first_split i next forward within spelled r =
       let high = r.high in
       let front : List ℕ = take (next - at) (drop at bytes) in
       let left : List ℕ = take (post - next) (drop next bytes) in
@@ -200,10 +200,15 @@ module _ (bytes : List ℕ) (at post most : ℕ) (fonts : ReadFonts) (here : Pas
       ap (λ (x : List ℕ). take (post - at - (next - at)) x) (drop-drop (next - at) at bytes ∙ ap (λ (n : ℕ). drop n bytes) place) ∙ ap (λ (n : ℕ). take n (drop next bytes)) amount in
       let whole : token_bytes (one ∷ []) ++ left ≡ token_bytes r.rest =
       ap (λ (x : List ℕ). x ++ left) (append-nil front) ∙ (ap (λ (x : List ℕ). front ++ x) (sym later) ∙ (sym parts ∙ sym r.whole)) in
-      let (more, same, more_spelled, more_whole) = begins (one ∷ []) r.rest left (spelled, tt) r.spelled whole in
+      begins (one ∷ []) r.rest left (spelled, tt) r.spelled whole
+
+  pub first_read : (i : Instruction) (next : ℕ) → at < next → next ≤ post → Spells i (take (next - at) (drop at bytes)) → HasRest bytes at post most fonts [] here all
+      → HasRest bytes next post most fonts (i ∷ []) here all
+  first_read i next forward within spelled r =
+      let (more, same, more_spelled, more_whole) = first_split i next forward within spelled r in
       record {
         low = within;
-        high = high;
+        high = r.high;
         rest = more;
         spelled = more_spelled;
         whole = more_whole;
@@ -236,44 +241,43 @@ module _ (bytes : List ℕ) (at post most : ℕ) (fonts : ReadFonts) (here : Pas
       })
 
   -- Nothing is left at the place of post.
-  pub none_left : post ≤ at → HasRest bytes at post most fonts [] here all → here ≡ Between all
-  none_left past r =
+  pub no_tokens : post ≤ at → (r : HasRest bytes at post most fonts [] here all) → r.rest ≡ []
+  no_tokens past r =
       let low = r.low in
       let none : post - at ≡ 0 = omega arith in
       let empty : token_bytes r.rest ≡ [] = r.whole ∙ ap (λ (n : ℕ). take n (drop at bytes)) none in
-      let no_tokens : r.rest ≡ [] = one_list r.rest [] r.spelled tt empty in
-      let passed : Some here ≡ Some (Between all) = subst (λ (ts : List Token). passes (bounded_acts (instruction_acts (read_width fonts))) most (token_instructions ts) here ≡ Some (Between all)) no_tokens r.passed in cc
+      one_list r.rest [] r.spelled tt empty
+
+  pub none_left : post ≤ at → HasRest bytes at post most fonts [] here all → here ≡ Between all
+  none_left past r =
+      let passed : Some here ≡ Some (Between all) = subst (λ (ts : List Token). passes (bounded_acts (instruction_acts (read_width fonts))) most (token_instructions ts) here ≡ Some (Between all)) (no_tokens past r) r.passed in cc
 
 -- One instruction of a file.
 module _ (i : Instruction) (s : Sights) (seen : List SeenItem) (a : IsSeenAfter (i ∷ []) s seen) where
   abbrev pub here : PassStateView
   here = standing s.inside a.pages a.marks s.page
 
-  pub turned : Continues (bounded_acts (instruction_acts (read_width s.fonts))) s.most i (token_instructions a.rest.rest) here (Between a.all)
-  turned = goes_on s.bytes.now s.at s.post s.most s.fonts here a.all i a.rest
+  pub turned : Continues (bounded_acts (instruction_acts (read_width s.file.now.fonts))) s.file.now.most i (token_instructions a.rest.rest) here (Between a.all)
+  turned = goes_on s.file.now.bytes.now s.at s.file.now.post s.file.now.most s.file.now.fonts here a.all i a.rest
 
   -- What is known after it, where it shows something new.
-  pub then_seen : (inside : Bool) (fonts : ReadFonts) (page : OpenPage) (pages : List MarkedPage) (marks : List Mark) (new : List SeenItem) (place : ℕ) → fonts ≡ record s.fonts { current = place }
-      → turned.after ≡ standing inside pages marks page → IsReady s.most fonts page → seen_so_far (standing inside pages marks page) ≡ seen_so_far here ++ new
-      → (rest : List SeenItem) × (seen ≡ new ++ rest) × IsSeenAhead (record s { inside = inside; fonts = fonts; page = page }) rest
-  then_seen inside fonts page pages marks new place same after_is ready new_is =
-      let later = subst (λ (p : PassStateView). passes (bounded_acts (instruction_acts (read_width s.fonts))) s.most (token_instructions a.rest.rest) p ≡ Some (Between a.all)) after_is turned.later in
-      let (rest, seen_is, rest_is) = rest_seen (bounded_acts (instruction_acts (read_width s.fonts))) s.most (token_instructions a.rest.rest) here (standing inside pages marks page) a.all new seen later a.seen_is new_is in (
+  pub then_seen : (inside : Bool) (current : ℕ) (page : OpenPage) (pages : List MarkedPage) (marks : List Mark) (new : List SeenItem)
+      → turned.after ≡ standing inside pages marks page → IsReady s.file.now.most (with_current s.file.now.fonts current) page → seen_so_far (standing inside pages marks page) ≡ seen_so_far here ++ new
+      → (rest : List SeenItem) × (seen ≡ new ++ rest) × IsSeenAhead (record s { inside = inside; current = current; page = page }) rest
+  then_seen inside current page pages marks new after_is ready new_is =
+      let later = subst (λ (p : PassStateView). passes (bounded_acts (instruction_acts (read_width s.file.now.fonts))) s.file.now.most (token_instructions a.rest.rest) p ≡ Some (Between a.all)) after_is turned.later in
+      let (rest, seen_is, rest_is) = rest_seen (bounded_acts (instruction_acts (read_width s.file.now.fonts))) s.file.now.most (token_instructions a.rest.rest) here (standing inside pages marks page) a.all new seen later a.seen_is new_is in (
         rest,
         seen_is,
         record {
           pages = pages;
           marks = marks;
           all = a.all;
-          rest = rest_after s.bytes.now s.at s.post s.most s.fonts here a.all i (standing inside pages marks page) fonts place same a.rest later;
+          rest = rest_after s.file.now.bytes.now s.at s.file.now.post s.file.now.most s.file.now.fonts here a.all i (standing inside pages marks page) s.file.now.fonts s.file.now.fonts.current refl a.rest later;
           ready = ready;
           seen_is = rest_is;
         },
       )
-
-  -- The fonts as they are.
-  same_fonts : s.fonts ≡ record s.fonts { current = s.fonts.current }
-  same_fonts = refl
 
   marks_empty : (page : OpenPage) → page.marks ≡ s.page.marks → s.page.marks.items ≡ [] → page.marks.items ≡ []
   marks_empty page same none = subst (λ v. vec_items v ≡ []) (sym same) none
@@ -282,20 +286,20 @@ module _ (i : Instruction) (s : Sights) (seen : List SeenItem) (a : IsSeenAfter 
   marks_room page same room = subst (λ v. vec_len v < vec_capacity v) (sym same) room
 
   -- A page begins.
-  pub began : (page : OpenPage) → s.inside ≡ false → execute (bounded_acts (instruction_acts (read_width s.fonts))) s.most i (Between a.pages) ≡ Some (standing true a.pages [] page) → page.marks ≡ s.page.marks
+  pub began : (page : OpenPage) → s.inside ≡ false → execute (bounded_acts (instruction_acts (read_width s.file.now.fonts))) s.file.now.most i (Between a.pages) ≡ Some (standing true a.pages [] page) → page.marks ≡ s.page.marks
       → page.stack.capacity ≡ s.page.stack.capacity → page.state.font ≡ None → ShowsFirst seen (record s { inside = true; page = page }) (Some (sights.Page page.counts))
   began page outside turns marks places font =
       let closed : here ≡ Between a.pages = ap (λ (b : Bool). standing b a.pages a.marks s.page) outside in
-      let both : Some turned.after ≡ Some (standing true a.pages [] page) = sym turned.turns ∙ (ap (λ (p : PassStateView). execute (bounded_acts (instruction_acts (read_width s.fonts))) s.most i p) closed ∙ turns) in
+      let both : Some turned.after ≡ Some (standing true a.pages [] page) = sym turned.turns ∙ (ap (λ (p : PassStateView). execute (bounded_acts (instruction_acts (read_width s.file.now.fonts))) s.file.now.most i p) closed ∙ turns) in
       let after_is : turned.after ≡ standing true a.pages [] page = cc in
       let ready = a.ready in
       let new_is : seen_so_far (Between a.pages) ++ (Counts page.counts ∷ []) ≡ seen_so_far here ++ (Counts page.counts ∷ []) = ap (λ (p : PassStateView). seen_so_far p ++ (Counts page.counts ∷ [])) (sym closed) in
-      then_seen true s.fonts page a.pages [] (Counts page.counts ∷ []) s.fonts.current same_fonts after_is
+      then_seen true s.current page a.pages [] (Counts page.counts ∷ []) after_is
       (record {
         none = marks_empty page marks ready.none;
         room = record {
           mark = marks_room page marks ready.room.mark;
-          places = subst (λ (n : ℕ). s.most ≤ n) (sym places) ready.room.places;
+          places = subst (λ (n : ℕ). s.file.now.most ≤ n) (sym places) ready.room.places;
         };
         current = λ f e. (let none : None ≡ Some f = sym font ∙ e in absurd cc);
       }) new_is
@@ -304,9 +308,9 @@ module _ (i : Instruction) (s : Sights) (seen : List SeenItem) (a : IsSeenAfter 
   pub idled : (page : OpenPage) → s.inside ≡ false → page ≡ s.page → ((counts : List ℤ) (pointer : ℤ) → i ≢ Bop counts pointer) → IsSeenAhead (record s { page = page }) seen
   idled page outside same other =
       let closed : here ≡ Between a.pages = ap (λ (b : Bool). standing b a.pages a.marks s.page) outside in
-      let turns = sym (ap (λ (p : PassStateView). execute (bounded_acts (instruction_acts (read_width s.fonts))) s.most i p) closed) ∙ turned.turns in
-      let after_is : turned.after ≡ here = sym (idle_turn (bounded_acts (instruction_acts (read_width s.fonts))) s.most i a.pages turned.after other turns) ∙ sym closed in
-      let (rest, seen_is, ahead) = then_seen s.inside s.fonts s.page a.pages a.marks [] s.fonts.current same_fonts after_is a.ready (sym (append-nil (seen_so_far here))) in
+      let turns = sym (ap (λ (p : PassStateView). execute (bounded_acts (instruction_acts (read_width s.file.now.fonts))) s.file.now.most i p) closed) ∙ turned.turns in
+      let after_is : turned.after ≡ here = sym (idle_turn (bounded_acts (instruction_acts (read_width s.file.now.fonts))) s.file.now.most i a.pages turned.after other turns) ∙ sym closed in
+      let (rest, seen_is, ahead) = then_seen s.inside s.current s.page a.pages a.marks [] after_is a.ready (sym (append-nil (seen_so_far here))) in
       subst (λ (page : OpenPage). IsSeenAhead (record s { page = page }) seen) (sym same) (subst (λ (ss : List SeenItem). IsSeenAhead s ss) (sym seen_is) ahead)
 
   -- A page ends.
@@ -315,39 +319,39 @@ module _ (i : Instruction) (s : Sights) (seen : List SeenItem) (a : IsSeenAfter 
       let stack = reverse (map spot_position s.page.stack.items) in
       let page : MarkedPage = record { counts = s.page.counts; marks = a.marks } in
       let opened : here ≡ Inside a.pages s.page.counts a.marks stack (standing_state s.page.state) = ap (λ (b : Bool). standing b a.pages a.marks s.page) within in
-      let turns : execute (bounded_acts (instruction_acts (read_width s.fonts))) s.most Eop (Inside a.pages s.page.counts a.marks stack (standing_state s.page.state)) ≡ Some turned.after =
-      sym (ap₂ (λ (i : Instruction) (p : PassStateView). execute (bounded_acts (instruction_acts (read_width s.fonts))) s.most i p) is opened) ∙ turned.turns in
-      let after_is = end_turn (bounded_acts (instruction_acts (read_width s.fonts))) s.most a.pages s.page.counts a.marks stack (standing_state s.page.state) turned.after turns in
+      let turns : execute (bounded_acts (instruction_acts (read_width s.file.now.fonts))) s.file.now.most Eop (Inside a.pages s.page.counts a.marks stack (standing_state s.page.state)) ≡ Some turned.after =
+      sym (ap₂ (λ (i : Instruction) (p : PassStateView). execute (bounded_acts (instruction_acts (read_width s.file.now.fonts))) s.file.now.most i p) is opened) ∙ turned.turns in
+      let after_is = end_turn (bounded_acts (instruction_acts (read_width s.file.now.fonts))) s.file.now.most a.pages s.page.counts a.marks stack (standing_state s.page.state) turned.after turns in
       let new_is : seen_of (a.pages ++ page ∷ []) ≡ seen_so_far here ++ [] =
       page_seen a.pages page ∙ (sym (ap seen_so_far opened) ∙ sym (append-nil (seen_so_far here))) in
-      let (rest, seen_is, ahead) = then_seen false s.fonts s.page (a.pages ++ page ∷ []) a.marks [] s.fonts.current same_fonts after_is a.ready new_is in
+      let (rest, seen_is, ahead) = then_seen false s.current s.page (a.pages ++ page ∷ []) a.marks [] after_is a.ready new_is in
       subst (λ (ss : List SeenItem). IsSeenAhead (record s { inside = false }) ss) (sym seen_is) ahead
 
   -- The text of the mark that it makes is its own.
   pub drawn_texts : (page : OpenPage) (found : Option PassMark) → s.inside ≡ true
-      → ((pages : List MarkedPage) (marks : List Mark) (after : PassStateView) → execute (bounded_acts (instruction_acts (read_width s.fonts))) s.most i (standing true pages marks s.page) ≡ Some after
+      → ((pages : List MarkedPage) (marks : List Mark) (after : PassStateView) → execute (bounded_acts (instruction_acts (read_width s.file.now.fonts))) s.file.now.most i (standing true pages marks s.page) ≡ Some after
       → after ≡ standing true pages (marks ++ marks_in found) page) → texts_in (marks_in found) ≡ text_put i
   drawn_texts page found within draws =
       let opened : here ≡ standing true a.pages a.marks s.page = ap (λ (b : Bool). standing b a.pages a.marks s.page) within in
-      let turns = sym (ap (λ (p : PassStateView). execute (bounded_acts (instruction_acts (read_width s.fonts))) s.most i p) opened) ∙ turned.turns in
-      let adds = turn_adds (read_width s.fonts) s.most i (standing true a.pages a.marks s.page) turned.after turns in
+      let turns = sym (ap (λ (p : PassStateView). execute (bounded_acts (instruction_acts (read_width s.file.now.fonts))) s.file.now.most i p) opened) ∙ turned.turns in
+      let adds = turn_adds (read_width s.file.now.fonts) s.file.now.most i (standing true a.pages a.marks s.page) turned.after turns in
       let before : List Mark = marks_of a.pages ++ a.marks in
       let whole : before ++ marks_in found ≡ before ++ adds.marks =
       append_assoc (marks_of a.pages) a.marks (marks_in found) ∙ (sym (ap marks_so_far (draws a.pages a.marks turned.after turns)) ∙ adds.after) in
       ap texts_in (append_cancel_left before (marks_in found) adds.marks whole) ∙ adds.texts
 
   -- The mark of an instruction comes next, if it makes one.
-  pub drew : (fonts : ReadFonts) (page : OpenPage) (found shown : Option PassMark) (place : ℕ) → s.inside ≡ true → fonts ≡ record s.fonts { current = place } → page.counts ≡ s.page.counts → IsReady s.most fonts page
-      → ((pages : List MarkedPage) (marks : List Mark) (after : PassStateView) → execute (bounded_acts (instruction_acts (read_width s.fonts))) s.most i (standing true pages marks s.page) ≡ Some after
-      → after ≡ standing true pages (marks ++ marks_in found) page) → found ≡ shown → ShowsFirst seen (record s { fonts = fonts; page = page }) (option_map (λ mark. sights.Mark mark) shown)
-  drew fonts page found shown place within same counts ready draws is = by_mark shown is
+  pub drew : (current : ℕ) (page : OpenPage) (found shown : Option PassMark) → s.inside ≡ true → page.counts ≡ s.page.counts → IsReady s.file.now.most (with_current s.file.now.fonts current) page
+      → ((pages : List MarkedPage) (marks : List Mark) (after : PassStateView) → execute (bounded_acts (instruction_acts (read_width s.file.now.fonts))) s.file.now.most i (standing true pages marks s.page) ≡ Some after
+      → after ≡ standing true pages (marks ++ marks_in found) page) → found ≡ shown → ShowsFirst seen (record s { current = current; page = page }) (option_map (λ mark. sights.Mark mark) shown)
+  drew current page found shown within counts ready draws is = by_mark shown is
     where
       opened : here ≡ standing true a.pages a.marks s.page
       opened = ap (λ (b : Bool). standing b a.pages a.marks s.page) within
 
       after_is : turned.after ≡ standing s.inside a.pages (a.marks ++ marks_in found) page
       after_is =
-          draws a.pages a.marks turned.after (sym (ap (λ (p : PassStateView). execute (bounded_acts (instruction_acts (read_width s.fonts))) s.most i p) opened) ∙ turned.turns)
+          draws a.pages a.marks turned.after (sym (ap (λ (p : PassStateView). execute (bounded_acts (instruction_acts (read_width s.file.now.fonts))) s.file.now.most i p) opened) ∙ turned.turns)
           ∙ ap (λ (b : Bool). standing b a.pages (a.marks ++ marks_in found) page) (sym within)
 
       new_is : seen_so_far (standing s.inside a.pages (a.marks ++ marks_in found) page) ≡ seen_so_far here ++ map Marked (marks_in found)
@@ -357,14 +361,14 @@ module _ (i : Instruction) (s : Sights) (seen : List SeenItem) (a : IsSeenAfter 
           ∙ (ap (λ (cs : List ℤ). (seen_of a.pages ++ (Counts cs ∷ map Marked a.marks)) ++ map Marked (marks_in found)) counts
           ∙ ap (λ (p : PassStateView). seen_so_far p ++ map Marked (marks_in found)) (sym opened)))
 
-      next : (rest : List SeenItem) × (seen ≡ map Marked (marks_in found) ++ rest) × IsSeenAhead (record s { fonts = fonts; page = page }) rest
-      next = then_seen s.inside fonts page a.pages (a.marks ++ marks_in found) (map Marked (marks_in found)) place same after_is ready new_is
+      next : (rest : List SeenItem) × (seen ≡ map Marked (marks_in found) ++ rest) × IsSeenAhead (record s { current = current; page = page }) rest
+      next = then_seen s.inside current page a.pages (a.marks ++ marks_in found) (map Marked (marks_in found)) after_is ready new_is
 
-      by_mark : (o : Option PassMark) → found ≡ o → ShowsFirst seen (record s { fonts = fonts; page = page }) (option_map (λ mark. sights.Mark mark) o)
+      by_mark : (o : Option PassMark) → found ≡ o → ShowsFirst seen (record s { current = current; page = page }) (option_map (λ mark. sights.Mark mark) o)
       by_mark None none =
           let (rest, seen_is, ahead) = next in
           let all : seen ≡ rest = seen_is ∙ ap (λ (o : Option PassMark). map Marked (marks_in o) ++ rest) none in
-          subst (λ (ss : List SeenItem). IsSeenAhead (record s { fonts = fonts; page = page }) ss) (sym all) ahead
+          subst (λ (ss : List SeenItem). IsSeenAhead (record s { current = current; page = page }) ss) (sym all) ahead
       by_mark (Some mark) some =
           let (rest, seen_is, ahead) = next in (rest, seen_is ∙ ap (λ (o : Option PassMark). map Marked (marks_in o) ++ rest) some, ahead)
 
@@ -397,40 +401,40 @@ text_ends bytes at next i (Some (sights.Mark mark)) small forward within spelled
     by_mark (Special h v text) is = text_stands bytes at next text small forward within (subst (λ (i : Instruction). Spells i (take (next - at) (drop at bytes))) is spelled)
 
 -- At the place of post nothing is left to be seen.
-pub all_seen : (s : Sights) (seen : List SeenItem) → s.post ≤ s.at → IsSeenAhead s seen → (seen ≡ []) × IsSeenAhead s []
+pub all_seen : (s : Sights) (seen : List SeenItem) → s.file.now.post ≤ s.at → IsSeenAhead s seen → (seen ≡ []) × IsSeenAhead s []
 all_seen s seen past a =
     let here = standing s.inside a.pages a.marks s.page in
-    let last = none_left s.bytes.now s.at s.post s.most s.fonts here a.all past a.rest in
+    let last = none_left s.file.now.bytes.now s.at s.file.now.post s.file.now.most s.file.now.fonts here a.all past a.rest in
     let whole : seen_of a.all ++ seen ≡ seen_of a.all ++ [] =
     sym (a.seen_is ∙ ap (λ (p : PassStateView). seen_so_far p ++ seen) last) ∙ sym (append-nil (seen_of a.all)) in
     let none : seen ≡ [] = append_cancel_left (seen_of a.all) seen [] whole in (none, subst (λ (ss : List SeenItem). IsSeenAhead s ss) none a)
 
 -- What is known where an instruction was read.
-pub now_read : (s : Sights) (seen : List SeenItem) (i : Instruction) (next : ℕ) → s.at < next → next ≤ s.post → Spells i (take (next - s.at) (drop s.at s.bytes.now)) → IsSeenAhead s seen
+pub now_read : (s : Sights) (seen : List SeenItem) (i : Instruction) (next : ℕ) → s.at < next → next ≤ s.file.now.post → Spells i (take (next - s.at) (drop s.at s.file.now.bytes.now)) → IsSeenAhead s seen
     → IsSeenAfter (i ∷ []) (record s { at = next }) seen
 now_read s seen i next forward within spelled a =
     record {
       pages = a.pages;
       marks = a.marks;
       all = a.all;
-      rest = first_read s.bytes.now s.at s.post s.most s.fonts (standing s.inside a.pages a.marks s.page) a.all i next forward within spelled a.rest;
+      rest = first_read s.file.now.bytes.now s.at s.file.now.post s.file.now.most s.file.now.fonts (standing s.inside a.pages a.marks s.page) a.all i next forward within spelled a.rest;
       ready = a.ready;
       seen_is = a.seen_is;
     }
 
 -- Some instruction is there before the place of post.
-pub one_there : (s : Sights) (seen : List SeenItem) → s.at < s.post → IsSeenAhead s seen → ((i : Instruction) → StandsAt s.bytes.now s.at s.post i → ⊥) → ⊥
-one_there s seen below a none = some_there s.bytes.now s.at s.post s.most s.fonts (standing s.inside a.pages a.marks s.page) a.all below a.rest none
+pub one_there : (s : Sights) (seen : List SeenItem) → s.at < s.file.now.post → IsSeenAhead s seen → ((i : Instruction) → StandsAt s.file.now.bytes.now s.at s.file.now.post i → ⊥) → ⊥
+one_there s seen below a none = some_there s.file.now.bytes.now s.at s.file.now.post s.file.now.most s.file.now.fonts (standing s.inside a.pages a.marks s.page) a.all below a.rest none
 
 -- In an open page the pass goes on with the instruction that was read.
 pub draws_on : (i : Instruction) (s : Sights) (seen : List SeenItem) → s.inside ≡ true → IsSeenAfter (i ∷ []) s seen
-    → (pages : List MarkedPage) × (marks : List Mark) × (after : PassStateView) × (execute (bounded_acts (instruction_acts (read_width s.fonts))) s.most i (standing true pages marks s.page) ≡ Some after)
+    → (pages : List MarkedPage) × (marks : List Mark) × (after : PassStateView) × (execute (bounded_acts (instruction_acts (read_width s.file.now.fonts))) s.file.now.most i (standing true pages marks s.page) ≡ Some after)
 draws_on i s seen within a =
     let here = standing s.inside a.pages a.marks s.page in
-    let turned = goes_on s.bytes.now s.at s.post s.most s.fonts here a.all i a.rest in
+    let turned = goes_on s.file.now.bytes.now s.at s.file.now.post s.file.now.most s.file.now.fonts here a.all i a.rest in
     let opened : here ≡ standing true a.pages a.marks s.page = ap (λ (b : Bool). standing b a.pages a.marks s.page) within in
-    (a.pages, a.marks, turned.after, sym (ap (λ (p : PassStateView). execute (bounded_acts (instruction_acts (read_width s.fonts))) s.most i p) opened) ∙ turned.turns)
+    (a.pages, a.marks, turned.after, sym (ap (λ (p : PassStateView). execute (bounded_acts (instruction_acts (read_width s.file.now.fonts))) s.file.now.most i p) opened) ∙ turned.turns)
 
 -- The font that the instruction selects was read.
-pub read_first : (i : Instruction) (s : Sights) (seen : List SeenItem) → IsSeenAfter (i ∷ []) s seen → FontsAreRead s.fonts (selection_of i)
-read_first i s seen a = all_front (λ f. FontIsRead f s.fonts) (selection_of i) (selections (token_instructions a.rest.rest)) a.rest.read
+pub read_first : (i : Instruction) (s : Sights) (seen : List SeenItem) → IsSeenAfter (i ∷ []) s seen → FontsAreRead s.file.now.fonts (selection_of i)
+read_first i s seen a = all_front (λ f. FontIsRead f s.file.now.fonts) (selection_of i) (selections (token_instructions a.rest.rest)) a.rest.read

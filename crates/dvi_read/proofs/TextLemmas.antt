@@ -19,7 +19,8 @@ use Rattle.dvi_read.specs.Opening.{StartsAt}
 use Rattle.dvi_read.specs.PageMarks.{read_width, text_in, text_place, text_places}
 use Rattle.dvi_read.specs.Private.PageMarks.{text_put, texts_in}
 use Rattle.dvi_read.specs.Seen.{SeenItem}
-use Rattle.dvi_read.specs.SeenAhead.{AreTextsAhead, HasAllTexts, HasTexts, IsSameFile, IsSeenAfter, PassesText, standing, text_seen}
+use Rattle.dvi_read.specs.SeenAhead.{AreTextsAhead, HasCheckedTexts, HasTexts, IsSeenAfter, PassesText, standing, text_seen}
+use Rattle.dvi_read.specs.declared.check.checked_file.CheckedFile.{CheckedFile}
 use Rattle.dvi_read.specs.declared.sights.Sight.{Sight}
 use Rattle.dvi_read.specs.declared.sights.Sight.TheVariants as sights
 use Rattle.dvi_read.specs.declared.sights.Sights.{Sights}
@@ -47,8 +48,8 @@ pub none_outside : (end : ℕ) (i : Instruction) (s : Sights) (seen : List SeenI
 none_outside end i s seen a outside =
     let turn = turned i s seen a in
     let closed : here i s seen a ≡ Between a.pages = ap (λ (b : Bool). standing b a.pages a.marks s.page) outside in
-    let acts = bounded_acts (instruction_acts (read_width s.fonts)) in
-    none_between end acts s.most i a.pages turn.after (subst (λ (p : PassStateView). execute acts s.most i p ≡ Some turn.after) closed turn.turns)
+    let acts = bounded_acts (instruction_acts (read_width s.file.now.fonts)) in
+    none_between end acts s.file.now.most i a.pages turn.after (subst (λ (p : PassStateView). execute acts s.file.now.most i p ≡ Some turn.after) closed turn.turns)
 
 -- After an instruction the texts that are ahead are those behind it.
 pub texts_next : (bytes : List ℕ) (at next post : ℕ) (i : Instruction) (places : List ℕ) → at ≤ next → next ≤ post → post ≤ length bytes → Spells i (take (next - at) (drop at bytes)) → HasTexts bytes at post places
@@ -90,14 +91,14 @@ starts_texts bytes post after last stop chain from starts high f =
     subst (λ (places : List ℕ). HasTexts bytes from post places) (sym is) has
 
 -- The instruction that was read is taken, where the walk stays in the same file.
-pub texts_passed : (s new : Sights) (next : ℕ) (i : Instruction) (result : Option Sight) (places : List ℕ) → s.at ≤ next → next ≤ s.post → s.post ≤ length s.bytes.now → Spells i (take (next - s.at) (drop s.at s.bytes.now))
-    → new.at ≡ next → new.post ≡ s.post → new.bytes ≡ s.bytes → text_seen next result ≡ text_place next i → AreTextsAhead s places → PassesText places new result
-texts_passed s new next i result places forward within high spelled at post bytes seen has =
-    let (rest, is, ahead) = texts_next s.bytes.now s.at next s.post i places forward within high spelled has in (
+pub texts_passed : (s new : Sights) (next : ℕ) (i : Instruction) (result : Option Sight) (places : List ℕ) → s.at ≤ next → next ≤ s.file.now.post → s.file.now.post ≤ length s.file.now.bytes.now
+    → Spells i (take (next - s.at) (drop s.at s.file.now.bytes.now)) → new.at ≡ next → new.file ≡ s.file → text_seen next result ≡ text_place next i → AreTextsAhead s places → PassesText places new result
+texts_passed s new next i result places forward within high spelled at file seen has =
+    let (rest, is, ahead) = texts_next s.file.now.bytes.now s.at next s.file.now.post i places forward within high spelled has in (
       rest,
       is ∙ (ap (λ (ps : List ℕ). ps ++ rest) (sym seen) ∙ ap (λ (n : ℕ). text_seen n result ++ rest) (sym at)),
-      subst (λ (b : Bor (List ℕ)). HasTexts b.now new.at new.post rest) (sym bytes)
-          (subst (λ (n : ℕ). HasTexts s.bytes.now n new.post rest) (sym at) (subst (λ (n : ℕ). HasTexts s.bytes.now next n rest) (sym post) ahead)),
+      subst (λ (b : Bor CheckedFile). HasTexts b.now.bytes.now new.at b.now.post rest) (sym file)
+          (subst (λ (n : ℕ). HasTexts s.file.now.bytes.now n s.file.now.post rest) (sym at) ahead),
     )
 
 -- Where nothing is seen, the same texts are ahead.
@@ -112,12 +113,6 @@ none_ahead bytes at post places past has =
     let no_tokens : has.tokens ≡ [] = one_list has.tokens [] has.spelled tt empty in
     has.places_are ∙ ap (λ (ts : List Token). text_places at ts) no_tokens
 
--- The same file has the same texts.
-pub same_texts : (old new : Sights) (places : List ℕ) → IsSameFile old new → HasAllTexts old places → HasAllTexts new places
-same_texts old new places same has =
-    subst (λ (b : Bor (List ℕ)). HasTexts b.now new.from new.post places) (sym same.bytes)
-    (subst (λ (n : ℕ). HasTexts old.bytes.now n new.post places) (sym same.from) (subst (λ (n : ℕ). HasTexts old.bytes.now old.from n places) (sym same.post) has))
-
 -- Before the first page all texts are ahead.
-pub all_ahead : (s : Sights) (places : List ℕ) → s.at ≡ s.from → HasAllTexts s places → AreTextsAhead s places
-all_ahead s places at has = subst (λ (n : ℕ). HasTexts s.bytes.now n s.post places) (sym at) has
+pub all_ahead : (s : Sights) (places : List ℕ) → s.at ≡ s.file.now.from → HasCheckedTexts s.file.now places → AreTextsAhead s places
+all_ahead s places at has = subst (λ (n : ℕ). HasTexts s.file.now.bytes.now n s.file.now.post places) (sym at) has

@@ -33,7 +33,7 @@ use Rattle.dvi_read.specs.ReadFonts.{IsCurrent}
 use Rattle.dvi_read.specs.Faults.{fault_in}
 use Rattle.dvi_read.specs.Steps.{BreaksStep, StopsStep, known_of, places_left, so_far, stand_of}
 use Rattle.dvi_read.specs.Stops.{page_bytes, BreaksPages, BreaksRest, BreaksRule, IsPagesFault, IsUnended, IsWalkFault, LacksWidths}
-use Rattle.dvi_read.specs.Walks.{IsWalked}
+use Rattle.dvi_read.specs.Walks.{IsWalked, bare}
 use Rattle.dvi_read.specs.Private.Walks.{IsBegun, StopsReading}
 use Rattle.dvi_read.specs.declared.fault.DviFault.{DviFault}
 use Rattle.dvi_read.specs.declared.fault.DviFault.TheVariants as faults
@@ -146,7 +146,8 @@ walk_fault files ahead bytes post after last stop chain pages fault high other (
 pub walked_first : (metrics : WidthsByName) (ahead : List ℤ) (bytes : List ℕ) (stop : Postamble) (chain : List ℕ) (from : ℕ) (walk : Walk) → IsBegun chain walk
     → IsReached metrics ahead bytes stop chain from (before_pages chain) → IsWalked metrics ahead bytes stop chain from walk
 walked_first metrics ahead bytes stop chain from walk begun reached =
-    let pass : Between [] ≡ stand_of walk = sym (ap₂ (λ (pages : List Page) (stand : PassState). pass_at (map marked_page pages) stand) begun.done begun.stand) in
+    let closed : stand_of walk ≡ Between [] = ap₂ (λ (pages : List Page) (stand : PassState). pass_at (map marked_page pages) stand) begun.done begun.stand in
+    let pass : Between [] ≡ stand_of walk = sym closed in
     let left : all_left chain ≡ places_left walk = ap₂ (λ (missed : Bool) (ns : List ℕ). record { missed = missed; places = reverse ns }) (sym begun.missed) (sym begun.left_is) in
     let nothing : List ℤ = [] in
     let one : IsReached metrics ahead bytes stop chain from (record { pass = stand_of walk; known = []; selected = []; left = all_left chain }) =
@@ -155,6 +156,8 @@ walked_first metrics ahead bytes stop chain from walk begun reached =
     subst (λ (ds : List Definition). IsReached metrics ahead bytes stop chain from (record { pass = stand_of walk; known = ds; selected = nothing; left = all_left chain })) (sym begun.known) one in
     record {
       selected = [];
+      pass = stand_of walk;
+      stand = closed ∙ sym (ap bare closed);
       reached = subst (λ (l : PlacesLeft). IsReached metrics ahead bytes stop chain from (record { pass = stand_of walk; known = known_of walk; selected = nothing; left = l })) left two;
       read = tt;
       sound = record {
@@ -165,11 +168,11 @@ walked_first metrics ahead bytes stop chain from walk begun reached =
     }
 
 -- At the place of post no page is open, and some place of the chain was no bop.
-pub left_over : (walk : Walk) (post : ℕ) → walk.stand ≡ stands.Between → (walk.missed ≡ true) ⊎ (walk.left.items ≢ [])
+pub left_over : (walk : Walk) (post : ℕ) → walk.stand ≡ stands.Between → (walk.missed ≡ true) ⊎ (walk.left.now ≢ [])
     → IsUnended (stand_of walk) (places_left walk) post (record { place = post; cause = Pointer })
 left_over walk post closed some =
     (refl, inr (refl, (map marked_page walk.done.items, ap (λ (stand : PassState). pass_at (map marked_page walk.done.items) stand) closed), λ same. by_rule some same))
   where
-    by_rule : (walk.missed ≡ true) ⊎ (walk.left.items ≢ []) → places_left walk ≡ all_left [] → ⊥
+    by_rule : (walk.missed ≡ true) ⊎ (walk.left.now ≢ []) → places_left walk ≡ all_left [] → ⊥
     by_rule (inl missed) same = let both : true ≡ false = sym missed ∙ ap (λ (l : PlacesLeft). l.missed) same in cc
-    by_rule (inr some) same = some (sym (reverse-reverse walk.left.items) ∙ ap (λ (l : PlacesLeft). reverse l.places) same)
+    by_rule (inr some) same = some (sym (reverse-reverse walk.left.now) ∙ ap (λ (l : PlacesLeft). reverse l.places) same)

@@ -1,13 +1,11 @@
 -- The text of a listing (own; the pages and the marks are DVItype's, 15 and 16).
 use Rattle.std.specs.Prelude.{[], ◌∷◌, ◌++◌, ◌+◌, ◌/◌, ◌%◌, ◌==◌, ◌&&◌, not, nat_le, nat_lt, if◌then◌else◌, Bool, List, ℕ, ℤ, Option, Some, None}
-use Rattle.std.specs.Prelude.{codes, decimal, map}
+use Rattle.std.specs.Prelude.{codes, decimal}
 use Rattle.std.specs.Borrow.{Bor}
 use Rattle.std.specs.Fmt.{signed_decimal}
 use Rattle.std.specs.List.{flat_map, enumerate_from}
 use Rattle.scaled_core.specs.Mark.{Mark, Glyph, Rule, Special}
 use Rattle.dvi_ops.specs.File.{MarkedPage}
-use Rattle.dvi_scan.specs.View.{mark_of, marked_page}
-use Rattle.dvi_read.specs.declared.listings.lines.Lines.{Lines}
 
 -- A line: its first words, then numbers in decimal with a space before each, and a line feed.
 unfoldable pub line : List ℕ → List ℤ → List ℕ
@@ -55,7 +53,3 @@ listing pages = pages_lines 1 pages
 abbrev pub text_ahead : Option (Bor (List ℕ)) → List ℕ
 text_ahead None = []
 text_ahead (Some text) = text_line text.now
-
--- The rest of a listing: the rest of a line that was begun, the lines of the marks of a page, and those of the pages after it.
-abbrev pub lines_ahead : Lines → List ℕ
-lines_ahead l = text_ahead l.text ++ (flat_map mark_line (map mark_of l.marks.now) ++ pages_lines (l.before + 1) (map marked_page l.pages.now))

@@ -1,27 +1,22 @@
 -- The result of opening a file, in relation to the file (own).
-use Rattle.std.specs.Prelude.{◌≡◌, ◌++◌, List, ℕ, Result, Ok, Err}
+use Rattle.std.specs.Prelude.{◌≡◌, List, ℕ, Result, Ok, Err}
 use Rattle.dvi_ops.specs.File.{Frame, IsFile, MarkedPage}
-use Rattle.dvi_ops.specs.Fonts.{definitions}
-use Rattle.dvi_ops.specs.Instruction.{Definition, Units}
-use Rattle.dvi_ops.specs.Tokens.{token_instructions}
+use Rattle.dvi_ops.specs.Instruction.{Units}
+use Rattle.dvi_read.specs.declared.check.checked_file.CheckedFile.{CheckedFile}
 use Rattle.dvi_read.specs.declared.fault.DviFault.{DviFault}
 use Rattle.dvi_read.specs.declared.fault.DviFault.TheVariants.{OutOfMemory}
 use Rattle.tfm_core.specs.FileWidths.{file_widths}
 use Rattle.tfm_core.specs.NamedBytes.{NamedBytes}
 
--- The units of a file, its pages in order, and the definitions of its fonts.
+-- The units of a file, its pages in order, and what is kept of it to read these again.
 pub record OpenedFile : Type 0 where
   pub units : Units
   pub pages : List MarkedPage
-  pub fonts : List Definition
+  pub file : CheckedFile
 
 -- The units are those of the postamble, and so those of the preamble.
 abbrev pub HasUnitsOf : List ℕ → OpenedFile → Type 0
 HasUnitsOf bytes dvi = (f : Frame bytes) → dvi.units ≡ f.stop.units
-
--- The definitions are those of the whole file, in order: before post and after it.
-abbrev pub HasFontsOf : List ℕ → OpenedFile → Type 0
-HasFontsOf bytes dvi = (f : Frame bytes) → dvi.fonts ≡ definitions (token_instructions f.front ++ token_instructions f.tail)
 
 -- A call gives exactly these pages, or memory was refused.
 abbrev pub GivesPages : List MarkedPage → Result OpenedFile DviFault → Type 0

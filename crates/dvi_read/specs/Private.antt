@@ -2,10 +2,10 @@
 pub mod GlyphHeads
 pub mod ListingParts
 pub mod OnePage
-pub mod Opened
 pub mod OpeningParts
 pub mod PageMarks
 pub mod ReadFonts
 pub mod Steps
 pub mod Walks
 pub mod SeenTexts
+pub mod ShownPages

@@ -24,6 +24,10 @@ FontIsRead f fonts = IsSome (font_place f fonts)
 abbrev pub HasCurrent : ℤ → ReadFonts → Type 0
 HasCurrent f fonts = font_place f fonts ≡ Some fonts.current
 
+-- The same fonts, where the one at this place was selected last.
+abbrev pub with_current : ReadFonts → (place : ℕ) → ReadFonts
+with_current fonts place = record fonts { current = place }
+
 -- The font at a place.
 abbrev pub read_font_at : ReadFonts → ℕ → Option SizedFont
 read_font_at fonts place = slice_get fonts.all.items place

@@ -15,11 +15,11 @@ use Rattle.dvi_scan.specs.View.{mark_of, spot_position, standing_state}
 use Rattle.dvi_scan.specs.declared.executing.OpenPage.{OpenPage}
 use Rattle.dvi_read.specs.Listing.{listing, text_ahead}
 use Rattle.dvi_read.specs.PageMarks.{TextStandsAt, read_width, text_in, text_places}
-use Rattle.dvi_read.specs.ReadFonts.{HasCurrent, HaveByteCodes}
+use Rattle.dvi_read.specs.ReadFonts.{HasCurrent, HaveByteCodes, with_current}
 use Rattle.dvi_read.specs.Seen.{SeenItem, Counts, Marked, seen_lines, seen_of, seen_so_far}
 use Rattle.dvi_read.specs.Steps.{FontsAreRead}
-use Rattle.dvi_read.specs.declared.check.checked_dvi.CheckedDvi.{CheckedDvi}
-use Rattle.dvi_read.specs.declared.listings.checked_lines.CheckedLines.{CheckedLines}
+use Rattle.dvi_read.specs.declared.check.checked_file.CheckedFile.{CheckedFile}
+use Rattle.dvi_read.specs.declared.listings.lines.Lines.{Lines}
 use Rattle.dvi_read.specs.declared.fonts.ReadFonts.{ReadFonts}
 use Rattle.dvi_read.specs.declared.sights.Sight.{Sight}
 use Rattle.dvi_read.specs.declared.sights.Sight.TheVariants as sights
@@ -45,8 +45,8 @@ pub record HasRest (bytes : List ℕ) (at post most : ℕ) (fonts : ReadFonts) (
   pub small : (k : ℕ) → slice_index bytes k < 256
 
 -- A checked file has these pages.
-abbrev pub HasCheckedPages : CheckedDvi → List MarkedPage → Type 0
-HasCheckedPages checked pages = HasRest checked.bytes.now checked.from checked.post checked.most checked.fonts [] (Between []) pages
+abbrev pub HasCheckedPages : CheckedFile → List MarkedPage → Type 0
+HasCheckedPages file pages = HasRest file.bytes.now file.from file.post file.most file.fonts [] (Between []) pages
 
 -- The state of the pass where these pages, and these marks of the open one, were seen.
 abbrev pub standing : (inside : Bool) → List MarkedPage → List Mark → OpenPage → PassStateView
@@ -64,25 +64,13 @@ pub record IsSeenAfter (first : List Instruction) (s : Sights) (seen : List Seen
   pub pages : List MarkedPage
   pub marks : List Mark
   pub all : List MarkedPage
-  pub rest : HasRest s.bytes.now s.at s.post s.most s.fonts first (standing s.inside pages marks s.page) all
-  pub ready : IsReady s.most s.fonts s.page
+  pub rest : HasRest s.file.now.bytes.now s.at s.file.now.post s.file.now.most s.file.now.fonts first (standing s.inside pages marks s.page) all
+  pub ready : IsReady s.file.now.most (with_current s.file.now.fonts s.current) s.page
   pub seen_is : seen_of all ≡ seen_so_far (standing s.inside pages marks s.page) ++ seen
 
 -- What is still to be seen.
 abbrev pub IsSeenAhead : Sights → List SeenItem → Type 0
 IsSeenAhead s seen = IsSeenAfter [] s seen
-
--- These are all pages of the file, from the first one on.
-abbrev pub HasAllPages : Sights → List MarkedPage → Type 0
-HasAllPages s pages = HasRest s.bytes.now s.from s.post s.most s.fonts [] (Between []) pages
-
--- The file is the same, and so are the fonts that were read; another one may be selected.
-pub record IsSameFile (old new : Sights) : Type 0 where
-  pub bytes : new.bytes ≡ old.bytes
-  pub from : new.from ≡ old.from
-  pub post : new.post ≡ old.post
-  pub most : new.most ≡ old.most
-  pub fonts : (place : ℕ) × (new.fonts ≡ record old.fonts { current = place })
 
 -- After an instruction: what is seen of it comes before what is still to be seen.
 abbrev pub ShowsFirst : List SeenItem → Sights → Option Sight → Type 0
@@ -111,15 +99,12 @@ pub record HasTexts (bytes : List ℕ) (at post : ℕ) (places : List ℕ) : Typ
   pub whole : token_bytes tokens ≡ take (post - at) (drop at bytes)
   pub places_are : places ≡ text_places at tokens
 
--- The same for a checked file, for all pages of what is to be seen of it, and for what is still to be seen.
-abbrev pub HasCheckedTexts : CheckedDvi → (places : List ℕ) → Type 0
-HasCheckedTexts checked places = HasTexts checked.bytes.now checked.from checked.post places
-
-abbrev pub HasAllTexts : Sights → (places : List ℕ) → Type 0
-HasAllTexts s places = HasTexts s.bytes.now s.from s.post places
+-- The same for a checked file, and for what is still to be seen of it.
+abbrev pub HasCheckedTexts : CheckedFile → (places : List ℕ) → Type 0
+HasCheckedTexts file places = HasTexts file.bytes.now file.from file.post places
 
 abbrev pub AreTextsAhead : Sights → (places : List ℕ) → Type 0
-AreTextsAhead s places = HasTexts s.bytes.now s.at s.post places
+AreTextsAhead s places = HasTexts s.file.now.bytes.now s.at s.file.now.post places
 
 -- Where the text of what is seen begins, if it is a special and its text ends at this place.
 abbrev pub text_seen : (end : ℕ) → Option Sight → List ℕ
@@ -136,18 +121,18 @@ PassesNextText places new None = places ≡ []
 PassesNextText places new (Some sight) = PassesText places new (Some sight)
 
 -- The bytes of a listing that are still to come: the rest of a line that was begun, and the lines of what is still to be seen.
-pub record AreLinesAhead (l : CheckedLines) (text : List ℕ) : Type 0 where
+pub record AreLinesAhead (l : Lines) (text : List ℕ) : Type 0 where
   pub seen : List SeenItem
   pub ahead : IsSeenAhead l.sights seen
   pub text_is : text ≡ text_ahead l.text ++ seen_lines (l.before + 1) seen
   pub counted : l.before ≤ l.sights.at
 
 -- These are the bytes of the whole listing, from the first page on.
-abbrev pub HasAllLines : CheckedLines → (text : List ℕ) → Type 0
-HasAllLines l text = (pages : List MarkedPage) × HasAllPages l.sights pages × (text ≡ listing pages)
+abbrev pub HasAllLines : Lines → (text : List ℕ) → Type 0
+HasAllLines l text = (pages : List MarkedPage) × HasCheckedPages l.sights.file.now pages × (text ≡ listing pages)
 
 -- These bytes come first of a listing, and the rest is still to come.
-abbrev pub GivesFirst : (text first : List ℕ) → CheckedLines → Type 0
+abbrev pub GivesFirst : (text first : List ℕ) → Lines → Type 0
 GivesFirst text first new = (rest : List ℕ) × (text ≡ first ++ rest) × AreLinesAhead new rest
 
 -- The bytes of the rest of a line that was begun, and one for its end. A text has fewer than 2^64 bytes.
@@ -156,5 +141,5 @@ text_left None = 0
 text_left (Some text) = if nat_lt (length text.now) (2 ^ 64) then 1 + length text.now else 0
 
 -- A number that each line makes smaller.
-abbrev pub lines_left : CheckedLines → ℕ
-lines_left l = (l.sights.post - l.sights.at) * 2 ^ 65 + text_left l.text
+abbrev pub lines_left : Lines → ℕ
+lines_left l = (l.sights.file.now.post - l.sights.at) * 2 ^ 65 + text_left l.text

@@ -58,7 +58,7 @@ known_of walk = walk.known
 
 -- The places left of the chain of pages.
 abbrev pub places_left : Walk → PlacesLeft
-places_left walk = record { missed = walk.missed; places = reverse walk.left.items }
+places_left walk = record { missed = walk.missed; places = reverse walk.left.now }
 
 -- What was read of a file, from the state of a walk and the selected fonts.
 abbrev pub so_far : (selected : List ℤ) → Walk → ReadSoFar

@@ -1,18 +1,31 @@
 -- The walk over the pages of a file, as the code does it (own). No clause of a call that other crates use to read a file reaches these definitions,
 -- except `IsWalked`: they are about the values of the code.
-use Rattle.std.specs.Prelude.{List, ℕ, ℤ}
+use Rattle.std.specs.Prelude.{◌≡◌, [], List, ℕ, ℤ}
 use Rattle.dvi_ops.specs.Fonts.{WidthsByName}
 use Rattle.dvi_ops.specs.Instruction.{Postamble}
-use Rattle.dvi_scan.specs.Reached.{IsReached}
+use Rattle.dvi_scan.specs.Pass.{PassStateView, Between, Inside}
+use Rattle.dvi_scan.specs.Reached.{IsReached, ReadSoFar}
 use Rattle.dvi_read.specs.ReadFonts.{AreSound, IsCurrent}
-use Rattle.dvi_read.specs.Steps.{FontsAreRead, known_of, so_far}
+use Rattle.dvi_read.specs.Steps.{FontsAreRead, known_of, places_left, stand_of}
 use Rattle.dvi_read.specs.declared.check.walk.Walk.{Walk}
 
--- A walk has come to a place: the instructions before it are right, the walk has their pages and fonts, and each selected font was read.
+-- The state of the pass without the pages that have ended and without the marks of the open one.
+abbrev pub bare : PassStateView → PassStateView
+bare (Between pages) = Between []
+bare (Inside pages counts marks stack s) = Inside [] counts [] stack s
+
+-- What was read of a file, from the state of the pass, the selected fonts and a walk, which has the rest.
+abbrev pub read_in : PassStateView → (selected : List ℤ) → Walk → ReadSoFar
+read_in pass selected walk = record { pass = pass; known = known_of walk; selected = selected; left = places_left walk }
+
+-- A walk has come to a place: the instructions before it are right, the walk has their fonts and the state of the pass without pages and marks, and
+-- each selected font was read.
 pub record IsWalked (metrics : WidthsByName) (ahead : List ℤ) (bytes : List ℕ) (stop : Postamble) (chain : List ℕ) (at : ℕ)
     (walk : Walk) : Type 0 where
   pub selected : List ℤ
-  pub reached : IsReached metrics ahead bytes stop chain at (so_far selected walk)
+  pub pass : PassStateView
+  pub reached : IsReached metrics ahead bytes stop chain at (read_in pass selected walk)
+  pub stand : stand_of walk ≡ bare pass
   pub read : FontsAreRead walk.fonts selected
   pub sound : AreSound metrics (known_of walk) walk.fonts
   pub current : IsCurrent walk.fonts walk.stand

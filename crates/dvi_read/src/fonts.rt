@@ -6,7 +6,8 @@ ghost use Rattle.std.specs.Ordering.{int_cmp};
 ghost use Rattle.dvi_scan.specs.Widths.{HasBytes};
 ghost use Rattle.dvi_ops.specs.View.{view, definition};
 ghost use Rattle.dvi_read.specs.PageMarks.{read_width};
-ghost use Rattle.dvi_read.specs.ReadFonts.{AreUnchanged, HaveByteCodes, asked_width, code_in, selected_font, font_place, width_in, AreSound};
+ghost use Rattle.dvi_read.specs.ReadFonts.{AreSound, AreUnchanged, HaveByteCodes};
+ghost use Rattle.dvi_read.specs.ReadFonts.{asked_width, code_in, font_place, read_font_at, width_in, with_current};
 ghost use Rattle.tfm_core.specs.FileWidths.{width_at, file_widths};
 ghost use Rattle.std.specs.List.{AllByRecursion};
 ghost use Rattle.dvi_ops.specs.Fonts.{IsFontSize, first_definition_of};
@@ -25,7 +26,7 @@ use tfm_core::Font;
 /// last.
 ///
 /// A number is searched only at a selection, in time logarithmic in the count of fonts. A character takes its width from the font at `current`,
-/// without a search.
+/// without a search. Whoever reads the pages of a checked file again has a `current` of its own.
 #[derive(Drop)]
 pub struct ReadFonts {
     pub all: Vec<Font>,
@@ -62,15 +63,23 @@ impl ReadFonts {
         }
     }
 
+    /// The place of the font of a number, if it was read. It takes no memory.
+    pub(crate) fn place_of(&self, number: FontNumber) -> Option<usize>
+        ensures { result ≡ font_place number.value self.now }
+    {
+        let place = self.places.get(&number.value)?;
+        Some(*place)
+    }
+
     /// Selects the font of a number, if it was read before, and returns whether it was. It takes no memory.
-    pub(crate) fn choose(&mut self, number: FontNumber) -> bool
+    fn choose(&mut self, number: FontNumber) -> bool
         ensures yes { result ≡ true → (place : ℕ) × (font_place number.value self.old ≡ Some place)
             × (self.new ≡ record self.old { current = place }) }
         ensures no { result ≡ false → (font_place number.value self.old ≡ None) × (self.new ≡ self.old) }
     {
-        match self.places.get(&number.value) {
+        match self.place_of(number) {
             Some(place) => {
-                self.current = *place;
+                self.current = place;
                 true
             }
             None => false,
@@ -98,17 +107,16 @@ impl ReadFonts {
         requires { HaveByteCodes self.now }
         ensures { result ≡ read_width self.now number.value code.value }
     {
-        let place = self.places.get(&number.value)?;
-        let font = self.all.get(*place)?;
-        width_of(font, code)
+        let place = self.place_of(number)?;
+        self.width_at(place, code)
     }
 
-    /// The width of a character in the font that was selected last; None where there is no font or no such character. It takes no memory.
-    pub(crate) fn width(&self, code: CharCode) -> Option<i32>
+    /// The width of a character in the font at a place; None where there is no font or no such character. It takes no memory.
+    pub(crate) fn width_at(&self, place: usize, code: CharCode) -> Option<i32>
         requires { HaveByteCodes self.now }
-        ensures { result ≡ width_in (selected_font self.now) code.value }
+        ensures { result ≡ width_in (read_font_at self.now place) code.value }
     {
-        let font = self.all.get(self.current)?;
+        let font = self.all.get(place)?;
         width_of(font, code)
     }
 }
@@ -124,14 +132,14 @@ fn code_of(op: &Op<'_>) -> Option<CharCode>
     }
 }
 
-/// The width of the character that an instruction sets or puts, in the font that was selected last. It takes no memory. A new page leaves `current`
-/// as it is: the page begins without a font, and no width is needed before its first selection.
-pub fn width_asked(fonts: &ReadFonts, op: &Op<'_>) -> Option<i32>
+/// The width of the character that an instruction sets or puts, in the font at `current`, which was selected last. It takes no memory. A new page
+/// leaves `current` as it is: the page begins without a font, and no width is needed before its first selection.
+pub fn width_asked(fonts: &ReadFonts, current: usize, op: &Op<'_>) -> Option<i32>
     requires { HaveByteCodes fonts.now }
-    ensures { result ≡ asked_width fonts.now (code_in (view op.now)) }
+    ensures { result ≡ asked_width (with_current fonts.now current) (code_in (view op.now)) }
 {
     let code = code_of(op)?;
-    fonts.width(code)
+    fonts.width_at(current, code)
 }
 
 /// The first definition of a number, where the number is also defined after post.

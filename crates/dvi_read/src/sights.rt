@@ -12,17 +12,17 @@ ghost use Rattle.dvi_scan.specs.Pass.{Between, PassStateView, execute};
 ghost use Rattle.dvi_scan.specs.View.{mark_of};
 ghost use Rattle.dvi_scan.specs.Private.View.{marks_in};
 ghost use Rattle.dvi_read.specs.PageMarks.{read_width, text_place};
-ghost use Rattle.dvi_read.specs.ReadFonts.{HasCurrent, HaveByteCodes};
+ghost use Rattle.dvi_read.specs.ReadFonts.{HasCurrent, HaveByteCodes, with_current};
 ghost use Rattle.dvi_read.specs.Private.ReadFonts.{Chooses};
 ghost use Rattle.dvi_read.specs.Private.SeenTexts.{ShowsTextOf};
 ghost use Rattle.dvi_read.specs.Seen.{SeenItem, seen_of};
-ghost use Rattle.dvi_read.specs.SeenAhead.{AreTextsAhead, EndsText, HasAllPages, IsReady, IsSameFile, IsSeenAfter, IsSeenAhead};
+ghost use Rattle.dvi_read.specs.SeenAhead.{AreTextsAhead, EndsText, HasCheckedPages, IsReady, IsSeenAfter, IsSeenAhead};
 ghost use Rattle.dvi_read.specs.SeenAhead.{PassesNextText, PassesText, ShowsFirst, ShowsNext, standing, text_seen};
 ghost use Rattle.dvi_read.specs.Steps.{FontsAreRead};
-ghost use Rattle.dvi_read.specs.declared.fonts.ReadFonts.{ReadFonts};
 
 pub(crate) mod one_page;
 
+use crate::check::checked_file::CheckedFile;
 use crate::fonts::{CharCode, ReadFonts, width_asked};
 use dvi_ops::{BodyOp, Op};
 use dvi_scan::{DviState, FontNumber, Mark, OpenPage, Position, read_at};
@@ -40,20 +40,14 @@ pub enum Sight<'a> {
 
 /// What is still to be seen of the pages of a checked file. The file is walked once more, and each mark is handed out where it is met.
 #[derive(Drop)]
-pub struct Sights<'a> {
-    pub(crate) bytes: &'a [u8],
-    /// The place after the preamble, where the pages begin.
-    pub(crate) from: usize,
-    /// The place of post, where the pages end.
-    pub(crate) post: usize,
-    /// The greatest number of pushes that may be open at once.
-    pub(crate) most: usize,
-    /// The fonts that the pages select.
-    pub(crate) fonts: ReadFonts,
+pub struct Sights<'d, 'a> {
+    pub(crate) file: &'d CheckedFile<'a>,
     /// The place of the next instruction.
     pub(crate) at: usize,
     /// Whether the place is inside a page.
     pub(crate) inside: bool,
+    /// The place among the fonts of the file of the one that was selected last.
+    pub(crate) current: usize,
     /// The page, with room for one mark and for the places that pushes save.
     pub(crate) page: OpenPage<'a>,
 }
@@ -100,13 +94,17 @@ fn begin(op: &Op<'_>, page: &mut OpenPage<'_>) -> bool
 }
 
 /// Selects the font of an instruction, if it selects one. The font was read before.
-pub(crate) fn choose_font(op: &Op<'_>, fonts: &mut ReadFonts)
-    requires { FontsAreRead fonts.old (selection_of (view op.now)) }
-    ensures chosen { Chooses (view op.now) fonts.old fonts.new }
-    ensures fonts { (place : ℕ) × (fonts.new ≡ record fonts.old { current = place }) }
+pub(crate) fn choose_font(op: &Op<'_>, fonts: &ReadFonts, current: &mut usize)
+    requires { FontsAreRead fonts.now (selection_of (view op.now)) }
+    ensures { Chooses (view op.now) (with_current fonts.now current.old) (with_current fonts.now current.new) }
 {
-    if let Op::Body(BodyOp::FontNum(value)) = *op {
-        let _ = fonts.choose(FontNumber { value });
+    let Op::Body(body) = *op else {
+        return;
+    };
+    if let BodyOp::FontNum(value) = body {
+        if let Some(place) = fonts.place_of(FontNumber { value }) {
+            *current = place;
+        }
     }
 }
 
@@ -121,9 +119,14 @@ fn character_set(op: &Op<'_>) -> Option<i32>
 }
 
 /// Sets a character of an open page, and returns its mark, which needs no room in the page.
-fn set_character<'a>(code: i32, fonts: &ReadFonts, page: &mut OpenPage<'a>) -> Mark<'a>
+fn set_character<'a>(
+    code: i32,
+    fonts: &ReadFonts,
+    current: usize,
+    page: &mut OpenPage<'a>,
+) -> Mark<'a>
     requires codes { HaveByteCodes fonts.now }
-    requires current { (f : ℤ) → page.old.state.font ≡ Some f → HasCurrent f fonts.now }
+    requires current { (f : ℤ) → page.old.state.font ≡ Some f → HasCurrent f (with_current fonts.now current) }
     requires goes_on { (most : ℕ) × (pages : List MarkedPage) × (marks : List MarkSeen) × (after : PassStateView)
         × (execute (bounded_acts (instruction_acts (read_width fonts.now))) most (Do (SetChar code)) (standing true pages marks page.old)
         ≡ Some after) }
@@ -138,7 +141,7 @@ fn set_character<'a>(code: i32, fonts: &ReadFonts, page: &mut OpenPage<'a>) -> M
     let Some(font) = page.state.font else {
         unreachable!()
     };
-    let Some(width) = fonts.width(CharCode { value: code }) else {
+    let Some(width) = fonts.width_at(current, CharCode { value: code }) else {
         unreachable!()
     };
     let place = page.state.place;
@@ -158,34 +161,34 @@ fn set_character<'a>(code: i32, fonts: &ReadFonts, page: &mut OpenPage<'a>) -> M
 fn draw<'a>(
     most: usize,
     op: &Op<'a>,
-    fonts: &mut ReadFonts,
+    fonts: &ReadFonts,
+    current: &mut usize,
     page: &mut OpenPage<'a>,
 ) -> Option<Mark<'a>>
-    requires ready { IsReady most fonts.old page.old }
-    requires codes { HaveByteCodes fonts.old }
-    requires read { FontsAreRead fonts.old (selection_of (view op.now)) }
+    requires ready { IsReady most (with_current fonts.now current.old) page.old }
+    requires codes { HaveByteCodes fonts.now }
+    requires read { FontsAreRead fonts.now (selection_of (view op.now)) }
     requires stays { view op.now ≢ Eop }
     requires goes_on { (pages : List MarkedPage) × (marks : List MarkSeen) × (after : PassStateView)
-        × (execute (bounded_acts (instruction_acts (read_width fonts.old))) most (view op.now) (standing true pages marks page.old) ≡ Some after) }
+        × (execute (bounded_acts (instruction_acts (read_width fonts.now))) most (view op.now) (standing true pages marks page.old) ≡ Some after) }
     ensures draws { (pages : List MarkedPage) (marks : List MarkSeen) (after : PassStateView)
-        → execute (bounded_acts (instruction_acts (read_width fonts.old))) most (view op.now) (standing true pages marks page.old) ≡ Some after
+        → execute (bounded_acts (instruction_acts (read_width fonts.now))) most (view op.now) (standing true pages marks page.old) ≡ Some after
         → after ≡ standing true pages (marks ++ marks_in result) page.new }
     ensures counts { page.new.counts ≡ page.old.counts }
-    ensures ready { IsReady most fonts.new page.new }
-    ensures fonts { (place : ℕ) × (fonts.new ≡ record fonts.old { current = place }) }
+    ensures ready { IsReady most (with_current fonts.now current.new) page.new }
 {
     if let Some(code) = character_set(op) {
-        return Some(set_character(code, fonts, page));
+        return Some(set_character(code, fonts, *current, page));
     }
-    let width = width_asked(fonts, op);
+    let width = width_asked(fonts, *current, op);
     let Ok(()) = page.take(most, op, width) else {
         unreachable!()
     };
-    choose_font(op, fonts);
+    choose_font(op, fonts, current);
     page.marks.pop()
 }
 
-impl<'a> Sights<'a> {
+impl<'d, 'a> Sights<'d, 'a> {
     /// Takes an instruction, and returns what is seen of it.
     fn take(&mut self, op: &Op<'a>) -> Option<Sight<'a>>
         requires { (seen : List SeenItem) × IsSeenAfter (view op.now ∷ []) self.old seen }
@@ -193,8 +196,7 @@ impl<'a> Sights<'a> {
         ensures text { ShowsTextOf (view op.now) result }
         ensures begins { (end : ℕ) → text_seen end result ≡ text_place end (view op.now) }
         ensures place { self.new.at ≡ self.old.at }
-        ensures post { self.new.post ≡ self.old.post }
-        ensures same { IsSameFile self.old self.new }
+        ensures same { self.new.file ≡ self.old.file }
     {
         if !self.inside {
             if !begin(op, &mut self.page) {
@@ -207,7 +209,14 @@ impl<'a> Sights<'a> {
             self.inside = false;
             return None;
         }
-        match draw(self.most, op, &mut self.fonts, &mut self.page) {
+        let drawn = draw(
+            self.file.most,
+            op,
+            &self.file.fonts,
+            &mut self.current,
+            &mut self.page,
+        );
+        match drawn {
             Some(mark) => Some(Sight::Mark(mark)),
             None => None,
         }
@@ -216,16 +225,15 @@ impl<'a> Sights<'a> {
     /// Takes the next instruction, and returns what is seen of it.
     fn step(&mut self) -> Option<Sight<'a>>
         requires ahead { (seen : List SeenItem) × IsSeenAhead self.old seen }
-        requires more { self.old.at < self.old.post }
+        requires more { self.old.at < self.old.file.now.post }
         ensures next { (seen : List SeenItem) → IsSeenAhead self.old seen → ShowsFirst seen self.new result }
-        ensures text { EndsText self.old.bytes.now self.new.at result }
+        ensures text { EndsText self.old.file.now.bytes.now self.new.at result }
         ensures texts { (places : List ℕ) → AreTextsAhead self.old places → PassesText places self.new result }
         ensures forward { self.old.at < self.new.at }
         ensures fits { self.new.at < 2 ^ 64 }
-        ensures post { self.new.post ≡ self.old.post }
-        ensures same { IsSameFile self.old self.new }
+        ensures same { self.new.file ≡ self.old.file }
     {
-        let Ok((op, next)) = read_at(self.bytes, self.at, self.post) else {
+        let Ok((op, next)) = read_at(self.file.bytes, self.at, self.file.post) else {
             unreachable!()
         };
         self.at = next;
@@ -238,16 +246,16 @@ impl<'a> Sights<'a> {
         // It is the first of what is still to be seen; or nothing is.
         ensures next { (seen : List SeenItem) → IsSeenAhead self.old seen → ShowsNext seen self.new result }
         // The text of a special ends in the file where the walk has come to.
-        ensures text { EndsText self.old.bytes.now self.new.at result }
+        ensures text { EndsText self.old.file.now.bytes.now self.new.at result }
         // It is that of the next special among the instructions.
         ensures texts { (places : List ℕ) → AreTextsAhead self.old places → PassesNextText places self.new result }
         ensures forward { IsSome result → self.old.at < self.new.at }
         ensures stays { self.old.at ≤ self.new.at }
         ensures fits { self.new.at < 2 ^ 64 }
-        ensures post { self.new.post ≡ self.old.post }
-        ensures same { IsSameFile self.old self.new }
+        ensures same { self.new.file ≡ self.old.file }
     {
-        while self.at < self.post {
+        let _at = self.at;
+        while self.at < self.file.post {
             if let Some(sight) = self.step() {
                 return Some(sight);
             }
@@ -265,19 +273,19 @@ impl<'a> Sights<'a> {
     /// The width of a character in the font of a number; None where no page selects that font, or it has no such character. It takes no memory.
     pub fn width(&self, number: FontNumber, code: CharCode) -> Option<i32>
         requires { (seen : List SeenItem) × IsSeenAhead self.now seen }
-        ensures { result ≡ read_width self.now.fonts number.value code.value }
+        ensures { result ≡ read_width self.now.file.now.fonts number.value code.value }
     {
-        self.fonts.width_by(number, code)
+        self.file.fonts.width_by(number, code)
     }
 
     /// Begins again before the first page: all that was seen will be seen once more. It takes no memory.
     pub fn rewind(&mut self)
         requires { (seen : List SeenItem) × IsSeenAhead self.old seen }
-        ensures ahead { (pages : List MarkedPage) → HasAllPages self.old pages → IsSeenAhead self.new (seen_of pages) }
-        ensures place { self.new.at ≡ self.new.from }
-        ensures same { IsSameFile self.old self.new }
+        ensures ahead { (pages : List MarkedPage) → HasCheckedPages self.old.file.now pages → IsSeenAhead self.new (seen_of pages) }
+        ensures place { self.new.at ≡ self.new.file.now.from }
+        ensures same { self.new.file ≡ self.old.file }
     {
-        self.at = self.from;
+        self.at = self.file.from;
         self.inside = false;
     }
 }

@@ -11,7 +11,10 @@ fn first_page(alloc: Global, dvi: &Dvi) -> Result<Bitmap, DviFault> {
         return Err(DviFault::OutOfMemory); // the size is in range, so memory was refused
     };
     if dvi.pages() > 0 {
-        bitmap.paint(dvi.page(0), dvi.units(), 100);
+        let Ok(page) = dvi.page(0) else {
+            return Err(DviFault::OutOfMemory); // the page is read again, from its place
+        };
+        bitmap.paint(&page, dvi.units(), 100);
     }
     Ok(bitmap)
 }

@@ -1,7 +1,8 @@
 //! The answer to a file.
 
 use anyhow::{Context, Result, bail};
-use boxglue_print::{Output, list_text};
+use boxglue_lib::list_file;
+use boxglue_print::Output;
 use boxglue_program::{FontFile, run_memory};
 use std::alloc::Global;
 use tfm_core::{Tfm, TfmFault};
@@ -21,11 +22,18 @@ impl FileKind {
     /// The answer to a file of this kind, with these metric files.
     pub fn answer(self, alloc: Global, bytes: &[u8], fonts: &[FontFile]) -> Result<Output> {
         match self {
-            FileKind::Dvi => Ok(list_text(alloc, bytes, fonts)?),
+            FileKind::Dvi => dvi_answer(alloc, bytes, fonts),
             FileKind::Metrics => metrics_answer(alloc, bytes),
             FileKind::Script => script_answer(alloc, bytes, fonts),
         }
     }
+}
+
+/// The listing of a DVI file, or the line of its refusal.
+fn dvi_answer(alloc: Global, bytes: &[u8], fonts: &[FontFile]) -> Result<Output> {
+    let mut text = Vec::new(alloc);
+    let accepted = list_file(alloc, bytes, fonts, &mut text)?;
+    Ok(Output { text, accepted })
 }
 
 /// The answer to a metric file: `accepted`, or the line of the refusal.

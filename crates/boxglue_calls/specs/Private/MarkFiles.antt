@@ -7,7 +7,7 @@ use Rattle.dvi_ops.specs.View.{units as view_units}
 use Rattle.dvi_ops.specs.declared.op.Units.{Units as UnitsOf}
 use Rattle.dvi_read.specs.PageMarks.{HasGlyphWidths, HasRoomFor, marks_of, text_places}
 use Rattle.dvi_read.specs.Seen.{seen_of}
-use Rattle.dvi_read.specs.SeenAhead.{HasAllPages, HasAllTexts, IsSeenAhead}
+use Rattle.dvi_read.specs.SeenAhead.{HasCheckedPages, HasCheckedTexts, IsSeenAhead}
 use Rattle.dvi_read.specs.declared.fault.DviFault.{DviFault}
 use Rattle.dvi_read.specs.declared.fault.DviFault.TheVariants.{Bad, OutOfMemory}
 use Rattle.dvi_read.specs.declared.sights.Sights.{Sights}
@@ -18,8 +18,6 @@ use Rattle.boxglue_print.specs.Outputs.{RefusesFile}
 use Rattle.boxglue_print.specs.declared.output.Output.{Output}
 use Rattle.boxglue_calls.specs.MarkTables.{HandsOverMarks, MarkOutputs}
 use Rattle.boxglue_calls.specs.declared.mark_table.MarkSizes.{MarkSizes}
-use Rattle.boxglue_calls.specs.declared.mark_table.ReadFile.{ReadFile}
-use Rattle.boxglue_calls.specs.declared.mark_table.ReadFile.TheVariants.{Checked, Refused}
 
 -- The place of a broken rule, or 0 for another fault.
 abbrev pub place_of : DviFault → ℕ
@@ -31,12 +29,12 @@ pub record IsChecked (files : List NamedBytes) (bytes : List ℕ) (units : Units
   pub file : IsFile (file_widths files) bytes pages
   pub units_are : view_units units ≡ file.frame.stop.units
   pub ahead : IsSeenAhead s (seen_of pages)
-  pub all : HasAllPages s pages
-  pub texts : HasAllTexts s (text_places 0 file.frame.front)
-  pub begun : s.at ≡ s.from
-  pub bytes_are : s.bytes.now ≡ bytes
-  pub widths : HasGlyphWidths (file_widths files) (definitions (token_instructions file.frame.front ++ token_instructions file.frame.tail)) s.fonts
-      (marks_of pages)
+  pub all : HasCheckedPages s.file.now pages
+  pub texts : HasCheckedTexts s.file.now (text_places 0 file.frame.front)
+  pub begun : s.at ≡ s.file.now.from
+  pub bytes_are : s.file.now.bytes.now ≡ bytes
+  pub widths : HasGlyphWidths (file_widths files) (definitions (token_instructions file.frame.front ++ token_instructions file.frame.tail))
+      s.file.now.fonts (marks_of pages)
   pub room : HasRoomFor bytes pages
 
 -- The line of a fault, which is not that of memory, is short.
@@ -50,11 +48,6 @@ pub record IsShortRefusal (fault : DviFault) (output : Output) : Type 0 where
 pub record IsRefusal (files : List NamedBytes) (bytes : List ℕ) (output : Output) : Type 0 where
   pub refuses : RefusesFile files bytes output.text.items false
   pub text_short : length output.text.items ≤ 64
-
--- A file that was checked or refused.
-abbrev pub IsReadFile : List NamedBytes → List ℕ → ReadFile → Type 0
-IsReadFile files bytes (Checked units s) = (pages : List MarkedPage) × IsChecked files bytes units s pages
-IsReadFile files bytes (Refused output) = IsRefusal files bytes output
 
 -- The outputs for a file of this length fit into the rooms that always suffice.
 pub record FitsIn (size : ℕ) (outputs : MarkOutputs) : Type 0 where

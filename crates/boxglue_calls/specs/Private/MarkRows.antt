@@ -69,7 +69,7 @@ pub record AddsMark (mark : DviMark) (old new : RowProgress) (before after : Mar
 -- The row of what is seen is written.
 abbrev pub WritesSight : Sight → Sights → (old new : RowProgress) → (before after : MarkOutputs) → Type 0
 WritesSight (sights.Page counts) s old new before after = BeginsPage counts old new before.pages after.pages × (after.marks ≡ before.marks)
-WritesSight (sights.Mark mark) s old new before after = AddsMark (row_of s.fonts s.at (mark_of mark)) old new before after
+WritesSight (sights.Mark mark) s old new before after = AddsMark (row_of s.file.now.fonts s.at (mark_of mark)) old new before after
 
 -- The pages that are still to be seen, the texts of their specials begin at these places, their glyphs have these widths, and the buffers have room
 -- for all rows.
@@ -77,7 +77,7 @@ pub record CanBeWritten (metrics : WidthsByName) (table : List Definition) (s : 
     (all : List MarkedPage) : Type 0 where
   pub ahead : IsSeenAhead s (seen_of all)
   pub texts : AreTextsAhead s places
-  pub widths : HasGlyphWidths metrics table s.fonts (marks_of all)
+  pub widths : HasGlyphWidths metrics table s.file.now.fonts (marks_of all)
   pub pages_fit : length all ≤ length buffers.pages
   pub marks_fit : length (marks_of all) ≤ length buffers.marks
 

@@ -9,21 +9,17 @@ use Rattle.dvi_scan.specs.Passed.{Framing}
 use Rattle.dvi_scan.specs.Reached.{PlacesLeft}
 use Rattle.dvi_read.specs.Opening.{HasPages}
 use Rattle.dvi_read.specs.ReadFonts.{AreSound}
-use Rattle.dvi_read.specs.Steps.{FontsAreRead, known_of, so_far, stand_of}
+use Rattle.dvi_read.specs.Steps.{FontsAreRead, known_of, stand_of}
 use Rattle.dvi_read.specs.Stops.{PagesHaveEnded, IsUnended}
 use Rattle.dvi_read.specs.declared.fault.DviFault.{DviFault}
 use Rattle.dvi_read.specs.declared.fault.DviFault.TheVariants.{Bad, OutOfMemory}
-use Rattle.dvi_read.specs.Private.Walks.{bare, read_in}
+use Rattle.dvi_read.specs.Walks.{bare, read_in}
 use Rattle.dvi_read.specs.declared.check.walk.Walk.{Walk}
 use Rattle.tfm_core.specs.FileWidths.{file_widths}
 use Rattle.tfm_core.specs.NamedBytes.{NamedBytes}
 
--- All instructions before post are right, and a walk has what was read there.
-abbrev pub HoldsPages : List NamedBytes → (bytes : List ℕ) → Framing → (from : ℕ) → Walk → Type 0
-HoldsPages files bytes parts from walk = (ahead : List ℤ) × (selected : List ℤ) × HasPages files bytes parts from ahead (so_far selected walk)
-
--- All instructions before post are right, and a walk that keeps no mark holds the rest of what was read there. Each selected font was read, and has
--- the widths of the files.
+-- All instructions before post are right, and a walk, which keeps no mark, holds the rest of what was read there. Each selected font was read, and
+-- has the widths of the files.
 pub record HasPassed (files : List NamedBytes) (bytes : List ℕ) (parts : Framing) (from : ℕ) (walk : Walk) : Type 0 where
   pub ahead : List ℤ
   pub selected : List ℤ

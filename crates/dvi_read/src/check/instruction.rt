@@ -22,13 +22,14 @@ use std::alloc::Global;
 /// Removes the place of a bop from the places that are still to come, and returns whether it was among them. Earlier places are missed. The places
 /// have the last one first. A bop that is not in the chain is refused at its own place; a missed place is refused only at post, since no bop is at it
 /// (it may be inside a special).
-fn is_named(left: &mut Vec<usize>, missed: &mut bool, at: usize) -> bool
+fn is_named(left: &mut &[usize], missed: &mut bool, at: usize) -> bool
     ensures yes { result ≡ true
-        → after_bop at missed.old (reverse left.old.items) ≡ Some (record { missed = missed.new; places = reverse left.new.items }) }
-    ensures no { result ≡ false → after_bop at missed.old (reverse left.old.items) ≡ None }
+        → after_bop at missed.old (reverse left.old.now) ≡ Some (record { missed = missed.new; places = reverse left.new.now }) }
+    ensures no { result ≡ false → after_bop at missed.old (reverse left.old.now) ≡ None }
 {
-    while let Some(place) = left.pop() {
-        if place == at {
+    while let Some((place, rest)) = left.split_last() {
+        *left = rest;
+        if *place == at {
             return true;
         }
         *missed = true;
@@ -40,7 +41,7 @@ fn is_named(left: &mut Vec<usize>, missed: &mut bool, at: usize) -> bool
 fn note<'a>(
     alloc: Global,
     source: &Source<'_, 'a>,
-    walk: &mut Walk<'a>,
+    walk: &mut Walk<'_, 'a>,
     at: usize,
     op: &Op<'a>,
 ) -> Result<(), StepFault>
@@ -74,13 +75,14 @@ fn pass_on<'a>(
     alloc: Global,
     most: usize,
     op: &Op<'a>,
-    walk: &mut Walk<'a>,
+    walk: &mut Walk<'_, 'a>,
 ) -> Result<(), StepFault>
     requires { HaveByteCodes walk.old.fonts }
     ensures ok { OnOk result (PassesOn most (view op.now) walk.old walk.new) }
     ensures bad { IfErr result (BreaksPass most (view op.now) walk.old) }
 {
-    let width = width_asked(&walk.fonts, op);
+    let current = walk.fonts.current;
+    let width = width_asked(&walk.fonts, current, op);
     execute(alloc, &mut walk.stand, &mut walk.done, most, op, width)?;
     Ok(())
 }
@@ -100,7 +102,7 @@ pub fn step<'a>(
     source: &Source<'_, 'a>,
     at: usize,
     op: &Op<'a>,
-    walk: &mut Walk<'a>,
+    walk: &mut Walk<'_, 'a>,
 ) -> Result<(), StepFault>
     requires sizes { AllByRecursion (λ d. IsFontSize d.size) (known_of walk.old) }
     requires sound { AreSound (file_widths source.now.files.now) (known_of walk.old) walk.old.fonts }

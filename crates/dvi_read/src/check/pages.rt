@@ -5,31 +5,31 @@ ghost use Rattle.dvi_scan.specs.Closing.{ClosesTo};
 ghost use Rattle.dvi_ops.specs.View.{postamble};
 ghost use Rattle.dvi_scan.specs.View.{marked_page};
 ghost use Rattle.dvi_read.specs.Opening.{IsDviFault, StartsAt};
-ghost use Rattle.dvi_read.specs.Private.OpeningParts.{HasPassed, HoldsPages, IsFinishFault};
+ghost use Rattle.dvi_read.specs.Private.OpeningParts.{HasPassed, IsFinishFault};
 ghost use Rattle.dvi_read.specs.Steps.{known_of, places_left, stand_of};
 ghost use Rattle.dvi_read.specs.Stops.{PagesHaveEnded};
 ghost use Rattle.dvi_scan.specs.Passed.{file_framing};
 
-use crate::check::walk::{Source, Walk, pages_end, walk_over, walk_pages};
+use crate::check::walk::{Source, Walk, pages_end, walk_pages};
 use crate::fault::DviFault;
 use dvi_scan::{FileEnd, prescan_definitions, read_trailing_definitions};
 use std::alloc::Global;
 use tfm_core::FontFile;
 
-/// Reads the pages of a file. A font that they select needs a definition after post too.
-pub(crate) fn read_pages<'a>(
+/// Checks the pages of a file, and drops their marks as they come. A font that they select needs a definition after post too.
+pub(crate) fn check_pages<'c, 'a>(
     alloc: Global,
     bytes: &'a [u8],
     files: &[FontFile],
     ending: &FileEnd,
     from: usize,
-    chain: Vec<usize>,
-) -> Result<Walk<'a>, DviFault>
+    chain: &'c [usize],
+) -> Result<Walk<'c, 'a>, DviFault>
     requires low { ending.now.after + 5 ≤ ending.now.last }
     requires high { ending.now.last ≤ length bytes.now }
-    requires starts { StartsAt bytes.now ending.now.post ending.now.after ending.now.last (postamble ending.now.stop) chain.items from }
-    ensures ok { IfOk result (HoldsPages files.now bytes.now
-        (file_framing ending.now.post ending.now.after ending.now.last (postamble ending.now.stop) chain.items) from) }
+    requires starts { StartsAt bytes.now ending.now.post ending.now.after ending.now.last (postamble ending.now.stop) chain.now from }
+    ensures ok { IfOk result (HasPassed files.now bytes.now
+        (file_framing ending.now.post ending.now.after ending.now.last (postamble ending.now.stop) chain.now) from) }
     ensures bad { IfErr result (IsDviFault files.now bytes.now) }
 {
     let ahead = prescan_definitions(alloc, bytes, ending.after, ending.last - 5)?;
@@ -42,37 +42,11 @@ pub(crate) fn read_pages<'a>(
     walk_pages(alloc, &source, from, chain)
 }
 
-/// Reads the pages of a file, as `read_pages`, and drops their marks as they come.
-pub(crate) fn check_pages<'a>(
-    alloc: Global,
-    bytes: &'a [u8],
-    files: &[FontFile],
-    ending: &FileEnd,
-    from: usize,
-    chain: Vec<usize>,
-) -> Result<Walk<'a>, DviFault>
-    requires low { ending.now.after + 5 ≤ ending.now.last }
-    requires high { ending.now.last ≤ length bytes.now }
-    requires starts { StartsAt bytes.now ending.now.post ending.now.after ending.now.last (postamble ending.now.stop) chain.items from }
-    ensures ok { IfOk result (HasPassed files.now bytes.now
-        (file_framing ending.now.post ending.now.after ending.now.last (postamble ending.now.stop) chain.items) from) }
-    ensures bad { IfErr result (IsDviFault files.now bytes.now) }
-{
-    let numbers = prescan_definitions(alloc, bytes, ending.after, ending.last - 5)?;
-    let source = Source {
-        bytes,
-        files,
-        ahead: &numbers,
-        ending,
-    };
-    walk_over(alloc, &source, from, chain, false)
-}
-
 /// Ends a walk at the place of post, and reads the part after post.
 pub(crate) fn finish<'a>(
     bytes: &'a [u8],
     ending: &FileEnd,
-    walk: &mut Walk<'a>,
+    walk: &mut Walk<'_, 'a>,
 ) -> Result<(), DviFault>
     requires low { ending.now.after + 5 ≤ ending.now.last }
     requires high { ending.now.last ≤ length bytes.now }

@@ -14,8 +14,8 @@ ghost use Rattle.dvi_scan.specs.View.{marked_page, spot_position};
 ghost use Rattle.dvi_read.specs.ReadFonts.{AreSound, HaveByteCodes, IsCurrent, asked_width, selected_in};
 ghost use Rattle.dvi_read.specs.Steps.{known_of, places_left, stand_of};
 ghost use Rattle.dvi_read.specs.Stops.{page_bytes, PagesHaveEnded, IsUnended, IsWalkFault};
-ghost use Rattle.dvi_read.specs.Walks.{IsWalked};
-ghost use Rattle.dvi_read.specs.Private.Walks.{IsBegun, IsWalkedOver, Reads, StopsReading, held_state};
+ghost use Rattle.dvi_read.specs.Walks.{IsWalked, bare};
+ghost use Rattle.dvi_read.specs.Private.Walks.{IsBegun, Reads, StopsReading};
 ghost use Rattle.tfm_core.specs.FileWidths.{file_widths};
 
 use crate::check::instruction::step;
@@ -40,15 +40,16 @@ pub struct Source<'s, 'a> {
     pub ending: &'s FileEnd,
 }
 
-/// The state of a walk over the pages of a file: the state of the pass; the finished pages; the known definitions; the fonts that were read; the
-/// places of the chain that are still to come, the last one first; and whether one before them was missed, because no bop was there.
+/// The state of a walk over the pages of a file: the state of the pass; the pages that have ended and were not dropped yet; the known definitions;
+/// the fonts that were read; the places of the chain that are still to come, the last one first; and whether one before them was missed, because no
+/// bop was there.
 #[derive(Drop)]
-pub struct Walk<'a> {
+pub struct Walk<'c, 'a> {
     pub stand: PassState<'a>,
     pub done: Vec<Page<'a>>,
     pub known: KnownFonts<'a>,
     pub fonts: ReadFonts,
-    pub left: Vec<usize>,
+    pub left: &'c [usize],
     pub missed: bool,
 }
 
@@ -57,7 +58,7 @@ fn read_step<'a>(
     alloc: Global,
     source: &Source<'_, 'a>,
     at: usize,
-    walk: &mut Walk<'a>,
+    walk: &mut Walk<'_, 'a>,
 ) -> Result<usize, DviFault>
     requires low { at < source.now.ending.now.post }
     requires high { source.now.ending.now.post ≤ length source.now.bytes.now }
@@ -89,8 +90,8 @@ fn read_step<'a>(
 }
 
 /// A walk before the first page.
-fn walk_start<'a>(alloc: Global, left: Vec<usize>) -> Walk<'a>
-    ensures { IsBegun left.items result }
+fn walk_start<'c, 'a>(alloc: Global, left: &'c [usize]) -> Walk<'c, 'a>
+    ensures { IsBegun left.now result }
 {
     Walk {
         stand: PassState::Between,
@@ -102,17 +103,14 @@ fn walk_start<'a>(alloc: Global, left: Vec<usize>) -> Walk<'a>
     }
 }
 
-/// Drops the pages that have ended and the marks so far, unless they are kept.
-fn release(keeps: bool, walk: &mut Walk<'_>)
-    ensures stand { stand_of walk.new ≡ held_state keeps (stand_of walk.old) }
+/// Drops the pages that have ended and the marks so far.
+fn release(walk: &mut Walk<'_, '_>)
+    ensures stand { stand_of walk.new ≡ bare (stand_of walk.old) }
     ensures selected { selected_in walk.new.stand ≡ selected_in walk.old.stand }
     ensures fonts { walk.new.fonts ≡ walk.old.fonts }
     ensures known { known_of walk.new ≡ known_of walk.old }
     ensures left { places_left walk.new ≡ places_left walk.old }
 {
-    if keeps {
-        return;
-    }
     walk.done.clear();
     if let PassState::Inside(page) = &mut walk.stand {
         page.marks.clear();
@@ -134,7 +132,7 @@ fn pass_in_page(fonts: &ReadFonts, byte: u8, page: &mut OpenPage<'_>) -> bool
     let code = CharCode {
         value: i32::from(byte),
     };
-    let Some(width) = fonts.width(code) else {
+    let Some(width) = fonts.width_at(fonts.current, code) else {
         return false;
     };
     let Some(place) = page.state.place.right(width) else {
@@ -144,18 +142,18 @@ fn pass_in_page(fonts: &ReadFonts, byte: u8, page: &mut OpenPage<'_>) -> bool
     true
 }
 
-/// Passes over a character of one byte in an open page, in a walk that keeps no mark. Returns whether it did.
-fn pass_character(keeps: bool, source: &Source<'_, '_>, at: usize, walk: &mut Walk<'_>) -> bool
+/// Passes over a character of one byte in an open page. Returns whether it did.
+fn pass_character(source: &Source<'_, '_>, at: usize, walk: &mut Walk<'_, '_>) -> bool
     requires low { at < source.now.ending.now.post }
     requires high { source.now.ending.now.post ≤ length source.now.bytes.now }
     requires codes { HaveByteCodes walk.old.fonts }
     ensures passed { result ≡ true → (metrics : WidthsByName) (ahead : List ℤ) (stop : Postamble) (chain : List ℕ)
-        → IsWalkedOver keeps metrics ahead source.now.bytes.now stop chain at walk.old
-        → IsWalkedOver keeps metrics ahead source.now.bytes.now stop chain (at + 1) walk.new }
+        → IsWalked metrics ahead source.now.bytes.now stop chain at walk.old
+        → IsWalked metrics ahead source.now.bytes.now stop chain (at + 1) walk.new }
     ensures same { result ≡ false → walk.new ≡ walk.old }
 {
     let byte = source.bytes[at];
-    if keeps || byte >= 128 {
+    if byte >= 128 {
         return false;
     }
     match &mut walk.stand {
@@ -164,63 +162,44 @@ fn pass_character(keeps: bool, source: &Source<'_, '_>, at: usize, walk: &mut Wa
     }
 }
 
-/// Walks over the pages of a file, as `walk_pages`, and keeps their marks or drops them as they come.
-pub(crate) fn walk_over<'a>(
+/// Walks over the pages of a file, from the place after the preamble up to post, and drops their marks as they come. `left` has the places of the
+/// pages, the last one first (DVItype, 15 and 18). The width of a character is that of the first definition of its font. It takes memory for a page,
+/// its marks and places, for definitions and fonts.
+///
+/// The fault is Bad with the first broken rule and its place; NoFont, BadTfm or DimensionTooLarge for a selected font without widths; or OutOfMemory.
+pub fn walk_pages<'c, 'a>(
     alloc: Global,
     source: &Source<'_, 'a>,
     from: usize,
-    left: Vec<usize>,
-    keeps: bool,
-) -> Result<Walk<'a>, DviFault>
+    left: &'c [usize],
+) -> Result<Walk<'c, 'a>, DviFault>
     requires low { from ≤ source.now.ending.now.post }
     requires high { source.now.ending.now.post ≤ length source.now.bytes.now }
     requires reached { IsReached (file_widths source.now.files.now) source.now.ahead.now.keys source.now.bytes.now
-        (postamble source.now.ending.now.stop) left.items from (before_pages left.items) }
-    ensures ok { IfOk result (IsWalkedOver keeps (file_widths source.now.files.now) source.now.ahead.now.keys source.now.bytes.now
-        (postamble source.now.ending.now.stop) left.items source.now.ending.now.post) }
+        (postamble source.now.ending.now.stop) left.now from (before_pages left.now) }
+    // All instructions before post are right, and the walk has their fonts.
+    ensures ok { IfOk result (IsWalked (file_widths source.now.files.now) source.now.ahead.now.keys source.now.bytes.now
+        (postamble source.now.ending.now.stop) left.now source.now.ending.now.post) }
+    // All instructions before the place of a fault are right, and the rule that it names is broken there.
     ensures bad { IfErr result (IsWalkFault source.now.files.now source.now.ahead.now.keys source.now.bytes.now (postamble source.now.ending.now.stop)
-        left.items source.now.ending.now.post) }
+        left.now source.now.ending.now.post) }
 {
     let mut walk = walk_start(alloc, left);
     let mut at = from;
     while at < source.ending.post {
-        if pass_character(keeps, source, at, &mut walk) {
+        if pass_character(source, at, &mut walk) {
             at += 1;
         } else {
             at = read_step(alloc, source, at, &mut walk)?;
-            release(keeps, &mut walk);
+            release(&mut walk);
         }
     }
     Ok(walk)
 }
 
-/// Walks over the pages of a file, from the place after the preamble up to post. `left` has the places of the pages, the last one first (DVItype, 15
-/// and 18). The width of a character is that of the first definition of its font. It takes memory for pages, marks, places, definitions and fonts.
-///
-/// The fault is Bad with the first broken rule and its place; NoFont, BadTfm or DimensionTooLarge for a selected font without widths; or OutOfMemory.
-pub fn walk_pages<'a>(
-    alloc: Global,
-    source: &Source<'_, 'a>,
-    from: usize,
-    left: Vec<usize>,
-) -> Result<Walk<'a>, DviFault>
-    requires low { from ≤ source.now.ending.now.post }
-    requires high { source.now.ending.now.post ≤ length source.now.bytes.now }
-    requires reached { IsReached (file_widths source.now.files.now) source.now.ahead.now.keys source.now.bytes.now
-        (postamble source.now.ending.now.stop) left.items from (before_pages left.items) }
-    // All instructions before post are right, and the walk has their pages and fonts.
-    ensures ok { IfOk result (IsWalked (file_widths source.now.files.now) source.now.ahead.now.keys source.now.bytes.now
-        (postamble source.now.ending.now.stop) left.items source.now.ending.now.post) }
-    // All instructions before the place of a fault are right, and the rule that it names is broken there.
-    ensures bad { IfErr result (IsWalkFault source.now.files.now source.now.ahead.now.keys source.now.bytes.now (postamble source.now.ending.now.stop)
-        left.items source.now.ending.now.post) }
-{
-    walk_over(alloc, source, from, left, true)
-}
-
 /// Tests that no page is open at the place of post, where the fault is Opcode, and that a bop was at each place of the chain, where the fault is
 /// Pointer. Both faults are at the place of post.
-pub fn pages_end(walk: &Walk<'_>, post: usize) -> Result<(), BadDvi>
+pub fn pages_end(walk: &Walk<'_, '_>, post: usize) -> Result<(), BadDvi>
     ensures ok { OnOk result (PagesHaveEnded (stand_of walk.now) (places_left walk.now) (map marked_page walk.now.done.items)) }
     ensures bad { IfErr result (IsUnended (stand_of walk.now) (places_left walk.now) post) }
 {

@@ -1,19 +1,111 @@
-//! What is still to come of a listing.
+//! The lines of the listing of a checked file.
 
-ghost use Rattle.std.specs.Prelude.{◌+◌, ◌<◌, ◌^◌, length};
+ghost use Rattle.std.specs.Prelude.{◌≡◌, ◌++◌, ◌+◌, ◌<◌, ◌≤◌, [], false, length, vec_capacity, vec_len, IsTrue, List, None, ℕ};
+ghost use Rattle.dvi_read.specs.Seen.{SeenItem, seen_lines};
+ghost use Rattle.dvi_read.specs.SeenAhead.{AreLinesAhead, GivesFirst, HasAllLines, IsSeenAhead, lines_left};
+ghost use Rattle.dvi_read.specs.declared.listings.part.TheConstants.{PART};
 
-use dvi_scan::{Mark, Page};
+use crate::listings::line_text::{put_counts, put_mark, put_text};
+use crate::listings::part::{ListingPart, PART};
+use crate::sights::{Sight, Sights};
 
-/// The lines of a listing that are still to come.
-#[derive(Clone, Copy, Debug)]
-pub struct Lines<'a, 'f> {
+/// The lines of the listing of a checked file that are still to come.
+#[derive(Drop)]
+pub struct Lines<'d, 'a> {
     /// The rest of the text of a special whose line was begun.
-    pub(crate) text: Option<&'f [u8]>,
-    /// The marks that are still to come of the page whose counts came last.
-    pub(crate) marks: &'a [Mark<'f>],
-    /// The pages after it.
-    pub(crate) pages: &'a [Page<'f>],
-    /// The number of pages before these.
+    pub(crate) text: Option<&'a [u8]>,
+    /// What is still to be seen of the pages.
+    pub(crate) sights: Sights<'d, 'a>,
+    /// The number of pages whose counts came.
     pub(crate) before: usize,
-    ghost counted: { before + length pages.now < 2 ^ 64 },
+}
+
+impl<'d, 'a> Lines<'d, 'a> {
+    /// All lines of the listing of these pages.
+    pub(crate) fn new(sights: Sights<'d, 'a>) -> Lines<'d, 'a>
+        ensures ahead { (seen : List SeenItem) → IsSeenAhead sights.entry seen → AreLinesAhead result (seen_lines 1 seen) }
+        ensures sights { result.sights ≡ sights.entry }
+    {
+        Lines {
+            text: None,
+            sights,
+            before: 0,
+        }
+    }
+
+    /// Replaces the part by the next line; for a special by the beginning of its line or by its next byte. Returns whether there was one.
+    pub(crate) fn next(&mut self, part: &mut ListingPart) -> bool
+        requires { (text : List ℕ) × AreLinesAhead self.old text }
+        ensures next { (text : List ℕ) → AreLinesAhead self.old text → IsTrue result → GivesFirst text part.new self.new }
+        ensures none { (text : List ℕ) → AreLinesAhead self.old text → result ≡ false → (text ≡ []) × AreLinesAhead self.new [] }
+        ensures filled { IsTrue result → 0 < length part.new }
+        ensures fewer { IsTrue result → lines_left self.new < lines_left self.old }
+        ensures no_more { lines_left self.new ≤ lines_left self.old }
+        ensures same { self.new.sights.file ≡ self.old.sights.file }
+    {
+        if let Some(text) = self.text {
+            self.text = put_text(text, part);
+            return true;
+        }
+        let Some(sight) = self.sights.next_sight() else {
+            return false;
+        };
+        match sight {
+            Sight::Page(counts) => {
+                self.before += 1;
+                put_counts(self.before, &counts, part);
+            }
+            Sight::Mark(mark) => self.text = put_mark(&mark, part),
+        }
+        true
+    }
+
+    /// Appends the next lines, as far as the capacity of `text` allows, and takes no memory. Lines are written from their end, and the part keeps the
+    /// end of the last line: the glyphs of a line of text have the same v, which is written once.
+    fn fill(&mut self, text: &mut Vec<u8>)
+        requires { (lines : List ℕ) × AreLinesAhead self.old lines }
+        ensures all { (lines : List ℕ) → AreLinesAhead self.old lines → (rest : List ℕ) × (text.new.items ++ rest ≡ text.old.items ++ lines)
+            × AreLinesAhead self.new rest }
+        ensures filled { (lines : List ℕ) → AreLinesAhead self.old lines → vec_len text.old + PART ≤ vec_capacity text.old → 0 < length lines
+            → vec_len text.old < vec_len text.new }
+        ensures fewer { vec_len text.old < vec_len text.new → lines_left self.new < lines_left self.old }
+        ensures capacity { vec_capacity text.old ≤ vec_capacity text.new }
+        ensures same { self.new.sights.file ≡ self.old.sights.file }
+    {
+        let mut part = ListingPart::new();
+        while text.capacity() - text.len() >= PART && self.next(&mut part) {
+            let Ok(()) = text.extend_from_slice(part.as_bytes()) else {
+                unreachable!()
+            };
+        }
+    }
+
+    /// Replaces `piece`, which has a capacity of at least PART bytes, by the next piece of the listing. Returns whether there was one. It takes no
+    /// memory.
+    pub fn next_piece(&mut self, piece: &mut Vec<u8>) -> bool
+        requires room { PART ≤ vec_capacity piece.old }
+        requires ahead { (text : List ℕ) × AreLinesAhead self.old text }
+        ensures all { (text : List ℕ) → AreLinesAhead self.old text → GivesFirst text piece.new.items self.new }
+        ensures none { result ≡ false → (text : List ℕ) → AreLinesAhead self.old text → text ≡ [] }
+        ensures piece_not_empty { IsTrue result → 0 < length piece.new.items }
+        ensures fewer { IsTrue result → lines_left self.new < lines_left self.old }
+        ensures capacity { vec_capacity piece.old ≤ vec_capacity piece.new }
+        // Whatever the whole listing is, it stays so.
+        ensures all_lines { (text : List ℕ) → HasAllLines self.old text → HasAllLines self.new text }
+    {
+        piece.clear();
+        self.fill(piece);
+        !piece.is_empty()
+    }
+
+    /// Begins the listing again with its first line. It takes no memory.
+    pub fn rewind(&mut self)
+        requires { (text : List ℕ) × AreLinesAhead self.old text }
+        ensures ahead { (text : List ℕ) → HasAllLines self.old text → AreLinesAhead self.new text }
+        ensures all_lines { (text : List ℕ) → HasAllLines self.old text → HasAllLines self.new text }
+    {
+        self.text = None;
+        self.before = 0;
+        self.sights.rewind();
+    }
 }

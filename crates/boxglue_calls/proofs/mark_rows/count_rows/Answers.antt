@@ -1,8 +1,9 @@
 -- One more row is counted, or nothing is left.
-use Rattle.std.proofs.Common.{◌≡◌, [], List, Option, ap, arith, length, refl, subst}
-use Rattle.dvi_read.proofs.AgainLemmas.{same_file, same_then}
+use Rattle.std.proofs.Common.{◌≡◌, [], List, Option, ap, arith, length, refl, subst, ◌∙◌}
+use Rattle.std.specs.Borrow.{Bor}
 use Rattle.dvi_read.specs.Seen.{SeenItem}
 use Rattle.dvi_read.specs.SeenAhead.{PassesNextText, ShowsNext, sight_of}
+use Rattle.dvi_read.specs.declared.check.checked_file.CheckedFile.{CheckedFile}
 use Rattle.dvi_read.specs.declared.sights.Sight.{Sight}
 use Rattle.boxglue_calls.specs.Private.MarkRows.{marks_among, pages_among}
 use Rattle.boxglue_calls.proofs.RowSteps.{counted_next, counted_row, counted_rows}
@@ -16,7 +17,7 @@ loop-sight-init c =
       rows = λ metrics table places seen first texts widths.
           record { done = []; rest = seen; passed = []; left = places; ahead = first; parts = refl; texts_parts = refl; texts = texts; rows = ([], tt, refl) };
       few = omega arith;
-      same = same_file c.args.sights.now;
+      same = refl;
     }
 
 pub count_sight-requires : goal.count_sight-requires
@@ -40,14 +41,14 @@ loop-sight-preserved c =
           counted_row metrics table c.args.sights.now places seen c.loop-sight.sights c.next_sight.new.self c.in-Some.sight widths held.same c.next_sight.ensures.same c.in-Some.ensures.text counted
           (c.in-Some.ensures.texts counted.left counted.texts) (c.in-Some.ensures.next counted.rest counted.ahead));
       few = omega (arith, held.few, c.in-Some.ensures.forward refl, one.one);
-      same = same_then c.args.sights.now c.loop-sight.sights c.next_sight.new.self held.same c.next_sight.ensures.same;
+      same = c.next_sight.ensures.same ∙ held.same;
     }
 
 pub loop-sight-smaller : goal.loop-sight-smaller
 loop-sight-smaller c =
     let (seen, now) = c.loop-sight.invariant.some in
     let (later, is, ahead) = c.in-Some.ensures.next seen now in
-    let within = ahead.rest.low in omega (arith, within, c.next_sight.ensures.post, c.in-Some.ensures.forward refl)
+    let within = ahead.rest.low in omega (arith, within, ap (λ (file : Bor CheckedFile). file.now.post) c.next_sight.ensures.same, c.in-Some.ensures.forward refl)
 
 pub returns-clause-pages : goal.returns-clause-pages
 returns-clause-pages c = λ seen first.
@@ -74,4 +75,4 @@ returns-clause-ahead c =
     let (none, ahead) = subst (λ (o : Option Sight). ShowsNext seen c.next_sight.new.self o) c.in_default.is (c.next_sight.ensures.next seen now) in ([], ahead)
 
 pub returns-clause-same : goal.returns-clause-same
-returns-clause-same c = same_then c.args.sights.now c.loop-sight.sights c.next_sight.new.self c.loop-sight.invariant.same c.next_sight.ensures.same
+returns-clause-same c = c.next_sight.ensures.same ∙ c.loop-sight.invariant.same

@@ -1,6 +1,8 @@
 -- One more row is written, or nothing is left.
-use Rattle.std.proofs.Common.{[], Option, arith, refl, subst}
+use Rattle.std.proofs.Common.{[], Option, ap, arith, refl, subst}
+use Rattle.std.specs.Borrow.{Bor}
 use Rattle.dvi_read.specs.SeenAhead.{PassesNextText, ShowsNext}
+use Rattle.dvi_read.specs.declared.check.checked_file.CheckedFile.{CheckedFile}
 use Rattle.dvi_read.specs.declared.sights.Sight.{Sight}
 use Rattle.boxglue_calls.specs.MarkTables.{mark_outputs}
 use Rattle.boxglue_calls.proofs.RowSteps.{place_there, written_all, written_next, writing_first}
@@ -38,7 +40,7 @@ loop-sight-smaller c =
     let (metrics, table, places, all, can) = c.requires in
     let writing = c.loop-sight.invariant metrics table places all can in
     let (later, is, ahead) = c.in-Some.ensures.next writing.rest writing.ahead in
-    let within = ahead.rest.low in omega (arith, within, c.next_sight.ensures.post, c.in-Some.ensures.forward refl)
+    let within = ahead.rest.low in omega (arith, within, ap (λ (file : Bor CheckedFile). file.now.post) c.next_sight.ensures.same, c.in-Some.ensures.forward refl)
 
 pub returns : goal.returns
 returns c = λ metrics table places all can.

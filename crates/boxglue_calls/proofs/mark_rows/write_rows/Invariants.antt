@@ -14,4 +14,4 @@ invariant-loop-sight l = (metrics : WidthsByName) (table : List Definition) (pla
     → IsWriting metrics table l.initial.sights (mark_outputs l.initial.pages l.initial.marks []) (mark_outputs l.pages l.marks []) l.written places all l.sights
 
 abbrev pub decreases-loop-sight : goal.decreases-loop-sight
-decreases-loop-sight l = l.sights.post - l.sights.at
+decreases-loop-sight l = l.sights.file.now.post - l.sights.at

@@ -4,11 +4,12 @@ use Rattle.std.specs.Borrow.{Bor}
 use Rattle.dvi_ops.specs.File.{MarkedPage}
 use Rattle.dvi_ops.specs.Fonts.{definitions}
 use Rattle.dvi_ops.specs.Tokens.{token_instructions}
-use Rattle.dvi_read.proofs.AgainLemmas.{same_pages, same_then}
-use Rattle.dvi_read.proofs.TextLemmas.{all_ahead, same_texts}
+use Rattle.dvi_read.proofs.AgainLemmas.{same_pages}
+use Rattle.dvi_read.proofs.TextLemmas.{all_ahead}
 use Rattle.dvi_read.specs.PageMarks.{HasGlyphWidths, marks_of, text_places}
 use Rattle.dvi_read.specs.Seen.{seen_of}
-use Rattle.dvi_read.specs.SeenAhead.{IsSameFile, IsSeenAhead}
+use Rattle.dvi_read.specs.SeenAhead.{HasCheckedTexts, IsSeenAhead}
+use Rattle.dvi_read.specs.declared.check.checked_file.CheckedFile.{CheckedFile}
 use Rattle.dvi_read.specs.declared.sights.Sights.{Sights}
 use Rattle.scaled_core.specs.Mark.{Mark}
 use Rattle.tfm_core.specs.FileWidths.{file_widths}
@@ -24,12 +25,12 @@ use Rattle.boxglue_calls.proofs.mark_table.hand_over_rows.Goals as goal
 
 -- All is known that the second walk needs.
 can_write : (files : List NamedBytes) (bytes : List ℕ) (units : UnitsOf) (first new : Sights) (all : List MarkedPage) (checked : IsChecked files bytes units first all) (buffers : MarkOutputs) (pages marks : ℕ)
-    → IsSameFile first new → IsSeenAhead new (seen_of all) → new.at ≡ new.from → pages ≡ length all → marks ≡ length (marks_of all) → (pages ≤ length buffers.pages) × (marks ≤ length buffers.marks)
+    → new.file ≡ first.file → IsSeenAhead new (seen_of all) → new.at ≡ new.file.now.from → pages ≡ length all → marks ≡ length (marks_of all) → (pages ≤ length buffers.pages) × (marks ≤ length buffers.marks)
     → CanBeWritten (file_widths files) (definitions (token_instructions checked.file.frame.front ++ token_instructions checked.file.frame.tail)) new buffers (text_places 0 checked.file.frame.front) all
 can_write files bytes units first new all checked buffers pages marks same ahead begun pages_is marks_is (pages_fit, marks_fit) =
     record {
       ahead = ahead;
-      texts = all_ahead new (text_places 0 checked.file.frame.front) begun (same_texts first new (text_places 0 checked.file.frame.front) same checked.texts);
+      texts = all_ahead new (text_places 0 checked.file.frame.front) begun (subst (λ (file : Bor CheckedFile). HasCheckedTexts file.now (text_places 0 checked.file.frame.front)) (sym same) checked.texts);
       widths = same_widths (file_widths files) (definitions (token_instructions checked.file.frame.front ++ token_instructions checked.file.frame.tail)) first new (marks_of all) same checked.widths;
       pages_fit = subst (λ (n : ℕ). n ≤ length buffers.pages) pages_is pages_fit;
       marks_fit = subst (λ (n : ℕ). n ≤ length buffers.marks) marks_is marks_fit;
@@ -52,7 +53,7 @@ write_rows-requires c =
       text_places 0 checked.file.frame.front,
       all,
       can_write files bytes c.args.units first c.rewind.new.self all checked (mark_outputs c.args.pages.now c.args.marks.now []) c.count_rows-counts.result.pages c.count_rows-counts.result.marks
-          (same_then first c.count_rows-counts.new.sights c.rewind.new.self counted.same c.rewind.ensures.same)
+          (c.rewind.ensures.same ∙ counted.same)
           (c.rewind.ensures.ahead all (same_pages first c.count_rows-counts.new.sights all counted.same checked.all)) c.rewind.ensures.place (counted.pages (seen_of all) checked.ahead ∙ pages_seen_in all)
           (counted.marks (seen_of all) checked.ahead ∙ ap (λ (ms : List Mark). length ms) (marks_seen_in all)) (c.have_room.ensures.yes fact),
     )
@@ -66,9 +67,9 @@ returns-then-not-have_room c = λ files bytes all text checked.
     let marks_is = counted.marks (seen_of all) checked.ahead ∙ ap (λ (ms : List Mark). length ms) (marks_seen_in all) in
     let metrics = file_widths files in
     let defined = definitions (token_instructions checked.file.frame.front ++ token_instructions checked.file.frame.tail) in
-    let widths = subst (λ (ms : List Mark). HasGlyphWidths metrics defined first.fonts ms) (sym (marks_seen_in all)) checked.widths in
+    let widths = subst (λ (ms : List Mark). HasGlyphWidths metrics defined first.file.now.fonts ms) (sym (marks_seen_in all)) checked.widths in
     let places = text_places 0 checked.file.frame.front in
-    let rows = subst (λ (ms : List Mark). HasRowsFor metrics defined first.bytes.now places ms) (marks_seen_in all)
+    let rows = subst (λ (ms : List Mark). HasRowsFor metrics defined first.file.now.bytes.now places ms) (marks_seen_in all)
     (counted.rows metrics defined places (seen_of all) checked.ahead (all_ahead first places checked.begun checked.texts) widths) in
     let fact : c.have_room.result ≡ false = search rules in
     rows_lack files bytes c.args.units first all checked c.sizes_of.result (sizes.pages ∙ pages_is) (sizes.marks ∙ marks_is) sizes.text sizes.units rows c.args.pages.now c.args.marks.now text
@@ -83,7 +84,7 @@ returns c = λ files bytes all text checked.
     let marks_is = counted.marks (seen_of all) checked.ahead ∙ ap (λ (ms : List Mark). length ms) (marks_seen_in all) in
     let defined = definitions (token_instructions checked.file.frame.front ++ token_instructions checked.file.frame.tail) in
     let fact : c.have_room.result ≡ true = search rules in
-    let same = same_then first c.count_rows-counts.new.sights c.rewind.new.self counted.same c.rewind.ensures.same in
+    let same = c.rewind.ensures.same ∙ counted.same in
     let before = mark_outputs c.args.pages.now c.args.marks.now [] in
     let can = can_write files bytes c.args.units first c.rewind.new.self all checked before c.count_rows-counts.result.pages c.count_rows-counts.result.marks same
     (c.rewind.ensures.ahead all (same_pages first c.count_rows-counts.new.sights all counted.same checked.all)) c.rewind.ensures.place pages_is marks_is (c.have_room.ensures.yes fact) in
@@ -91,4 +92,4 @@ returns c = λ files bytes all text checked.
     let written = c.write_rows.ensures (file_widths files) defined places all can in
     rows_handed files bytes c.args.units first all checked c.sizes_of.result (sizes.pages ∙ pages_is) (sizes.marks ∙ marks_is) sizes.text sizes.units c.args.pages.now c.write_rows.new.pages c.args.marks.now
     c.write_rows.new.marks text
-    (subst (λ (b : Bor (List ℕ)). HoldsRows (file_widths files) defined b.now before (mark_outputs c.write_rows.new.pages c.write_rows.new.marks []) places all) same.bytes written)
+    (subst (λ (file : Bor CheckedFile). HoldsRows (file_widths files) defined file.now.bytes.now before (mark_outputs c.write_rows.new.pages c.write_rows.new.marks []) places all) same written)

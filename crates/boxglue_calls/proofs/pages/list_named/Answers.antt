@@ -11,26 +11,23 @@ use Rattle.boxglue_calls.specs.Fonts.{files_of}
 use Rattle.boxglue_calls.specs.Pages.{HandsOverPages}
 use Rattle.boxglue_calls.proofs.pages.list_named.Goals as goal
 
-pub list_checked-requires : goal.list_checked-requires
-list_checked-requires c = let (pages, file, has) = c.in-Ok.ensures.ok in (pages, has)
-
 pub returns-in-Ok-clause-handed : goal.returns-in-Ok-clause-handed
 returns-in-Ok-clause-handed c =
-    let (pages, file, has) = c.in-Ok.ensures.ok in
+    let pages = c.in-Ok.opened.pages in
     let same : c.deref.result.now ≡ files_of c.args.fonts.now = c.deref.ensures.value ∙ c.in_ok-files.ensures in
-    let new = c.list_checked.new.text in
-    let size = c.list_checked.new.size in
-    subst (λ (files : List NamedBytes). IfOk c.list_checked.result (HandsOverPages (IsListed files c.args.dvi.now) c.args.text.now new size)) same
-    (IfOk-weaker c.list_checked.result (λ status. HandsOver c.args.text.now new (listing pages) 0 status × (size ≡ length (listing pages)))
+    let new = c.list_opened.new.text in
+    let size = c.list_opened.new.size in
+    subst (λ (files : List NamedBytes). IfOk c.list_opened.result (HandsOverPages (IsListed files c.args.dvi.now) c.args.text.now new size)) same
+    (IfOk-weaker c.list_opened.result (λ status. HandsOver c.args.text.now new (listing pages) 0 status × (size ≡ length (listing pages)))
     (HandsOverPages (IsListed c.deref.result.now c.args.dvi.now) c.args.text.now new size)
     (λ status handed.
     record {
       text = listing pages;
       accepted = true;
-      output = inl (record { pages = pages; file = file; text_is = refl; accepted_is = refl });
+      output = inl (record { pages = pages; file = c.in-Ok.ensures.ok; text_is = refl; accepted_is = refl });
       handed = handed.0;
       size_is = handed.1;
-    }) (c.list_checked.ensures.handed pages has))
+    }) c.list_opened.ensures.handed)
 
 pub returns-clause-handed : goal.returns-clause-handed
 returns-clause-handed c =

@@ -29,24 +29,23 @@ returns-in-Err-clause-listed g c =
     )
 
 pub write_listing-requires-clause-ahead : goal.write_listing-requires-clause-ahead
-write_listing-requires-clause-ahead g c =
-    let (pages, file, has) = c.in-Ok.ensures.ok in (listing pages, c.in_ok-lines.ensures.ahead pages has)
+write_listing-requires-clause-ahead g c = (listing c.in-Ok.opened.pages, c.in_ok-lines.ensures.ahead)
 
 pub returns-in_err-write_listing-clause-unwritten : goal.returns-in_err-write_listing-clause-unwritten
 returns-in_err-write_listing-clause-unwritten g c said =
-    let (pages, file, has) = c.in-Ok.ensures.ok in (
+    let pages = c.in-Ok.opened.pages in (
       listing pages,
       true,
-      inl (record { pages = pages; file = file; text_is = refl; accepted_is = refl }),
-      c.in_err-write_listing.ensures.front (listing pages) (c.in_ok-lines.ensures.ahead pages has),
+      inl (record { pages = pages; file = c.in-Ok.ensures.ok; text_is = refl; accepted_is = refl }),
+      c.in_err-write_listing.ensures.front (listing pages) c.in_ok-lines.ensures.ahead,
     )
 
 pub returns-clause-listed : goal.returns-clause-listed
 returns-clause-listed g c =
-    let (pages, file, has) = c.in-Ok.ensures.ok in (
+    let pages = c.in-Ok.opened.pages in (
       listing pages,
-      inl (record { pages = pages; file = file; text_is = refl; accepted_is = refl }),
-      c.in_ok-write_listing.ensures.all (listing pages) (c.in_ok-lines.ensures.ahead pages has),
+      inl (record { pages = pages; file = c.in-Ok.ensures.ok; text_is = refl; accepted_is = refl }),
+      c.in_ok-write_listing.ensures.all (listing pages) c.in_ok-lines.ensures.ahead,
     )
 
 pub returns-in_err-piece-clause-silent : goal.returns-in_err-piece-clause-silent

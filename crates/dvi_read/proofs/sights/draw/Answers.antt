@@ -9,13 +9,14 @@ use Rattle.dvi_scan.specs.Drawing.{constant_width}
 use Rattle.dvi_scan.specs.Execution.{TurnsPage, inside_of}
 use Rattle.dvi_scan.specs.Pass.{execute}
 use Rattle.dvi_read.specs.PageMarks.{read_width}
+use Rattle.dvi_read.specs.ReadFonts.{with_current}
 use Rattle.dvi_read.specs.SeenAhead.{standing}
 use Rattle.dvi_read.proofs.SightLemmas.{after_is, counts_after, current_after, few_marks, never_broken, no_memory, none_held, popped, ready_again}
 use Rattle.dvi_read.proofs.sights.draw.Goals as goal
 
 pub unreachable-requires : goal.unreachable-requires
 unreachable-requires c =
-    let fonts = c.args.fonts.now in
+    let fonts = with_current c.args.fonts.now c.args.current.now in
     let page = c.args.page.now in
     let i = view c.args.op.now in
     let fault = c.in_default-take.field-0 in
@@ -26,7 +27,7 @@ unreachable-requires c =
 
 pub returns-clause-draws : goal.returns-clause-draws
 returns-clause-draws c = λ pages marks after e.
-    let fonts = c.args.fonts.now in
+    let fonts = with_current c.args.fonts.now c.args.current.now in
     let page = c.args.page.now in
     let mid = c.take.new.self in
     let i = view c.args.op.now in
@@ -42,22 +43,23 @@ returns-clause-counts c =
     let mid = c.take.new.self in
     let i = view c.args.op.now in
     let turn = subst (λ (w : Option ℤ). execute (bounded_acts (instruction_acts (constant_width w))) c.args.most i (inside_of [] page) ≡ Some (inside_of [] mid)) c.width_asked-width.ensures (c.in-Ok.ensures.turns []) in
-    counts_after c.args.most c.args.fonts.now i page c.requires.ready mid turn
+    counts_after c.args.most (with_current c.args.fonts.now c.args.current.now) i page c.requires.ready mid turn
 
 pub returns-clause-ready : goal.returns-clause-ready
 returns-clause-ready c =
-    let fonts = c.args.fonts.now in
+    let fonts = with_current c.args.fonts.now c.args.current.now in
     let page = c.args.page.now in
     let mid = c.take.new.self in
     let i = view c.args.op.now in
     let ready = c.requires.ready in
+    let chosen = with_current c.args.fonts.now c.choose_font.new.current in
     let room = c.in-Ok.ensures.room in
     let turn = subst (λ (w : Option ℤ). execute (bounded_acts (instruction_acts (constant_width w))) c.args.most i (inside_of [] page) ≡ Some (inside_of [] mid)) c.width_asked-width.ensures (c.in-Ok.ensures.turns []) in
     let few = few_marks c.args.most fonts i page ready mid turn in
     let (made, none) =
     popped mid.marks.items c.pop.new.self.items c.pop.result c.pop.ensures.items few (λ e. sym mid.marks.ok.0 ∙ none_held c.pop.result mid.marks.len c.pop.ensures.variant.1 e) in
-    ready_again c.args.most c.choose_font.new.fonts page mid (record mid { marks = c.pop.new.self }) ready.room room.marks room.places none c.pop.ensures.capacity refl refl
-    (λ f e. current_after c.args.most fonts i page ready mid turn c.choose_font.new.fonts c.choose_font.ensures.chosen f e)
+    ready_again c.args.most chosen page mid (record mid { marks = c.pop.new.self }) ready.room room.marks room.places none c.pop.ensures.capacity refl refl
+    (λ f e. current_after c.args.most fonts i page ready mid turn chosen c.choose_font.ensures f e)
 
 pub returns-in-Some-clause-draws : goal.returns-in-Some-clause-draws
 returns-in-Some-clause-draws c = λ pages marks after e.
@@ -69,6 +71,3 @@ returns-in-Some-clause-draws c = λ pages marks after e.
     let is : i ≡ Do (SetChar (to_z w32 (of_z w32 c.in-Some.code))) = set ∙ ap (λ (z : ℤ). Do (SetChar z)) same in
     c.set_character.ensures.draws c.args.most pages marks after
     (subst (λ (i : Instruction). execute (bounded_acts (instruction_acts (read_width fonts))) c.args.most i (standing true pages marks page) ≡ Some after) is e)
-
-pub returns-in-Some-clause-fonts : goal.returns-in-Some-clause-fonts
-returns-in-Some-clause-fonts c = (c.args.fonts.now.current, refl)

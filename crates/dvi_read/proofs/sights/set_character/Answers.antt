@@ -8,18 +8,18 @@ use Rattle.dvi_scan.specs.Drawing.{reached_position}
 use Rattle.dvi_scan.specs.Pass.{Inside}
 use Rattle.dvi_scan.specs.View.{spot_position, standing_state}
 use Rattle.dvi_read.specs.PageMarks.{read_width}
-use Rattle.dvi_read.specs.ReadFonts.{asked_width}
+use Rattle.dvi_read.specs.ReadFonts.{asked_width, with_current}
 use Rattle.dvi_read.proofs.CharacterLemmas.{same_mark, set_turn, some_after}
 use Rattle.dvi_read.proofs.SightLemmas.{asked_here}
 use Rattle.dvi_read.proofs.sights.set_character.Goals as goal
 
 pub returns-clause-draws : goal.returns-clause-draws
 returns-clause-draws c = λ most pages marks after e.
-    let fonts = c.args.fonts.now in
+    let fonts = with_current c.args.fonts.now c.args.current in
     let page = c.args.page.now in
     let code = c.args.code in
     let f = c.in-Some.font in
-    let w = c.in-Some-width.width in
+    let w = c.in-Some-width_at.width in
     let next = c.in-Some-right.next in
     let stack = reverse (map spot_position page.stack.items) in
     let chosen : page.state.font ≡ Some f = search (rules, ints) in

@@ -7,5 +7,5 @@ use Rattle.dvi_read.proofs.check.walk.pages_end.Goals as goal
 pub returns-then-walk-clause-bad : goal.returns-then-walk-clause-bad
 returns-then-walk-clause-bad c =
     let closed : c.args.walk.now.stand ≡ stands.Between = search rules in
-    let some : (c.args.walk.now.missed ≡ true) ⊎ (c.args.walk.now.left.items ≢ []) = search rules in
+    let some : (c.args.walk.now.missed ≡ true) ⊎ (c.args.walk.now.left.now ≢ []) = search rules in
     left_over c.args.walk.now c.args.post closed some

@@ -1,8 +1,8 @@
 -- A character of one byte is passed over as in the general way.
-use Rattle.std.proofs.Common.{rules, ◌≡◌, ◌+◌, Bool, false, get_or, arith, refl, sym, subst}
+use Rattle.std.proofs.Common.{◌+◌, get_or, arith, refl, sym, subst}
 use Rattle.dvi_scan.specs.declared.executing.OpenPage.{OpenPage}
 use Rattle.dvi_scan.specs.declared.executing.PassState.TheVariants as stands
-use Rattle.dvi_read.specs.Private.Walks.{IsWalkedOver}
+use Rattle.dvi_read.specs.Walks.{IsWalked}
 use Rattle.dvi_read.proofs.CharacterLemmas.{character_passed}
 use Rattle.dvi_read.proofs.check.walk.pass_character.Goals as goal
 
@@ -11,11 +11,8 @@ returns-in-Inside-clause-passed c = λ fine metrics ahead stop chain walked.
     let bytes = c.args.source.now.bytes.now in
     let old = c.args.walk.now in
     let new = c.pass_in_page.new.page in
-    let out : c.args.keeps ≡ false = search rules in
     let (f, width, font, asked, there) = c.pass_in_page.ensures.passed fine in
-    let free = subst (λ (keeps : Bool). IsWalkedOver keeps metrics ahead bytes stop chain c.args.at old) out walked in
     let passed =
     character_passed metrics ahead bytes stop chain c.args.at old c.in-Inside.page c.in-Inside.is new.state.place (get_or bytes c.args.at 0) f width (omega (arith, c.requires.low, c.requires.high)) refl
-    (omega (arith, c.if-byte-ge128.false)) font asked there free in
-    subst (λ (keeps : Bool). IsWalkedOver keeps metrics ahead bytes stop chain (c.args.at + 1) (record old { stand = stands.Inside new })) (sym out)
-    (subst (λ (p : OpenPage). IsWalkedOver false metrics ahead bytes stop chain (c.args.at + 1) (record old { stand = stands.Inside p })) (sym c.pass_in_page.ensures.rest) passed)
+    (omega (arith, c.if-byte-ge128.false)) font asked there walked in
+    subst (λ (p : OpenPage). IsWalked metrics ahead bytes stop chain (c.args.at + 1) (record old { stand = stands.Inside p })) (sym c.pass_in_page.ensures.rest) passed

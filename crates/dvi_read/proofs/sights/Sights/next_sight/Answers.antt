@@ -1,9 +1,9 @@
 -- What an instruction shows is next; at the place of post nothing is left.
-use Rattle.std.proofs.Common.{List, ℕ, Option, Some, arith, refl, subst, ◌∙◌}
+use Rattle.std.proofs.Common.{Option, Some, arith, refl, subst, ◌∙◌}
 use Rattle.std.specs.Borrow.{Bor}
 use Rattle.dvi_read.specs.SeenAhead.{EndsText, PassesText, ShowsFirst}
 use Rattle.dvi_read.specs.declared.sights.Sight.{Sight}
-use Rattle.dvi_read.proofs.AgainLemmas.{same_file, same_then}
+use Rattle.dvi_read.specs.declared.check.checked_file.CheckedFile.{CheckedFile}
 use Rattle.dvi_read.proofs.SightLemmas.{all_seen}
 use Rattle.dvi_read.proofs.TextLemmas.{none_ahead, none_passed}
 use Rattle.dvi_read.proofs.sights.Sights.next_sight.Goals as goal
@@ -19,17 +19,20 @@ returns-in-Some-clause-texts c = λ places has. c.in-Some.ensures.texts places (
 
 pub returns-clause-texts : goal.returns-clause-texts
 returns-clause-texts c = λ places has.
-    none_ahead c.loop-self.self.bytes.now c.loop-self.self.at c.loop-self.self.post places (omega arith) (c.loop-self.invariant.texts places has)
+    none_ahead c.loop-self.self.file.now.bytes.now c.loop-self.self.at c.loop-self.self.file.now.post places (omega arith) (c.loop-self.invariant.texts places has)
 
 pub returns-in-Some-clause-text : goal.returns-in-Some-clause-text
 returns-in-Some-clause-text c =
-    subst (λ (bytes : Bor (List ℕ)). EndsText bytes.now c.step.new.self.at (Some c.in-Some.sight)) c.loop-self.invariant.file.bytes c.in-Some.ensures.text
+    subst (λ (file : Bor CheckedFile). EndsText file.now.bytes.now c.step.new.self.at (Some c.in-Some.sight)) c.loop-self.invariant.file c.in-Some.ensures.text
 
 pub returns-in-Some-clause-same : goal.returns-in-Some-clause-same
-returns-in-Some-clause-same c = same_then c.args.self.now c.loop-self.self c.step.new.self c.loop-self.invariant.file c.step.ensures.same
+returns-in-Some-clause-same c = c.step.ensures.same ∙ c.loop-self.invariant.file
+
+pub returns-clause-fits : goal.returns-clause-fits
+returns-clause-fits c = c.loop-self.invariant.fits
 
 pub loop-self-init : goal.loop-self-init
-loop-self-init c = record { ahead = c.requires; same = λ seen a. a; texts = λ places has. has; forward = omega arith; post = refl; file = same_file c.args.self.now }
+loop-self-init c = record { ahead = c.requires; same = λ seen a. a; texts = λ places has. has; forward = omega arith; fits = omega arith; file = refl }
 
 pub loop-self-preserved : goal.loop-self-preserved
 loop-self-preserved c =
@@ -41,6 +44,6 @@ loop-self-preserved c =
       same = λ seen a. subst (λ (o : Option Sight). ShowsFirst seen c.step.new.self o) c.in_default.is (step.next seen (held.same seen a));
       texts = λ places has. none_passed c.step.new.self places (subst (λ (o : Option Sight). PassesText places c.step.new.self o) c.in_default.is (step.texts places (held.texts places has)));
       forward = omega (arith, held.forward, step.forward);
-      post = step.post ∙ held.post;
-      file = same_then c.args.self.now c.loop-self.self c.step.new.self held.file step.same;
+      fits = step.fits;
+      file = step.same ∙ held.file;
     }

@@ -1,7 +1,7 @@
 -- What is still to be seen is the same as at the beginning: nothing was seen on the way.
-use Rattle.std.proofs.Common.{◌≡◌, ◌≤◌, ◌-◌, List, ℕ}
+use Rattle.std.proofs.Common.{◌≡◌, ◌≤◌, ◌<◌, ◌-◌, ◌^◌, List, ℕ}
 use Rattle.dvi_read.specs.Seen.{SeenItem}
-use Rattle.dvi_read.specs.SeenAhead.{AreTextsAhead, IsSameFile, IsSeenAhead}
+use Rattle.dvi_read.specs.SeenAhead.{AreTextsAhead, IsSeenAhead}
 use Rattle.dvi_read.proofs.sights.Sights.next_sight.Given as goal
 
 abbrev pub invariant-loop-self : goal.invariant-loop-self
@@ -10,9 +10,9 @@ invariant-loop-self l = record {
   same : (seen : List SeenItem) → IsSeenAhead l.initial.self seen → IsSeenAhead l.self seen;
   texts : (places : List ℕ) → AreTextsAhead l.initial.self places → AreTextsAhead l.self places;
   forward : l.initial.self.at ≤ l.self.at;
-  post : l.self.post ≡ l.initial.self.post;
-  file : IsSameFile l.initial.self l.self;
+  fits : l.self.at < 2 ^ 64;
+  file : l.self.file ≡ l.initial.self.file;
 }
 
 abbrev pub decreases-loop-self : goal.decreases-loop-self
-decreases-loop-self l = l.self.post - l.self.at
+decreases-loop-self l = l.self.file.now.post - l.self.at

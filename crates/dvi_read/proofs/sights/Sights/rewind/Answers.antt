@@ -6,5 +6,4 @@ use Rattle.dvi_read.proofs.sights.Sights.rewind.Goals as goal
 pub returns : goal.returns
 returns c =
     let (seen, a) = c.requires in
-    let s = c.args.self.now in
-    record { ahead = λ pages has. seen_again s seen pages a has; place = refl; same = record { bytes = refl; from = refl; post = refl; most = refl; fonts = (s.fonts.current, refl) } }
+    record { ahead = λ pages has. seen_again c.args.self.now seen pages a has; place = refl; same = refl }

@@ -25,17 +25,13 @@ returns-clause-text c =
     let (seen, a) = c.requires.ahead in
     let found = c.in-Ok.ensures in
     let high = a.rest.high in
-    subst (λ (n : ℕ). EndsText s.bytes.now n c.take.result) (sym c.take.ensures.place)
-    (text_ends s.bytes.now s.at c.in-Ok.next (view c.in-Ok.op) c.take.result a.rest.small found.after (omega (arith, found.end_bounded, high)) found.found c.take.ensures.text)
+    subst (λ (n : ℕ). EndsText s.file.now.bytes.now n c.take.result) (sym c.take.ensures.place)
+    (text_ends s.file.now.bytes.now s.at c.in-Ok.next (view c.in-Ok.op) c.take.result a.rest.small found.after (omega (arith, found.end_bounded, high)) found.found c.take.ensures.text)
 
 pub returns-clause-texts : goal.returns-clause-texts
 returns-clause-texts c = λ places has.
     let s = c.args.self.now in
     let (seen, a) = c.requires.ahead in
     let found = c.in-Ok.ensures in
-    texts_passed s c.take.new.self c.in-Ok.next (view c.in-Ok.op) c.take.result places (omega (arith, found.after)) found.end_bounded a.rest.high found.found c.take.ensures.place c.take.ensures.post
-    c.take.ensures.same.bytes (c.take.ensures.begins c.in-Ok.next) has
-
-pub returns-clause-same : goal.returns-clause-same
-returns-clause-same c =
-    let same = c.take.ensures.same in record { bytes = same.bytes; from = same.from; post = same.post; most = same.most; fonts = same.fonts }
+    texts_passed s c.take.new.self c.in-Ok.next (view c.in-Ok.op) c.take.result places (omega (arith, found.after)) found.end_bounded a.rest.high found.found c.take.ensures.place c.take.ensures.same
+    (c.take.ensures.begins c.in-Ok.next) has

@@ -14,7 +14,7 @@ returns-then-not-self-clause-next c = λ seen a.
     let s = c.args.self.now in
     let outside : s.inside ≡ false = search rules in
     let fact : c.begin.result ≡ true = search rules in
-    began (view c.args.op.now) s seen a c.begin.new.page outside (c.begin.ensures.yes fact (bounded_acts (instruction_acts (read_width s.fonts))) s.most a.pages) c.begin.ensures.none c.begin.ensures.places (c.begin.ensures.font fact)
+    began (view c.args.op.now) s seen a c.begin.new.page outside (c.begin.ensures.yes fact (bounded_acts (instruction_acts (read_width s.file.now.fonts))) s.file.now.most a.pages) c.begin.ensures.none c.begin.ensures.places (c.begin.ensures.font fact)
 
 pub returns-in-Eop-clause-next : goal.returns-in-Eop-clause-next
 returns-in-Eop-clause-next c = λ seen a.
@@ -22,8 +22,8 @@ returns-in-Eop-clause-next c = λ seen a.
     let within : s.inside ≡ true = search rules in
     ended (view c.args.op.now) s seen a within (ap view c.in-Eop.is)
 
-pub draw-requires : goal.draw-requires
-draw-requires c =
+pub draw-drawn-requires : goal.draw-drawn-requires
+draw-drawn-requires c =
     let s = c.args.self.now in
     let i = view c.args.op.now in
     let (seen, a) = c.requires in
@@ -34,47 +34,31 @@ pub returns-in-Some : goal.returns-in-Some
 returns-in-Some c =
     let s = c.args.self.now in
     let within : s.inside ≡ true = search rules in
-    let draw = c.draw.ensures in
-    let (place, fonts) = draw.fonts in
+    let draw = c.draw-drawn.ensures in
     let (seen, a) = c.requires in
-    let texts = drawn_texts (view c.args.op.now) s seen a c.draw.new.page c.draw.result within draw.draws in
+    let texts = drawn_texts (view c.args.op.now) s seen a c.draw-drawn.new.page c.draw-drawn.result within draw.draws in
     record {
-      next = λ seen a. drew (view c.args.op.now) s seen a c.draw.new.fonts c.draw.new.page c.draw.result _ place within fonts draw.counts draw.ready draw.draws c.in-Some.is;
+      next = λ seen a. drew (view c.args.op.now) s seen a c.draw-drawn.new.current c.draw-drawn.new.page c.draw-drawn.result _ within draw.counts draw.ready draw.draws c.in-Some.is;
       place = refl;
-      text = text_shown (view c.args.op.now) c.draw.result _ texts c.in-Some.is;
-      begins = λ end. place_shown end (view c.args.op.now) c.draw.result _ texts c.in-Some.is;
-      post = refl;
-      same = record { bytes = refl; from = refl; post = refl; most = refl; fonts = (place, fonts) };
+      text = text_shown (view c.args.op.now) c.draw-drawn.result _ texts c.in-Some.is;
+      begins = λ end. place_shown end (view c.args.op.now) c.draw-drawn.result _ texts c.in-Some.is;
+      same = refl;
     }
 
 pub returns-in-None : goal.returns-in-None
 returns-in-None c =
     let s = c.args.self.now in
     let within : s.inside ≡ true = search rules in
-    let draw = c.draw.ensures in
-    let (place, fonts) = draw.fonts in
+    let draw = c.draw-drawn.ensures in
     let (seen, a) = c.requires in
-    let texts = drawn_texts (view c.args.op.now) s seen a c.draw.new.page c.draw.result within draw.draws in
+    let texts = drawn_texts (view c.args.op.now) s seen a c.draw-drawn.new.page c.draw-drawn.result within draw.draws in
     record {
-      next = λ seen a. drew (view c.args.op.now) s seen a c.draw.new.fonts c.draw.new.page c.draw.result _ place within fonts draw.counts draw.ready draw.draws c.in-None.is;
+      next = λ seen a. drew (view c.args.op.now) s seen a c.draw-drawn.new.current c.draw-drawn.new.page c.draw-drawn.result _ within draw.counts draw.ready draw.draws c.in-None.is;
       place = refl;
-      text = text_shown (view c.args.op.now) c.draw.result _ texts c.in-None.is;
-      begins = λ end. place_shown end (view c.args.op.now) c.draw.result _ texts c.in-None.is;
-      post = refl;
-      same = record { bytes = refl; from = refl; post = refl; most = refl; fonts = (place, fonts) };
+      text = text_shown (view c.args.op.now) c.draw-drawn.result _ texts c.in-None.is;
+      begins = λ end. place_shown end (view c.args.op.now) c.draw-drawn.result _ texts c.in-None.is;
+      same = refl;
     }
-
-pub returns-then-not-self-clause-same : goal.returns-then-not-self-clause-same
-returns-then-not-self-clause-same c =
-    let s = c.args.self.now in record { bytes = refl; from = refl; post = refl; most = refl; fonts = (s.fonts.current, refl) }
-
-pub returns-in-Eop-clause-same : goal.returns-in-Eop-clause-same
-returns-in-Eop-clause-same c =
-    let s = c.args.self.now in record { bytes = refl; from = refl; post = refl; most = refl; fonts = (s.fonts.current, refl) }
-
-pub returns-then-not-begin-clause-same : goal.returns-then-not-begin-clause-same
-returns-then-not-begin-clause-same c =
-    let s = c.args.self.now in record { bytes = refl; from = refl; post = refl; most = refl; fonts = (s.fonts.current, refl) }
 
 pub returns-then-not-self-clause-begins : goal.returns-then-not-self-clause-begins
 returns-then-not-self-clause-begins c = λ end.

@@ -1,15 +1,18 @@
 -- The bytes so far and the rest are the whole.
-use Rattle.std.proofs.Common.{◌≡◌, ◌++◌, ◌⊎◌, ◌≤◌, ◌<◌, length, vec_len, vec_capacity}
-use Rattle.dvi_read.specs.Listing.{lines_ahead}
+use Rattle.std.proofs.Common.{◌≡◌, ◌++◌, ◌⊎◌, ◌≤◌, ◌<◌, List, ℕ, vec_len, vec_capacity}
+use Rattle.dvi_read.specs.SeenAhead.{AreLinesAhead, lines_left}
 use Rattle.dvi_read.proofs.listings.lines.Lines.fill.Given as goal
 
 abbrev pub invariant-loop-self : goal.invariant-loop-self
 invariant-loop-self l = record {
-  whole : l.text.items ++ lines_ahead l.self ≡ l.initial.text.items ++ lines_ahead l.initial.self;
+  some : (lines : List ℕ) × AreLinesAhead l.self lines;
+  whole : (lines : List ℕ) → AreLinesAhead l.initial.self lines → (rest : List ℕ) × (l.text.items ++ rest ≡ l.initial.text.items ++ lines) × AreLinesAhead l.self rest;
   grown : vec_len l.initial.text ≤ vec_len l.text;
   capacity : vec_capacity l.initial.text ≤ vec_capacity l.text;
-  begun : (l.text ≡ l.initial.text) ⊎ (vec_len l.initial.text < vec_len l.text);
+  less : lines_left l.self ≤ lines_left l.initial.self;
+  same : l.self.sights.file ≡ l.initial.self.sights.file;
+  begun : (l.text ≡ l.initial.text) ⊎ ((vec_len l.initial.text < vec_len l.text) × (lines_left l.self < lines_left l.initial.self));
 }
 
 abbrev pub decreases-loop-self : goal.decreases-loop-self
-decreases-loop-self l = length (lines_ahead l.self)
+decreases-loop-self l = lines_left l.self
