@@ -7,7 +7,7 @@ from steps.reached import Tree
 TITLE = "tests/definitions: what ten definitions reach, and what the main statements do"
 TRIES = False
 # The functions whose clauses say what the program promises.
-ROOTS = ("job_core::headline", "boxglue_program::run_script", "dvi_read::open", "boxglue_lib::program", "boxglue_c::boxglue_run")
+ROOTS = ("job_core::run_commands", "job_core::headline", "boxglue_program::run_script", "dvi_read::open", "boxglue_lib::program", "boxglue_c::boxglue_run")
 # By hand, from the texts of the definitions. Those that share a comment are one.
 REACHED = {
     "IsBadness": "IsBadness IsRatioBadness badness_ratio IsNearest",
@@ -23,7 +23,12 @@ REACHED = {
     "baseline_glue": "baseline_glue fits DimensionTooLarge Glue Order Dimen Params SplitParams IntParameter FirstLines",
 }
 # Among what has to be believed: the machine, the order of ties between lists of breaks, what a job counts, the files, and a host.
-BELIEVED = "Machine IsDone key least_path is_not_after Load IsFile marks_of_page file_widths badness_of WasRun HasRun HandsOverRun HostView IsDviFault".split()
+BELIEVED = "Machine IsDone WasSent key least_path is_not_after Load IsFile marks_of_page file_widths badness_of WasRun HasRun HandsOverRun HostView IsDviFault".split()
+# The clauses that say what a file is without the rules by which this writer draws and lays out one.
+HEADLINE = ("job_core::run_commands.headline", "boxglue_program::run_script.answers", "boxglue_program::run_script.left", "boxglue_program::run_memory.answers",
+           "boxglue_lib::program.ran", "boxglue_c::boxglue_run.done")
+# Where these rules are: the crates that draw, choose registers and write, and the layout and the spellings of dvi_ops.
+WRITER = {"ship_core", "move_core", "dvi_write"}, {"Layout", "Spelling", "Runs"}
 # What only other contracts reach, by a function whose contract does.
 ELSEWHERE = {"IsStop": "break_core::active_breaks", "IsBreakList": "break_core::breaks", "StandsIn": "tfm_core::read"}
 
@@ -53,6 +58,15 @@ def believed(tree):
     return f"it lacks {lost}" if lost else f"it has test data: {data}" if data else f"no comment: {bare}" if bare else None
 
 
+def headline(tree):
+    """What the clauses of the headline name of the writer's rules."""
+    crates, modules = WRITER
+    found = {given: tree.order(tree.by_name(given)) for given in HEADLINE}
+    named = [f"{given} names {it}" for given, names in found.items() for it in names if it.crate in crates or (it.crate == "dvi_ops" and it.module in modules)]
+    lost = [given for given, names in found.items() if "IsFile" not in names_of(names)]
+    return "; ".join(named) or (f"without the definition of a file: {lost}" if lost else None)
+
+
 def elsewhere(tree):
     """Names that the contracts of these functions do not reach."""
     lost = [name for name, given in ELSEWHERE.items() if name not in names_of(tree.order(tree.by_name(given)))]
@@ -65,4 +79,5 @@ def cases(_programs, root):
     for given in REACHED:
         yield given, partial(reached, tree, given)
     yield "what has to be believed", partial(believed, tree)
+    yield "what the headline names", partial(headline, tree)
     yield "what other contracts reach", partial(elsewhere, tree)

@@ -8,6 +8,8 @@ import os
 import re
 from dataclasses import dataclass, field
 
+# Where a clause of a contract begins; its name.
+CLAUSE = re.compile(r"\b(?:requires|ensures)\b\*? ?(\w*) ?\{")
 DECLARED = re.compile(r"(?:(?:unfoldable|abbrev|pub|total) )*pub (?:(?:total|record|data) )*([^\s:(]+)")
 IMPORT = re.compile(r"\buse\s+(Rattle\.[\w.]+)\.(?:\{([^}]*)\}|(\w+)\s+as\s+(\w+))", re.S)
 WORD = re.compile(r"(?<![\w.'])(\w+)\.(\w+)|(?<![\w.'])([^\W\d][\w'×-]*)")
@@ -252,8 +254,9 @@ class Tree:
 
     def by_name(self, given):
         """The definitions and types with a name, which a crate may stand before, as `job_core::Represents`; else what the clauses of the functions of this name speak of,
-        before which a type may stand, as `Dvi::open`."""
+        before which a type may stand, as `Dvi::open`, and behind which one clause, as `run_commands.headline`."""
         *before, name = given.split("::")
+        name, _, clause = name.partition(".")
         crates, found = [it for it in before if it in self.crates()], []
         kind = next((it for it in before if it not in crates), None)
         for crate in [] if kind else crates or self.crates():
@@ -263,10 +266,10 @@ class Tree:
                     found.append(Name(crate, module, own[name].names[0]))
             if self.type_file(crate, name):
                 found.append(Name(crate, "", name, True))
-        return found or [it for crate in crates or self.crates() for it in self.by_function(crate, name, kind)]
+        return found or [it for crate in crates or self.crates() for it in self.by_function(crate, name, kind, clause)]
 
-    def by_function(self, crate, name, kind=None):
-        """What the clauses of a function speak of: of those in files that have an `impl` of a type or its trait, if one is named."""
+    def by_function(self, crate, name, kind=None, clause=""):
+        """What the clauses of a function speak of, or one of them: of those in files that have an `impl` of a type or its trait, if one is named."""
         for path in self.files(crate):
             text = read(path)
             if kind and not re.search(rf"(?m)^(?:pub )?(?:impl|trait)\b[^{{\n]*\b{re.escape(kind)}\b", text):
@@ -274,8 +277,16 @@ class Tree:
             names, modules = imports(text)
             for match in re.finditer(rf"\b(?:pub |pub extern \"C\" |(?<=^    ))fn {re.escape(name)}\b", text, re.M):
                 contract = re.split(r"\n[ ]*\{|;[ ]*\n[ ]*\n", text[match.end():], maxsplit=1)[0]
-                clauses = contract[min((contract.find(it) for it in ("requires", "ensures") if it in contract), default=len(contract)):]
-                yield from self.named(re.sub(r"//[^\n]*", "", clauses), {}, names, modules, crate, "")
+                for found in clauses_of(re.sub(r"//[^\n]*", "", contract), clause):
+                    yield from self.named(found, {}, names, modules, crate, "")
+
+
+def clauses_of(contract, name):
+    """The texts of the clauses of a contract: of all, or of those with a name."""
+    begins = [*CLAUSE.finditer(contract)]
+    for at, after in zip(begins, [*(it.start() for it in begins[1:]), len(contract)]):
+        if not name or at[1] == name:
+            yield contract[at.start():after]
 
 
 def declaration(text, at):

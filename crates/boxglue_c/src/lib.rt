@@ -4,6 +4,7 @@
 #![tactic(auto)]
 
 ghost use Rattle.std.specs.Prelude.{◌≡◌, ◌≢◌, ◌↔◌, ◌⊎◌, ◌≤◌, ◌/◌, length, false, true, None, Some};
+ghost use Rattle.boxglue_program.specs.Reports.{any_bytes, written_bytes};
 ghost use Rattle.boxglue_calls.specs.Fonts.{are_named, files_of};
 ghost use Rattle.boxglue_calls.specs.FontTables.{HandsOverFonts};
 ghost use Rattle.boxglue_calls.specs.MarkTables.{HandsOverMarks, mark_outputs};
@@ -33,7 +34,11 @@ pub extern "C" fn boxglue_run(
 ) -> u32
     ensures named { result ≡ 3 ↔ are_named fonts.now ≡ false }
     ensures done { (result ≡ 2) ⊎ (result ≡ 3)
-        ⊎ HandsOverRun (IsRun script.now (files_of fonts.now)) answers.old answers.new dvi.old dvi.new (lengths.new.answers, lengths.new.dvi) result }
+        ⊎ HandsOverRun (IsRun any_bytes script.now (files_of fonts.now)) answers.old answers.new dvi.old dvi.new
+        (lengths.new.answers, lengths.new.dvi) result }
+    ensures sent { (result ≡ 2) ⊎ (result ≡ 3)
+        ⊎ HandsOverRun (IsRun written_bytes script.now (files_of fonts.now)) answers.old answers.new dvi.old dvi.new
+        (lengths.new.answers, lengths.new.dvi) result }
     ensures answers { (result ≡ 2) ⊎ (result ≡ 3) → answers.new ≡ answers.old }
     ensures dvi { (result ≡ 2) ⊎ (result ≡ 3) → dvi.new ≡ dvi.old }
     ensures lengths { (result ≡ 2) ⊎ (result ≡ 3) → lengths.new ≡ lengths.old }

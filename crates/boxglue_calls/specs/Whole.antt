@@ -7,7 +7,9 @@ use Rattle.job_machine.specs.Reply.{Reply}
 use Rattle.boxglue_script.specs.declared.cause.Cause.{Cause}
 use Rattle.boxglue_script.specs.declared.script.Line.{Line}
 use Rattle.boxglue_script.specs.Script.{IsScript, IsFirstBad}
-use Rattle.boxglue_program.specs.Runs.{WasRun, commands_of, line_numbers}
+use Rattle.job_core.specs.Headline.{WasRun}
+use Rattle.job_core.specs.Sent.{WasSent}
+use Rattle.boxglue_program.specs.Runs.{commands_of, line_numbers}
 use Rattle.boxglue_calls.specs.RunStatus.{run_status}
 use Rattle.boxglue_calls.specs.Rows.{bad_row, end_row, reply_rows}
 use Rattle.boxglue_calls.specs.declared.jobs.rows.ReplyRow.{ReplyRow}
@@ -21,6 +23,7 @@ pub record RepliesToScript (script : List ℕ) (files : List NamedBytes) (rows :
   pub is_script : IsScript script lines
   pub failures : ℕ
   pub run : WasRun files 0 (commands_of lines) replies end failures (Some dvi)
+  pub sent : WasSent run.middle run.last end (Some dvi)
   pub each : length replies ≡ length lines
   pub rows_are : rows ≡ reply_rows (line_numbers lines) replies ++ end_row end ∷ []
   pub status_is : status ≡ run_status replies end

@@ -5,7 +5,9 @@ ghost use Rattle.job_machine.specs.declared.replies.Refusal.{Refusal};
 ghost use Rattle.job_machine.specs.declared.replies.Summary.{Summary};
 ghost use Rattle.job_machine.specs.Reply.{Reply};
 ghost use Rattle.boxglue_script.specs.Blocks.{lines_of};
-ghost use Rattle.boxglue_program.specs.Runs.{WasRun, commands_of, line_numbers};
+ghost use Rattle.job_core.specs.Headline.{WasRunAndSent};
+ghost use Rattle.boxglue_program.specs.Reports.{any_bytes, written_bytes};
+ghost use Rattle.boxglue_program.specs.Runs.{commands_of, line_numbers};
 ghost use Rattle.boxglue_program.specs.Texts.{answers_text, script_refusal_text};
 ghost use Rattle.boxglue_calls.specs.Fonts.{are_named, files_of};
 ghost use Rattle.boxglue_calls.specs.RunStatus.{run_status};
@@ -40,7 +42,7 @@ struct Ran {
 /// Runs the lines of a script with these font files on a device in memory, and ends the job.
 fn run_job(alloc: Global, lines: LineBlocks, files: &[FontFile]) -> Result<Ran, AllocError>
     ensures { IfOk result (λ ran. (replies : List Reply) × (end : Result Summary Refusal)
-        × WasRun files.now 0 (commands_of (lines_of lines)) replies end ran.device.failures (Some ran.device.bytes)
+        × WasRunAndSent files.now 0 (commands_of (lines_of lines)) replies end ran.device.failures (Some ran.device.bytes)
         × (ran.answers.items ≡ answers_text (line_numbers (lines_of lines)) replies end) × (ran.status ≡ run_status replies end)) }
 {
     let whole = match run_whole(alloc, lines, files, Memory::new(alloc)) {
@@ -78,7 +80,7 @@ fn refused_run(alloc: Global, line: usize, cause: Cause) -> Result<Ran, AllocErr
 /// Runs a script with these fonts, which have names, on a device in memory.
 fn run_on_memory(alloc: Global, script: &[u8], fonts: &[Font<'_>]) -> Result<Ran, AllocError>
     requires { are_named fonts.now ≡ true }
-    ensures { IfOk result (λ ran. IsRun script.now (files_of fonts.now) ran.answers.items ran.device.bytes ran.status) }
+    ensures { IfOk result (λ ran. IsRun written_bytes script.now (files_of fonts.now) ran.answers.items ran.device.bytes ran.status) }
 {
     let files = font_files(alloc, fonts)?;
     match read_blocks(alloc, script) {
@@ -102,7 +104,13 @@ pub fn run(
 ) -> u32
     ensures named { result ≡ 3 ↔ are_named fonts.now ≡ false }
     ensures done { (result ≡ 2) ⊎ (result ≡ 3)
-        ⊎ HandsOverRun (IsRun script.now (files_of fonts.now)) answers.old answers.new dvi.old dvi.new (lengths.new.answers, lengths.new.dvi) result }
+        ⊎ HandsOverRun (IsRun any_bytes script.now (files_of fonts.now)) answers.old answers.new dvi.old dvi.new
+        (lengths.new.answers, lengths.new.dvi) result }
+
+    // The same with the bytes of the file by the rules of its writer, also if something failed.
+    ensures sent { (result ≡ 2) ⊎ (result ≡ 3)
+        ⊎ HandsOverRun (IsRun written_bytes script.now (files_of fonts.now)) answers.old answers.new dvi.old dvi.new
+        (lengths.new.answers, lengths.new.dvi) result }
     ensures answers { (result ≡ 2) ⊎ (result ≡ 3) → answers.new ≡ answers.old }
     ensures dvi { (result ≡ 2) ⊎ (result ≡ 3) → dvi.new ≡ dvi.old }
     ensures lengths { (result ≡ 2) ⊎ (result ≡ 3) → lengths.new ≡ lengths.old }

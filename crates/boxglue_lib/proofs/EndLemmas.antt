@@ -19,6 +19,7 @@ use Rattle.boxglue_words.specs.Readings.{Files, IsFileReading, IsReadable, IsRea
 use Rattle.boxglue_lib.specs.Printed.{LacksMemoryForDvi}
 use Rattle.boxglue_lib.specs.Views.{HostView, IsSame, Streams, view_of}
 use Rattle.boxglue_lib.specs.Typesets.{HasTypeset, IsLeftAlone, IsLeftToFile, IsToFile, IsUsed, LeavesHost, OutFile, TellsUnwritten, script_rules, typesetting_rules}
+use Rattle.boxglue_program.specs.Reports.{written_bytes}
 use Rattle.boxglue_program.specs.Runs.{IsUntouched, RanScript, RefusedScript, WritesFront, memory_line}
 use Rattle.boxglue_program.proofs.WritingLemmas.{appends_both, appends_keeps, keeps_appends, keeps_front}
 use Rattle.boxglue_lib.specs.Ends.{EndsOutput, EndsTask, TaskHasEnded, TaskRules, TakesText, TellsErrors, TellsOutput, status_of}
@@ -96,11 +97,11 @@ output_then rules NoSuchPage old mid new ended reported = (ended.0, keeps_twice 
 -- What is known of a device that writes a file, in terms of a script that was typeset.
 pub answered_to_file : (text : List ℕ) (files : List NamedBytes) (start : ℕ) (begun : Bool) (failures : ℕ) (back : Option (List ℕ)) (Same Kept : Type 0) (answer : List ℕ) (fine : Bool) (file : OutFile)
     → start ≡ 0 → file.created ≡ begun → file.done ≡ (failures == 0) → file.written ≡ back → (Same → begun ≡ false) → (Same → failures ≡ 0) → (Same → Kept)
-    → IsUsed file → RanScript text files start failures (written_to_file begun back) answer fine ⊎ (RefusedScript text answer fine × Same) → IsToFile text files Kept file answer fine
+    → IsUsed file → RanScript written_bytes text files start failures (written_to_file begun back) answer fine ⊎ (RefusedScript text answer fine × Same) → IsToFile written_bytes text files Kept file answer fine
 answered_to_file text files start begun failures back Same Kept answer fine file fresh opened counted kept closed none same used (inl ran) =
-    let at_start = subst (λ (n : ℕ). RanScript text files n failures (written_to_file begun back) answer fine) fresh ran in
-    let at_open = subst (λ (is : Bool). RanScript text files 0 failures (written_to_file is back) answer fine) (sym opened) at_start in
-    inl (failures, subst (λ (bytes : Option (List ℕ)). RanScript text files 0 failures (written_to_file file.created bytes) answer fine) (sym kept) at_open, counted, used)
+    let at_start = subst (λ (n : ℕ). RanScript written_bytes text files n failures (written_to_file begun back) answer fine) fresh ran in
+    let at_open = subst (λ (is : Bool). RanScript written_bytes text files 0 failures (written_to_file is back) answer fine) (sym opened) at_start in
+    inl (failures, subst (λ (bytes : Option (List ℕ)). RanScript written_bytes text files 0 failures (written_to_file file.created bytes) answer fine) (sym kept) at_open, counted, used)
 answered_to_file text files start begun failures back Same Kept answer fine file fresh opened counted kept closed none same used (inr refused) =
     inr (
       refused.0,
@@ -114,12 +115,12 @@ unopened_silent begun (Some bytes) closed = rw closed refl
 
 -- A script was run, with some answer.
 abbrev RanUnanswered : List ℕ → List NamedBytes → (n k : ℕ) → Option (List ℕ) → Type 0
-RanUnanswered text files n k bytes_written = (answer : List ℕ) × (fine : Bool) × RanScript text files n k bytes_written answer fine
+RanUnanswered text files n k bytes_written = (answer : List ℕ) × (fine : Bool) × RanScript written_bytes text files n k bytes_written answer fine
 
 -- What is known of such a device if memory was refused.
 pub left_to_file : (text : List ℕ) (files : List NamedBytes) (start : ℕ) (begun : Bool) (failures : ℕ) (back : Option (List ℕ)) (file : OutFile)
     → start ≡ 0 → file.created ≡ begun → file.done ≡ (failures == 0) → file.written ≡ back → IsUsed file
-    → IsUntouched start failures (written_to_file begun back) ⊎ RanUnanswered text files start failures (written_to_file begun back) → IsLeftToFile text files file
+    → IsUntouched start failures (written_to_file begun back) ⊎ RanUnanswered text files start failures (written_to_file begun back) → IsLeftToFile written_bytes text files file
 left_to_file text files start begun failures back file fresh opened counted kept used left =
     let at_start = subst
     (λ (n : ℕ). IsUntouched n failures (written_to_file begun back) ⊎ RanUnanswered text files n failures (written_to_file begun back)) fresh left in
@@ -156,7 +157,7 @@ ends_weaker rules weaker NoSuchPage old new f u l h = (l h.0, h.1)
 -- Files that were not read, and the report of it.
 pub unread_output : {H : Type 0} (fonts : List NamedPath) (host back : HostView H) (file : OutFile) (fault : Unread) (old new : Option (List ℕ))
     → IsLeftAlone (IsSame host back) file → IsUnreadScript host.files host.input fonts fault → TellsOutput (end_of fault) old new
-    → EndsOutput (typesetting_rules fonts host back file) (end_of fault) old new
+    → EndsOutput (typesetting_rules written_bytes fonts host back file) (end_of fault) old new
 unread_output fonts host back file WantsMemory old new alone unread said = said
 unread_output fonts host back file (File path) old new alone unread said = ((unread, alone), said)
 
@@ -168,16 +169,16 @@ keeps_same (Some bytes) = refl
 -- A script was typeset, and its end was reported.
 pub typeset_ended : {H : Type 0} (fonts : List NamedPath) (out : List ℕ) (old new : HostView H) (file : OutFile)
     (text : List ℕ) (files : List NamedBytes) (end : TaskEnd) (mid between : Option (List ℕ)) (before after : Streams) (status : ℕ)
-    → IsReading old.input text → AreFilesOf old.files fonts files → EndsTask (script_rules text files (IsSame old new) file) end before.output mid
-    → (end ≡ OutOfMemory → IsLeftToFile text files file) → LeavesHost out old new file → TellsUnwritten file.done out before.errors between
-    → TellsOutput end mid after.output → TellsErrors end between after.errors → status ≡ status_of end → HasTypeset out fonts old new before after status
+    → IsReading old.input text → AreFilesOf old.files fonts files → EndsTask (script_rules written_bytes text files (IsSame old new) file) end before.output mid
+    → (end ≡ OutOfMemory → IsLeftToFile written_bytes text files file) → LeavesHost out old new file → TellsUnwritten file.done out before.errors between
+    → TellsOutput end mid after.output → TellsErrors end between after.errors → status ≡ status_of end → HasTypeset written_bytes out fonts old new before after status
 typeset_ended fonts out old new file text files end mid between before after status read filed ended left leaves unwritten said told is =
     record {
       end = end;
       file = file;
       leaves = leaves;
-      printed = output_then (typesetting_rules fonts old new file) end before.output mid after.output
-          (ends_weaker (script_rules text files (IsSame old new) file) (typesetting_rules fonts old new file) end before.output mid
+      printed = output_then (typesetting_rules written_bytes fonts old new file) end before.output mid after.output
+          (ends_weaker (script_rules written_bytes text files (IsSame old new) file) (typesetting_rules written_bytes fonts old new file) end before.output mid
           (λ answer fine to. (text, files, read, filed, to)) (λ path none. absurd none) (λ none. none) ended) said;
       memory = λ wants. inr (text, files, read, filed, left wants);
       reported = record { middle = between; unwritten = unwritten; ended = told };
@@ -241,7 +242,7 @@ pub not_typeset : {H : Type 0} (known : H → Files) (created : H → List (List
     (fonts : List NamedPath) (out : List ℕ) (fault : Unread) (before after : Streams) (status : ℕ)
     → IsUnreadScript (known host) input fonts fault → TellsOutput (end_of fault) before.output after.output → TellsErrors (end_of fault) before.errors after.errors
     → status ≡ status_of (end_of fault)
-    → HasTypeset out fonts (view_of known created written failures input host) (view_of known created written failures left host) before after status
+    → HasTypeset written_bytes out fonts (view_of known created written failures input host) (view_of known created written failures left host) before after status
 not_typeset known created written failures input left host fonts out fault before after status unread said told is =
     let old = view_of known created written failures input host in
     let new = view_of known created written failures left host in

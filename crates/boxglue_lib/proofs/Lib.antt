@@ -1,3 +1,4 @@
 pub mod EndLemmas
 pub mod FontLemmas
 pub mod SessionLemmas
+pub mod Unsaid

@@ -8,6 +8,7 @@ use Rattle.boxglue_words.specs.declared.font_files.Unread.{Unread}
 use Rattle.boxglue_words.specs.declared.font_files.Unread.TheVariants.{OutOfMemory as WantsMemory, File}
 use Rattle.boxglue_words.specs.declared.host.TheConstants.{READ_LIMIT}
 use Rattle.tfm_core.specs.NamedBytes.{NamedBytes}
+use Rattle.boxglue_program.specs.Reports.{written_bytes}
 use Rattle.boxglue_program.specs.Sessions.{IsCutOff, IsSent, IsUnreadable, LacksSessionMemory, RanSession}
 use Rattle.boxglue_program.specs.declared.session.SessionFault.{SessionFault}
 use Rattle.boxglue_program.specs.declared.session.SessionFault.TheVariants.{OutOfMemory as WantsRoom, Unreadable as LosesInput}
@@ -43,58 +44,58 @@ holds_of_file Holds begun failures back file opened counted kept used holds =
 -- The whole input was run.
 abbrev pub Ran : (input left : Option (List ℕ)) → List NamedBytes → (reads : Bool) → (old new : Option (List ℕ)) → (k : ℕ) → Option (List ℕ) → Bool → Type 0
 Ran input left files reads old new k bytes accepted =
-    (text answer : List ℕ) × Consumes input left text × IsAtEnd left × (length text ≤ READ_LIMIT) × RanSession text files 0 k bytes answer accepted
+    (text answer : List ℕ) × Consumes input left text × IsAtEnd left × (length text ≤ READ_LIMIT) × RanSession written_bytes text files 0 k bytes answer accepted
     × IsSent true reads old new answer
 
 -- Memory was refused.
 abbrev pub Lacks : (input left : Option (List ℕ)) → List NamedBytes → (reads : Bool) → (old new : Option (List ℕ)) → (k : ℕ) → Option (List ℕ) → Type 0
 Lacks input left files reads old new k bytes =
-    (text answer : List ℕ) × Consumes input left text × LacksSessionMemory text files 0 k bytes answer × IsSent true reads old new answer
+    (text answer : List ℕ) × Consumes input left text × LacksSessionMemory written_bytes text files 0 k bytes answer × IsSent true reads old new answer
 
 -- A reading failed.
 abbrev pub Loses : (input left : Option (List ℕ)) → List NamedBytes → (reads : Bool) → (old new : Option (List ℕ)) → (k : ℕ) → Option (List ℕ) → Type 0
 Loses input left files reads old new k bytes =
-    (text lost answer : List ℕ) × Consumes input left (text ++ lost) × IsUnreadable READ_LIMIT text lost × IsCutOff text files 0 k bytes answer × IsSent true reads old new answer
+    (text lost answer : List ℕ) × Consumes input left (text ++ lost) × IsUnreadable READ_LIMIT text lost × IsCutOff written_bytes text files 0 k bytes answer × IsSent true reads old new answer
 
 -- How a session ended, by its outcome.
 pub session_ends : (input left : Option (List ℕ)) (files : List NamedBytes) (outcome : Result Bool SessionFault) (reads : Bool) (end : TaskEnd) (old new : Option (List ℕ))
     (k : ℕ) (bytes : Option (List ℕ)) (file : OutFile)
     → IsSessionEnd outcome reads end → IfOk outcome (Ran input left files reads old new k bytes)
     → (outcome ≡ Err WantsRoom → Lacks input left files reads old new k bytes) → (outcome ≡ Err LosesInput → Loses input left files reads old new k bytes)
-    → ((Holds : ℕ → Option (List ℕ) → Type 0) → Holds k bytes → HoldsOfFile Holds file) → EndsSession input files file end old new
+    → ((Holds : ℕ → Option (List ℕ) → Type 0) → Holds k bytes → HoldsOfFile Holds file) → EndsSession written_bytes input files file end old new
 session_ends input left files (Ok accepted) true end old new k bytes file is ran lacks loses known =
-    let ended : EndsSession input files file (Printed accepted) old new = (
+    let ended : EndsSession written_bytes input files file (Printed accepted) old new = (
       ran.1,
-      (ran.0, all_read input left ran.0 ran.2 ran.3 ran.4, known (λ failed bytes_written. RanSession ran.0 files 0 failed bytes_written ran.1 accepted) ran.5),
+      (ran.0, all_read input left ran.0 ran.2 ran.3 ran.4, known (λ failed bytes_written. RanSession written_bytes ran.0 files 0 failed bytes_written ran.1 accepted) ran.5),
       ran.6,
     ) in
-    subst (λ (it : TaskEnd). EndsSession input files file it old new) (sym is) ended
+    subst (λ (it : TaskEnd). EndsSession written_bytes input files file it old new) (sym is) ended
 session_ends input left files (Ok accepted) false end old new k bytes file is ran lacks loses known =
-    let ended : EndsSession input files file Unwritten old new = (
+    let ended : EndsSession written_bytes input files file Unwritten old new = (
       ran.1,
-      inl (accepted, (ran.0, all_read input left ran.0 ran.2 ran.3 ran.4, known (λ failed bytes_written. RanSession ran.0 files 0 failed bytes_written ran.1 accepted) ran.5)),
+      inl (accepted, (ran.0, all_read input left ran.0 ran.2 ran.3 ran.4, known (λ failed bytes_written. RanSession written_bytes ran.0 files 0 failed bytes_written ran.1 accepted) ran.5)),
       ran.6,
     ) in
-    subst (λ (it : TaskEnd). EndsSession input files file it old new) (sym is) ended
+    subst (λ (it : TaskEnd). EndsSession written_bytes input files file it old new) (sym is) ended
 session_ends input left files (Err WantsRoom) true end old new k bytes file is ran lacks loses known =
     let lack = lacks refl in
-    let ended : EndsSession input files file OutOfMemory old new = (
+    let ended : EndsSession written_bytes input files file OutOfMemory old new = (
       lack.1,
-      (lack.0, is_beginning input left lack.0 lack.2, known (λ failed bytes_written. LacksSessionMemory lack.0 files 0 failed bytes_written lack.1) lack.3),
+      (lack.0, is_beginning input left lack.0 lack.2, known (λ failed bytes_written. LacksSessionMemory written_bytes lack.0 files 0 failed bytes_written lack.1) lack.3),
       lack.4,
     ) in
-    subst (λ (it : TaskEnd). EndsSession input files file it old new) (sym is) ended
+    subst (λ (it : TaskEnd). EndsSession written_bytes input files file it old new) (sym is) ended
 session_ends input left files (Err WantsRoom) false end old new k bytes file is ran lacks loses known =
     let lack = lacks refl in
-    let ended : EndsSession input files file Unwritten old new = (
+    let ended : EndsSession written_bytes input files file Unwritten old new = (
       lack.1,
-      inr (lack.0, is_beginning input left lack.0 lack.2, known (λ failed bytes_written. LacksSessionMemory lack.0 files 0 failed bytes_written lack.1) lack.3),
+      inr (lack.0, is_beginning input left lack.0 lack.2, known (λ failed bytes_written. LacksSessionMemory written_bytes lack.0 files 0 failed bytes_written lack.1) lack.3),
       lack.4,
     ) in
-    subst (λ (it : TaskEnd). EndsSession input files file it old new) (sym is) ended
+    subst (λ (it : TaskEnd). EndsSession written_bytes input files file it old new) (sym is) ended
 session_ends input left files (Err LosesInput) reads end old new k bytes file (path, is, dash) ran lacks loses known =
     let lose = loses refl in
-    let ended : EndsSession input files file (Unreadable path) old new = (
+    let ended : EndsSession written_bytes input files file (Unreadable path) old new = (
       lose.2,
       reads,
       dash,
@@ -103,18 +104,18 @@ session_ends input left files (Err LosesInput) reads end old new k bytes file (p
         lose.1,
         is_beginning input left (lose.0 ++ lose.1) lose.3,
         lose.4,
-        known (λ failed bytes_written. IsCutOff lose.0 files 0 failed bytes_written lose.2) lose.5,
+        known (λ failed bytes_written. IsCutOff written_bytes lose.0 files 0 failed bytes_written lose.2) lose.5,
       ),
       lose.6,
     ) in
-    subst (λ (it : TaskEnd). EndsSession input files file it old new) (sym is) ended
+    subst (λ (it : TaskEnd). EndsSession written_bytes input files file it old new) (sym is) ended
 
 -- The files of fonts were not read, and that was reported.
 pub not_held : {H : Type 0} (known : H → Files) (created : H → List (List ℕ)) (written : H → Option (List ℕ)) (failures : H → ℕ) (input left : Option (List ℕ)) (host : H)
     (fonts : List NamedPath) (out : List ℕ) (fault : Unread) (before after : Streams) (status : ℕ)
     → IsUnread (known host) fonts fault → TellsOutput (end_of fault) before.output after.output → TellsErrors (end_of fault) before.errors after.errors
     → status ≡ status_of (end_of fault)
-    → HasSession out fonts (view_of known created written failures input host) (view_of known created written failures left host) before after status
+    → HasSession written_bytes out fonts (view_of known created written failures input host) (view_of known created written failures left host) before after status
 not_held known created written failures input left host fonts out WantsMemory before after status unread said told is =
     inl (refl, record { end = OutOfMemory; printed = said; memory = λ _. unread; reported = told; status_is = is })
 not_held known created written failures input left host fonts out (File path) before after status unread said told is =
@@ -123,9 +124,9 @@ not_held known created written failures input left host fonts out (File path) be
 -- A session was held, and its end was reported.
 pub held : {H : Type 0} (fonts : List NamedPath) (out : List ℕ) (old new : HostView H) (file : OutFile) (files : List NamedBytes) (end : TaskEnd)
     (mid between : Option (List ℕ)) (before after : Streams) (status : ℕ)
-    → AreFilesOf old.files fonts files → EndsSession old.input files file end before.output mid → LeavesHost out old new file
+    → AreFilesOf old.files fonts files → EndsSession written_bytes old.input files file end before.output mid → LeavesHost out old new file
     → TellsUnwritten file.done out before.errors between → TellsOutput end mid after.output → TellsErrors end between after.errors → status ≡ status_of end
-    → HasSession out fonts old new before after status
+    → HasSession written_bytes out fonts old new before after status
 held fonts out old new file files end mid between before after status filed ended leaves unwritten said told is =
     inr (
       files,

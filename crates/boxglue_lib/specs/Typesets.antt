@@ -5,6 +5,7 @@ use Rattle.std.specs.Io.KnownBytes.{Keeps}
 use Rattle.boxglue_words.specs.Hosts.{AreFilesOf, created_after, has_failed, written_to_file}
 use Rattle.boxglue_words.specs.Readings.{IsReading}
 use Rattle.boxglue_words.specs.declared.font_files.Unread.TheVariants.{OutOfMemory as WantsMemory, File}
+use Rattle.boxglue_program.specs.Reports.{Reports}
 use Rattle.boxglue_program.specs.Runs.{IsUntouched, RanScript, RefusedScript}
 use Rattle.tfm_core.specs.NamedBytes.{NamedBytes}
 use Rattle.boxglue_words.specs.declared.fonts.NamedPath.{NamedPath}
@@ -33,46 +34,51 @@ IsUsed file = file.created ≡ true → file.done ≡ true → ForSome file.writ
 
 -- A script was run with these font files on a new device that writes a file, and this is what is then known of that file; or the script is bad, and
 -- nothing was run.
-abbrev pub IsToFile : (text : List ℕ) → List NamedBytes → (Same : Type 0) → OutFile → (answer : List ℕ) → (fine : Bool) → Type 0
-IsToFile text files Same file answer fine =
-    ((failed : ℕ) × RanScript text files 0 failed (written_to_file file.created file.written) answer fine × (file.done ≡ (failed == 0))
+abbrev pub IsToFile : Reports → (text : List ℕ) → List NamedBytes → (Same : Type 0) → OutFile → (answer : List ℕ) → (fine : Bool) → Type 0
+IsToFile reports text files Same file answer fine =
+    ((failed : ℕ) × RanScript reports text files 0 failed (written_to_file file.created file.written) answer fine × (file.done ≡ (failed == 0))
     × IsUsed file)
     ⊎ (RefusedScript text answer fine × IsLeftAlone Same file)
 
 -- Memory was refused when a script was to be run with these font files on a new device that writes a file: nothing was run on it, or the whole
 -- script.
-abbrev pub IsLeftToFile : (text : List ℕ) → List NamedBytes → OutFile → Type 0
-IsLeftToFile text files file =
+abbrev pub IsLeftToFile : Reports → (text : List ℕ) → List NamedBytes → OutFile → Type 0
+IsLeftToFile reports text files file =
     (failed : ℕ)
     × (IsUntouched 0 failed (written_to_file file.created file.written)
-    ⊎ ((answer : List ℕ) × (fine : Bool) × RanScript text files 0 failed (written_to_file file.created file.written) answer fine))
+    ⊎ ((answer : List ℕ) × (fine : Bool) × RanScript reports text files 0 failed (written_to_file file.created file.written) answer fine))
     × (file.done ≡ (failed == 0)) × IsUsed file
 
 -- The rules of a script that was read and is run on a new device that writes a file. All files were read, so no path is unread.
-abbrev pub script_rules : (text : List ℕ) → List NamedBytes → (Same : Type 0) → OutFile → TaskRules
-script_rules text files Same file =
-    record { IsAnswer = IsToFile text files Same file; IsUnread = λ path. ⊥; LacksPage = ⊥; LacksMemory = IsLeftToFile text files file }
+abbrev pub script_rules : Reports → (text : List ℕ) → List NamedBytes → (Same : Type 0) → OutFile → TaskRules
+script_rules reports text files Same file = record {
+  IsAnswer = IsToFile reports text files Same file;
+  IsUnread = λ path. ⊥;
+  LacksPage = ⊥;
+  LacksMemory = IsLeftToFile reports text files file;
+}
 
 -- The files of the fonts and the script were read, and the script was typeset.
-abbrev pub IsTypeset : {H : Type 0} → List NamedPath → (old new : HostView H) → OutFile → (answer : List ℕ) → (fine : Bool) → Type 0
-IsTypeset fonts old new file answer fine =
+abbrev pub IsTypeset : {H : Type 0} → Reports → List NamedPath → (old new : HostView H) → OutFile → (answer : List ℕ) → (fine : Bool) → Type 0
+IsTypeset reports fonts old new file answer fine =
     (text : List ℕ) × (files : List NamedBytes) × IsReading old.input text × AreFilesOf old.files fonts files
-    × IsToFile text files (IsSame old new) file answer fine
+    × IsToFile reports text files (IsSame old new) file answer fine
 
 -- Memory was refused: for a file that can be read, and nothing was run; or after all was read.
-abbrev pub LacksMemoryForTask : {H : Type 0} → List NamedPath → (old new : HostView H) → OutFile → Type 0
-LacksMemoryForTask fonts old new file =
+abbrev pub LacksMemoryForTask : {H : Type 0} → Reports → List NamedPath → (old new : HostView H) → OutFile → Type 0
+LacksMemoryForTask reports fonts old new file =
     (IsLeftAlone (IsSame old new) file × IsUnreadScript old.files old.input fonts WantsMemory)
-    ⊎ ((text : List ℕ) × (files : List NamedBytes) × IsReading old.input text × AreFilesOf old.files fonts files × IsLeftToFile text files file)
+    ⊎ ((text : List ℕ) × (files : List NamedBytes) × IsReading old.input text × AreFilesOf old.files fonts files
+    × IsLeftToFile reports text files file)
 
 -- The rules of `typeset`: the answers of the script or the line of its refusal; or a path that cannot be read, and then nothing was run. No page is
 -- missing.
-abbrev pub typesetting_rules : {H : Type 0} → List NamedPath → (old new : HostView H) → OutFile → TaskRules
-typesetting_rules fonts old new file = record {
-  IsAnswer = IsTypeset fonts old new file;
+abbrev pub typesetting_rules : {H : Type 0} → Reports → List NamedPath → (old new : HostView H) → OutFile → TaskRules
+typesetting_rules reports fonts old new file = record {
+  IsAnswer = IsTypeset reports fonts old new file;
   IsUnread = λ path. IsUnreadScript old.files old.input fonts (File path) × IsLeftAlone (IsSame old new) file;
   LacksPage = ⊥;
-  LacksMemory = LacksMemoryForTask fonts old new file;
+  LacksMemory = LacksMemoryForTask reports fonts old new file;
 }
 
 -- What a host is after `typeset`. It has created the file at OUT once more if that was created, and no other; it reports the bytes that the file
@@ -97,11 +103,12 @@ pub record TellsTypeset (out : List ℕ) (done : Bool) (end : TaskEnd) (old new 
   pub ended : TellsErrors end middle new
 
 -- `typeset` has ended: what is known of its file and of the host, what the output took, what the errors took, and the status.
-pub record HasTypeset {H : Type 0} (out : List ℕ) (fonts : List NamedPath) (old new : HostView H) (before after : Streams) (status : ℕ) : Type 0 where
+pub record HasTypeset {H : Type 0} (reports : Reports) (out : List ℕ) (fonts : List NamedPath) (old new : HostView H) (before after : Streams)
+    (status : ℕ) : Type 0 where
   pub end : TaskEnd
   pub file : OutFile
   pub leaves : LeavesHost out old new file
-  pub printed : EndsOutput (typesetting_rules fonts old new file) end before.output after.output
-  pub memory : end ≡ OutOfMemory → LacksMemoryForTask fonts old new file
+  pub printed : EndsOutput (typesetting_rules reports fonts old new file) end before.output after.output
+  pub memory : end ≡ OutOfMemory → LacksMemoryForTask reports fonts old new file
   pub reported : TellsTypeset out file.done end before.errors after.errors
   pub status_is : status ≡ status_of end

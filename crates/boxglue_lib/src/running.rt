@@ -1,6 +1,7 @@
 //! The program: it reads words and does the task that they ask for.
 
 ghost use Rattle.std.specs.Prelude.{None, map, string_bytes};
+ghost use Rattle.boxglue_program.specs.Reports.{any_bytes, written_bytes};
 ghost use Rattle.boxglue_lib.specs.Programs.{HasDone, HasRun, RefusesWords};
 ghost use Rattle.boxglue_lib.specs.Views.{streams_of, view_of};
 
@@ -42,7 +43,7 @@ fn do_task<H: FileHost, I: StandardInput + Drop, W: Write, E: Write>(
     errors: &mut E,
 ) -> (u8, H)
     ensures { let seen = view_of H.file H.created H.written H.failures in let took = streams_of W.contents E.contents in
-        HasDone task.entry (seen (I.remaining host.input) host.files) (seen None result.1)
+        HasDone written_bytes task.entry (seen (I.remaining host.input) host.files) (seen None result.1)
         (took output.old errors.old) (took output.new errors.new) result.0 }
 {
     match task {
@@ -81,8 +82,13 @@ pub fn program<H: Host, W: Write, E: Write>(
     output: &mut W,
     errors: &mut E,
 ) -> (u8, H::Files)
-    ensures { let seen = view_of H.Files.file H.Files.created H.Files.written H.Files.failures in let took = streams_of W.contents E.contents in
-        HasRun (map string_bytes words.now) (seen (H.input host) (H.files host)) (seen None result.1)
+    ensures ran { let seen = view_of H.Files.file H.Files.created H.Files.written H.Files.failures in let took = streams_of W.contents E.contents in
+        HasRun any_bytes (map string_bytes words.now) (seen (H.input host) (H.files host)) (seen None result.1)
+        (took output.old errors.old) (took output.new errors.new) result.0 }
+
+    // The same with the bytes that went to the file by the rules of its writer, also if something failed.
+    ensures sent { let seen = view_of H.Files.file H.Files.created H.Files.written H.Files.failures in let took = streams_of W.contents E.contents in
+        HasRun written_bytes (map string_bytes words.now) (seen (H.input host) (H.files host)) (seen None result.1)
         (took output.old errors.old) (took output.new errors.new) result.0 }
 {
     let host = host.into_parts();

@@ -1,6 +1,7 @@
 //! `session`: a script is run as it comes, and its pages go to a file.
 
 ghost use Rattle.std.specs.Prelude.{◌≡◌, ◌+◌, ◌==◌, ◌^◌, ◌<◌, [], IfSome, false, true, not};
+ghost use Rattle.boxglue_program.specs.Reports.{written_bytes};
 ghost use Rattle.boxglue_words.specs.Hosts.{created_after, has_failed};
 ghost use Rattle.boxglue_lib.specs.Private.Parts.{IsSessionEnd};
 ghost use Rattle.boxglue_lib.specs.Sessions.{EndsSession};
@@ -30,7 +31,8 @@ fn end_of<'a>(outcome: Result<bool, SessionFault>, reads: bool) -> TaskEnd<'a>
 ///
 /// The file is as `typeset_file` leaves it. At the ends Unreadable and OutOfMemory the session stopped: its answers so far were written, and its job
 /// was not finished, so the file has the pages that were shipped and no end. Unreadable is a reading that failed, or an input that does not end
-/// within `READ_LIMIT` bytes and as many calls. At Unwritten the writer took a beginning of the answers, and the lines were run all the same.
+/// within `READ_LIMIT` bytes and as many calls. At Unwritten the writer took a beginning of the answers. The lines were run all the same and the job
+/// was finished, unless memory was refused: then the session stopped as at OutOfMemory.
 pub fn session_file<'a, H: FileHost, R: Read, W: Write>(
     alloc: Global,
     host: H,
@@ -40,7 +42,7 @@ pub fn session_file<'a, H: FileHost, R: Read, W: Write>(
     writer: &mut W,
 ) -> TypesetEnd<'a, H>
     ensures session_ended { let file : OutFile = record { created = result.created; done = result.written; written = H.written result.host } in
-        EndsSession (R.remaining reader.old) files.now file result.end (W.contents writer.old) (W.contents writer.new) }
+        EndsSession written_bytes (R.remaining reader.old) files.now file result.end (W.contents writer.old) (W.contents writer.new) }
     ensures placed { H.created result.host ≡ created_after result.created out.now (H.created host) }
     ensures untouched { result.created ≡ false → H.written result.host ≡ H.written host }
     ensures unchanged { result.created ≡ false → result.written ≡ true → result.host ≡ host }

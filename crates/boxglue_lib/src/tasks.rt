@@ -1,6 +1,7 @@
 //! The tasks, with the files of a host.
 
 ghost use Rattle.std.specs.Prelude.{◌≡◌, None};
+ghost use Rattle.boxglue_program.specs.Reports.{written_bytes};
 ghost use Rattle.boxglue_words.specs.Readings.{IsReadable};
 ghost use Rattle.boxglue_lib.specs.Ends.{EndsTask};
 ghost use Rattle.boxglue_lib.specs.Private.Parts.{end_of};
@@ -40,7 +41,7 @@ pub fn run_input<'a, I: StandardInput, W: Write>(
     input: I,
     output: &mut W,
 ) -> TaskEnd<'a>
-    ensures ended { EndsTask (input_rules (I.remaining input)) result (W.contents output.old) (W.contents output.new) }
+    ensures ended { EndsTask (input_rules written_bytes (I.remaining input)) result (W.contents output.old) (W.contents output.new) }
     ensures memory { result ≡ TaskEnd.OutOfMemory → IsReadable (I.remaining input) }
 {
     let text = match input.read_whole(alloc) {
@@ -123,7 +124,7 @@ pub fn typeset<H: FileHost, I: StandardInput + Drop, W: Write, E: Write>(
     errors: &mut E,
 ) -> (u8, H)
     ensures { let seen = view_of H.file H.created H.written H.failures in let took = streams_of W.contents E.contents in
-        HasTypeset out.now fonts.now (seen (I.remaining host.input) host.files) (seen None result.1)
+        HasTypeset written_bytes out.now fonts.now (seen (I.remaining host.input) host.files) (seen None result.1)
         (took output.old errors.old) (took output.new errors.new) result.0 }
 {
     let HostParts { input, files } = host;
@@ -151,7 +152,7 @@ pub fn session<H: FileHost, I: StandardInput + Drop, W: Write, E: Write>(
     errors: &mut E,
 ) -> (u8, H)
     ensures { let seen = view_of H.file H.created H.written H.failures in let took = streams_of W.contents E.contents in
-        HasSession out.now fonts.now (seen (I.remaining host.input) host.files) (seen None result.1)
+        HasSession written_bytes out.now fonts.now (seen (I.remaining host.input) host.files) (seen None result.1)
         (took output.old errors.old) (took output.new errors.new) result.0 }
 {
     let HostParts { mut input, files } = host;

@@ -1,6 +1,7 @@
 //! `typeset`: a script is run, and its pages go to a file.
 
 ghost use Rattle.std.specs.Prelude.{◌≡◌, ◌+◌, ◌==◌, false, true, not};
+ghost use Rattle.boxglue_program.specs.Reports.{written_bytes};
 ghost use Rattle.boxglue_words.specs.Hosts.{created_after, has_failed};
 ghost use Rattle.boxglue_lib.specs.Ends.{EndsTask};
 ghost use Rattle.boxglue_lib.specs.Typesets.{IsLeftToFile, IsUsed, OutFile, script_rules};
@@ -33,10 +34,10 @@ pub fn typeset_file<'a, H: FileHost, W: Write>(
     writer: &mut W,
 ) -> TypesetEnd<'a, H>
     ensures task_ended { let file : OutFile = record { created = result.created; done = result.written; written = H.written result.host } in
-        EndsTask (script_rules inputs.now.bytes.items inputs.now.files.items (result.host ≡ host) file)
+        EndsTask (script_rules written_bytes inputs.now.bytes.items inputs.now.files.items (result.host ≡ host) file)
         result.end (W.contents writer.old) (W.contents writer.new) }
     ensures left { let file : OutFile = record { created = result.created; done = result.written; written = H.written result.host } in
-        result.end ≡ TaskEnd.OutOfMemory → IsLeftToFile inputs.now.bytes.items inputs.now.files.items file }
+        result.end ≡ TaskEnd.OutOfMemory → IsLeftToFile written_bytes inputs.now.bytes.items inputs.now.files.items file }
     ensures placed { H.created result.host ≡ created_after result.created out.now (H.created host) }
     ensures untouched { result.created ≡ false → H.written result.host ≡ H.written host }
     ensures unchanged { result.created ≡ false → result.written ≡ true → result.host ≡ host }

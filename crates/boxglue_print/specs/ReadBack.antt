@@ -3,9 +3,8 @@ use Rattle.std.specs.Prelude.{◌≡◌, ℕ, Bool, true, List, map, Result}
 use Rattle.dvi_read.specs.Listing.{listing}
 use Rattle.dvi_read.specs.Opened.{OpenedFile, GivesPages, IsExact}
 use Rattle.dvi_read.specs.declared.fault.DviFault.{DviFault}
-use Rattle.dvi_write.specs.Shippable.{read_page}
 use Rattle.job_machine.specs.Machine.{Machine}
-use Rattle.page_core.specs.Marks.{ShippedPage}
+use Rattle.page_core.specs.Marks.{ShippedPage, read_page}
 
 -- A call that opens these bytes with the machine's font files and is exact gives the machine's pages, or memory is refused.
 abbrev pub IsReadBack : Machine → List ℕ → Type 0

@@ -8,6 +8,7 @@ ghost use Rattle.job_core.specs.Jobs.{Represents, JobView};
 ghost use Rattle.job_core.specs.Shown.{FilesPages};
 ghost use Rattle.boxglue_print.specs.Outputs.{IsListed};
 ghost use Rattle.job_machine.specs.Machine.{Machine};
+ghost use Rattle.boxglue_program.specs.Reports.{any_bytes};
 ghost use Rattle.boxglue_program.specs.Runs.{RanScript};
 ghost use Rattle.boxglue_print.specs.ReadBack.{IsReadBack, ListsPages};
 ghost use Rattle.tfm_core.specs.NamedBytes.{NamedBytes};
@@ -29,7 +30,7 @@ pub fn finished_files_are_read_back()
 /// It follows from what `run_script` ensures (`answers`), and what each call that lists a file does (`IsListed`).
 pub fn typeset_scripts_are_listed()
     ensures { (text answer bytes : List ℕ) (files : List NamedBytes) (n k : ℕ) (fine : Bool)
-        (ran : RanScript text files n k (Some bytes) answer fine) (summary : Summary)
+        (ran : RanScript any_bytes text files n k (Some bytes) answer fine) (summary : Summary)
         → ran.end ≡ Ok summary → ran.run.middle.pages ≢ []
         → (listed : List ℕ) (accepted : Bool) → IsListed files bytes listed accepted → ListsPages ran.run.middle.pages listed accepted }
 {

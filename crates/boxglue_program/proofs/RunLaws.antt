@@ -1,5 +1,5 @@
 -- A job that runs the commands of a script and is finished.
-use Rattle.std.proofs.Common.{◌≡◌, ◌⊎◌, ◌+◌, ◌∷◌, inl, inr, ℕ, Bool, true, false, List, [], ◌++◌, length, take, drop, Option, Some, None, IfSome, Result, Ok, Err, IfOk, OnOk, OnErr, is_err, refl, sym, append_assoc, arith, ◌∙◌, ap, subst, ⊎_elim}
+use Rattle.std.proofs.Common.{◌≡◌, ◌⊎◌, ◌+◌, ◌∷◌, inl, inr, ℕ, Bool, true, false, List, [], ◌++◌, length, map, take, drop, Option, Some, None, IfSome, Result, Ok, Err, IfOk, OnOk, OnErr, is_err, refl, sym, append_assoc, arith, ◌∙◌, ap, subst, ⊎_elim}
 use Rattle.job_machine.specs.declared.command.Command.{Command}
 use Rattle.job_machine.specs.declared.replies.Refusal.{Refusal}
 use Rattle.job_machine.specs.declared.replies.Refusal.TheVariants as refusals
@@ -12,21 +12,23 @@ use Rattle.dvi_device.specs.Pasts.{Past, Differs, KeepsPast, no_past}
 use Rattle.dvi_device.specs.Seen.{DeviceView, device_view}
 use Rattle.dvi_device.specs.Resumed.{RestState, written_by, began_by, past_by, GoesOnAs, PassesOn}
 use Rattle.dvi_device.proofs.PastLaws.{no_difference}
+use Rattle.tfm_core.specs.FileWidths.{file_widths}
+use Rattle.page_core.specs.Marks.{ShippedPage, read_page}
+use Rattle.dvi_ops.specs.File.{IsFileOfPages}
 use Rattle.dvi_write.specs.Layout.{whole}
-use Rattle.job_core.specs.Shown.{GivesFiles, FilesPages}
-use Rattle.job_core.specs.Closing.{ClosesFile}
 use Rattle.job_machine.specs.Machine.{Machine, first_machine}
-use Rattle.job_core.specs.Jobs.{JobView, IsProperFrontOf, due_bytes, Represents, KeepsTo, RunsTo, FinishesTo}
+use Rattle.job_core.specs.Headline.{WasRun, WasRunAndSent}
+use Rattle.job_core.specs.Jobs.{JobView, due_bytes, KeepsTo, RunsTo}
 use Rattle.job_core.proofs.Moves.{runs_more}
 use Rattle.dvi_device.specs.Held.{MemoryState, new_memory}
-use Rattle.job_machine.proofs.RunLaws.{files_kept}
 use Rattle.job_core.proofs.RestsOfFiles.{beginning, completed, rest_completed, passed_on}
 use Rattle.job_core.proofs.LosslessRuns.{run_rises, end_rises, run_kept, end_kept}
 use Rattle.std.proofs.lemmas.List.{append-nil, length-append}
 use Rattle.std.proofs.Math.Seq.{take-append_seam}
 use Rattle.boxglue_script.specs.declared.script.Line.{Line}
+use Rattle.boxglue_program.specs.Reports.{Reports, any_bytes, written_bytes}
 use Rattle.boxglue_program.specs.Texts.{hexadecimal_text, answer_line, answer_lines}
-use Rattle.boxglue_program.specs.Runs.{commands_of, line_numbers, WasRun, RanOn, IsUntouched, IsAnswered, IsUnanswered, RanScript, RefusedScript, IsAnsweredInMemory, IsUnansweredInMemory, CompletesFile, IsAnswerOfRest, RanOverRest, IsAnsweredOverRest, IsUnansweredOverRest}
+use Rattle.boxglue_program.specs.Runs.{commands_of, line_numbers, RanOn, IsUntouched, IsAnswered, IsUnanswered, RanScript, RefusedScript, IsAnsweredInMemory, IsUnansweredInMemory, CompletesFile, IsAnswerOfRest, RanOverRest, IsAnsweredOverRest, IsUnansweredOverRest}
 
 pub on_err : {A E : Type 0} {P : Type 0} (r : Result A E) → is_err r ≡ true → OnErr r P → P
 on_err (Ok x) e h = absurd (cc)
@@ -40,68 +42,39 @@ on_ok (Err x) e h = absurd (cc)
 pub if_some : {A : Type 0} (o : Option A) (x : A) (P : A → Type 0) → o ≡ Some x → IfSome o P → P x
 if_some {A = A} o x P is holds = subst (λ (o : Option A). IfSome o P) is holds
 
-pub size_at : (end : Result Summary Refusal) (bytes_written : Option (List ℕ)) (run : JobView) (m : Machine) → Represents run m → IfOk end (λ summary. (m : Machine) → Represents run m → IfSome bytes_written (λ bytes. summary.bytes ≡ length bytes)) → IfOk end (λ summary. IfSome bytes_written (λ bytes. summary.bytes ≡ length bytes))
-size_at (Ok summary) bytes_written run m holds h = h m holds
-size_at (Err refusal) bytes_written run m holds h = h
-
-pub count_at : (end : Result Summary Refusal) (run : JobView) (m : Machine) → Represents run m
-    → IfOk end (λ summary. (m : Machine) → Represents run m → summary.bytes ≡ length (whole m.state.fonts m.pages)) → IfOk end (λ summary. summary.bytes ≡ length (whole m.state.fonts m.pages))
-count_at (Ok summary) run m holds h = h m holds
-count_at (Err refusal) run m holds h = h
-
-abbrev pub was_run : (files : List NamedBytes) (commands : List Command) (replies : List Reply) (end : Result Summary Refusal) (job run done : JobView)
-    → Represents job (first_machine files) → RunsTo job commands replies run → FinishesTo run end done
-    → FilesPages run end done
-    → ((m : Machine) → Represents run m → OnOk end (IfSome done.bytes_written (λ bytes. bytes ≡ whole m.state.fonts m.pages)))
-    → IfOk end (λ summary. (m : Machine) → Represents run m → IfSome done.bytes_written (λ bytes. summary.bytes ≡ length bytes))
-    → IfOk end (λ summary. (m : Machine) → Represents run m → summary.bytes ≡ length (whole m.state.fonts m.pages))
-    → ClosesFile run end done
-    → (end ≡ Err refusals.Device → (m : Machine) → Represents run m → IfSome done.bytes_written (λ bytes. IsProperFrontOf bytes (whole m.state.fonts m.pages)))
-    → WasRun files job.failed commands replies end done.failed done.bytes_written
-was_run files commands replies end job run done holds runs finishes dvi file size count closed part =
-    let middle = runs (first_machine files) holds in
-    let last = finishes middle.0 middle.2 in
-    let same : middle.0.state.files ≡ files = files_kept (first_machine files) job.failed commands replies middle.0 run.failed middle.1 in
-    record {
-      middle = middle.0;
-      failed = run.failed;
-      ran = middle.1;
-      last = last.0;
-      finished = last.1;
-      dvi = λ metrics gives. dvi middle.0 metrics middle.2 (let P : List NamedBytes → Type 0 = λ all. GivesFiles metrics all in subst P (sym same) gives);
-      file = file middle.0 middle.2;
-      size = size_at end done.bytes_written run middle.0 middle.2 size;
-      count = count_at end run middle.0 middle.2 count;
-      closed = closed middle.0 middle.2;
-      front = λ e. part e middle.0 middle.2;
-      part = last.2.sent;
-      held = last.2.held;
-      sent = λ running. (last.2.written running).bytes_written;
-    }
-
--- What its device made of the bytes that it was to meet.
-pub was_run_past : (files : List NamedBytes) (commands : List Command) (replies : List Reply) (end : Result Summary Refusal) (job run done : JobView)
-    → (holds : Represents job (first_machine files)) → (runs : RunsTo job commands replies run) → (finishes : FinishesTo run end done) → done.began ≡ job.began
-    → KeepsPast job.began (due_bytes (finishes (runs (first_machine files) holds).0 (runs (first_machine files) holds).2).0) done.past
-was_run_past files commands replies end job run done holds runs finishes began =
-    let middle = runs (first_machine files) holds in
-    let last = finishes middle.0 middle.2 in
-    subst (λ (p : Past). KeepsPast p (due_bytes last.0) done.past) began last.2.past
-
--- A run of which this is known stays one if the numbers and bytes of its device are replaced by equal ones.
-pub same_run_with : (files : List NamedBytes) (n n' : ℕ) (commands : List Command) (replies : List Reply) (end : Result Summary Refusal) (k k' : ℕ) (bytes_written bytes_written' : Option (List ℕ))
-    (P : Machine → Type 0) → n' ≡ n → k' ≡ k → bytes_written' ≡ bytes_written → (run : WasRun files n commands replies end k bytes_written) → P run.last
-    → (run : WasRun files n' commands replies end k' bytes_written') × P run.last
-same_run_with files n n' commands replies end k k' bytes_written bytes_written' P a b c run known = rw (a, b, c) (run, known)
-
--- A run stays one if its numbers, lists and bytes are replaced by equal ones.
+-- A run stays one, with what was sent of it, if its numbers, lists and bytes are replaced by equal ones.
 pub same_run : (files : List NamedBytes) (n n' : ℕ) (commands commands' : List Command) (replies replies' : List Reply) (end : Result Summary Refusal) (k k' : ℕ) (bytes_written bytes_written' : Option (List ℕ))
-    → n' ≡ n → commands' ≡ commands → replies' ≡ replies → k' ≡ k → bytes_written' ≡ bytes_written → WasRun files n commands replies end k bytes_written → WasRun files n' commands' replies' end k' bytes_written'
+    → n' ≡ n → commands' ≡ commands → replies' ≡ replies → k' ≡ k → bytes_written' ≡ bytes_written
+    → WasRunAndSent files n commands replies end k bytes_written → WasRunAndSent files n' commands' replies' end k' bytes_written'
 same_run files n n' commands commands' replies replies' end k k' bytes_written bytes_written' a b c d e h = rw (a, b, c, d, e) h
 
--- All replies are those that a run added to none.
-pub added_to_none : (old new added : List Reply) → old ≡ [] → new ≡ old ++ added → new ≡ added
-added_to_none old new added e h = h ∙ (rw e refl)
+-- A run of which the rules of the writer say more is one of which nothing more is said.
+abbrev pub script_unsaid : (text : List ℕ) (files : List NamedBytes) (n k : ℕ) (bytes_written : Option (List ℕ)) (answer : List ℕ) (fine : Bool)
+    → RanScript written_bytes text files n k bytes_written answer fine → RanScript any_bytes text files n k bytes_written answer fine
+script_unsaid text files n k bytes_written answer fine ran = record {
+  lines = ran.lines;
+  replies = ran.replies;
+  end = ran.end;
+  script = ran.script;
+  run = ran.run;
+  sent = tt;
+  answer_is = ran.answer_is;
+  fine_is = ran.fine_is;
+}
+
+on_unsaid : {D : Type 0} (text : List ℕ) (files : List NamedBytes) (device back : DeviceView D) (answer : List ℕ) (fine : Bool)
+    → RanOn written_bytes text files device back answer fine → RanOn any_bytes text files device back answer fine
+on_unsaid text files device back answer fine on = record { ran = script_unsaid text files device.failed back.failed back.bytes_written answer fine on.ran; past = tt }
+
+pub answered_unsaid : {D : Type 0} (text : List ℕ) (files : List NamedBytes) (device back : DeviceView D) (answer : List ℕ) (fine : Bool)
+    → IsAnswered written_bytes text files device back answer fine → IsAnswered any_bytes text files device back answer fine
+answered_unsaid text files device back answer fine (inl on) = inl (on_unsaid text files device back answer fine on)
+answered_unsaid text files device back answer fine (inr refused) = inr refused
+
+pub unanswered_unsaid : {D : Type 0} (text : List ℕ) (files : List NamedBytes) (device back : DeviceView D)
+    → IsUnanswered written_bytes text files device back → IsUnanswered any_bytes text files device back
+unanswered_unsaid text files device back (inl same) = inl same
+unanswered_unsaid text files device back (inr (answer, fine, on)) = inr (answer, fine, on_unsaid text files device back answer fine on)
 
 no_lines : hexadecimal_text [] ≡ []
 unfolding hexadecimal_text
@@ -112,62 +85,63 @@ abbrev pub memory_view : MemoryState → DeviceView MemoryState
 memory_view = device_view (λ m. Some m.bytes) (λ m. m.failures) (λ m. no_past)
 
 -- An answer without the past of the device.
-pub answered_alone : {D : Type 0} (text : List ℕ) (files : List NamedBytes) (device back : DeviceView D) (answer : List ℕ) (fine : Bool) → IsAnswered text files device back answer fine
-    → RanScript text files device.failed back.failed back.bytes_written answer fine ⊎ (RefusedScript text answer fine × (back.itself ≡ device.itself))
-answered_alone text files device back answer fine (inl on) = inl on.ran
-answered_alone {D = D} text files device back answer fine (inr (bad, same)) = inr (bad, ap (λ (v : DeviceView D). v.itself) same)
+pub answered_alone : {D : Type 0} (reports : Reports) (text : List ℕ) (files : List NamedBytes) (device back : DeviceView D) (answer : List ℕ) (fine : Bool)
+    → IsAnswered reports text files device back answer fine
+    → RanScript reports text files device.failed back.failed back.bytes_written answer fine ⊎ (RefusedScript text answer fine × (back.itself ≡ device.itself))
+answered_alone reports text files device back answer fine (inl on) = inl on.ran
+answered_alone {D = D} reports text files device back answer fine (inr (bad, same)) = inr (bad, ap (λ (v : DeviceView D). v.itself) same)
 
 -- What a device was made with stays in a run.
-pub answered_made : {D : Type 0} (text : List ℕ) (files : List NamedBytes) (device back : DeviceView D) (answer : List ℕ) (fine : Bool) → IsAnswered text files device back answer fine
+pub answered_made : {D : Type 0} (text : List ℕ) (files : List NamedBytes) (device back : DeviceView D) (answer : List ℕ) (fine : Bool) → IsAnswered written_bytes text files device back answer fine
     → back.past.made ≡ device.past.made
 answered_made text files device back answer fine (inl on) = on.past.made
 answered_made {D = D} text files device back answer fine (inr (bad, same)) = ap (λ (v : DeviceView D). v.past.made) same
 
 -- The same if there is no answer.
-pub unanswered_made : {D : Type 0} (text : List ℕ) (files : List NamedBytes) (device back : DeviceView D) → IsUnanswered text files device back → back.past.made ≡ device.past.made
+pub unanswered_made : {D : Type 0} (text : List ℕ) (files : List NamedBytes) (device back : DeviceView D) → IsUnanswered written_bytes text files device back → back.past.made ≡ device.past.made
 unanswered_made {D = D} text files device back (inl same) = ap (λ (v : DeviceView D). v.past.made) same
 unanswered_made text files device back (inr (answer, fine, on)) = on.past.made
 
 -- No answer, without the past of a device that had reported no byte.
-pub unanswered_alone : {D : Type 0} (text : List ℕ) (files : List NamedBytes) (device back : DeviceView D) → IfSome device.bytes_written (λ bytes. bytes ≡ [])
-    → IsUnanswered text files device back
+pub unanswered_alone : {D : Type 0} (reports : Reports) (text : List ℕ) (files : List NamedBytes) (device back : DeviceView D) → IfSome device.bytes_written (λ bytes. bytes ≡ [])
+    → IsUnanswered reports text files device back
     → IsUntouched device.failed back.failed back.bytes_written
-    ⊎ ((answer : List ℕ) × (fine : Bool) × RanScript text files device.failed back.failed back.bytes_written answer fine)
-unanswered_alone {D = D} text files device back silent (inl same) = inl (record {
+    ⊎ ((answer : List ℕ) × (fine : Bool) × RanScript reports text files device.failed back.failed back.bytes_written answer fine)
+unanswered_alone {D = D} reports text files device back silent (inl same) = inl (record {
   silent = subst (λ (v : DeviceView D). IfSome v.bytes_written (λ bytes. bytes ≡ [])) (sym same) silent;
   failed_is = ap (λ (v : DeviceView D). v.failed) same;
 })
-unanswered_alone text files device back silent (inr (answer, fine, on)) = inr (answer, fine, on.ran)
+unanswered_alone reports text files device back silent (inr (answer, fine, on)) = inr (answer, fine, on.ran)
 
 -- The answers, and then the bytes of the memory.
-pub answered_in_memory : (text : List ℕ) (files : List NamedBytes) (start memory : MemoryState) (answer whole : List ℕ) (fine : Bool) → start ≡ record { bytes = []; capacity = 0; failures = 0 }
-    → IsAnswered text files (memory_view start) (memory_view memory) answer fine
-    → whole ≡ answer ++ hexadecimal_text memory.bytes → IsAnsweredInMemory text files memory whole fine
-answered_in_memory text files start memory answer whole fine fresh answered is = ⊎_elim
-    (λ (ran : RanScript text files start.failures memory.failures (Some memory.bytes) answer fine).
-    let P : ℕ → Type 0 = λ n. RanScript text files n memory.failures (Some memory.bytes) answer fine in
+pub answered_in_memory : (reports : Reports) (text : List ℕ) (files : List NamedBytes) (start memory : MemoryState) (answer whole : List ℕ) (fine : Bool) → start ≡ record { bytes = []; capacity = 0; failures = 0 }
+    → IsAnswered reports text files (memory_view start) (memory_view memory) answer fine
+    → whole ≡ answer ++ hexadecimal_text memory.bytes → IsAnsweredInMemory reports text files memory whole fine
+answered_in_memory reports text files start memory answer whole fine fresh answered is = ⊎_elim
+    (λ (ran : RanScript reports text files start.failures memory.failures (Some memory.bytes) answer fine).
+    let P : ℕ → Type 0 = λ n. RanScript reports text files n memory.failures (Some memory.bytes) answer fine in
     inl (record { answers = answer; ran = subst P (ap (λ (m : MemoryState). m.failures) fresh) ran; answer_is = is }))
     (λ (refused : RefusedScript text answer fine × (memory ≡ start)).
     let nothing : hexadecimal_text memory.bytes ≡ [] = ap (λ (m : MemoryState). hexadecimal_text m.bytes) (refused.1 ∙ fresh) ∙ no_lines in
     let same : whole ≡ answer = is ∙ (ap (λ (more : List ℕ). answer ++ more) nothing ∙ append-nil answer) in
     inr (record { number = refused.0.number; cause = refused.0.cause; bad = refused.0.bad; answer_is = same ∙ refused.0.answer_is; fine_is = refused.0.fine_is }))
-    (answered_alone text files (memory_view start) (memory_view memory) answer fine answered)
+    (answered_alone reports text files (memory_view start) (memory_view memory) answer fine answered)
 
 -- If memory is refused after the run, the whole script was run, or it is bad and the device is new.
-pub lacking_in_memory : (text : List ℕ) (files : List NamedBytes) (start memory : MemoryState) (answer : List ℕ) (fine : Bool) → start ≡ new_memory
-    → IsAnswered text files (memory_view start) (memory_view memory) answer fine → IsUnansweredInMemory text files memory
-lacking_in_memory text files start memory answer fine fresh answered = ⊎_elim
-    (λ (ran : RanScript text files start.failures memory.failures (Some memory.bytes) answer fine).
-    inr (answer, fine, subst (λ (n : ℕ). RanScript text files n memory.failures (Some memory.bytes) answer fine) (ap (λ (m : MemoryState). m.failures) fresh) ran))
+pub lacking_in_memory : (reports : Reports) (text : List ℕ) (files : List NamedBytes) (start memory : MemoryState) (answer : List ℕ) (fine : Bool) → start ≡ new_memory
+    → IsAnswered reports text files (memory_view start) (memory_view memory) answer fine → IsUnansweredInMemory reports text files memory
+lacking_in_memory reports text files start memory answer fine fresh answered = ⊎_elim
+    (λ (ran : RanScript reports text files start.failures memory.failures (Some memory.bytes) answer fine).
+    inr (answer, fine, subst (λ (n : ℕ). RanScript reports text files n memory.failures (Some memory.bytes) answer fine) (ap (λ (m : MemoryState). m.failures) fresh) ran))
     (λ (refused : RefusedScript text answer fine × (memory ≡ start)). inl (refused.1 ∙ fresh))
-    (answered_alone text files (memory_view start) (memory_view memory) answer fine answered)
+    (answered_alone reports text files (memory_view start) (memory_view memory) answer fine answered)
 
 -- The same if memory is refused before.
-pub unanswered_in_memory : (text : List ℕ) (files : List NamedBytes) (start memory : MemoryState) → start ≡ new_memory
-    → IsUnanswered text files (memory_view start) (memory_view memory) → IsUnansweredInMemory text files memory
-unanswered_in_memory text files start memory fresh (inl same) = inl (ap (λ (v : DeviceView MemoryState). v.itself) same ∙ fresh)
-unanswered_in_memory text files start memory fresh (inr (answer, fine, on)) =
-    inr (answer, fine, subst (λ (n : ℕ). RanScript text files n memory.failures (Some memory.bytes) answer fine) (ap (λ (m : MemoryState). m.failures) fresh) on.ran)
+pub unanswered_in_memory : (reports : Reports) (text : List ℕ) (files : List NamedBytes) (start memory : MemoryState) → start ≡ new_memory
+    → IsUnanswered reports text files (memory_view start) (memory_view memory) → IsUnansweredInMemory reports text files memory
+unanswered_in_memory reports text files start memory fresh (inl same) = inl (ap (λ (v : DeviceView MemoryState). v.itself) same ∙ fresh)
+unanswered_in_memory reports text files start memory fresh (inr (answer, fine, on)) =
+    inr (answer, fine, subst (λ (n : ℕ). RanScript reports text files n memory.failures (Some memory.bytes) answer fine) (ap (λ (m : MemoryState). m.failures) fresh) on.ran)
 
 -- If what was sent before is no beginning of the file, an end that succeeds has sent nothing.
 not_completed : (end : Result Summary Refusal) (reported inner : Option (List ℕ)) (sent all : List ℕ) → OnOk end (IfSome reported (λ bytes. bytes ≡ all))
@@ -181,7 +155,7 @@ not_completed (Ok summary) (Some bytes) inner sent all file passes other = by_pa
 
 -- A script that was run over the rest of a file completes it.
 pub script_completes : (text : List ℕ) (files : List NamedBytes) (n k start_failed at_first : ℕ) (sent before : List ℕ) (start bytes_written inner : Option (List ℕ)) (answer : List ℕ) (fine : Bool) (began : Beginning)
-    → RanScript text files n k bytes_written answer fine → beginning sent start start_failed ≡ began → began ≡ beginning before (Some before) at_first
+    → RanScript written_bytes text files n k bytes_written answer fine → beginning sent start start_failed ≡ began → began ≡ beginning before (Some before) at_first
     → ((whole : List ℕ) → IfSome bytes_written (λ bytes. bytes ≡ whole) → IsFrontOf sent whole → start ≡ Some sent → inner ≡ Some whole)
     → PassesOn sent start inner bytes_written → CompletesFile text files before inner answer fine
 script_completes text files n k start_failed at_first sent before start bytes_written inner answer fine began ran is had got passes =
@@ -204,8 +178,8 @@ script_completes text files n k start_failed at_first sent before start bytes_wr
       finished = ran.run.finished;
       answer_is = ran.answer_is;
       fine_is = ran.fine_is;
-      file = λ front. completed ran.end bytes_written bytes_written start inner sent all start_failed began ran.run.file refl is written_is (subst (λ (s : List ℕ). IsFrontOf s all) (sym sent_is) front) (got all);
-      other = not_completed ran.end bytes_written inner before all ran.run.file passed;
+      file = λ front. completed ran.end bytes_written bytes_written start inner sent all start_failed began ran.sent.file refl is written_is (subst (λ (s : List ℕ). IsFrontOf s all) (sym sent_is) front) (got all);
+      other = not_completed ran.end bytes_written inner before all ran.sent.file passed;
     }
 
 -- A device for the rest of a file as contracts see it.
@@ -260,7 +234,7 @@ module _ {D : Type 0} (bytes_written : D → Option (List ℕ)) (failed : D → 
   ran_over_rest : (text : List ℕ) (files : List NamedBytes) (answer : List ℕ) (fine : Bool)
       → ((all : List ℕ) → IfSome (written_by bytes_written rest) (λ bytes. bytes ≡ all) → IsFrontOf rest.sent all
       → bytes_written inner ≡ written_then (bytes_written rest.start) (drop (length rest.sent) all))
-      → (ran : RanScript text files (failed device) (failed inner + rest.failures) (written_by bytes_written rest) answer fine)
+      → (ran : RanScript written_bytes text files (failed device) (failed inner + rest.failures) (written_by bytes_written rest) answer fine)
       → KeepsPast (past_by bytes_written failed start) (due_bytes ran.run.last) (past_by bytes_written failed rest) → RanOverRest text files sent (seen device) (seen inner) answer fine
   ran_over_rest text files answer fine got ran keeps =
       let own = own_failures (due_bytes ran.run.last) keeps in
@@ -279,17 +253,17 @@ module _ {D : Type 0} (bytes_written : D → Option (List ℕ)) (failed : D → 
             let runs = run_kept (first_machine files) (failed device) (commands_of ran.lines) ran.replies m ran.run.failed ran.run.ran (omega (arith, last, none, unfailed)) refl in
             (runs.0, end_kept m ran.run.failed ran.end ran.run.last (failed inner + rest.failures) ran.run.finished (omega (arith, first, none, unfailed)) runs.1);
         rest = λ front. rest_completed ran.end (written_by bytes_written rest) (written_by bytes_written rest) (bytes_written rest.start) (bytes_written inner) rest.sent all (failed rest.start)
-            (beginning sent (bytes_written device) (failed device)) ran.run.file refl began_so front (got all);
+            (beginning sent (bytes_written device) (failed device)) ran.sent.file refl began_so front (got all);
       }
 
   -- The same for a run whose device counts from n to k.
   abbrev Counted : (text : List ℕ) → (files : List NamedBytes) → (answer : List ℕ) → (fine : Bool) → (n k : ℕ) → Type 0
-  Counted text files answer fine n k = (ran : RanScript text files n k (written_by bytes_written rest) answer fine)
+  Counted text files answer fine n k = (ran : RanScript written_bytes text files n k (written_by bytes_written rest) answer fine)
       → KeepsPast (past_by bytes_written failed start) (due_bytes ran.run.last) (past_by bytes_written failed rest) → RanOverRest text files sent (seen device) (seen inner) answer fine
 
   -- A script that was run on it was run over the rest of a file.
   over_rest_on : (text : List ℕ) (files : List NamedBytes) (answer : List ℕ) (fine : Bool)
-      → RanOn text files (rest_view bytes_written failed start) (rest_view bytes_written failed rest) answer fine
+      → RanOn written_bytes text files (rest_view bytes_written failed start) (rest_view bytes_written failed rest) answer fine
       → ((all : List ℕ) → IfSome (written_by bytes_written rest) (λ bytes. bytes ≡ all) → IsFrontOf rest.sent all
       → bytes_written inner ≡ written_then (bytes_written rest.start) (drop (length rest.sent) all))
       → RanOverRest text files sent (seen device) (seen inner) answer fine
@@ -300,7 +274,7 @@ module _ {D : Type 0} (bytes_written : D → Option (List ℕ)) (failed : D → 
 
   -- The answer to a script that was run over it, whatever the inner device reports.
   pub answered_over_rest : (text : List ℕ) (files : List NamedBytes) (answer : List ℕ) (fine : Bool)
-      → IsAnswered text files (rest_view bytes_written failed start) (rest_view bytes_written failed rest) answer fine
+      → IsAnswered written_bytes text files (rest_view bytes_written failed start) (rest_view bytes_written failed rest) answer fine
       → ((all : List ℕ) → IfSome (written_by bytes_written rest) (λ bytes. bytes ≡ all) → IsFrontOf rest.sent all
       → bytes_written inner ≡ written_then (bytes_written rest.start) (drop (length rest.sent) all))
       → IsAnsweredOverRest text files sent (seen device) (seen inner) answer fine
@@ -309,7 +283,7 @@ module _ {D : Type 0} (bytes_written : D → Option (List ℕ)) (failed : D → 
 
   -- The same without an answer.
   pub unanswered_over_rest : (text : List ℕ) (files : List NamedBytes)
-      → IsUnanswered text files (rest_view bytes_written failed start) (rest_view bytes_written failed rest)
+      → IsUnanswered written_bytes text files (rest_view bytes_written failed start) (rest_view bytes_written failed rest)
       → ((all : List ℕ) → IfSome (written_by bytes_written rest) (λ bytes. bytes ≡ all) → IsFrontOf rest.sent all
       → bytes_written inner ≡ written_then (bytes_written rest.start) (drop (length rest.sent) all))
       → IsUnansweredOverRest text files sent (seen device) (seen inner)
@@ -318,7 +292,7 @@ module _ {D : Type 0} (bytes_written : D → Option (List ℕ)) (failed : D → 
 
   -- The same where the inner device had reported exactly what was sent before.
   pub resumed : (text : List ℕ) (files : List NamedBytes) (answer : List ℕ) (fine : Bool)
-      → IsAnswered text files (rest_view bytes_written failed start) (rest_view bytes_written failed rest) answer fine → bytes_written device ≡ Some sent
+      → IsAnswered written_bytes text files (rest_view bytes_written failed start) (rest_view bytes_written failed rest) answer fine → bytes_written device ≡ Some sent
       → ((whole : List ℕ) → IfSome (written_by bytes_written rest) (λ bytes. bytes ≡ whole) → IsFrontOf rest.sent whole → bytes_written rest.start ≡ Some rest.sent → bytes_written inner ≡ Some whole)
       → IsAnswerOfRest text files sent (bytes_written inner) answer fine
   resumed text files answer fine (inl on) had got =
@@ -326,16 +300,12 @@ module _ {D : Type 0} (bytes_written : D → Option (List ℕ)) (failed : D → 
       (beginning sent (Some sent) (failed device)) on.ran (began_so ∙ ap (λ (t : Option (List ℕ)). beginning sent t (failed device)) had) refl got passes)
   resumed text files answer fine (inr (bad, back)) had got = inr (bad, ap (λ (v : DeviceView D). v.bytes_written) (untouched back) ∙ had)
 
--- The file of no pages is empty.
-no_whole : (m : Machine) → m.pages ≡ [] → whole m.state.fonts m.pages ≡ []
-unfolding whole
-no_whole m none = rw none refl
-
 -- A run without a page has sent nothing, if its end succeeded.
 pub silent_run : (files : List NamedBytes) (n k : ℕ) (commands : List Command) (replies : List Reply) (end : Result Summary Refusal) (bytes_written : Option (List ℕ))
     (run : WasRun files n commands replies end k bytes_written) → run.middle.pages ≡ [] → OnOk end (IfSome bytes_written (λ bytes. bytes ≡ []))
 silent_run files n k commands replies end bytes_written run none =
-    subst (λ (all : List ℕ). OnOk end (IfSome bytes_written (λ bytes. bytes ≡ all))) (no_whole run.middle none) run.file
+    subst (λ (pages : List ShippedPage). OnOk end (IfSome bytes_written (λ bytes. IsFileOfPages (file_widths files) bytes (map read_page pages)))) none
+    (run.dvi (file_widths files) (λ name size widths is. is))
 
 pub commands_more : (front : List Line) (line : Line) → commands_of (front ++ line ∷ []) ≡ commands_of front ++ line.command ∷ []
 commands_more [] line = refl

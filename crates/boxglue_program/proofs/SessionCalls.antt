@@ -8,6 +8,7 @@ use Rattle.std.proofs.lemmas.List.{append-nil}
 use Rattle.job_machine.specs.declared.replies.Refusal.{Refusal}
 use Rattle.job_machine.specs.declared.replies.Summary.{Summary}
 use Rattle.tfm_core.specs.NamedBytes.{NamedBytes}
+use Rattle.boxglue_program.specs.Reports.{written_bytes}
 use Rattle.boxglue_program.specs.Texts.{end_line}
 use Rattle.boxglue_program.specs.Sessions.{IsSent, DialogView, AnswersLines, EndsRun, SessionView, Exchanges, LacksRoom, StopsIn, IsNewSession, EndsSession, RanSession, LacksSessionMemory, IsUnreadable, IsCutOff}
 use Rattle.boxglue_program.specs.declared.session.SessionFault.{SessionFault}
@@ -108,7 +109,7 @@ pub run_ended : (files : List NamedBytes) (n k limit : ℕ) (start now last : Se
     → (last ≡ now) × Consumes left rest [] × IsAtEnd rest × Keeps middle between
     → IfOk outcome (λ accepted. (answer : List ℕ) × EndsSession last k bytes_written answer accepted × IsSent last.reads written between after answer)
     → IfOk outcome (λ accepted. (text answer : List ℕ) × Consumes input rest text × IsAtEnd rest × (length text ≤ limit)
-    × RanSession text files n k bytes_written answer accepted × IsSent true written before after answer)
+    × RanSession written_bytes text files n k bytes_written answer accepted × IsSent true written before after answer)
 run_ended files n k limit start now last input left rest before middle between after bytes_written (Err fault) written new limited so_far at_end
     ends = tt
 run_ended files n k limit start now last input left rest before middle between after bytes_written (Ok accepted) written new limited so_far
@@ -134,7 +135,7 @@ pub run_unfinished : (files : List NamedBytes) (n k : ℕ) (start now last : Ses
     → (last ≡ now) × Consumes left rest [] × IsAtEnd rest × Keeps middle between
     → IfErr outcome (λ fault. (fault ≡ OutOfMemory) × (answers : List ℕ) × (ended : DialogView) × StopsIn last.kept last.dialog answers ended
     × IsSent last.reads written between after answers × (k ≡ ended.job.failed) × (bytes_written ≡ ended.job.bytes_written))
-    → outcome ≡ Err OutOfMemory → (text answer : List ℕ) × Consumes input rest text × LacksSessionMemory text files n k bytes_written answer
+    → outcome ≡ Err OutOfMemory → (text answer : List ℕ) × Consumes input rest text × LacksSessionMemory written_bytes text files n k bytes_written answer
     × IsSent true written before after answer
 run_unfinished files n k start now last input left rest before middle between after bytes_written (Ok accepted) written new so_far at_end lacks
     wants = absurd (cc)
@@ -187,7 +188,7 @@ pub run_lacks_room : (files : List NamedBytes) (n k : ℕ) (start now last : Ses
     → IsNewSession files n start → InSession start now input left before middle
     → (fault ≡ OutOfMemory → (piece : List ℕ) × Consumes left rest piece × LacksRoom now piece last middle after)
     → outcome ≡ Err fault → written ≡ last.reads → k ≡ last.dialog.job.failed → bytes_written ≡ last.dialog.job.bytes_written
-    → outcome ≡ Err OutOfMemory → (text answer : List ℕ) × Consumes input rest text × LacksSessionMemory text files n k bytes_written answer
+    → outcome ≡ Err OutOfMemory → (text answer : List ℕ) × Consumes input rest text × LacksSessionMemory written_bytes text files n k bytes_written answer
     × IsSent true written before after answer
 run_lacks_room files n k start now last input left rest before middle after bytes_written outcome fault written new so_far room is told count
     bytes wants =
@@ -211,7 +212,7 @@ pub run_lost_input : (files : List NamedBytes) (n k limit : ℕ) (start now last
     × (lost ≢ [] → now.left < length lost) × Keeps middle after)
     → outcome ≡ Err fault → written ≡ last.reads → k ≡ last.dialog.job.failed → bytes_written ≡ last.dialog.job.bytes_written
     → outcome ≡ Err Unreadable → (text lost answer : List ℕ) × Consumes input rest (text ++ lost) × IsUnreadable limit text lost
-    × IsCutOff text files n k bytes_written answer × IsSent true written before after answer
+    × IsCutOff written_bytes text files n k bytes_written answer × IsSent true written before after answer
 run_lost_input files n k limit start now last input left rest before middle after bytes_written outcome fault written new limited so_far loses is
     told count bytes wants =
     let (same, lost, consumed, small, over, kept) = loses (same_fault (sym is ∙ wants)) in
@@ -234,7 +235,7 @@ pub run_not_ended : (files : List NamedBytes) (n k limit : ℕ) (start now : Ses
     → IsNewSession files n start → start.left ≡ limit → InSession start now input left before after
     → outcome ≡ Err Unreadable → written ≡ now.reads → k ≡ now.dialog.job.failed → bytes_written ≡ now.dialog.job.bytes_written
     → (text lost answer : List ℕ) × Consumes input left (text ++ lost) × IsUnreadable limit text lost
-    × IsCutOff text files n k bytes_written answer × IsSent true written before after answer
+    × IsCutOff written_bytes text files n k bytes_written answer × IsSent true written before after answer
 run_not_ended files n k limit start now input left before after bytes_written outcome written new limited so_far is told count bytes =
     run_lost_input files n k limit start now now input left left before after after bytes_written outcome Unreadable written new limited so_far
     (λ _. (refl, [], Consumes-nil left, omega arith, λ some. absurd (some refl), kept_as after)) is told count bytes is
@@ -242,7 +243,7 @@ run_not_ended files n k limit start now input left before after bytes_written ou
 -- Memory was refused before the first reading.
 pub run_not_begun : (files : List NamedBytes) (n k : ℕ) (input before bytes_written : Option (List ℕ)) → k ≡ n
     → IfSome bytes_written (λ bytes. bytes ≡ [])
-    → (text answer : List ℕ) × Consumes input input text × LacksSessionMemory text files n k bytes_written answer
+    → (text answer : List ℕ) × Consumes input input text × LacksSessionMemory written_bytes text files n k bytes_written answer
     × IsSent true true before before answer
 run_not_begun files n k input before bytes_written same silent =
     ([], [], Consumes-nil input, inl (record { silent = silent; failed_is = same }, refl, refl), sent_none true before)

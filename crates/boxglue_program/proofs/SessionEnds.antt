@@ -7,11 +7,13 @@ use Rattle.std.proofs.lemmas.List.{length-append, take_more}
 use Rattle.tfm_core.specs.NamedBytes.{NamedBytes}
 use Rattle.job_machine.specs.Machine.{first_machine}
 use Rattle.job_machine.specs.Runs.{Run}
+use Rattle.job_core.specs.Headline.{WasRunAndSent}
 use Rattle.job_core.specs.Jobs.{JobView, Represents}
 use Rattle.boxglue_script.specs.LineContents.{IsWhole, lines_said, has_no_bad}
 use Rattle.boxglue_script.proofs.LineLemmas.{lines_joined}
+use Rattle.boxglue_program.specs.Reports.{written_bytes}
 use Rattle.boxglue_program.specs.Texts.{end_line}
-use Rattle.boxglue_program.specs.Runs.{commands_of, WasRun}
+use Rattle.boxglue_program.specs.Runs.{commands_of}
 use Rattle.boxglue_program.specs.Sessions.{session_text, are_accepted, IsSent, DialogView, AnswersLines, SessionView, Exchanges, StopsIn, IsNewSession, EndsSession, RanSession, StoppedSession, IsCutOff}
 use Rattle.boxglue_program.proofs.SessionLaws.{answered_both, none_answered, same_answered, sent_both, sent_none, and_grouped}
 use Rattle.boxglue_program.proofs.DialogLaws.{both_whole, ends_on}
@@ -73,20 +75,22 @@ ended start now middle text answers others before after done ran =
 pub session_ran : (files : List NamedBytes) (n k : ℕ) (start now : SessionView) (text answers answer : List ℕ) (before after : Option (List ℕ))
     (bytes_written : Option (List ℕ)) (accepted : Bool)
     → IsNewSession files n start → DoneSoFar start now text answers before after → EndsSession now k bytes_written answer accepted
-    → RanSession text files n k bytes_written (answers ++ answer) accepted
+    → RanSession written_bytes text files n k bytes_written (answers ++ answer) accepted
 session_ran files n k start now text answers answer before after bytes_written accepted new done ends =
     let all = ended start now ends.middle text answers ends.answers before after done ends.ran in
     let one : start.dialog.lines + 1 ≡ 1 = omega (arith, new.lines) in
     let ran = ends.run files start.dialog.job (commands_of (lines_said (start.dialog.lines + 1) all.said)) all.replies new.represents all.ran in
-    let counted : WasRun files n (commands_of (lines_said (start.dialog.lines + 1) all.said)) all.replies ends.end k bytes_written =
-    subst (λ (m : ℕ). WasRun files m (commands_of (lines_said (start.dialog.lines + 1) all.said)) all.replies ends.end k bytes_written) new.failed
+    let counted : WasRunAndSent files n (commands_of (lines_said (start.dialog.lines + 1) all.said)) all.replies ends.end k bytes_written =
+    subst (λ (m : ℕ). WasRunAndSent files m (commands_of (lines_said (start.dialog.lines + 1) all.said)) all.replies ends.end k bytes_written) new.failed
     ran in
+    let run = subst (λ (number : ℕ). WasRunAndSent files n (commands_of (lines_said number all.said)) all.replies ends.end k bytes_written) one counted in
     record {
       said = all.said;
       replies = all.replies;
       end = ends.end;
       says = all.says;
-      run = subst (λ (number : ℕ). WasRun files n (commands_of (lines_said number all.said)) all.replies ends.end k bytes_written) one counted;
+      run = run.0;
+      sent = run.1;
       answer_is =
           ap (λ (l : List ℕ). answers ++ l) ends.answer_is
           ∙ (sym (append_assoc answers ends.answers (end_line ends.end))
@@ -101,7 +105,7 @@ session_ran files n k start now text answers answer before after bytes_written a
 stopped_after : (files : List NamedBytes) (n : ℕ) (start : SessionView) (all whole rest answers : List ℕ) (middle : DialogView) (job : JobView)
     → IsNewSession files n start → all ≡ whole ++ rest
     → IsWhole whole ⊎ (rest ≡ []) → AnswersLines start.dialog (lines whole) answers middle → job ≡ middle.job
-    → StoppedSession all files n job.failed job.bytes_written answers
+    → StoppedSession written_bytes all files n job.failed job.bytes_written answers
 stopped_after files n start all whole rest answers middle job new split ends ran is =
     let one : start.dialog.lines + 1 ≡ 1 = omega (arith, new.lines) in
     let commands = commands_of (lines_said (start.dialog.lines + 1) ran.said) in
@@ -120,9 +124,7 @@ stopped_after files n start all whole rest answers middle job new split ends ran
       says = ran.says;
       machine = last.0;
       ran = subst (λ (j : JobView). Run (first_machine files) n (commands_of (lines_said 1 ran.said)) ran.replies last.0 j.failed) (sym is) numbered;
-      job = job;
-      holds = subst (λ (j : JobView). Represents j last.0) (sym is) last.2;
-      bytes_written_is = refl;
+      sent = record { job = job; holds = subst (λ (j : JobView). Represents j last.0) (sym is) last.2; bytes_written_is = refl };
       answer_is = ran.answers_are ∙ ap (λ (number : ℕ). session_text number ran.said ran.replies) one;
     }
 
@@ -131,7 +133,7 @@ pub session_stopped : (files : List NamedBytes) (n : ℕ) (start now : SessionVi
     (before after : Option (List ℕ)) (last : DialogView)
     → IsNewSession files n start → (done : DoneSoFar start now text answers before after) → all ≡ done.whole ++ more
     → StopsIn more now.dialog others last
-    → StoppedSession all files n last.job.failed last.job.bytes_written (answers ++ others)
+    → StoppedSession written_bytes all files n last.job.failed last.job.bytes_written (answers ++ others)
 session_stopped files n start now text all more answers others before after last new done is stops =
     stopped_after files n start all (done.whole ++ stops.whole) stops.rest (answers ++ others) last last.job new
     (is ∙ (ap (λ (l : List ℕ). done.whole ++ l) stops.split ∙ sym (append_assoc done.whole stops.whole stops.rest)))
@@ -144,7 +146,7 @@ session_stopped files n start now text all more answers others before after last
 -- It stopped between two readings.
 pub session_cut_off : (files : List NamedBytes) (n : ℕ) (start now : SessionView) (text answers : List ℕ) (before after : Option (List ℕ))
     → IsNewSession files n start → DoneSoFar start now text answers before after
-    → IsCutOff text files n now.dialog.job.failed now.dialog.job.bytes_written answers
+    → IsCutOff written_bytes text files n now.dialog.job.failed now.dialog.job.bytes_written answers
 unfolding stopped_after
 session_cut_off files n start now text answers before after new done =
     (stopped_after files n start text done.whole now.kept answers now.dialog now.dialog.job new done.split (inl done.ends) done.ran refl, done.rest)

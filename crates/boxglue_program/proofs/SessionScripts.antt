@@ -9,6 +9,7 @@ use Rattle.job_machine.specs.Reply.{Reply}
 use Rattle.tfm_core.specs.NamedBytes.{NamedBytes}
 use Rattle.job_machine.specs.Machine.{Machine, first_machine}
 use Rattle.job_machine.specs.Runs.{Run}
+use Rattle.job_core.specs.Headline.{WasRun, WasRunAndSent}
 use Rattle.boxglue_script.specs.declared.script.Line.{Line}
 use Rattle.boxglue_script.specs.declared.line_content.LineContent.{LineContent}
 use Rattle.boxglue_script.specs.declared.line_content.LineContent.TheVariants.{Nothing, Command, Bad}
@@ -16,8 +17,9 @@ use Rattle.boxglue_script.specs.Script.{IsScript}
 use Rattle.boxglue_script.specs.LineContents.{SayEach, IsWhole, lines_said, has_no_bad}
 use Rattle.boxglue_script.proofs.LineLemmas.{lines_joined}
 use Rattle.boxglue_script.proofs.LineContentLaws.{each_one, say_in_pieces, say_one, script_said}
+use Rattle.boxglue_program.specs.Reports.{written_bytes}
 use Rattle.boxglue_program.specs.Texts.{answer_line, answer_lines, answers_text, end_line}
-use Rattle.boxglue_program.specs.Runs.{commands_of, line_numbers, is_accepted, WasRun, RanScript}
+use Rattle.boxglue_program.specs.Runs.{commands_of, line_numbers, is_accepted, RanScript}
 use Rattle.boxglue_program.specs.Sessions.{session_text, DialogView, AnswersLines, RanSession}
 use Rattle.boxglue_program.proofs.SessionLaws.{answered_both, said_joined, same_answered, text_joined}
 
@@ -60,34 +62,37 @@ script_texts text found said replies end script says each =
 -- What a session over a good script did is a run of the script.
 pub session_is_run : (text answer : List ℕ) (found : List Line) (files : List NamedBytes) (n k : ℕ) (bytes_written : Option (List ℕ))
     (accepted : Bool) → IsScript text found
-    → RanSession text files n k bytes_written answer accepted → RanScript text files n k bytes_written answer accepted
+    → RanSession written_bytes text files n k bytes_written answer accepted → RanScript written_bytes text files n k bytes_written answer accepted
 session_is_run text answer found files n k bytes_written accepted script ran =
     let (is, good) = script_said 1 (lines text) found ran.said script ran.says in
-    let run : WasRun files n (commands_of found) ran.replies ran.end k bytes_written =
-    subst (λ (ls : List Line). WasRun files n (commands_of ls) ran.replies ran.end k bytes_written) is ran.run in
+    let run : WasRunAndSent files n (commands_of found) ran.replies ran.end k bytes_written =
+    subst (λ (ls : List Line). WasRunAndSent files n (commands_of ls) ran.replies ran.end k bytes_written) is (ran.run, ran.sent) in
     record {
       lines = found;
       replies = ran.replies;
       end = ran.end;
       script = script;
-      run = run;
+      run = run.0;
+      sent = run.1;
       answer_is = ran.answer_is ∙ script_texts text found ran.said ran.replies ran.end script ran.says
-          (each_replied files n k found ran.replies ran.end bytes_written run);
+          (each_replied files n k found ran.replies ran.end bytes_written run.0);
       fine_is = ran.accepted_is ∙ ap (λ (b : Bool). b && is_accepted ran.replies ran.end) good;
     }
 
 -- What a run of a script did is what a session over it does.
 pub run_is_session : (text answer : List ℕ) (files : List NamedBytes) (n k : ℕ) (bytes_written : Option (List ℕ)) (accepted : Bool)
-    → RanScript text files n k bytes_written answer accepted → RanSession text files n k bytes_written answer accepted
+    → RanScript written_bytes text files n k bytes_written answer accepted → RanSession written_bytes text files n k bytes_written answer accepted
 run_is_session text answer files n k bytes_written accepted ran =
     let one = say_one (lines text) in
     let (is, good) = script_said 1 (lines text) ran.lines one.0 ran.script one.1 in
+    let run = subst (λ (ls : List Line). WasRunAndSent files n (commands_of ls) ran.replies ran.end k bytes_written) (sym is) (ran.run, ran.sent) in
     record {
       said = one.0;
       replies = ran.replies;
       end = ran.end;
       says = one.1;
-      run = subst (λ (ls : List Line). WasRun files n (commands_of ls) ran.replies ran.end k bytes_written) (sym is) ran.run;
+      run = run.0;
+      sent = run.1;
       answer_is = ran.answer_is ∙ sym (script_texts text ran.lines one.0 ran.replies ran.end ran.script one.1
           (each_replied files n k ran.lines ran.replies ran.end bytes_written ran.run));
       accepted_is = ran.fine_is ∙ sym (ap (λ (b : Bool). b && is_accepted ran.replies ran.end) good);

@@ -1,6 +1,6 @@
 -- Runs of a script, and what is written of them (own).
-use Rattle.std.specs.Prelude.{◌≡◌, ◌≢◌, ◌<◌, ◌+◌, ◌⊎◌, ◌&&◌, ◌++◌, ℕ, Bool, false, true, List, [], length, map, take, drop, codes, Option, Some}
-use Rattle.std.specs.Prelude.{IfSome, Result, Err, IfOk, IfErr, OnOk, is_ok}
+use Rattle.std.specs.Prelude.{◌≡◌, ◌≢◌, ◌<◌, ◌+◌, ◌⊎◌, ◌&&◌, ◌++◌, ℕ, Bool, false, List, [], length, map, take, drop, codes, Option, Some}
+use Rattle.std.specs.Prelude.{IfSome, Result, Err, IfErr, OnOk, is_ok}
 use Rattle.std.specs.List.{list_all, AllByRecursion}
 use Rattle.std.specs.Io.KnownBytes.{Appends, Keeps}
 use Rattle.job_machine.specs.declared.command.Command.{Command}
@@ -10,15 +10,12 @@ use Rattle.job_machine.specs.declared.replies.Summary.{Summary}
 use Rattle.job_machine.specs.Reply.{Reply}
 use Rattle.tfm_core.specs.NamedBytes.{NamedBytes}
 use Rattle.dvi_device.specs.Written.{written_then, IsFrontOf}
-use Rattle.dvi_device.specs.Pasts.{Differs, KeepsPast}
+use Rattle.dvi_device.specs.Pasts.{Differs}
 use Rattle.dvi_device.specs.Seen.{DeviceView, device_view}
 use Rattle.dvi_device.specs.Resumed.{PassesOn}
-use Rattle.dvi_ops.specs.Fonts.{WidthsByName}
-use Rattle.dvi_write.specs.Layout.{unfinished_file, whole}
-use Rattle.dvi_write.specs.Shippable.{IsFileOfPages}
-use Rattle.job_core.specs.Jobs.{IsProperFrontOf, IsSentPart, due_bytes}
-use Rattle.job_core.specs.Shown.{GivesFiles}
-use Rattle.dvi_write.specs.Closing.{IsClosedFor}
+use Rattle.dvi_write.specs.Layout.{whole}
+use Rattle.job_core.specs.Headline.{WasRun}
+use Rattle.job_core.specs.Jobs.{due_bytes}
 use Rattle.dvi_device.specs.Held.{MemoryState, new_memory}
 use Rattle.job_machine.specs.Machine.{Machine, first_machine}
 use Rattle.job_machine.specs.Runs.{Run, Finishes}
@@ -27,6 +24,7 @@ use Rattle.boxglue_script.specs.declared.script.Line.{Line}
 use Rattle.boxglue_program.specs.declared.run.RunFault.{RunFault}
 use Rattle.boxglue_program.specs.declared.run.RunFault.TheVariants.{Memory, Answers}
 use Rattle.boxglue_script.specs.Script.{IsScript, IsFirstBad}
+use Rattle.boxglue_program.specs.Reports.{Reports, written_bytes}
 use Rattle.boxglue_program.specs.Texts.{answers_text, script_refusal_text, hexadecimal_text}
 
 -- The commands of some lines.
@@ -41,37 +39,15 @@ line_numbers lines = map (λ line. line.number) lines
 abbrev pub is_accepted : List Reply → Result Summary Refusal → Bool
 is_accepted replies end = list_all is_ok replies && is_ok end
 
--- A new job with these font files ran these commands with these replies, and was then finished with this end. The count of failures of its device
--- went from n to k, and the device then reported these bytes. If the end succeeded, they are a DVI file of exactly the machine's pages, by the
--- definition of DVI files alone and by the widths that the font files give; they are the file that this writer lays out, and it ends as a file of
--- these pages does. If the device failed in the end, they are a proper beginning of that file. If the job is not over because its end was
--- refused, they are the bytes of all pages that were shipped. If the job is over, whatever failed, they are a beginning of the one file. In each case
--- they begin with all bytes of the pages that were shipped, and they lack some of what a `ship` or end that lost its device sends.
-pub record WasRun (files : List NamedBytes) (n : ℕ) (commands : List Command) (replies : List Reply) (end : Result Summary Refusal) (k : ℕ)
-    (bytes_written : Option (List ℕ)) : Type 0 where
-  pub middle : Machine
-  pub failed : ℕ
-  pub ran : Run (first_machine files) n commands replies middle failed
-  pub last : Machine
-  pub finished : Finishes middle failed end last k
-  pub dvi : (metrics : WidthsByName) → GivesFiles metrics files → OnOk end (IfSome bytes_written (λ bytes. IsFileOfPages metrics bytes middle.pages))
-  pub file : OnOk end (IfSome bytes_written (λ bytes. bytes ≡ whole middle.state.fonts middle.pages))
-  pub size : IfOk end (λ summary. IfSome bytes_written (λ bytes. summary.bytes ≡ length bytes))
-  pub count : IfOk end (λ summary. summary.bytes ≡ length (whole middle.state.fonts middle.pages))
-  pub closed : middle.pages ≢ [] → OnOk end (IfSome bytes_written (λ bytes. IsClosedFor middle.state.fonts bytes middle.pages))
-  pub sent : last.state.over ≡ false → IfSome bytes_written (λ bytes. bytes ≡ unfinished_file last.state.fonts last.pages)
-  pub held : IfSome bytes_written (λ bytes. IsFrontOf (unfinished_file last.state.fonts last.pages) bytes)
-  pub front : end ≡ Err refusals.Device → IfSome bytes_written (λ bytes. IsProperFrontOf bytes (whole middle.state.fonts middle.pages))
-  pub part : last.state.over ≡ true → IfSome bytes_written (IsSentPart last)
-
--- A script was run, and this is the text of its answers.
-pub record RanScript (text : List ℕ) (files : List NamedBytes) (n k : ℕ) (bytes_written : Option (List ℕ)) (answer : List ℕ)
-    (fine : Bool) : Type 0 where
+-- A script was run, and this is the text of its answers. `reports` says more of the bytes that the device reports, or nothing.
+pub record RanScript (reports : Reports) (text : List ℕ) (files : List NamedBytes) (n k : ℕ) (bytes_written : Option (List ℕ))
+    (answer : List ℕ) (fine : Bool) : Type 0 where
   pub lines : List Line
   pub replies : List Reply
   pub end : Result Summary Refusal
   pub script : IsScript text lines
   pub run : WasRun files n (commands_of lines) replies end k bytes_written
+  pub sent : reports.HasEnded run.middle run.last end bytes_written
   pub answer_is : answer ≡ answers_text (line_numbers lines) replies end
   pub fine_is : fine ≡ is_accepted replies end
 
@@ -88,19 +64,22 @@ abbrev pub fault_view : {D : Type 0} → (D → DeviceView D) → RunFault D →
 fault_view seen (Memory back) = Memory (seen back)
 fault_view seen (Answers back) = Answers (seen back)
 
--- A script was run on a device. If this has one more failure of its own, the bytes of the run differ from those that it was to meet.
-pub record RanOn {D : Type 0} (text : List ℕ) (files : List NamedBytes) (device back : DeviceView D) (answer : List ℕ) (fine : Bool) : Type 0 where
-  pub ran : RanScript text files device.failed back.failed back.bytes_written answer fine
-  pub past : KeepsPast device.past (due_bytes ran.run.last) back.past
+-- A script was run on a device.
+pub record RanOn {D : Type 0} (reports : Reports) (text : List ℕ) (files : List NamedBytes) (device back : DeviceView D) (answer : List ℕ)
+    (fine : Bool) : Type 0 where
+  pub ran : RanScript reports text files device.failed back.failed back.bytes_written answer fine
+  pub past : reports.HasMet ran.run.last device.past back.past
 
 -- The answer to a script, and the device after it: the answers and the device on which the script was run; or the one line and the device as it was.
-abbrev pub IsAnswered : {D : Type 0} → List ℕ → List NamedBytes → (device back : DeviceView D) → (answer : List ℕ) → (fine : Bool) → Type 0
-IsAnswered text files device back answer fine =
-    RanOn text files device back answer fine ⊎ (RefusedScript text answer fine × (back ≡ device))
+abbrev pub IsAnswered : {D : Type 0} → Reports → List ℕ → List NamedBytes → (device back : DeviceView D) → (answer : List ℕ) → (fine : Bool)
+    → Type 0
+IsAnswered reports text files device back answer fine =
+    RanOn reports text files device back answer fine ⊎ (RefusedScript text answer fine × (back ≡ device))
 
 -- Memory was refused for the answer to a script: nothing was run and the device is as it was, or the whole script was run on it.
-abbrev pub IsUnanswered : {D : Type 0} → List ℕ → List NamedBytes → (device back : DeviceView D) → Type 0
-IsUnanswered text files device back = (back ≡ device) ⊎ ((answer : List ℕ) × (fine : Bool) × RanOn text files device back answer fine)
+abbrev pub IsUnanswered : {D : Type 0} → Reports → List ℕ → List NamedBytes → (device back : DeviceView D) → Type 0
+IsUnanswered reports text files device back =
+    (back ≡ device) ⊎ ((answer : List ℕ) × (fine : Bool) × RanOn reports text files device back answer fine)
 
 -- A device that has reported no byte and failed as often as before: nothing was run on it.
 pub record IsUntouched (n k : ℕ) (bytes_written : Option (List ℕ)) : Type 0 where
@@ -112,37 +91,39 @@ abbrev pub WritesFront : (old new : Option (List ℕ)) → List ℕ → Type 0
 WritesFront old new text = (count : ℕ) × (count < length text) × Appends old new (take count text)
 
 -- What is known if a run failed: memory was refused, and nothing was written; or the writer took a beginning of the answer, once, and not all of it.
-abbrev pub IsLeft : {D : Type 0} → List ℕ → List NamedBytes → (device : DeviceView D) → RunFault (DeviceView D)
+abbrev pub IsLeft : {D : Type 0} → Reports → List ℕ → List NamedBytes → (device : DeviceView D) → RunFault (DeviceView D)
     → (old new : Option (List ℕ)) → Type 0
-IsLeft text files device (Memory back) old new = IsUnanswered text files device back × Keeps old new
-IsLeft text files device (Answers back) old new =
-    (answer : List ℕ) × (fine : Bool) × IsAnswered text files device back answer fine × WritesFront old new answer
+IsLeft reports text files device (Memory back) old new = IsUnanswered reports text files device back × Keeps old new
+IsLeft reports text files device (Answers back) old new =
+    (answer : List ℕ) × (fine : Bool) × IsAnswered reports text files device back answer fine × WritesFront old new answer
 
 -- A script was run on a device in memory: this text has its answers, and then the bytes that the device took.
-pub record RanInMemory (text : List ℕ) (files : List NamedBytes) (failed : ℕ) (bytes answer : List ℕ) (fine : Bool) : Type 0 where
+pub record RanInMemory (reports : Reports) (text : List ℕ) (files : List NamedBytes) (failed : ℕ) (bytes answer : List ℕ) (fine : Bool) : Type 0 where
   pub answers : List ℕ
-  pub ran : RanScript text files 0 failed (Some bytes) answers fine
+  pub ran : RanScript reports text files 0 failed (Some bytes) answers fine
   pub answer_is : answer ≡ answers ++ hexadecimal_text bytes
 
 -- The answer to a script whose device is in memory and then holds this; a bad script has its one line.
-abbrev pub IsAnsweredInMemory : List ℕ → List NamedBytes → MemoryState → (answer : List ℕ) → (fine : Bool) → Type 0
-IsAnsweredInMemory text files memory answer fine = RanInMemory text files memory.failures memory.bytes answer fine ⊎ RefusedScript text answer fine
+abbrev pub IsAnsweredInMemory : Reports → List ℕ → List NamedBytes → MemoryState → (answer : List ℕ) → (fine : Bool) → Type 0
+IsAnsweredInMemory reports text files memory answer fine =
+    RanInMemory reports text files memory.failures memory.bytes answer fine ⊎ RefusedScript text answer fine
 
 -- The answer to a script whose device is in memory, whatever the device then holds; a bad script has its one line.
-abbrev pub IsAnswerInMemory : List ℕ → List NamedBytes → (answer : List ℕ) → (fine : Bool) → Type 0
-IsAnswerInMemory text files answer fine = (memory : MemoryState) × IsAnsweredInMemory text files memory answer fine
+abbrev pub IsAnswerInMemory : Reports → List ℕ → List NamedBytes → (answer : List ℕ) → (fine : Bool) → Type 0
+IsAnswerInMemory reports text files answer fine = (memory : MemoryState) × IsAnsweredInMemory reports text files memory answer fine
 
 -- Memory was refused for the answer to a script whose device is in memory: nothing was run and this is new, or the whole script was run on it.
-abbrev pub IsUnansweredInMemory : List ℕ → List NamedBytes → MemoryState → Type 0
-IsUnansweredInMemory text files memory =
-    (memory ≡ new_memory) ⊎ ((answer : List ℕ) × (fine : Bool) × RanScript text files 0 memory.failures (Some memory.bytes) answer fine)
+abbrev pub IsUnansweredInMemory : Reports → List ℕ → List NamedBytes → MemoryState → Type 0
+IsUnansweredInMemory reports text files memory =
+    (memory ≡ new_memory)
+    ⊎ ((answer : List ℕ) × (fine : Bool) × RanScript reports text files 0 memory.failures (Some memory.bytes) answer fine)
 
 -- What is known if a run on a device in memory failed: memory was refused, and nothing was written; or the writer took a beginning of the answer, and
 -- not all of it.
-abbrev pub IsLeftInMemory : List ℕ → List NamedBytes → RunFault MemoryState → (old new : Option (List ℕ)) → Type 0
-IsLeftInMemory text files (Memory memory) old new = IsUnansweredInMemory text files memory × Keeps old new
-IsLeftInMemory text files (Answers memory) old new =
-    (answer : List ℕ) × (fine : Bool) × IsAnsweredInMemory text files memory answer fine × WritesFront old new answer
+abbrev pub IsLeftInMemory : Reports → List ℕ → List NamedBytes → RunFault MemoryState → (old new : Option (List ℕ)) → Type 0
+IsLeftInMemory reports text files (Memory memory) old new = IsUnansweredInMemory reports text files memory × Keeps old new
+IsLeftInMemory reports text files (Answers memory) old new =
+    (answer : List ℕ) × (fine : Bool) × IsAnsweredInMemory reports text files memory answer fine × WritesFront old new answer
 
 -- A script was run again over the rest of a file of which these bytes were sent before. Suppose that its end succeeded. If they are a beginning of
 -- the file of its machine's pages, the inner device then reports exactly this file; if not, it got nothing.
@@ -185,7 +166,7 @@ pub record RanOverRest {D : Type 0} (text : List ℕ) (files : List NamedBytes) 
   pub reported : Option (List ℕ)
   pub differing : ℕ
   pub passes_on : PassesOn sent device.bytes_written back.bytes_written reported
-  pub ran : RanScript text files device.failed (back.failed + differing) reported answer fine
+  pub ran : RanScript written_bytes text files device.failed (back.failed + differing) reported answer fine
   pub own : (differing ≡ 0) ⊎ ((differing ≡ 1) × Differs sent (due_bytes ran.run.last))
   pub lossless : (file : List ℕ) → IsFrontOf sent file → IsFrontOf (due_bytes ran.run.last) file → back.failed ≡ device.failed
       → NeverLost ran.replies ran.end

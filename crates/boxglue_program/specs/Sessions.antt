@@ -12,12 +12,14 @@ use Rattle.tfm_core.specs.NamedBytes.{NamedBytes}
 use Rattle.dvi_write.specs.Writing.{GoesOn}
 use Rattle.job_machine.specs.Machine.{Machine, first_machine}
 use Rattle.job_machine.specs.Runs.{Run}
+use Rattle.job_core.specs.Headline.{WasRun, WasRunAndSent}
 use Rattle.job_core.specs.Jobs.{JobView, Represents, RunsTo, writing_of}
 use Rattle.boxglue_script.specs.declared.line_content.LineContent.{LineContent}
 use Rattle.boxglue_script.specs.declared.line_content.LineContent.TheVariants.{Nothing, Command, Bad}
 use Rattle.boxglue_script.specs.LineContents.{SayEach, IsWhole, lines_said, has_no_bad}
+use Rattle.boxglue_program.specs.Reports.{Reports}
 use Rattle.boxglue_program.specs.Texts.{answer_line, script_refusal_text, end_line}
-use Rattle.boxglue_program.specs.Runs.{commands_of, is_accepted, WasRun, IsUntouched, WritesFront}
+use Rattle.boxglue_program.specs.Runs.{commands_of, is_accepted, IsUntouched, WritesFront}
 
 -- The answers to lines, of which the first has this number: a line for each command, and one for each bad line.
 abbrev pub session_text : ℕ → List LineContent → List Reply → List ℕ
@@ -62,7 +64,7 @@ abbrev pub EndsRun : JobView → Result Summary Refusal → (k : ℕ) → (bytes
 EndsRun job end k bytes_written =
     (files : List NamedBytes) (first : JobView) (commands : List ACommand) (replies : List Reply) → Represents first (first_machine files)
     → RunsTo first commands replies job
-    → WasRun files first.failed commands replies end k bytes_written
+    → WasRunAndSent files first.failed commands replies end k bytes_written
 
 -- What contracts see of a session: its dialog; whether the client reads; the bytes after the last line feed; and how many bytes may still be read.
 pub record SessionView : Type 0 where
@@ -119,18 +121,20 @@ pub record EndsSession (old : SessionView) (k : ℕ) (bytes_written : Option (Li
   pub accepted_is : accepted ≡ (middle.accepted && is_ok end)
 
 -- The whole input was run, and the job was finished. This is the text of all answers, and whether nothing was refused.
-pub record RanSession (text : List ℕ) (files : List NamedBytes) (n k : ℕ) (bytes_written : Option (List ℕ)) (answer : List ℕ)
-    (accepted : Bool) : Type 0 where
+pub record RanSession (reports : Reports) (text : List ℕ) (files : List NamedBytes) (n k : ℕ) (bytes_written : Option (List ℕ))
+    (answer : List ℕ) (accepted : Bool) : Type 0 where
   pub said : List LineContent
   pub replies : List Reply
   pub end : Result Summary Refusal
   pub says : SayEach (lines text) said
   pub run : WasRun files n (commands_of (lines_said 1 said)) replies end k bytes_written
+  pub sent : reports.HasEnded run.middle run.last end bytes_written
   pub answer_is : answer ≡ session_text 1 said replies ++ end_line end
   pub accepted_is : accepted ≡ (has_no_bad said && is_accepted replies end)
 
 -- A session stopped: the lines of a beginning of its input were run and answered, and nothing else was run. The job was not finished.
-pub record StoppedSession (text : List ℕ) (files : List NamedBytes) (n k : ℕ) (bytes_written : Option (List ℕ)) (answer : List ℕ) : Type 0 where
+pub record StoppedSession (reports : Reports) (text : List ℕ) (files : List NamedBytes) (n k : ℕ) (bytes_written : Option (List ℕ))
+    (answer : List ℕ) : Type 0 where
   pub whole : List ℕ
   pub rest : List ℕ
   pub split : text ≡ whole ++ rest
@@ -140,16 +144,14 @@ pub record StoppedSession (text : List ℕ) (files : List NamedBytes) (n k : ℕ
   pub says : SayEach (lines whole) said
   pub machine : Machine
   pub ran : Run (first_machine files) n (commands_of (lines_said 1 said)) replies machine k
-  pub job : JobView
-  pub holds : Represents job machine
-  pub bytes_written_is : bytes_written ≡ job.bytes_written
+  pub sent : reports.HasStopped machine bytes_written
   pub answer_is : answer ≡ session_text 1 said replies
 
 -- Memory was refused: before anything was run, or later.
-abbrev pub LacksSessionMemory : (text : List ℕ) → (files : List NamedBytes) → (n k : ℕ) → (bytes_written : Option (List ℕ)) → (answer : List ℕ)
-    → Type 0
-LacksSessionMemory text files n k bytes_written answer =
-    (IsUntouched n k bytes_written × (text ≡ []) × (answer ≡ [])) ⊎ StoppedSession text files n k bytes_written answer
+abbrev pub LacksSessionMemory : Reports → (text : List ℕ) → (files : List NamedBytes) → (n k : ℕ) → (bytes_written : Option (List ℕ))
+    → (answer : List ℕ) → Type 0
+LacksSessionMemory reports text files n k bytes_written answer =
+    (IsUntouched n k bytes_written × (text ≡ []) × (answer ≡ [])) ⊎ StoppedSession reports text files n k bytes_written answer
 
 -- What was read of an input before a reading failed, and what was lost by it: nothing, or one piece that is over the limit.
 pub record IsUnreadable (limit : ℕ) (text lost : List ℕ) : Type 0 where
@@ -158,6 +160,7 @@ pub record IsUnreadable (limit : ℕ) (text lost : List ℕ) : Type 0 where
   pub over : lost ≢ [] → limit < length text + length lost
 
 -- A session stopped at the end of what could be read: all whole lines of it were run and answered.
-abbrev pub IsCutOff : (text : List ℕ) → (files : List NamedBytes) → (n k : ℕ) → (bytes_written : Option (List ℕ)) → (answer : List ℕ) → Type 0
-IsCutOff text files n k bytes_written answer =
-    (stopped : StoppedSession text files n k bytes_written answer) × (Contains stopped.rest 10 → ⊥)
+abbrev pub IsCutOff : Reports → (text : List ℕ) → (files : List NamedBytes) → (n k : ℕ) → (bytes_written : Option (List ℕ)) → (answer : List ℕ)
+    → Type 0
+IsCutOff reports text files n k bytes_written answer =
+    (stopped : StoppedSession reports text files n k bytes_written answer) × (Contains stopped.rest 10 → ⊥)

@@ -13,9 +13,11 @@ ghost use Rattle.boxglue_script.specs.declared.script.Line.{Line};
 ghost use Rattle.boxglue_script.specs.declared.line_content.LineContent.{LineContent};
 ghost use Rattle.boxglue_script.specs.Script.{IsScript};
 ghost use Rattle.boxglue_script.specs.LineContents.{IsWhole, SayEach, lines_said};
+ghost use Rattle.job_core.specs.Headline.{WasRun};
 ghost use Rattle.boxglue_program.specs.Rows.{OneRuleAnswers, TextAnswers};
 ghost use Rattle.boxglue_program.specs.Outcomes.{is_accepting, replies_outcome, run_outcome};
-ghost use Rattle.boxglue_program.specs.Runs.{is_accepted, line_numbers, RanScript, WasRun};
+ghost use Rattle.boxglue_program.specs.Reports.{written_bytes};
+ghost use Rattle.boxglue_program.specs.Runs.{is_accepted, line_numbers, RanScript};
 ghost use Rattle.boxglue_program.specs.Sessions.{session_text, AnswersLines, DialogView, RanSession};
 ghost use Rattle.boxglue_program.specs.Texts.{answers_text, end_line};
 
@@ -49,9 +51,11 @@ pub fn a_session_over_a_good_script()
         → length replies ≡ length found → session_text 1 said replies ++ end_line end ≡ answers_text (line_numbers found) replies end }
     ensures run { (text answer : List ℕ) (found : List Line) (files : List NamedBytes) (n k : ℕ) (bytes_written : Option (List ℕ)) (accepted : Bool)
         → IsScript text found
-        → RanSession text files n k bytes_written answer accepted → RanScript text files n k bytes_written answer accepted }
+        → RanSession written_bytes text files n k bytes_written answer accepted
+        → RanScript written_bytes text files n k bytes_written answer accepted }
     ensures session { (text answer : List ℕ) (files : List NamedBytes) (n k : ℕ) (bytes_written : Option (List ℕ)) (accepted : Bool)
-        → RanScript text files n k bytes_written answer accepted → RanSession text files n k bytes_written answer accepted }
+        → RanScript written_bytes text files n k bytes_written answer accepted
+        → RanSession written_bytes text files n k bytes_written answer accepted }
 {}
 
 /// What is read in two pieces, the first of them with whole lines, is run and answered as what is read at once: the answers are those to the first

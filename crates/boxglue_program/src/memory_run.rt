@@ -2,6 +2,7 @@
 
 ghost use Rattle.std.specs.Prelude.{◌≡◌, ◌++◌, ℕ, List, IfOk, IfErr};
 ghost use Rattle.std.specs.Io.KnownBytes.{Appends};
+ghost use Rattle.boxglue_program.specs.Reports.{any_bytes, written_bytes};
 ghost use Rattle.boxglue_program.specs.Runs.{IsAnswerInMemory, IsLeftInMemory};
 
 use crate::hexadecimal::push_hexadecimal;
@@ -21,9 +22,13 @@ pub fn run_memory<W: Write>(
     files: &[FontFile],
     writer: &mut W,
 ) -> Result<bool, RunFault<Memory>>
-    ensures answers { IfOk result (λ fine. (answer : List ℕ) × IsAnswerInMemory text.now files.now answer fine
+    ensures answers { IfOk result (λ fine. (answer : List ℕ) × IsAnswerInMemory any_bytes text.now files.now answer fine
         × Appends (W.contents writer.old) (W.contents writer.new) answer) }
-    ensures left { IfErr result (λ fault. IsLeftInMemory text.now files.now fault (W.contents writer.old) (W.contents writer.new)) }
+    ensures left { IfErr result (λ fault. IsLeftInMemory any_bytes text.now files.now fault (W.contents writer.old) (W.contents writer.new)) }
+    ensures sent { IfOk result (λ fine. (answer : List ℕ) × IsAnswerInMemory written_bytes text.now files.now answer fine
+        × Appends (W.contents writer.old) (W.contents writer.new) answer) }
+    ensures left_sent { IfErr result (λ fault.
+        IsLeftInMemory written_bytes text.now files.now fault (W.contents writer.old) (W.contents writer.new)) }
 {
     let done = match answer_script(alloc, text, files, Memory::new(alloc)) {
         Ok(done) => done,

@@ -9,11 +9,14 @@ ghost use Rattle.job_machine.specs.Reply.{Reply};
 ghost use Rattle.dvi_device.specs.Pasts.{KeepsPast};
 ghost use Rattle.dvi_device.specs.Seen.{device_view};
 ghost use Rattle.dvi_write.specs.Writing.{GoesOn};
+ghost use Rattle.job_core.specs.Headline.{WasRun};
 ghost use Rattle.job_core.specs.Jobs.{RunsTo, due_bytes, writing_of};
+ghost use Rattle.job_core.specs.Sent.{WasSent};
+ghost use Rattle.boxglue_program.specs.Reports.{any_bytes, written_bytes};
 ghost use Rattle.boxglue_program.specs.Texts.{answer_line, answer_lines, answers_text, end_line};
 ghost use Rattle.boxglue_script.specs.Blocks.{lines_of};
 ghost use Rattle.boxglue_program.specs.Outcomes.{replies_outcome, run_outcome, worse_outcome};
-ghost use Rattle.boxglue_program.specs.Runs.{commands_of, line_numbers, fault_view, WasRun, IsAnswered, IsUnanswered, IsLeft, IsAnswerOfRest};
+ghost use Rattle.boxglue_program.specs.Runs.{commands_of, line_numbers, fault_view, IsAnswered, IsUnanswered, IsLeft, IsAnswerOfRest};
 ghost use Rattle.boxglue_program.specs.Runs.{IsAnsweredOverRest, IsLeftOverRest};
 
 use crate::outcome::Outcome;
@@ -57,9 +60,13 @@ pub fn answer_script<D: Device>(
     requires countable { D.failed device + 1 < 2 ^ 64 }
     requires fresh { IfSome (D.bytes_written device) (λ bytes. bytes ≡ []) }
     ensures answers { let seen = device_view D.bytes_written D.failed D.past in
-        IfOk result (λ done. IsAnswered text.now files.now (seen device) (seen done.device) done.text.items done.accepted) }
+        IfOk result (λ done. IsAnswered any_bytes text.now files.now (seen device) (seen done.device) done.text.items done.accepted) }
     ensures left { let seen = device_view D.bytes_written D.failed D.past in
-        IfErr result (λ back. IsUnanswered text.now files.now (seen device) (seen back)) }
+        IfErr result (λ back. IsUnanswered any_bytes text.now files.now (seen device) (seen back)) }
+    ensures sent { let seen = device_view D.bytes_written D.failed D.past in
+        IfOk result (λ done. IsAnswered written_bytes text.now files.now (seen device) (seen done.device) done.text.items done.accepted) }
+    ensures left_sent { let seen = device_view D.bytes_written D.failed D.past in
+        IfErr result (λ back. IsUnanswered written_bytes text.now files.now (seen device) (seen back)) }
 {
     let lines = match read_blocks(alloc, text) {
         Ok(lines) => lines,
@@ -107,10 +114,19 @@ pub fn run_script<D: Device, W: Write>(
     requires countable { D.failed device + 1 < 2 ^ 64 }
     requires fresh { IfSome (D.bytes_written device) (λ bytes. bytes ≡ []) }
     ensures answers { let seen = device_view D.bytes_written D.failed D.past in
-        IfOk result (λ done. (answer : List ℕ) × IsAnswered text.now files.now (seen device) (seen done.1) answer done.0
+        IfOk result (λ done. (answer : List ℕ) × IsAnswered any_bytes text.now files.now (seen device) (seen done.1) answer done.0
         × Appends (W.contents writer.old) (W.contents writer.new) answer) }
     ensures left { let seen = device_view D.bytes_written D.failed D.past in
-        IfErr result (λ fault. IsLeft text.now files.now (seen device) (fault_view seen fault) (W.contents writer.old) (W.contents writer.new)) }
+        IfErr result (λ fault. IsLeft any_bytes text.now files.now (seen device) (fault_view seen fault) (W.contents writer.old)
+        (W.contents writer.new)) }
+
+    // The same with what went out by the rules of this writer, also if something failed.
+    ensures sent { let seen = device_view D.bytes_written D.failed D.past in
+        IfOk result (λ done. (answer : List ℕ) × IsAnswered written_bytes text.now files.now (seen device) (seen done.1) answer done.0
+        × Appends (W.contents writer.old) (W.contents writer.new) answer) }
+    ensures left_sent { let seen = device_view D.bytes_written D.failed D.past in
+        IfErr result (λ fault. IsLeft written_bytes text.now files.now (seen device) (fault_view seen fault) (W.contents writer.old)
+        (W.contents writer.new)) }
 {
     let done = match answer_script(alloc, text, files, device) {
         Ok(done) => done,
@@ -181,7 +197,7 @@ pub fn run_whole<D: Device>(
     requires fresh { IfSome (D.bytes_written device) (λ bytes. bytes ≡ []) }
     ensures ran { IfOk result (λ ran. (replies : List Reply) × (end : Result ASummary ARefusal)
         × (run : WasRun files.now (D.failed device) (commands_of (lines_of lines)) replies end (D.failed ran.device) (D.bytes_written ran.device))
-        × KeepsPast (D.past device) (due_bytes run.last) (D.past ran.device)
+        × WasSent run.middle run.last end (D.bytes_written ran.device) × KeepsPast (D.past device) (due_bytes run.last) (D.past ran.device)
         × IfSome ran.answers (λ text. text.items ≡ answers_text (line_numbers (lines_of lines)) replies end)
         × (ran.outcome ≡ run_outcome replies end)) }
     ensures none { IfErr result (λ back. back ≡ device) }

@@ -9,6 +9,7 @@ ghost use Rattle.dvi_device.specs.Seen.{device_view};
 ghost use Rattle.dvi_write.specs.Writing.{IsDeviceOf};
 ghost use Rattle.job_core.specs.Jobs.{writing_of};
 ghost use Rattle.boxglue_script.specs.LineContents.{IsWhole};
+ghost use Rattle.boxglue_program.specs.Reports.{written_bytes};
 ghost use Rattle.boxglue_program.specs.Sessions.{AnswersLines, RanSession, LacksSessionMemory, IsUnreadable, IsCutOff, IsSent, StopsIn};
 ghost use Rattle.boxglue_program.specs.Private.Dialogs.{dialog_of, IsCutAfterLines};
 
@@ -322,15 +323,15 @@ pub fn run_session<D: Device, R: Read, W: Write>(
     requires fresh { IfSome (D.bytes_written device) (λ bytes. bytes ≡ []) }
     ensures ran { IfOk result.outcome (λ accepted. (text answer : List ℕ) × Consumes (R.remaining reader.old) (R.remaining reader.new) text
         × IsAtEnd (R.remaining reader.new) × (length text ≤ limit)
-        × RanSession text files.now (D.failed device) (D.failed result.device) (D.bytes_written result.device) answer accepted
+        × RanSession written_bytes text files.now (D.failed device) (D.failed result.device) (D.bytes_written result.device) answer accepted
         × IsSent true result.written (W.contents writer.old) (W.contents writer.new) answer) }
     ensures memory { result.outcome ≡ Err SessionFault.OutOfMemory
         → (text answer : List ℕ) × Consumes (R.remaining reader.old) (R.remaining reader.new) text
-        × LacksSessionMemory text files.now (D.failed device) (D.failed result.device) (D.bytes_written result.device) answer
+        × LacksSessionMemory written_bytes text files.now (D.failed device) (D.failed result.device) (D.bytes_written result.device) answer
         × IsSent true result.written (W.contents writer.old) (W.contents writer.new) answer }
     ensures unreadable { result.outcome ≡ Err SessionFault.Unreadable → (text lost answer : List ℕ)
         × Consumes (R.remaining reader.old) (R.remaining reader.new) (text ++ lost) × IsUnreadable limit text lost
-        × IsCutOff text files.now (D.failed device) (D.failed result.device) (D.bytes_written result.device) answer
+        × IsCutOff written_bytes text files.now (D.failed device) (D.failed result.device) (D.bytes_written result.device) answer
         × IsSent true result.written (W.contents writer.old) (W.contents writer.new) answer }
     ensures made { (D.past result.device).made ≡ (D.past device).made }
 {

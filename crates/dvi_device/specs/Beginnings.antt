@@ -1,10 +1,12 @@
 -- The state before a device was made (own).
 use Rattle.std.specs.Prelude.{[], ℕ, List, Option, None}
 
--- The bytes that were sent before; and of the device that takes the new device's bytes, what it reported when that was made, and the number of its
--- failures.
+-- What a device was made with.
 pub record Beginning : Type 0 where
+  -- The bytes that were sent before, of a device that compares its bytes with them. Another kind of device says here what it was made for: a device
+  -- that writes a file has its path and the code of its host.
   pub sent : List ℕ
+  -- Of the device that takes the new device's bytes: what it reported when that was made, and the number of its failures.
   pub bytes_written : Option (List ℕ)
   pub failed : ℕ
 

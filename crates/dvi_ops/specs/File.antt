@@ -4,7 +4,7 @@ use Rattle.std.specs.List.{flat_map, AllByRecursion}
 use Rattle.dvi_ops.specs.Instruction.{Definition, Units, Postamble, Nop, FontDef, Instruction, Do, Bop, Eop, Pre, Post, PostPost}
 use Rattle.dvi_ops.specs.Table.{Spells}
 use Rattle.dvi_ops.specs.Body.{Meaning, Acts, instruction_acts, bounded_acts, start}
-use Rattle.scaled_core.specs.Mark.{Mark}
+pub use Rattle.scaled_core.specs.Mark.{MarkedPage}
 use Rattle.dvi_ops.specs.Forest.{Forest, flat, meaning, nests}
 use Rattle.dvi_ops.specs.Tokens.{Token, IsSpelled, token_instructions, token_bytes, places, pointers}
 use Rattle.dvi_ops.specs.Fonts.{WidthsByName, FontsAreRight, definitions, selections, font, widths_of}
@@ -20,11 +20,6 @@ abbrev pub instructions : FilePart → List Instruction
 instructions Idle = Do Nop ∷ []
 instructions (Defines d) = Do (FontDef d) ∷ []
 instructions (Shows counts pointer body) = Bop counts pointer ∷ (flat body ++ Eop ∷ [])
-
--- A page as a reader sees it: its ten counts and its marks.
-pub record MarkedPage : Type 0 where
-  pub counts : List ℤ
-  pub marks : List Mark
 
 -- A page with the marks of its body, before the other pages.
 abbrev pub page_then : List ℤ → Meaning → Option (List MarkedPage) → Option (List MarkedPage)
@@ -99,3 +94,8 @@ pub record IsFile (metrics : WidthsByName) (bytes : List ℕ) (pages : List Mark
   pub depth : AllByRecursion (λ part. push_depth_of part ≤ min max_pushes frame.stop.stack_depth) parts
   -- The pages, with h and v in signed 32 bits.
   pub shows : pages_of (bounded_acts (instruction_acts (widths_of metrics (definitions (token_instructions frame.tail))))) parts ≡ Some pages
+
+-- The bytes are a DVI file of exactly these pages, in order. Without pages there are no bytes (own).
+abbrev pub IsFileOfPages : WidthsByName → List ℕ → List MarkedPage → Type 0
+IsFileOfPages metrics bytes [] = bytes ≡ []
+IsFileOfPages metrics bytes (page ∷ pages) = IsFile metrics bytes (page ∷ pages)

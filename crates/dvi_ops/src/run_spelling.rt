@@ -116,9 +116,9 @@ impl<'a> PageRuns<'a> {
         Ok(out)
     }
 
-    /// Appends the spellings of the instructions. Where memory is refused, a beginning of the spellings may be there, after what was there before.
+    /// Appends the spellings of the instructions. If memory is refused, a beginning of the spellings may be there, after what was there before.
     #[tactic(auto, unfolding(crate::specs::Runs::instructions_of))]
-    pub fn append_to(&self, out: &mut Vec<u8>) -> Result<(), AllocError>
+    fn append_spellings(&self, out: &mut Vec<u8>) -> Result<(), AllocError>
         requires { AllByRecursion HasSpelling (instructions_of self.now) }
         ensures ok { OnOk result (out.new.items ≡ out.old.items ++ bytes_of (instructions_of self.now)) }
         ensures left { OnErr result (take (length out.old.items) out.new.items ≡ out.old.items) }
@@ -134,5 +134,19 @@ impl<'a> PageRuns<'a> {
             from = place;
         }
         append_characters(out, rest)
+    }
+
+    /// Appends the spellings of the instructions. If memory is refused, `out` is as it was before the call.
+    pub fn append_to(&self, out: &mut Vec<u8>) -> Result<(), AllocError>
+        requires { AllByRecursion HasSpelling (instructions_of self.now) }
+        ensures ok { OnOk result (out.new.items ≡ out.old.items ++ bytes_of (instructions_of self.now)) }
+        ensures err { OnErr result (out.new.items ≡ out.old.items) }
+    {
+        let before = out.len();
+        let appended = self.append_spellings(out);
+        if appended.is_err() {
+            out.truncate(before);
+        }
+        appended
     }
 }

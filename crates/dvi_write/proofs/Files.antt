@@ -11,11 +11,11 @@ use Rattle.node_core.specs.Items.{Leaf, Items, glyph, font_kern, kern, glue, pen
 use Rattle.dvi_ops.specs.Forest.{flat}
 use Rattle.dvi_ops.specs.Instruction.{Definition}
 use Rattle.dvi_ops.specs.Fonts.{WidthsByName, selections, first_definition_of, known_after, widths_in as font_by, width_in}
-use Rattle.dvi_ops.specs.File.{IsFile}
+use Rattle.dvi_ops.specs.File.{IsFile, IsFileOfPages}
 use Rattle.dvi_ops.specs.Spelling.{NumberFits}
 use Rattle.dvi_ops.specs.Layout.{Table, WriterKnowledge, after_preamble, after_all, bytes_of, define, known_in, padding_after, table_widths, IsTabled, IsGood, AreGood, IsClosing}
 use Rattle.dvi_ops.proofs.WholeFile.{whole_file, padding_low}
-use Rattle.page_core.specs.Marks.{ShippedPage, marks_of_page}
+use Rattle.page_core.specs.Marks.{ShippedPage, marks_of_page, read_page}
 use Rattle.ship_core.specs.Shown.{HasWidth}
 use Rattle.ship_core.proofs.DrawnMarks.{number_within}
 use Rattle.ship_core.proofs.DrawnPages.{HasFont, fits_down, fits_right}
@@ -24,7 +24,7 @@ use Rattle.tfm_core.specs.Slots.{Slots, font_in, AreDefinable}
 use Rattle.dvi_write.specs.FilePages.{written_body, definition_of, definitions_of, fresh_slots, in_rising_order, selects, file_page_of, slots_after}
 use Rattle.dvi_write.specs.SoFar.{ProgressView, nothing_so_far, so_far_from, so_far_of, with_next, closing_so_far}
 use Rattle.dvi_write.specs.Layout.{file_pages_of, whole}
-use Rattle.dvi_write.specs.Shippable.{slot_font_widths, slot_widths, IsRightPage, GivesFonts, read_page, IsFileOfPages}
+use Rattle.dvi_write.specs.Shippable.{slot_font_widths, slot_widths, IsRightPage, GivesFonts}
 use Rattle.dvi_write.proofs.DefinedFonts.{AreKnown, HasSelected, none_known, known_next, selected_known, each_selected, each_of, rising_among, listed_at, defined_among, holds_selected}
 use Rattle.node_core.proofs.Leaves.{each_leaf}
 use Rattle.dvi_write.proofs.NextPages.{layout-is, whole-laid_out}
@@ -200,7 +200,7 @@ small_layout fonts pages small = subst (λ (w : WriterKnowledge). w.size < 2 ^ 3
 
 -- The file of pages is a DVI file of them.
 pub file_shows : (metrics : WidthsByName) (fonts : Slots) (pages : List ShippedPage) → GivesFonts metrics fonts → AreDefinable fonts → AllByRecursion (IsRightPage fonts) pages
-    → (so_far_of fonts pages).layout.size < 2 ^ 31 → IsFileOfPages metrics (whole fonts pages) pages
+    → (so_far_of fonts pages).layout.size < 2 ^ 31 → IsFileOfPages metrics (whole fonts pages) (map read_page pages)
 unfolding whole
 file_shows metrics fonts [] gives definable all small = refl
 file_shows metrics fonts (page ∷ pages) gives definable all small =

@@ -1,5 +1,5 @@
 -- The pages that may be written, which is a condition on the callers of the writer (own; the widths: TeX: The Program, part 30; DVItype, 18).
-use Rattle.std.specs.Prelude.{◌≡◌, ◌≤◌, [], ◌∷◌, ℕ, ℤ, pos, negsuc, false, List, length, map, Option, Some, None}
+use Rattle.std.specs.Prelude.{◌≡◌, ◌≤◌, ℕ, ℤ, pos, negsuc, false, length, Option, Some, None}
 use Rattle.std.specs.List.{AllByRecursion}
 use Rattle.tfm_core.specs.FileWidths.{width_at}
 use Rattle.node_core.specs.declared.tree.BoxNode.{BoxNode}
@@ -7,9 +7,8 @@ use Rattle.node_core.specs.Items.{EachLeaf}
 use Rattle.node_core.specs.Nodes.{box_depth, box_text}
 use Rattle.dvi_ops.specs.Body.{Widths}
 use Rattle.dvi_ops.specs.Fonts.{WidthsByName, width_in}
-use Rattle.dvi_ops.specs.File.{MarkedPage, IsFile}
 use Rattle.dvi_ops.specs.Spelling.{NumberFits}
-use Rattle.page_core.specs.Marks.{ShippedPage, marks_of_page, is_huge}
+use Rattle.page_core.specs.Marks.{ShippedPage, is_huge}
 use Rattle.ship_core.specs.Shown.{HasWidth}
 use Rattle.tfm_core.specs.declared.slots.LoadedFont.{LoadedFont}
 use Rattle.node_core.specs.declared.limits.TheConstants.{MAX_DEPTH, MAX_SHIPPED_TEXT}
@@ -42,12 +41,3 @@ pub record IsRightPage (fonts : Slots) (page : ShippedPage) : Type 0 where
 abbrev pub GivesFonts : WidthsByName → Slots → Type 0
 GivesFonts metrics fonts = (slot : ℕ) (loaded : LoadedFont) → font_in fonts slot ≡ Some loaded
     → metrics loaded.name loaded.font.size ≡ Some (width_at loaded.font)
-
--- A page as a reader sees it: its ten counts, and the marks of its box at its reference point, in order.
-abbrev pub read_page : ShippedPage → MarkedPage
-read_page page = record { counts = page.counts; marks = marks_of_page page }
-
--- The bytes are a DVI file of exactly these pages, in order. Without pages there are no bytes.
-abbrev pub IsFileOfPages : WidthsByName → List ℕ → List ShippedPage → Type 0
-IsFileOfPages metrics bytes [] = bytes ≡ []
-IsFileOfPages metrics bytes (page ∷ pages) = IsFile metrics bytes (map read_page (page ∷ pages))

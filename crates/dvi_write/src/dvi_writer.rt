@@ -47,19 +47,20 @@ impl<D: Device> Model for DviWriter<D> {
 
 impl<D: Device> DviWriter<D> {
     ghost use Rattle.std.specs.Prelude.{◌≡◌, ◌≢◌, ◌<◌, ◌+◌, ◌^◌, ◌++◌, ◌⊎◌, ◌∷◌, [], true, false, ℕ, List, Option, Some, None, length, IfOk, IfErr};
-    ghost use Rattle.std.specs.Prelude.{OnOk, OnErr, Err, Result, nat_eq};
+    ghost use Rattle.std.specs.Prelude.{OnOk, OnErr, Err, Result, nat_eq, map};
     ghost use Rattle.dvi_device.specs.Written.{written_then, GrowsByFront};
     ghost use Rattle.dvi_device.specs.Pasts.{KeepsPast, Passes, past_after};
     ghost use Rattle.dvi_device.specs.Seen.{device_view};
     ghost use Rattle.dvi_ops.specs.Fonts.{WidthsByName};
-    ghost use Rattle.page_core.specs.Marks.{ShippedPage};
+    ghost use Rattle.dvi_ops.specs.File.{IsFileOfPages};
+    ghost use Rattle.page_core.specs.Marks.{ShippedPage, read_page};
     ghost use Rattle.dvi_write.specs.declared.fault.WriteFault.{WriteFault};
     ghost use Rattle.tfm_core.specs.Slots.{Slots};
     ghost use Rattle.dvi_write.specs.SoFar.{next_bytes, last_bytes, with_next};
     ghost use Rattle.dvi_write.specs.Layout.{unfinished_file, whole};
     ghost use Rattle.dvi_write.specs.Limits.{IsWithinLimits};
     ghost use Rattle.dvi_write.specs.Closing.{IsClosedFor};
-    ghost use Rattle.dvi_write.specs.Shippable.{GivesFonts, IsFileOfPages, IsRightPage, IsShippable};
+    ghost use Rattle.dvi_write.specs.Shippable.{GivesFonts, IsRightPage, IsShippable};
     ghost use Rattle.page_core.specs.Pages.{page_with};
     ghost use Rattle.dvi_write.specs.Writing.{EndsWith, GoesOn, HasWritten, IsDeviceOf, IsMadeOver, MayFail, RefusesPage, refusal_of};
 
@@ -224,7 +225,7 @@ impl<D: Device> DviWriter<D> {
             → GrowsByFront self.old.bytes_written self.new.bytes_written (last_bytes fonts.now self.old.so_far) }
         ensures file { OnOk result ((before : Option (List ℕ)) (pages : List ShippedPage) (metrics : WidthsByName)
             → HasWritten fonts.now before self.old pages
-            → GivesFonts metrics fonts.now → IsFileOfPages metrics (whole fonts.now pages) pages) }
+            → GivesFonts metrics fonts.now → IsFileOfPages metrics (whole fonts.now pages) (map read_page pages)) }
         ensures closed { OnOk result ((before : Option (List ℕ)) (pages : List ShippedPage) → HasWritten fonts.now before self.old pages → pages ≢ []
             → IsClosedFor fonts.now (whole fonts.now pages) pages) }
         ensures pages { IfOk result (λ file. (before : Option (List ℕ)) (pages : List ShippedPage) → HasWritten fonts.now before self.old pages

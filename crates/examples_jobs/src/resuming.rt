@@ -1,6 +1,6 @@
 //! A job is run again after its device has failed.
 
-use job_core::{Command, Device, FontFile, Fuse, Job, Rest, finish_rest};
+use job_core::{Command, Device, FontFile, Fuse, Job, JobRun, Rest, finish_rest, run_commands};
 use std::alloc::Global;
 
 /// Runs commands again on a device that took the bytes `sent` of their file before it failed. Returns whether the end succeeded, and the device.
@@ -28,13 +28,11 @@ fn resume<D: Device>(
 
 /// Runs commands on a device that takes at most 512 bytes a call and fails at one call, and again if it failed.
 pub fn complete_file(alloc: Global, commands: &[Command], fails_at: u64) -> Option<(bool, Fuse)> {
-    let mut job = Job::new(alloc, Fuse::new(alloc, 512, fails_at), &[]).ok()?;
-    let mut replies = Vec::new(alloc);
-    job.run(commands, &mut replies).ok()?;
-    if job.finish().is_ok() {
-        return Some((true, job.into_device()));
+    let run = run_commands(alloc, Fuse::new(alloc, 512, fails_at), &[], commands).ok()?;
+    let JobRun { end, device, .. } = run;
+    if end.is_ok() {
+        return Some((true, device));
     }
-    let device = job.into_device();
     let sent = Vec::from_slice(alloc, device.bytes()).ok()?; // a beginning of the file
     Some(resume(alloc, commands, &[], device, sent))
 }

@@ -1,6 +1,6 @@
 -- The end of a job and of its machine.
 use Rattle.std.proofs.Common.{◌+◌, ◌≡◌, ◌≢◌, inl, inr, ℕ, Bool, true, false, List, [], length, Option, Some, None, Ok, Err, refl, ap, subst, sym, ◌∙◌}
-use Rattle.std.specs.Prelude.{◌==◌, not, IfSome}
+use Rattle.std.specs.Prelude.{◌==◌, not, map, IfSome}
 use Rattle.std.proofs.lemmas.Option.{IfSome_then}
 use Rattle.job_machine.specs.declared.replies.Refusal.TheVariants.{OutOfMemory, Device, JobOver, ListsOpen}
 use Rattle.job_machine.specs.declared.replies.Summary.{Summary}
@@ -10,7 +10,9 @@ use Rattle.dvi_ops.specs.Fonts.{WidthsByName}
 use Rattle.tfm_core.specs.Slots.{Slots}
 use Rattle.dvi_write.specs.Layout.{whole}
 use Rattle.dvi_write.specs.SoFar.{ProgressView, last_bytes}
-use Rattle.dvi_write.specs.Shippable.{GivesFonts, IsFileOfPages}
+use Rattle.dvi_ops.specs.File.{IsFileOfPages}
+use Rattle.page_core.specs.Marks.{read_page}
+use Rattle.dvi_write.specs.Shippable.{GivesFonts}
 use Rattle.dvi_write.specs.declared.fault.WriteFault.{WriteFault}
 use Rattle.dvi_write.specs.Writing.{Writing, HasWritten, MayFail}
 use Rattle.job_machine.specs.State.{State}
@@ -160,6 +162,6 @@ gives_fonts metrics files fonts loaded gives slot l has = gives l.name l.font.si
 
 -- A file of the pages by the fonts of a job is one by its font files.
 pub filed : (old : JobView) (m : Machine) (metrics : WidthsByName) (bytes : List ℕ) → Represents old m → AreLoaded old.state.files old.state.fonts → GivesFiles metrics m.state.files
-    → (GivesFonts metrics m.state.fonts → IsFileOfPages metrics bytes m.pages) → IsFileOfPages metrics bytes m.pages
+    → (GivesFonts metrics m.state.fonts → IsFileOfPages metrics bytes (map read_page m.pages)) → IsFileOfPages metrics bytes (map read_page m.pages)
 filed old m metrics bytes holds loaded gives file =
     file (gives_fonts metrics m.state.files m.state.fonts (subst (λ (s : State). AreLoaded s.files s.fonts) holds.state loaded) gives)

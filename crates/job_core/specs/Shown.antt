@@ -1,11 +1,12 @@
 -- What the finished file shows, by the definition of DVI files and the font files alone (own; DVItype, 13 to 20).
-use Rattle.std.specs.Prelude.{◌≡◌, ℕ, ℤ, List, Option, Some, Result, OnOk, IfSome}
+use Rattle.std.specs.Prelude.{◌≡◌, ℕ, ℤ, List, map, Option, Some, Result, OnOk, IfSome}
 use Rattle.tfm_core.specs.NamedBytes.{NamedBytes}
 use Rattle.tfm_core.specs.FileWidths.{file_widths}
 use Rattle.dvi_ops.specs.Fonts.{WidthsByName}
 use Rattle.job_machine.specs.declared.replies.Refusal.{Refusal}
 use Rattle.job_machine.specs.declared.replies.Summary.{Summary}
-use Rattle.dvi_write.specs.Shippable.{IsFileOfPages}
+use Rattle.dvi_ops.specs.File.{IsFileOfPages}
+use Rattle.page_core.specs.Marks.{read_page}
 use Rattle.job_machine.specs.Machine.{Machine}
 use Rattle.job_core.specs.Jobs.{JobView, Represents}
 
@@ -19,4 +20,4 @@ GivesFiles metrics files = (name : List ℕ) (size : ℤ) (widths : ℤ → Opti
 abbrev pub FilesPages : JobView → Result Summary Refusal → JobView → Type 0
 FilesPages old result new =
     (m : Machine) (metrics : WidthsByName) → Represents old m → GivesFiles metrics m.state.files
-    → OnOk result (IfSome new.bytes_written (λ bytes. IsFileOfPages metrics bytes m.pages))
+    → OnOk result (IfSome new.bytes_written (λ bytes. IsFileOfPages metrics bytes (map read_page m.pages)))

@@ -96,7 +96,8 @@ impl<D: Device> Model for Job<D> {
 }
 
 impl<D: Device> Job<D> {
-    ghost use Rattle.std.specs.Prelude.{◌≡◌, ◌≢◌, ◌<◌, ◌+◌, ◌^◌, ◌++◌, [], true, List, IfOk, IfErr, OnOk, OnErr, IfSome, Err, length};
+    ghost use Rattle.std.specs.Prelude.{◌≡◌, ◌≢◌, ◌<◌, ◌≤◌, ◌+◌, ◌^◌, ◌++◌, [], true, List, IfOk, IfErr, IsOk, OnOk, OnErr, IfSome, Err, length};
+    ghost use Rattle.std.specs.Prelude.{vec_len, vec_capacity};
     ghost use Rattle.job_machine.specs.Effects.{new_pages};
     ghost use Rattle.job_machine.specs.Machine.{Machine, first_machine};
     ghost use Rattle.dvi_write.specs.Layout.{unfinished_file, whole};
@@ -159,6 +160,7 @@ impl<D: Device> Job<D> {
             × RunsTo self.old commands.now added self.new) }
         ensures none { OnErr result (self.new ≡ self.old) }
         ensures cut { OnErr result (replies.new.items ≡ replies.old.items) }
+        ensures room { vec_len replies.old + length commands.now ≤ vec_capacity replies.old → IsOk result }
         ensures idle { self.old.state.over ≡ true → self.new ≡ self.old }
         ensures goes_on { GoesOn (writing_of self.old) (writing_of self.new) }
     {

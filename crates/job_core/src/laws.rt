@@ -1,6 +1,6 @@
 //! Laws of a job from its beginning to its end.
 
-ghost use Rattle.std.specs.Prelude.{◌≡◌, ◌≢◌, ◌≤◌, ◌⊎◌, ◌++◌, [], ◌∷◌, ℕ, false, List, length, Result, Err, IfOk, IfErr, IfSome};
+ghost use Rattle.std.specs.Prelude.{◌≡◌, ◌≢◌, ◌≤◌, ◌⊎◌, ◌++◌, [], ◌∷◌, ℕ, false, List, length, Result, Err, IfOk, IfErr, OnOk, IfSome};
 ghost use Rattle.job_machine.specs.declared.command.Command.{Command};
 ghost use Rattle.job_machine.specs.declared.replies.Refusal.{Refusal};
 ghost use Rattle.job_machine.specs.declared.replies.Refusal.TheVariants as refusals;
@@ -11,7 +11,7 @@ ghost use Rattle.dvi_device.specs.Written.{IsFrontOf};
 ghost use Rattle.dvi_write.specs.Layout.{whole};
 ghost use Rattle.job_machine.specs.Machine.{Machine, first_machine};
 ghost use Rattle.job_machine.specs.Runs.{Run, Finishes};
-ghost use Rattle.job_core.specs.Jobs.{JobView, due_bytes, Represents, KeepsTo, RunsTo, FinishesTo};
+ghost use Rattle.job_core.specs.Jobs.{JobView, IsProperFrontOf, due_bytes, Represents, KeepsTo, RunsTo, FinishesTo};
 ghost use Rattle.std.specs.List.{AllByRecursion};
 ghost use Rattle.job_core.specs.GlyphWidths.{IsMeasuredPage};
 ghost use Rattle.job_core.specs.Closing.{ClosesFile};
@@ -22,14 +22,19 @@ ghost use Rattle.job_core.specs.Headline.{IsDone};
 /// by the DVI definition, a well-formed file of exactly the machine's pages in order: the same glyphs, rules and specials, in the same order,
 /// at the same scaled points, under the same ten counts. The widths of the glyphs are those of the job's own font files.
 ///
-/// The premises are what `Job::new`, `Job::run` and `Job::finish` ensure, in this order.
+/// `run_commands` ensures it of a whole job. This law is for callers that step: its premises are what `Job::new`, `Job::run` and `Job::finish`
+/// ensure, in this order.
 pub fn headline()
     ensures { (files : List NamedBytes) (commands : List Command) (replies : List Reply) (result : Result Summary Refusal) (new run ended : JobView)
         → Represents new (first_machine files)
         → RunsTo new commands replies run
-        → FinishesTo run result ended → FilesPages run result ended → ClosesFile run result ended
+        → FinishesTo run result ended
+        → ((m : Machine) → Represents run m → OnOk result (IfSome ended.bytes_written (λ bytes. bytes ≡ whole m.state.fonts m.pages)))
+        → FilesPages run result ended → ClosesFile run result ended
         → IfOk result (λ summary. (m : Machine) → Represents run m → IfSome ended.bytes_written (λ bytes. summary.bytes ≡ length bytes))
         → IfOk result (λ summary. (m : Machine) → Represents run m → summary.bytes ≡ length (whole m.state.fonts m.pages))
+        → (result ≡ Err refusals.Device → (m : Machine) → Represents run m
+        → IfSome ended.bytes_written (λ bytes. IsProperFrontOf bytes (whole m.state.fonts m.pages)))
         → IsDone files commands replies result new run ended }
 {}
 

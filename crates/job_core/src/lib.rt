@@ -5,6 +5,7 @@
 mod device_job;
 pub mod laws;
 mod resuming;
+mod whole_job;
 
 pub use device_job::Job;
 pub use dvi_device::{Device, DeviceFault, Fuse, Memory, Rest};
@@ -16,3 +17,4 @@ pub use job_machine::{
 pub use pack_core::Target;
 pub use resuming::finish_rest;
 pub use tfm_core::{FontFile, FontName, FontSize, TfmCause};
+pub use whole_job::{JobRun, run_commands};

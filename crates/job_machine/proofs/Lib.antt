@@ -2,6 +2,7 @@ pub mod AppendedSpecials
 pub mod KeptRest
 pub mod ListElements
 pub mod Numbers
+pub mod OneRun
 pub mod OtherKinds
 pub mod PackedItems
 pub mod Refusals

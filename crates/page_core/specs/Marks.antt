@@ -14,7 +14,7 @@ use Rattle.node_core.specs.declared.tree.BoxNode.{BoxNode}
 use Rattle.node_core.specs.Items.{Leaf, glyph, font_kern, kern, glue, penalty, rule, special, Items, none, leaf, box}
 use Rattle.node_core.specs.Nodes.{node_of, box_of}
 use Rattle.scaled_core.specs.Mark as marks
-use Rattle.scaled_core.specs.Mark.{Mark}
+use Rattle.scaled_core.specs.Mark.{Mark, MarkedPage}
 use Rattle.pack_core.specs.Items.{own_size}
 use Rattle.scaled_core.specs.Dimensions.{fits}
 use Rattle.pack_core.specs.Places.{place}
@@ -144,6 +144,10 @@ pub record ShippedPage : Type 0 where
 -- The marks of a page.
 abbrev pub marks_of_page : ShippedPage → List Mark
 marks_of_page page = marks_of_box page.box_node page.h page.v
+
+-- A page as a reader sees it: its ten counts, and the marks of its box at its reference point, in order.
+abbrev pub read_page : ShippedPage → MarkedPage
+read_page page = record { counts = page.counts; marks = marks_of_page page }
 
 -- The start of the list of a page's box, below the origin.
 abbrev pub page_v : ShippedPage → ℤ

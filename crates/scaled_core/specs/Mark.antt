@@ -7,3 +7,8 @@ pub data Mark : Type 0 where
   Glyph : (font code h v : ℤ) → Mark
   Rule : (h v height width : ℤ) → Mark
   Special : (h v : ℤ) (text : List ℕ) → Mark
+
+-- A page as a reader sees it: its ten counts and its marks.
+pub record MarkedPage : Type 0 where
+  pub counts : List ℤ
+  pub marks : List Mark

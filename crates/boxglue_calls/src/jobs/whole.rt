@@ -4,7 +4,8 @@ ghost use Rattle.std.specs.Prelude.{◌≡◌, ◌⊎◌, ◌↔◌, ◌++◌, [
 ghost use Rattle.job_machine.specs.declared.replies.Refusal.{Refusal};
 ghost use Rattle.job_machine.specs.declared.replies.Summary.{Summary};
 ghost use Rattle.job_machine.specs.Reply.{Reply};
-ghost use Rattle.boxglue_program.specs.Runs.{WasRun, commands_of, line_numbers};
+ghost use Rattle.job_core.specs.Headline.{WasRunAndSent};
+ghost use Rattle.boxglue_program.specs.Runs.{commands_of, line_numbers};
 ghost use Rattle.boxglue_calls.specs.Fonts.{are_named, files_of};
 ghost use Rattle.boxglue_calls.specs.Runs.{HandsOverRun};
 ghost use Rattle.boxglue_calls.specs.RunStatus.{run_status};
@@ -45,7 +46,8 @@ fn reply_to_lines(
     files: &[FontFile],
 ) -> Result<ScriptReplies, AllocError>
     ensures { IfOk result (λ ran. (replies : List Reply) × (end : Result Summary Refusal)
-        × WasRun files.now 0 (commands_of lines.now) replies end ran.device.failures (Some ran.device.bytes) × (length replies ≡ length lines.now)
+        × WasRunAndSent files.now 0 (commands_of lines.now) replies end ran.device.failures (Some ran.device.bytes)
+        × (length replies ≡ length lines.now)
         × (ran.rows.items ≡ reply_rows (line_numbers lines.now) replies ++ end_row end ∷ []) × (ran.status ≡ run_status replies end)) }
 {
     let mut rows = Vec::from_elem(alloc, row_of_kind(reply_kind::OK), lines.len())?;

@@ -1,17 +1,26 @@
 -- The run, as it is handed over.
 use Rattle.std.proofs.Common.{◌≡◌, inr, length, refl, rules}
+use Rattle.boxglue_program.specs.Reports.{any_bytes, written_bytes}
 use Rattle.boxglue_calls.specs.Fonts.{files_of}
 use Rattle.boxglue_calls.specs.Runs.{IsRun}
-use Rattle.boxglue_calls.proofs.RunLaws.{handed_run, is_done}
+use Rattle.boxglue_calls.proofs.RunLaws.{handed_run, is_done, run_unsaid}
 use Rattle.boxglue_calls.proofs.StatusLaws.{handed_over}
 use Rattle.boxglue_calls.proofs.runs.run.Goals as goal
+
+pub returns-clause-sent : goal.returns-clause-sent
+returns-clause-sent c =
+    let ran = c.in-Ok.ran in
+    let size : c.len.result ≡ length ran.answers.items = search rules in
+    inr (inr (handed_run (IsRun written_bytes c.args.script.now (files_of c.args.fonts.now)) _ _ _ _ _ ran.status c.hand_over_both.result ran.answers.items ran.device.bytes _ _
+    c.in-Ok.ensures c.deref.ensures.value c.bytes-bytes.ensures c.hand_over_both.ensures size refl))
 
 pub returns-clause-done : goal.returns-clause-done
 returns-clause-done c =
     let ran = c.in-Ok.ran in
     let size : c.len.result ≡ length ran.answers.items = search rules in
-    inr (inr (handed_run (IsRun c.args.script.now (files_of c.args.fonts.now)) _ _ _ _ _ ran.status c.hand_over_both.result ran.answers.items ran.device.bytes _ _
-    c.in-Ok.ensures c.deref.ensures.value c.bytes-bytes.ensures c.hand_over_both.ensures size refl))
+    let unsaid = run_unsaid c.args.script.now (files_of c.args.fonts.now) ran.answers.items ran.device.bytes ran.status c.in-Ok.ensures in
+    inr (inr (handed_run (IsRun any_bytes c.args.script.now (files_of c.args.fonts.now)) _ _ _ _ _ ran.status c.hand_over_both.result ran.answers.items ran.device.bytes _ _
+    unsaid c.deref.ensures.value c.bytes-bytes.ensures c.hand_over_both.ensures size refl))
 
 pub returns-clause-named : goal.returns-clause-named
 returns-clause-named c = (

@@ -11,7 +11,7 @@ returns-in-Some c =
     let ran = rw c.in-Ok.is at c.run_whole.ensures.ran in (
       ran.0,
       ran.1,
-      same_run _ _ _ _ _ _ _ _ _ _ _ _ (sym (ap (λ (m : MemoryState). m.failures) c.new.ensures)) refl refl refl refl ran.2,
-      if_some c.in-Ok.whole.answers c.in-Some.answers _ c.in-Some.is ran.4,
-      c.outcome_status.ensures ∙ (ap outcome_status ran.5 ∙ run_status_is ran.0 ran.1),
+      same_run _ _ _ _ _ _ _ _ _ _ _ _ (sym (ap (λ (m : MemoryState). m.failures) c.new.ensures)) refl refl refl refl (ran.2, ran.3),
+      if_some c.in-Ok.whole.answers c.in-Some.answers _ c.in-Some.is ran.5,
+      c.outcome_status.ensures ∙ (ap outcome_status ran.6 ∙ run_status_is ran.0 ran.1),
     )

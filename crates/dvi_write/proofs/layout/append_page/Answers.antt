@@ -1,11 +1,11 @@
-use Rattle.std.proofs.Common.{◌≡◌, ◌∙◌, ◌++◌, [], ◌∷◌, List, ℕ, ℤ, Result, Ok, Err, OnOk, ap, sym, subst, append_assoc, to_z, of_z, w32, arith}
+use Rattle.std.proofs.Common.{◌≡◌, ◌∙◌, ◌++◌, [], ◌∷◌, List, ℕ, ℤ, Result, Ok, Err, OnOk, OnErr, ap, sym, subst, length, take, append_assoc, to_z, of_z, w32, arith}
 use Rattle.std.proofs.lemmas.Int.{ints}
 use Rattle.std.proofs.lemmas.Grind.{flat_map-append}
 use Rattle.std.proofs.lemmas.List.{append-nil}
 use Rattle.dvi_ops.specs.Instruction.{Instruction, Bop}
 use Rattle.dvi_ops.specs.Layout.{bytes_of}
 use Rattle.dvi_ops.specs.Spelling.{spelling}
-use Rattle.dvi_ops.proofs.Kept.{kept_at_err, kept_by_append, kept_in_front, kept_same}
+use Rattle.dvi_ops.proofs.Kept.{kept_by_append, kept_in_front, kept_same}
 use Rattle.dvi_write.proofs.layout.append_page.Goals as goal
 
 -- The bytes of an instruction, of others, and of one more.
@@ -21,8 +21,14 @@ page_bytes (Ok x) before opened filled after i j is first second third =
     ∙ (append_assoc before (spelling i) (bytes_of is ++ spelling j) ∙ ap (λ (bs : List ℕ). before ++ (spelling i ++ bs)) last)))
 page_bytes (Err e) before opened filled after i j is first second third = tt
 
+-- What holds at an error.
+at_err : {A E P : Type 0} (r : Result A E) → P → OnErr r P
+at_err (Ok x) holds = tt
+at_err (Err e) holds = holds
+
 pub returns-in_err-append_to-clause-left : goal.returns-in_err-append_to-clause-left
-returns-in_err-append_to-clause-left c = kept_at_err _ _ _ _ (kept_by_append _ _ _ c.in_ok-spell.ensures.ok) c.in_err-append_to.ensures.left
+returns-in_err-append_to-clause-left c =
+    at_err _ (ap (take (length c.args.bytes.now.items)) c.in_err-append_to.ensures.err ∙ kept_by_append _ _ _ c.in_ok-spell.ensures.ok)
 
 pub returns-clause-ok : goal.returns-clause-ok
 returns-clause-ok c =

@@ -3,7 +3,8 @@ use Rattle.std.proofs.Common.{◌≡◌, ◌++◌, ◌∷◌, [], ℕ, List, len
 use Rattle.std.proofs.lemmas.List.{with_items_is}
 use Rattle.std.specs.Prelude.{max}
 use Rattle.dvi_device.specs.Held.{MemoryState}
-use Rattle.boxglue_program.proofs.RunLaws.{was_run, same_run}
+use Rattle.job_core.proofs.WholeRuns.{was_run, was_sent}
+use Rattle.boxglue_program.proofs.RunLaws.{same_run}
 use Rattle.boxglue_program.specs.Runs.{commands_of, line_numbers}
 use Rattle.boxglue_calls.specs.RunStatus.{replies_status}
 use Rattle.boxglue_calls.specs.Rows.{reply_rows}
@@ -18,7 +19,9 @@ returns c =
     let ran = each.ensures.ran in
     let end = c.finish-end in
     let run = was_run c.args.files.now (commands_of lines) ran.0 end.result c.in-Ok.job each.new.job end.new.self c.in-Ok.ensures.ok ran.1
-    end.ensures.finished end.ensures.dvi end.ensures.file end.ensures.size end.ensures.count end.ensures.end end.ensures.part in
+    end.ensures.finished end.ensures.dvi end.ensures.size in
+    let sent = was_sent c.args.files.now (commands_of lines) ran.0 end.result c.in-Ok.job each.new.job end.new.self c.in-Ok.ensures.ok ran.1
+    end.ensures.finished end.ensures.file end.ensures.end end.ensures.count end.ensures.part in
     let start : 0 ≡ c.in-Ok.job.failed = sym (c.in-Ok.ensures.made.failed ∙ ap (λ (m : MemoryState). m.failures) c.new.ensures) in
     let rows : List ReplyRow = reply_rows (line_numbers lines) ran.0 in
     let room : length c.deref_mut.result.now ≡ length rows = c.deref_mut.ensures.len ∙ (c.in_ok-rows.ensures.len ∙ sym (length_rows lines ran.0 ran.2)) in
@@ -26,7 +29,7 @@ returns c =
     let kept = with_items_is c.in_ok-rows.rows each.new.rows (each.auto.rows ∙ c.deref_mut.ensures.len) in (
       ran.0,
       end.result,
-      same_run c.args.files.now _ _ _ _ _ _ _ _ _ _ _ start refl refl c.into_device.ensures.failed c.into_device.ensures.bytes_written run,
+      same_run c.args.files.now _ _ _ _ _ _ _ _ _ _ _ start refl refl c.into_device.ensures.failed c.into_device.ensures.bytes_written (run, sent),
       ran.2,
       c.in_ok-push.ensures.items ∙ (ap (λ (xs : List ReplyRow). xs ++ c.end_row.result ∷ []) (kept ∙ put) ∙ ap (λ (row : ReplyRow). rows ++ row ∷ []) c.end_row.ensures),
       c.max.ensures ∙ (ap (λ (n : ℕ). max n c.reply_status.result) ran.4 ∙ ap (λ (n : ℕ). max (replies_status ran.0) n) c.reply_status.ensures),

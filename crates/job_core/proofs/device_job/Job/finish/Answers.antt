@@ -1,10 +1,12 @@
-use Rattle.std.proofs.Common.{ap, sym, subst, ◌∙◌, Err}
+use Rattle.std.proofs.Common.{ap, sym, subst, ◌∙◌, Err, map}
 use Rattle.dvi_write.specs.declared.fault.WriteFault.{WriteFault}
 use Rattle.dvi_device.proofs.PastLaws.{keeps_taken}
 use Rattle.tfm_core.specs.Slots.{Slots}
 use Rattle.dvi_write.specs.Closing.{IsClosedFor}
 use Rattle.dvi_write.specs.Layout.{whole}
-use Rattle.dvi_write.specs.Shippable.{GivesFonts, IsFileOfPages}
+use Rattle.dvi_ops.specs.File.{IsFileOfPages}
+use Rattle.page_core.specs.Marks.{read_page}
+use Rattle.dvi_write.specs.Shippable.{GivesFonts}
 use Rattle.job_core.specs.Private.Sound.{view_of}
 use Rattle.job_core.proofs.FreshDevices.{said}
 use Rattle.job_core.proofs.Endings.{over_refused, open_refused, may_finish, has_written_by, fonts_are, sent_by, part_by, kept_by, some_where, finished, losing, stopped, filed, count_by, size_by}
@@ -66,7 +68,7 @@ returns-clause-dvi g c =
     rw (← c.self.view_is)
     (λ m metrics holds gives.
     let written = has_written_by old m fonts holds running c.fonts.ensures in
-    said c.self.inside.writer.bytes_written c.finish.new.self.bytes_written (whole fonts m.pages) (λ bytes. IsFileOfPages metrics bytes m.pages) (c.in-Ok.ensures.whole _ m.pages written)
+    said c.self.inside.writer.bytes_written c.finish.new.self.bytes_written (whole fonts m.pages) (λ bytes. IsFileOfPages metrics bytes (map read_page m.pages)) (c.in-Ok.ensures.whole _ m.pages written)
     (filed old m metrics (whole fonts m.pages) holds c.self.invariant.0.fonts gives
     (λ given. c.in-Ok.ensures.file _ m.pages metrics written (subst (GivesFonts metrics) (sym (fonts_are old m fonts holds c.fonts.ensures)) given))))
 

@@ -4,7 +4,7 @@ use Rattle.dvi_ops.specs.Layout.{bytes_of}
 use Rattle.dvi_ops.specs.Runs.{instructions_of, woven_instructions}
 use Rattle.dvi_ops.specs.Spelling.{HasSpelling}
 use Rattle.dvi_ops.specs.View.{body_view}
-use Rattle.dvi_ops.proofs.page_runs.PageRuns.append_to.Given as goal
+use Rattle.dvi_ops.proofs.page_runs.PageRuns.append_spellings.Given as goal
 
 abbrev pub invariant-loop-index : goal.invariant-loop-index
 invariant-loop-index l = record {

@@ -1,7 +1,7 @@
 use Rattle.std.proofs.Common.{◌<◌, length, arith}
 use Rattle.dvi_ops.proofs.Kept.{kept_in_front}
 use Rattle.dvi_ops.proofs.Runs.{woven_split, bytes_further, spelled_further}
-use Rattle.dvi_ops.proofs.page_runs.PageRuns.append_to.Goals as goal
+use Rattle.dvi_ops.proofs.page_runs.PageRuns.append_spellings.Goals as goal
 
 pub spell_body-requires : goal.spell_body-requires
 spell_body-requires c =
