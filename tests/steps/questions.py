@@ -133,7 +133,7 @@ def figures(root):
 
 def glossary(root):
     """The entries are in order, short and enough, and each word stands in a document that users read."""
-    entries = rows(section(content(f"{root}/docs/FAQ.md"), "Glossary"))
+    entries = re.findall(r"(?m)^- \*\*(.*?)\*\*: (.*)$", section(content(f"{root}/docs/FAQ.md"), "Glossary"))
     names = [name for name, _ in entries]
     others = " ".join(content(it) for pattern in READ_BY_USERS for it in glob.glob(f"{root}/{pattern}") if not it.endswith("/FAQ.md")).lower()
     forms = {name: [name, *re.findall(r"\((\w+)\)", name), re.sub(r" \(.*\)|ping$", "", name)] for name in names}
