@@ -66,27 +66,3 @@ fn every_beginning_is_too_short(rt: HostRuntime) {
         );
     }
 }
-
-#[test]
-fn the_first_broken_rule_is_named(rt: HostRuntime) {
-    let mut bytes = TINY;
-    // The first step names a ligature whose character is not there.
-    bytes[87] = 0x70;
-    assert_eq!(rt; broken_rule(rt.alloc(), &bytes), Some(TfmCause::LigKern));
-    // The first width is not 0.
-    bytes[55] = 0x01;
-    assert_eq!(rt; broken_rule(rt.alloc(), &bytes), Some(TfmCause::FixWord));
-    // The first character names a width that is not there.
-    bytes[32] = 0x09;
-    assert_eq!(rt; broken_rule(rt.alloc(), &bytes), Some(TfmCause::CharInfo));
-    // The design size is below one point.
-    bytes[29] = 0x0f;
-    bytes[30] = 0xff;
-    bytes[31] = 0xff;
-    assert_eq!(rt; broken_rule(rt.alloc(), &bytes), Some(TfmCause::DesignSize));
-    // There is one width more than the file has words for.
-    bytes[9] = 0x04;
-    assert_eq!(rt; broken_rule(rt.alloc(), &bytes), Some(TfmCause::Counts));
-    let front = bytes.get(..115).expect(&rt, "it is a beginning");
-    assert_eq!(rt; broken_rule(rt.alloc(), front), Some(TfmCause::TooShort));
-}
