@@ -26,7 +26,7 @@ REACHED = {
 BELIEVED = "Machine IsDone WasSent key least_path is_not_after Load IsFile marks_of_page file_widths badness_of WasRun HasRun HandsOverRun HostView IsDviFault".split()
 # The clauses that say what a file is without the rules by which this writer draws and lays out one.
 HEADLINE = ("job_core::run_commands.headline", "boxglue_program::run_script.answers", "boxglue_program::run_script.left", "boxglue_program::run_memory.answers",
-           "boxglue_lib::program.ran", "boxglue_c::boxglue_run.done")
+           "boxglue_program::run_memory.left", "boxglue_lib::program.ran", "boxglue_c::boxglue_run.done")
 # Where these rules are: the crates that draw, choose registers and write, and the layout and the spellings of dvi_ops.
 WRITER = {"ship_core", "move_core", "dvi_write"}, {"Layout", "Spelling", "Runs"}
 # What only other contracts reach, by a function whose contract does.
