@@ -47,7 +47,7 @@ class BoxglueError(Exception):
 class Refused(BoxglueError):
     """A command, a script or a DVI file was refused.
 
-    `name` and `number` are those of the refusal (docs/REFUSALS.md), such as "NoFont" and 4. `line` is the line of the command or of the bad line of
+    `name` and `number` name the refusal (docs/REFUSALS.md), such as "NoFont" and 4. `line` is the line of the command or of the bad line of
     a script, `place` the place in a DVI file where a rule is broken, and `cause` the name of what is wrong there or in a metric file, such as "Word" after
     "BadScript"; each is None where there is none. `detail` is what follows the name, such as "74 Trailer" after "BadDvi".
     """
