@@ -32,6 +32,13 @@ pub struct ListingPart {
     heads: [Option<GlyphHead>; 256],
 }
 
+/// The place of the beginning of a glyph's line: its code modulo 256, without a test for its sign.
+fn head_place(code: i32) -> usize
+    ensures { result < 256 }
+{
+    (code.cast_unsigned() % 256) as usize
+}
+
 impl Model for ListingPart {
     ghost use Rattle.std.specs.Prelude.{ℕ, List, drop};
 
@@ -169,7 +176,7 @@ impl ListingPart {
     {
         let mut bytes = [0; HEAD];
         bytes[HEAD - size..].copy_from_slice(&self.bytes[self.begin..self.begin + size]);
-        self.heads[(code.unsigned_abs() % 256) as usize] = Some(GlyphHead {
+        self.heads[head_place(code)] = Some(GlyphHead {
             font,
             code,
             size,
@@ -184,7 +191,7 @@ impl ListingPart {
         ensures text { self.new ≡ head_text font code ++ self.old }
         ensures len { length self.old < length self.new }
     {
-        if let Some(head) = self.heads[(code.unsigned_abs() % 256) as usize] {
+        if let Some(head) = self.heads[head_place(code)] {
             if head.font == font && head.code == code {
                 self.put_head(&head);
                 return;
