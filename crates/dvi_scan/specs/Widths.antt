@@ -3,7 +3,7 @@ use Rattle.std.specs.Prelude.{◌≡◌, ◌<◌, List, ℕ, ℤ, false, Some, N
 use Rattle.dvi_ops.specs.Instruction.{Definition}
 use Rattle.tfm_core.specs.declared.reading.FontReadFault.{FontReadFault}
 use Rattle.tfm_core.specs.declared.reading.FontReadFault.TheVariants as reads
-use Rattle.tfm_core.specs.declared.font.GlyphSize.{GlyphSize}
+use Rattle.scaled_core.specs.declared.sizes.Sizes.{Sizes}
 use Rattle.tfm_core.specs.Fonts.{SizedFont, fits_at, glyph_of}
 use Rattle.tfm_core.specs.MetricFile.{MetricFile}
 use Rattle.tfm_core.specs.NamedBytes.{NamedBytes, file_named}
@@ -13,7 +13,7 @@ use Rattle.dvi_scan.specs.declared.widths.FontRefusal.TheVariants.{OutOfMemory, 
 
 -- The codes of a font's characters are bytes.
 abbrev pub HasBytes : SizedFont → Type 0
-HasBytes font = (code : ℕ) (size : GlyphSize) → glyph_of font code ≡ Some size → code < 256
+HasBytes font = (code : ℕ) (size : Sizes) → glyph_of font code ≡ Some size → code < 256
 
 -- The refusal of a font that was not read from its metric file (own).
 abbrev pub of_read : FontReadFault → FontRefusal

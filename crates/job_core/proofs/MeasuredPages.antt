@@ -6,7 +6,7 @@ use Rattle.std.specs.List.{AllByRecursion}
 use Rattle.tfm_core.specs.NamedBytes.{NamedBytes, file_named}
 use Rattle.tfm_core.specs.Fonts.{SizedFont}
 use Rattle.tfm_core.specs.FileWidths.{width_at}
-use Rattle.tfm_core.specs.declared.font.GlyphSize.{GlyphSize}
+use Rattle.scaled_core.specs.declared.sizes.Sizes.{Sizes}
 use Rattle.node_core.specs.declared.tree.Glyph as glyph_type
 use Rattle.node_core.specs.declared.tree.BoxNode.{BoxNode}
 use Rattle.node_core.specs.Items.{Leaf, glyph, font_kern, kern, glue, penalty, rule, special}
@@ -148,7 +148,7 @@ measured_glyph s g (Some loaded) all is sized =
       slot = is;
       widths = width_at loaded.font;
       given = widths_in (file_named loaded.name s.files) loaded.font.size loaded.font (read_in s g.slot loaded all is);
-      width = ap (option_map (λ (size : GlyphSize). size.width)) sized;
+      width = ap (option_map (λ (size : Sizes). size.width)) sized;
     }
 
 measured : (s : State) → AreRead s → (x : Leaf) → IsSizedLeaf s.fonts x → IsMeasured s x

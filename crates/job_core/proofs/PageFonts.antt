@@ -2,7 +2,7 @@
 use Rattle.std.proofs.Common.{◌≡◌, ℕ, ◌<◌, List, refl, ap}
 use Rattle.std.specs.Prelude.{pos, Option, Some, None}
 use Rattle.std.specs.Option.{option_map}
-use Rattle.tfm_core.specs.declared.font.GlyphSize.{GlyphSize}
+use Rattle.scaled_core.specs.declared.sizes.Sizes.{Sizes}
 use Rattle.tfm_core.specs.NamedBytes.{NamedBytes}
 use Rattle.node_core.specs.declared.tree.BoxNode.{BoxNode}
 use Rattle.node_core.specs.Items.{Leaf, glyph, font_kern, kern, glue, penalty, rule, special}
@@ -17,12 +17,12 @@ use Rattle.job_state.specs.Private.Sized.{IsSizedLeaf, IsSoundBox}
 use Rattle.job_state.proofs.LoadedFonts.{loaded_in, code_small}
 
 module _ (files : List NamedBytes) (fonts : Slots) (loaded : AreLoaded files fonts) where
-  glyph_width : (s code : ℕ) (size : GlyphSize) (x : Option LoadedFont) → font_in fonts s ≡ x → glyph_by x code ≡ Some size
+  glyph_width : (s code : ℕ) (size : Sizes) (x : Option LoadedFont) → font_in fonts s ≡ x → glyph_by x code ≡ Some size
       → (slot_widths fonts (pos s) (pos code) ≡ Some size.width) × ((s < 256) × (code < 256))
   glyph_width s code size None is sized = cc
   glyph_width s code size (Some l) is sized =
       let of = loaded_in files fonts s l loaded is in
-      (rw is (ap (option_map (λ (g : GlyphSize). g.width)) sized), (of.1, code_small files l code size of.0 sized))
+      (rw is (ap (option_map (λ (g : Sizes). g.width)) sized), (of.1, code_small files l code size of.0 sized))
 
   has_width : (x : Leaf) → IsSizedLeaf fonts x → HasWidth (slot_widths fonts) x
   has_width (glyph g) sized = glyph_width g.slot g.code _ (font_in fonts g.slot) refl sized

@@ -4,7 +4,7 @@ use Rattle.std.specs.Prelude.{IfOk, IfSome}
 use Rattle.std.proofs.Math.ListN.{length-set}
 use Rattle.std.proofs.lemmas.List.{length-replicate}
 use Rattle.tfm_core.specs.declared.fault.TfmCause.{TfmCause}
-use Rattle.tfm_core.specs.declared.font.GlyphSize.{GlyphSize}
+use Rattle.scaled_core.specs.declared.sizes.Sizes.{Sizes}
 use Rattle.tfm_core.specs.NamedBytes.{NamedBytes, IsFontName, file_named}
 use Rattle.tfm_core.specs.MetricFile.{MetricFile}
 use Rattle.tfm_core.specs.Rules.{metric_file}
@@ -110,18 +110,18 @@ pub widths-loaded : (files : List NamedBytes) (loaded : LoadedFont) → IsLoaded
 widths-loaded files loaded is = widths_in (file_named loaded.name files) loaded.font.size loaded.font is.read
 
 -- The codes of the characters of a loaded font are bytes.
-code_read : (bytes : List ℕ) (read : Result MetricFile TfmCause) (size : Option ℤ) (font : SizedFont) (code : ℕ) (glyph : GlyphSize) → metric_file bytes ≡ read
+code_read : (bytes : List ℕ) (read : Result MetricFile TfmCause) (size : Option ℤ) (font : SizedFont) (code : ℕ) (glyph : Sizes) → metric_file bytes ≡ read
     → sized_font read size ≡ Ok font → glyph_of font code ≡ Some glyph → code < 256
 code_read bytes (Err cause) size font code glyph at is found = cc
 code_read bytes (Ok file) size font code glyph at is found =
     let given = given_by (fits_at file (chosen_size file size)) (font_at file (chosen_size file size)) font is in
     byte-glyph_of bytes file (chosen_size file size) code glyph at (ap (λ f. glyph_of f code) given.1 ∙ found)
 
-code_in : (file : Option NamedBytes) (size : Option ℤ) (font : SizedFont) (code : ℕ) (glyph : GlyphSize) → font_of_slot file size ≡ Ok font
+code_in : (file : Option NamedBytes) (size : Option ℤ) (font : SizedFont) (code : ℕ) (glyph : Sizes) → font_of_slot file size ≡ Ok font
     → glyph_of font code ≡ Some glyph → code < 256
 code_in None size font code glyph is found = cc
 code_in (Some file) size font code glyph is found = code_read file.bytes (metric_file file.bytes) size font code glyph refl is found
 
-pub code_small : (files : List NamedBytes) (loaded : LoadedFont) (code : ℕ) (size : GlyphSize) → IsLoaded files loaded → glyph_of loaded.font code ≡ Some size
+pub code_small : (files : List NamedBytes) (loaded : LoadedFont) (code : ℕ) (size : Sizes) → IsLoaded files loaded → glyph_of loaded.font code ≡ Some size
     → code < 256
 code_small files loaded code size is found = code_in (file_named loaded.name files) (Some loaded.font.size) loaded.font code size is.read found

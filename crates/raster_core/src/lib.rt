@@ -3,7 +3,6 @@
 //! A bitmap is seen as its rows of pixels, from the top. A row is machine words: `blacken` puts the mask of a row into many rows, by lanes.
 #![tactic(auto)]
 
-pub mod fault;
 mod lanes;
 pub mod laws;
 mod masks;
@@ -15,7 +14,6 @@ mod rows;
 mod text;
 mod word_rows;
 
-pub use fault::BitmapFault;
 pub use paint_options::PaintOptions;
 pub use painting::Bitmap;
 pub use text::{PbmText, ROW_TEXT};

@@ -10,7 +10,6 @@ ghost use Rattle.raster_core.specs.Pictures.{is_size, painted_picture, white};
 ghost use Rattle.raster_core.specs.PlainText.{header_text, pbm, rows_text};
 ghost use Rattle.raster_core.specs.TextAhead.{pbm_text_ahead};
 
-use crate::fault::BitmapFault;
 use crate::pixels::Scale;
 use crate::printing::append_text;
 use crate::rows::Rows;
@@ -18,6 +17,7 @@ use crate::text::PbmText;
 use crate::word_rows::blacken;
 use dvi_ops::Units;
 use dvi_scan::{Mark, Page};
+use scaled_core::SizeFault;
 use std::alloc::{AllocError, Global};
 use std::boxed::BoxedSlice;
 use std::marker::Model;
@@ -48,14 +48,14 @@ impl Model for Bitmap {
 impl Bitmap {
     /// Makes a white bitmap with this number of columns and rows, 1 to 10,000 each. The fault is DimensionTooLarge for another size, and OutOfMemory
     /// otherwise. It takes all memory that painting needs.
-    pub fn new(alloc: Global, width: u32, height: u32) -> Result<Bitmap, BitmapFault>
+    pub fn new(alloc: Global, width: u32, height: u32) -> Result<Bitmap, SizeFault>
         ensures ok { IfOk result (λ bitmap. bitmap ≡ white width height) }
         ensures fits { OnOk result (IsTrue (is_size width && is_size height)) }
         ensures fault { IfErr result (λ fault. fault
-            ≡ (if is_size width && is_size height then BitmapFault.OutOfMemory else BitmapFault.DimensionTooLarge)) }
+            ≡ (if is_size width && is_size height then SizeFault.OutOfMemory else SizeFault.DimensionTooLarge)) }
     {
         if width < 1 || width > 10_000 || height < 1 || height > 10_000 {
-            return Err(BitmapFault::DimensionTooLarge);
+            return Err(SizeFault::DimensionTooLarge);
         }
         Ok(white(alloc, width as usize, height as usize)?)
     }

@@ -8,7 +8,13 @@ ghost use Rattle.scaled_core.specs.PrintedDimensions.{dimension_text, print_scal
 ghost use Rattle.scaled_core.specs.Rounding.{IsNearest, IsRounded, nearest, rounded};
 ghost use Rattle.scaled_core.specs.Badness.{IsBadness, badness_of};
 
+use crate::counts::COUNTS;
 use crate::dimen::Dimen;
+
+/// A page has ten counts.
+pub fn counts_of_a_page()
+    ensures { COUNTS ≡ 10 }
+{}
 
 /// The test `fits` holds exactly for the numbers that fit.
 pub fn numbers_that_fit()

@@ -2,7 +2,7 @@
 use Rattle.std.proofs.Common.{◌≡◌, ℕ, ◌++◌, List, [], ◌∷◌, Option, Some, None, refl}
 use Rattle.std.specs.List.{AllByRecursion, flat_map}
 use Rattle.node_core.specs.declared.tree.Glue.{Glue}
-use Rattle.tfm_core.specs.declared.font.GlyphSize.{GlyphSize}
+use Rattle.scaled_core.specs.declared.sizes.Sizes.{Sizes}
 use Rattle.tfm_core.specs.declared.font.Step.{Step}
 use Rattle.tfm_core.specs.declared.font.Step.TheVariants.{Kern, Ligature}
 use Rattle.shape_core.specs.Shaping.{IsGlyphOf, items_from, outcome_at, outcome_items, outcome_next, outcome_of, shaped_items, step_to}
@@ -12,14 +12,14 @@ each_append : {A : Type 0} (P : A → Type 0) (xs ys : List A) → AllByRecursio
 each_append P [] ys all more = more
 each_append P (x ∷ xs) ys all more = (all.0, each_append P xs ys all.1 more)
 
-outcome_glyphs : (slot : ℕ) (sizes : ℕ → Option GlyphSize) (c : ℕ) (size : Option GlyphSize) (step : Option Step) → sizes c ≡ size
+outcome_glyphs : (slot : ℕ) (sizes : ℕ → Option Sizes) (c : ℕ) (size : Option Sizes) (step : Option Step) → sizes c ≡ size
     → AllByRecursion (IsGlyphOf slot sizes) (outcome_items slot c (outcome_of size step))
 outcome_glyphs slot sizes c None step at = tt
 outcome_glyphs slot sizes c (Some size) None at = ((refl, at), tt)
 outcome_glyphs slot sizes c (Some size) (Some (Kern width)) at = ((refl, at), (tt, tt))
 outcome_glyphs slot sizes c (Some size) (Some (Ligature e)) at = tt
 
-module _ (slot : ℕ) (sizes : ℕ → Option GlyphSize) (steps : ℕ → ℕ → Option Step) where
+module _ (slot : ℕ) (sizes : ℕ → Option Sizes) (steps : ℕ → ℕ → Option Step) where
   items_from-glyphs : (c : ℕ) (text : List ℕ) → AllByRecursion (IsGlyphOf slot sizes) (items_from slot sizes steps c text)
   unfolding outcome_at
   items_from-glyphs c [] = outcome_glyphs slot sizes c (sizes c) (step_to sizes steps c None) refl

@@ -5,7 +5,7 @@ use Rattle.node_core.specs.declared.tree.Glue.{Glue}
 use Rattle.node_core.specs.declared.tree.Node.{Node}
 use Rattle.node_core.specs.declared.tree.Node.TheVariants as node
 use Rattle.shape_core.specs.Shaping.{shaped_items, shaped_missing}
-use Rattle.tfm_core.specs.declared.font.GlyphSize.{GlyphSize}
+use Rattle.scaled_core.specs.declared.sizes.Sizes.{Sizes}
 use Rattle.tfm_core.specs.declared.font.Step.{Step}
 
 -- A part of a text: a run of spaces of any length, or a word (own).
@@ -46,19 +46,19 @@ parts_of [] = []
 parts_of (c ∷ text) = parts_with c (is_space c) (parts_of text)
 
 -- The items of a part: a run of spaces becomes one glue (own).
-abbrev pub part_items : ℕ → (ℕ → Option GlyphSize) → (ℕ → ℕ → Option Step) → Glue → TextPart → List Node
+abbrev pub part_items : ℕ → (ℕ → Option Sizes) → (ℕ → ℕ → Option Step) → Glue → TextPart → List Node
 part_items slot sizes steps blank spaces = node.Glue blank ∷ []
 part_items slot sizes steps blank (word w) = shaped_items slot sizes steps w
 
 -- The number of missing characters of a part (own).
-abbrev pub part_missing : (ℕ → Option GlyphSize) → (ℕ → ℕ → Option Step) → TextPart → ℕ
+abbrev pub part_missing : (ℕ → Option Sizes) → (ℕ → ℕ → Option Step) → TextPart → ℕ
 part_missing sizes steps spaces = 0
 part_missing sizes steps (word w) = shaped_missing sizes steps w
 
 -- The items of a text (own).
-unfoldable pub text_items : ℕ → (ℕ → Option GlyphSize) → (ℕ → ℕ → Option Step) → Glue → List ℕ → List Node
+unfoldable pub text_items : ℕ → (ℕ → Option Sizes) → (ℕ → ℕ → Option Step) → Glue → List ℕ → List Node
 text_items slot sizes steps blank text = flat_map (part_items slot sizes steps blank) (parts_of text)
 
 -- The number of missing characters of a text (own).
-unfoldable pub text_missing : (ℕ → Option GlyphSize) → (ℕ → ℕ → Option Step) → List ℕ → ℕ
+unfoldable pub text_missing : (ℕ → Option Sizes) → (ℕ → ℕ → Option Step) → List ℕ → ℕ
 text_missing sizes steps text = sum_by (part_missing sizes steps) (parts_of text)

@@ -6,12 +6,12 @@ ghost use Rattle.node_core.specs.declared.tree.Glue.{Glue};
 ghost use Rattle.node_core.specs.declared.tree.Node.{Node};
 ghost use Rattle.shape_core.specs.Shaping.{IsGlyphOf, Shaping, shaped_items, shaped_missing};
 ghost use Rattle.shape_core.specs.Texts.{HasParts, TextPart, parts_of, text_items};
-ghost use Rattle.tfm_core.specs.declared.font.GlyphSize.{GlyphSize};
+ghost use Rattle.scaled_core.specs.declared.sizes.Sizes.{Sizes};
 ghost use Rattle.tfm_core.specs.declared.font.Step.{Step};
 
 /// `shaped_items` and `shaped_missing` give the only shaping of a word.
 pub fn words_have_one_shaping()
-    ensures { (slot : ℕ) (sizes : ℕ → Option GlyphSize) (steps : ℕ → ℕ → Option Step) (word : List ℕ) (items : List Node) (n : ℕ) →
+    ensures { (slot : ℕ) (sizes : ℕ → Option Sizes) (steps : ℕ → ℕ → Option Step) (word : List ℕ) (items : List Node) (n : ℕ) →
         (Shaping slot sizes steps word items n ↔ ((items ≡ shaped_items slot sizes steps word) × (n ≡ shaped_missing sizes steps word))) }
 {}
 
@@ -22,8 +22,8 @@ pub fn texts_are_cut_in_one_way()
 
 /// Each glyph among the items of a word or a text has the slot of the font, and the sizes that the font gives to its character.
 pub fn glyphs_have_their_sizes()
-    ensures words { (slot : ℕ) (sizes : ℕ → Option GlyphSize) (steps : ℕ → ℕ → Option Step) (word : List ℕ) →
+    ensures words { (slot : ℕ) (sizes : ℕ → Option Sizes) (steps : ℕ → ℕ → Option Step) (word : List ℕ) →
         AllByRecursion (IsGlyphOf slot sizes) (shaped_items slot sizes steps word) }
-    ensures texts { (slot : ℕ) (sizes : ℕ → Option GlyphSize) (steps : ℕ → ℕ → Option Step) (blank : Glue) (text : List ℕ) →
+    ensures texts { (slot : ℕ) (sizes : ℕ → Option Sizes) (steps : ℕ → ℕ → Option Step) (blank : Glue) (text : List ℕ) →
         AllByRecursion (IsGlyphOf slot sizes) (text_items slot sizes steps blank text) }
 {}

@@ -8,11 +8,11 @@ use tfm_core::{Font, GlyphSize, Step};
 pub trait Metrics {
     ghost use Rattle.std.specs.Prelude.{◌≡◌, ℕ, Option, Some, None, IfSome, IsSome};
     ghost use Rattle.node_core.specs.declared.tree.Glue.{Glue};
-    ghost use Rattle.tfm_core.specs.declared.font.GlyphSize.{GlyphSize};
+    ghost use Rattle.scaled_core.specs.declared.sizes.Sizes.{Sizes};
     ghost use Rattle.tfm_core.specs.declared.font.Step.{Step};
     ghost use Rattle.tfm_core.specs.declared.font.Step.TheVariants.{Ligature};
 
-    ghost sizes: { Self → ℕ → Option GlyphSize };
+    ghost sizes: { Self → ℕ → Option Sizes };
 
     ghost steps: { Self → ℕ → ℕ → Option Step };
 

@@ -4,7 +4,8 @@ ghost use Rattle.std.specs.Prelude.{◌<◌};
 
 use dvi_ops::Units;
 use dvi_scan::{Mark, Page};
-use raster_core::{Bitmap, BitmapFault};
+use raster_core::Bitmap;
+use scaled_core::SizeFault;
 use std::alloc::{AllocError, Global};
 use std::process::Abort;
 use std::test::Fail;
@@ -130,7 +131,7 @@ fn sizes_of_a_bitmap(rt: HostRuntime) -> Result<(), Fail> {
     ] {
         match Bitmap::new(rt.alloc(), width, height) {
             Ok(_) => assert!(rt; !refused),
-            Err(BitmapFault::DimensionTooLarge) => assert!(rt; refused),
+            Err(SizeFault::DimensionTooLarge) => assert!(rt; refused),
             Err(fault) => return Err(fault.into()),
         }
     }

@@ -5,7 +5,7 @@ use Rattle.std.specs.Option.{option_map}
 use Rattle.std.proofs.lemmas.Bool.{ltb-false}
 use Rattle.std.proofs.lemmas.Option.{slice_get_within}
 use Rattle.tfm_core.specs.declared.fault.TfmCause.TheVariants.{Counts}
-use Rattle.tfm_core.specs.declared.font.GlyphSize.{GlyphSize}
+use Rattle.scaled_core.specs.declared.sizes.Sizes.{Sizes}
 use Rattle.tfm_core.specs.declared.record.CharInfo.{CharInfo}
 use Rattle.tfm_core.specs.declared.record.Counts.{Counts as Numbers}
 use Rattle.tfm_core.specs.Fonts.{font_at, glyph_of, sizes_in}
@@ -44,7 +44,7 @@ mapped_from f None y h = absurd (cc)
 mapped_from f (Some x) y h = (x, refl)
 
 -- A character of a metric file at a size is a byte.
-pub byte-glyph_of : (bytes : List ℕ) (file : MetricFile) (size : ℤ) (code : ℕ) (glyph : GlyphSize) → metric_file bytes ≡ Ok file
+pub byte-glyph_of : (bytes : List ℕ) (file : MetricFile) (size : ℤ) (code : ℕ) (glyph : Sizes) → metric_file bytes ≡ Ok file
     → glyph_of (font_at file size) code ≡ Some glyph → code < 256
 byte-glyph_of bytes file size code glyph read at =
     let is : IsMetricFile bytes file = IsMetricFile-from_read bytes file read in

@@ -1,7 +1,7 @@
 -- A metric file breaks no rule that needs no table, and why it gives no font at a size.
 use Rattle.std.proofs.Common.{◌≡◌, List, ℕ, ℤ, Option, None, Some, Ok, Err, false, refl, sym, ◌∙◌}
-use Rattle.tfm_core.specs.declared.fault.FontFault.{FontFault}
-use Rattle.tfm_core.specs.declared.fault.FontFault.TheVariants as sizes
+use Rattle.scaled_core.specs.declared.fault.SizeFault.{SizeFault}
+use Rattle.scaled_core.specs.declared.fault.SizeFault.TheVariants as sizes
 use Rattle.tfm_core.specs.declared.fault.TfmCause.{TfmCause}
 use Rattle.tfm_core.specs.FontReads.{IsReadRefusal, of_size}
 use Rattle.tfm_core.specs.Fonts.{chosen_size, fits_at}
@@ -17,7 +17,7 @@ front_holds bytes file is = by_front (broken_in_front bytes) refl
     by_front (Some cause) e = let both : Err cause ≡ Ok file = sym (metric_file-front bytes cause e) ∙ is in absurd cc
 
 -- A metric file that was read gives no font at a size.
-pub size_refused : (bytes : List ℕ) (size : Option ℤ) (metrics : MetricFile) (fault : FontFault) → metric_file bytes ≡ Ok metrics
+pub size_refused : (bytes : List ℕ) (size : Option ℤ) (metrics : MetricFile) (fault : SizeFault) → metric_file bytes ≡ Ok metrics
     → (fault ≡ sizes.DimensionTooLarge → fits_at metrics (chosen_size metrics size) ≡ false) → IsReadRefusal bytes size (of_size fault)
 size_refused bytes size metrics sizes.OutOfMemory is unfit = front_holds bytes metrics is
 size_refused bytes size metrics sizes.DimensionTooLarge is unfit = (metrics, is, unfit refl)

@@ -8,7 +8,7 @@ use Rattle.std.proofs.Math.Nat.{zero-mul}
 use Rattle.std.proofs.lemmas.Option.{option_and_then_some, slice_get_cases, slice_get_past}
 use Rattle.tfm_core.specs.declared.record.CharInfo.{CharInfo}
 use Rattle.tfm_core.specs.declared.record.LigKernStep.{LigKernStep}
-use Rattle.tfm_core.specs.declared.font.GlyphSize.{GlyphSize}
+use Rattle.scaled_core.specs.declared.sizes.Sizes.{Sizes}
 use Rattle.tfm_core.specs.declared.font.Step.TheVariants.{Kern, Ligature}
 use Rattle.tfm_core.specs.Fonts.{SizedFont, action_of, font_at, glyph_of, matching_step, sizes_in, sizes_of, step_of}
 use Rattle.tfm_core.specs.MetricFile.{MetricFile}
@@ -98,7 +98,7 @@ scaled-entry size [] i = sym (scaled-zero size)
 scaled-entry size (w ∷ ws) zero = refl
 scaled-entry size (w ∷ ws) (suc i) = scaled-entry size ws i
 
-sizes_made : ℤ → ℤ → ℤ → GlyphSize
+sizes_made : ℤ → ℤ → ℤ → Sizes
 sizes_made width height depth = record { width = width; height = height; depth = depth }
 
 sizes_same : (file : MetricFile) (size : ℤ) (c : CharInfo) → sizes_of (font_at file size) c ≡ sizes_in file size c

@@ -4,7 +4,7 @@ use Rattle.std.specs.Option.{IfSome, is_some, option_and_then}
 use Rattle.std.proofs.lemmas.Bool.{false≢true}
 use Rattle.std.proofs.lemmas.List.{get_or_read}
 use Rattle.tfm_core.specs.declared.font.FontRow.{FontRow}
-use Rattle.tfm_core.specs.declared.font.GlyphSize.{GlyphSize}
+use Rattle.scaled_core.specs.declared.sizes.Sizes.{Sizes}
 use Rattle.tfm_core.specs.declared.record.LigKernStep.{LigKernStep}
 use Rattle.tfm_core.specs.Fonts.{SizedFont, action_of, glyph_of, matching_step, step_of}
 use Rattle.tfm_core.specs.Private.FontView.{AreRows, IsFontRow, is_in, no_row}
@@ -27,7 +27,7 @@ nothing_found : (o : Option LigKernStep) → is_some o ≡ false → o ≡ None
 nothing_found None e = refl
 nothing_found (Some step) e = absurd (cc)
 
-alone_if_there : (font : SizedFont) (code following : ℕ) (glyph : Option GlyphSize) → glyph ≡ glyph_of font code → step_of font code following ≡ None → IfSome glyph (λ size. (glyph_of font code ≡ Some size) × (step_of font code following ≡ None))
+alone_if_there : (font : SizedFont) (code following : ℕ) (glyph : Option Sizes) → glyph ≡ glyph_of font code → step_of font code following ≡ None → IfSome glyph (λ size. (glyph_of font code ≡ Some size) × (step_of font code following ≡ None))
 alone_if_there font code following None at after = tt
 alone_if_there font code following (Some size) at after = (sym at, after)
 

@@ -1,7 +1,7 @@
 -- The font in the bytes of a metric file at a size, and why there is none (own; TeX: The Program, part 30).
 use Rattle.std.specs.Prelude.{◌≡◌, ℕ, ℤ, List, Option, None, Ok, Err, true, false}
-use Rattle.tfm_core.specs.declared.fault.FontFault.{FontFault}
-use Rattle.tfm_core.specs.declared.fault.FontFault.TheVariants as sizes
+use Rattle.scaled_core.specs.declared.fault.SizeFault.{SizeFault}
+use Rattle.scaled_core.specs.declared.fault.SizeFault.TheVariants as sizes
 use Rattle.tfm_core.specs.declared.fault.TfmFault.{TfmFault}
 use Rattle.tfm_core.specs.declared.fault.TfmFault.TheVariants as files
 use Rattle.tfm_core.specs.declared.reading.FontReadFault.{FontReadFault}
@@ -16,7 +16,7 @@ of_tfm files.OutOfMemory = OutOfMemory
 of_tfm (files.Bad cause) = BadTfm cause
 
 -- The fault where a metric file gives no font at a size (own).
-abbrev pub of_size : FontFault → FontReadFault
+abbrev pub of_size : SizeFault → FontReadFault
 of_size sizes.OutOfMemory = OutOfMemory
 of_size sizes.DimensionTooLarge = DimensionTooLarge
 

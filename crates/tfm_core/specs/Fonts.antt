@@ -6,7 +6,7 @@ use Rattle.std.specs.Int.RustNames.{FitsSigned}
 use Rattle.std.specs.List.{list_all}
 use Rattle.std.specs.Option.{option_and_then, option_map}
 use Rattle.scaled_core.specs.Dimensions.{fits}
-use Rattle.tfm_core.specs.declared.font.GlyphSize.{GlyphSize}
+use Rattle.scaled_core.specs.declared.sizes.Sizes.{Sizes}
 use Rattle.tfm_core.specs.declared.font.Space.{Space}
 use Rattle.tfm_core.specs.declared.font.Step.{Step}
 use Rattle.tfm_core.specs.declared.font.Step.TheVariants.{Kern, Ligature}
@@ -89,7 +89,7 @@ pub record HasNumbers (font : SizedFont) : Type 0 where
   pub check_sum : FitsSigned w32 font.check_sum
 
 -- The sizes that a character names (TFtoPL, 11).
-abbrev pub sizes_of : SizedFont → CharInfo → GlyphSize
+abbrev pub sizes_of : SizedFont → CharInfo → Sizes
 sizes_of font c = record {
   width = get_or font.widths c.width (pos 0);
   height = get_or font.heights c.height (pos 0);
@@ -97,11 +97,11 @@ sizes_of font c = record {
 }
 
 -- The sizes of a character, if the font has it (TFtoPL, 11).
-unfoldable pub glyph_of : SizedFont → ℕ → Option GlyphSize
+unfoldable pub glyph_of : SizedFont → ℕ → Option Sizes
 glyph_of font code = option_map (sizes_of font) (character_at font.first font.characters code)
 
 -- The sizes that a character of a metric file names, scaled by a size (TeX: The Program, part 30, §571).
-abbrev pub sizes_in : MetricFile → ℤ → CharInfo → GlyphSize
+abbrev pub sizes_in : MetricFile → ℤ → CharInfo → Sizes
 sizes_in file size c = record {
   width = scaled size (get_or file.widths c.width (pos 0));
   height = scaled size (get_or file.heights c.height (pos 0));

@@ -1,9 +1,9 @@
 //! Why there is no metric file, or no font.
 
 ghost use Rattle.std.specs.Prelude.{◌≡◌};
-ghost use Rattle.tfm_core.specs.declared.fault.FontFault.TheVariants as font_faults;
 ghost use Rattle.tfm_core.specs.declared.fault.TfmFault.TheVariants as tfm_faults;
 
+use scaled_core::SizeFault;
 use std::alloc::AllocError;
 use thiserror::Error;
 
@@ -41,16 +41,9 @@ pub enum TfmFault {
     Bad(TfmCause),
 }
 
-/// Why a metric file gives no font at a size.
-#[derive(Clone, Copy, Debug, PartialEq, Eq, Error)]
-pub enum FontFault {
-    /// The absolute value of a width, height, depth, kern or size of the space is above 2^30 - 1 scaled points.
-    #[error("a dimension of the font is too large")]
-    DimensionTooLarge,
-    /// Out of memory: an allocation was refused.
-    #[error("out of memory")]
-    OutOfMemory,
-}
+/// Why a metric file gives no font at a size: `DimensionTooLarge` where the absolute value of a width, height, depth, kern or size of the space is
+/// above 2^30 - 1 scaled points.
+pub type FontFault = SizeFault;
 
 impl From<AllocError> for TfmFault {
     ghost from_gives = { λ _ fault. fault ≡ tfm_faults.OutOfMemory };
@@ -65,13 +58,5 @@ impl From<TfmCause> for TfmFault {
 
     fn from(cause: TfmCause) -> TfmFault {
         TfmFault::Bad(cause)
-    }
-}
-
-impl From<AllocError> for FontFault {
-    ghost from_gives = { λ _ fault. fault ≡ font_faults.OutOfMemory };
-
-    fn from(_error: AllocError) -> FontFault {
-        FontFault::OutOfMemory
     }
 }

@@ -1,7 +1,7 @@
 //! Fonts: metric files at a size (TeX: The Program, part 30).
 
 ghost use Rattle.std.specs.Prelude.{◌≡◌, ◌↔◌, Err, None, Some, IfOk, IfSome, IsSome, OnOk, false, true, if◌then◌else◌, is_some};
-ghost use Rattle.tfm_core.specs.declared.fault.FontFault.TheVariants.{DimensionTooLarge};
+ghost use Rattle.scaled_core.specs.declared.fault.SizeFault.TheVariants.{DimensionTooLarge};
 ghost use Rattle.tfm_core.specs.Fonts.{HasNumbers, chosen_size, fits_at, font_at, glyph_of, matching_step, step_of};
 ghost use Rattle.tfm_core.specs.Private.FontView.{AreRows};
 ghost use Rattle.tfm_core.specs.Private.Rules.{KeepsRules};
@@ -12,17 +12,12 @@ use crate::fault::FontFault;
 use crate::scaling::FontSize;
 use crate::sized_file::{SizedFile, fits_at};
 use crate::tfm::Tfm;
-use scaled_core::Dimen;
+use scaled_core::{Dimen, Sizes};
 use std::alloc::{AllocError, Global};
 use std::marker::Model;
 
 /// The sizes of a character, in scaled points (TFtoPL, 11).
-#[derive(Clone, Copy, Debug, PartialEq, Eq)]
-pub struct GlyphSize {
-    pub width: Dimen,
-    pub height: Dimen,
-    pub depth: Dimen,
-}
+pub type GlyphSize = Sizes;
 
 /// The space between words: parameters 2, 3 and 4 of a metric file, in scaled points (TFtoPL, 15).
 #[derive(Clone, Copy, Debug, PartialEq, Eq)]

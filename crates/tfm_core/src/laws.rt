@@ -5,7 +5,7 @@ ghost use Rattle.std.specs.List.Sorted.{IsStrictlyIncreasing};
 ghost use Rattle.std.specs.Option.{option_map};
 ghost use Rattle.scaled_core.specs.Dimensions.{Fits};
 ghost use Rattle.tfm_core.specs.declared.fault.TfmCause.{TfmCause};
-ghost use Rattle.tfm_core.specs.declared.font.GlyphSize.{GlyphSize};
+ghost use Rattle.scaled_core.specs.declared.sizes.Sizes.{Sizes};
 ghost use Rattle.tfm_core.specs.declared.font.Step.TheVariants.{Ligature};
 ghost use Rattle.tfm_core.specs.declared.record.LigKernStep.{LigKernStep};
 ghost use Rattle.tfm_core.specs.Fonts.{SizedFont, font_at, glyph_of, is_dimen_at, sizes_in, step_of};
@@ -51,6 +51,6 @@ pub fn dimensions_fit()
 
 /// A character of a metric file is a byte: its code is below 256.
 pub fn characters_are_bytes()
-    ensures { (bytes : List ℕ) (file : MetricFile) (size : ℤ) (code : ℕ) (glyph : GlyphSize) → metric_file bytes ≡ Ok file →
+    ensures { (bytes : List ℕ) (file : MetricFile) (size : ℤ) (code : ℕ) (glyph : Sizes) → metric_file bytes ≡ Ok file →
         glyph_of (font_at file size) code ≡ Some glyph → code < 256 }
 {}

@@ -1,6 +1,6 @@
 //! Metric files.
 
-ghost use Rattle.std.specs.Prelude.{◌≡◌, None, Ok, Err, IfOk, OnErr};
+ghost use Rattle.std.specs.Prelude.{◌≡◌, None, Ok, Err, IfOk};
 ghost use Rattle.tfm_core.specs.declared.fault.TfmCause.{TfmCause};
 ghost use Rattle.tfm_core.specs.declared.fault.TfmFault.TheVariants.{Bad, OutOfMemory};
 ghost use Rattle.tfm_core.specs.MetricFile.{MetricFile};
@@ -13,7 +13,7 @@ use crate::entries::{Entries, counts, word};
 use crate::fault::{TfmCause, TfmFault};
 use crate::rules;
 use crate::scaling::FontSize;
-use std::alloc::{AllocError, Global};
+use std::alloc::Global;
 use std::marker::Model;
 
 /// A metric file that keeps all rules.
@@ -73,7 +73,7 @@ impl Tfm {
     ///
     /// A file that breaks a rule is never accepted: `Bad` names the first broken rule. `OutOfMemory` is returned if an allocation is refused, and
     /// then the rules `TooShort`, `Counts` and `DesignSize` are kept, which are tested before anything is allocated.
-    #[tactic(auto, using(crate::proofs::ReadingLemmas::relations))]
+    #[tactic(auto, using(crate::proofs::ReadingLemmas::relations, crate::proofs::ReadingLemmas::reading))]
     pub fn read(alloc: Global, bytes: &[u8]) -> Result<Tfm, TfmFault>
         ensures ok { IfOk result (λ tfm. IsMetricFile bytes.now tfm) }
         ensures bad { (cause : TfmCause) → result ≡ Err (Bad cause) → IsFirstBroken bytes.now cause }
@@ -82,7 +82,14 @@ impl Tfm {
         ensures refused { (cause : TfmCause) → result ≡ Err (Bad cause) → metric_file bytes.now ≡ Err cause }
         ensures early { result ≡ Err OutOfMemory → broken_in_front bytes.now ≡ None }
     {
-        Ok(file_in(alloc, bytes)??)
+        if let Some(cause) = broken_in_front(bytes) {
+            return Err(TfmFault::Bad(cause));
+        }
+        let entries = Entries::read(alloc, bytes, counts(bytes))?;
+        if let Some(cause) = broken_in_tables(&entries) {
+            return Err(TfmFault::Bad(cause));
+        }
+        Ok(Tfm { entries })
     }
 }
 
@@ -101,20 +108,4 @@ impl Tfm {
     {
         &self.entries
     }
-}
-
-/// The metric file in the bytes, or the first broken rule.
-#[tactic(auto, using(crate::proofs::ReadingLemmas::reading))]
-fn file_in(alloc: Global, bytes: &[u8]) -> Result<Result<Tfm, TfmCause>, AllocError>
-    ensures held { IfOk result (λ held. held ≡ metric_file bytes.now) }
-    ensures early { OnErr result (broken_in_front bytes.now ≡ None) }
-{
-    if let Some(cause) = broken_in_front(bytes) {
-        return Ok(Err(cause));
-    }
-    let entries = Entries::read(alloc, bytes, counts(bytes))?;
-    if let Some(cause) = broken_in_tables(&entries) {
-        return Ok(Err(cause));
-    }
-    Ok(Ok(Tfm { entries }))
 }

@@ -8,8 +8,8 @@ use Rattle.break_core.specs.Passes.{IsBroken}
 use Rattle.break_lines.specs.declared.fault.BreakFault.{BreakFault}
 use Rattle.break_lines.specs.declared.fault.BreakFault.TheVariants as breaking
 use Rattle.break_lines.specs.Facts.{facts_of, refusal}
-use Rattle.vert_core.specs.declared.line_boxes.LinesFault.{LinesFault}
-use Rattle.vert_core.specs.declared.line_boxes.LinesFault.TheVariants as stacking
+use Rattle.scaled_core.specs.declared.fault.SizeFault.{SizeFault}
+use Rattle.scaled_core.specs.declared.fault.SizeFault.TheVariants as stacking
 use Rattle.vert_core.specs.Lines.{lines_fit}
 use Rattle.vert_core.specs.Paragraphs.{with_breaks, unset_by, unstacked_by, IsUnsetList}
 use Rattle.vert_core.proofs.Unbroken.{free_at_memory}
@@ -28,7 +28,7 @@ unset_list list params previous breaking.InfiniteShrink is = endless (refusal li
 unset_list list params previous breaking.TooManyBreaks is = many (refusal list) is
 unset_list list params previous breaking.OutOfMemory is = free_at_memory list is
 
-pub unplanned_list : (list : List Node) (params : Params) (previous : ℤ) (breaks : Breaks) (fault : LinesFault)
+pub unplanned_list : (list : List Node) (params : Params) (previous : ℤ) (breaks : Breaks) (fault : SizeFault)
     → refusal list ≡ None → IsBroken (facts_of list) params breaks
     → (fault ≡ stacking.DimensionTooLarge → lines_fit (with_breaks list params previous breaks) ≡ false)
     → IsUnsetList list params previous (unstacked_by fault)

@@ -11,8 +11,8 @@ use Rattle.break_lines.specs.declared.fault.BreakFault.{BreakFault}
 use Rattle.break_lines.specs.declared.fault.BreakFault.TheVariants as breaking
 use Rattle.break_lines.specs.Facts.{facts_of, refusal}
 use Rattle.break_core.specs.Passes.{IsBroken}
-use Rattle.vert_core.specs.declared.line_boxes.LinesFault.{LinesFault}
-use Rattle.vert_core.specs.declared.line_boxes.LinesFault.TheVariants as stacking
+use Rattle.scaled_core.specs.declared.fault.SizeFault.{SizeFault}
+use Rattle.scaled_core.specs.declared.fault.SizeFault.TheVariants as stacking
 use Rattle.vert_core.specs.declared.paragraph.ParagraphFault.{ParagraphFault}
 use Rattle.vert_core.specs.declared.paragraph.ParagraphFault.TheVariants.{InfiniteShrink, TooManyBreaks, DimensionTooLarge, OutOfMemory}
 use Rattle.vert_core.specs.Lines.{BrokenParagraph, broken_list, vertical_items, last_depth, lines_fit}
@@ -79,7 +79,7 @@ unset_by breaking.TooManyBreaks = TooManyBreaks
 unset_by breaking.OutOfMemory = OutOfMemory
 
 -- Why a finished list is not set whose lines cannot be stacked (own).
-abbrev pub unstacked_by : LinesFault → ParagraphFault
+abbrev pub unstacked_by : SizeFault → ParagraphFault
 unstacked_by stacking.DimensionTooLarge = DimensionTooLarge
 unstacked_by stacking.OutOfMemory = OutOfMemory
 

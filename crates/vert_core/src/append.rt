@@ -6,26 +6,15 @@ ghost use Rattle.vert_core.specs.Interline.{interline, glue_of, appended_nodes};
 
 use crate::interline::{DimensionTooLarge, interline_glue};
 use node_core::{BoxNode, Glue, Node, NodeList, Params, push_box};
-use scaled_core::Dimen;
+use scaled_core::{Dimen, SizeFault};
 use thiserror::Error;
 
-/// Why a box was not appended.
-#[derive(Clone, Copy, Debug, PartialEq, Eq, Error)]
-pub enum AppendFault {
-    /// The width of the glue before the box does not fit.
-    #[error("the distance between two boxes is too large")]
-    DimensionTooLarge,
-    /// Out of memory: an allocation was refused.
-    #[error("out of memory")]
-    OutOfMemory,
-}
-
-/// The box was not appended. It is returned.
+/// The box was not appended. It is returned. `DimensionTooLarge` says that the width of the glue before it does not fit.
 #[derive(Debug, Drop, Error)]
 #[error("the box was not appended: {fault}")]
 pub struct Unappended {
     pub box_node: BoxNode,
-    pub fault: AppendFault,
+    pub fault: SizeFault,
 }
 
 /// Appends a box to a vertical list, with the interline glue before it, and returns the new previous depth, which is the depth of the box.
@@ -44,7 +33,7 @@ pub fn append_box(
     // The glue fits; otherwise this is the fault, even if memory would be refused too.
     ensures fits { OnOk result (IsOk (interline params.now previous_depth box_node.height)) }
     ensures fault { IfErr result (λ e. e.fault ≡
-        (if is_ok (interline params.now previous_depth box_node.height) then AppendFault.OutOfMemory else AppendFault.DimensionTooLarge)) }
+        (if is_ok (interline params.now previous_depth box_node.height) then SizeFault.OutOfMemory else SizeFault.DimensionTooLarge)) }
     ensures err { OnErr result (nodes.new.items ≡ nodes.old.items) }
     ensures box_returned { IfErr result (λ e. e.box_node ≡ box_node) }
 {
@@ -52,13 +41,13 @@ pub fn append_box(
     match interline_glue(previous_depth, box_node.height, params) {
         Err(DimensionTooLarge) => Err(Unappended {
             box_node,
-            fault: AppendFault::DimensionTooLarge,
+            fault: SizeFault::DimensionTooLarge,
         }),
         Ok(glue) => match push_with_glue(nodes, glue, shift, box_node) {
             Ok(()) => Ok(depth),
             Err(box_node) => Err(Unappended {
                 box_node,
-                fault: AppendFault::OutOfMemory,
+                fault: SizeFault::OutOfMemory,
             }),
         },
     }

@@ -4,31 +4,9 @@ ghost use Rattle.std.specs.Prelude.{◌≡◌, ◌<◌, ◌+◌, ◌++◌, ◌�
 ghost use Rattle.std.specs.List.{cons_option};
 ghost use Rattle.break_lines.specs.LineItems.{at_break, without_first, kept_items};
 ghost use Rattle.vert_core.specs.Private.Planned.{front_items, items_with_break};
-ghost use Rattle.vert_core.specs.declared.line_boxes.LinesFault.TheVariants.{OutOfMemory};
 
 use node_core::Node;
 use scaled_core::Dimen;
-use std::alloc::AllocError;
-use thiserror::Error;
-
-/// Why the lines of a paragraph were not stacked.
-#[derive(Clone, Copy, Debug, PartialEq, Eq, Error)]
-pub enum LinesFault {
-    /// A number of the box of a line does not fit, or the glue before it does not.
-    #[error("a size of a line is too large")]
-    DimensionTooLarge,
-    /// Out of memory: an allocation was refused.
-    #[error("out of memory")]
-    OutOfMemory,
-}
-
-impl From<AllocError> for LinesFault {
-    ghost from_gives = { λ _ fault. fault ≡ OutOfMemory };
-
-    fn from(_error: AllocError) -> LinesFault {
-        LinesFault::OutOfMemory
-    }
-}
 
 /// The items of a list without those that are dropped at the beginning of a line.
 fn without_first(nodes: &[Node]) -> &[Node]

@@ -15,13 +15,12 @@ ghost use Rattle.vert_core.specs.TrialBounds.{TrialsAreBounded};
 
 use crate::filling::move_items;
 use crate::finishing::refusal_of_finished;
-use crate::line_boxes::LinesFault;
 use crate::measuring::BrokenList;
 use crate::planning::{PlannedLines, plan_lines_that_fit};
 use crate::stacking::stack_lines;
 use break_core::{BreakFault, Breaks, ListMeter, active_breaks};
 use node_core::{Node, Params, any_has_content};
-use scaled_core::Dimen;
+use scaled_core::{Dimen, SizeFault};
 use std::alloc::{AllocError, Global};
 use thiserror::Error;
 
@@ -54,13 +53,13 @@ impl From<BreakFault> for ParagraphFault {
     }
 }
 
-impl From<LinesFault> for ParagraphFault {
+impl From<SizeFault> for ParagraphFault {
     ghost from_gives = { λ cause fault. fault ≡ unstacked_by cause };
 
-    fn from(cause: LinesFault) -> ParagraphFault {
+    fn from(cause: SizeFault) -> ParagraphFault {
         match cause {
-            LinesFault::DimensionTooLarge => ParagraphFault::DimensionTooLarge,
-            LinesFault::OutOfMemory => ParagraphFault::OutOfMemory,
+            SizeFault::DimensionTooLarge => ParagraphFault::DimensionTooLarge,
+            SizeFault::OutOfMemory => ParagraphFault::OutOfMemory,
         }
     }
 }

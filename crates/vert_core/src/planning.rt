@@ -9,12 +9,11 @@ ghost use Rattle.vert_core.specs.Lines.{line_places, last_depth, lines_fit};
 ghost use Rattle.vert_core.specs.Private.Measuring.{paragraph_of};
 ghost use Rattle.vert_core.specs.Private.Planned.{penalty_between, plan_of_line, stacked_nodes};
 
-use crate::line_boxes::LinesFault;
 use crate::measuring::{BrokenList, MeasuredLine, line_end, lines_fit, measure_line};
 use crate::penalties::penalty_between;
 use node_core::{Glue, HeapBox, Node, NodeList};
 use pack_core::packed_of;
-use scaled_core::Dimen;
+use scaled_core::{Dimen, SizeFault};
 use std::alloc::{AllocError, Global};
 
 /// A line as it is stacked.
@@ -89,21 +88,21 @@ pub(crate) fn plan_lines(
     alloc: Global,
     broken: &BrokenList,
     previous_depth: Dimen,
-) -> Result<PlannedLines, LinesFault>
+) -> Result<PlannedLines, SizeFault>
     requires { length broken.now.nodes.now ≤ max_nodes }
     ensures lines { IfOk result (λ plan. plan.lines.items ≡ map (plan_of_line (paragraph_of broken.now previous_depth))
         (up_to (length broken.now.ends.now))) }
     ensures count { IfOk result (λ plan. plan.count ≡ length (flat_map stacked_nodes plan.lines.items)) }
     ensures depth { IfOk result (λ plan. plan.depth ≡ last_depth (paragraph_of broken.now previous_depth)) }
     ensures fits { OnOk result (lines_fit (paragraph_of broken.now previous_depth) ≡ true) }
-    ensures fault { IfErr result (λ fault. fault ≡ LinesFault.DimensionTooLarge → lines_fit (paragraph_of broken.now previous_depth) ≡ false) }
+    ensures fault { IfErr result (λ fault. fault ≡ SizeFault.DimensionTooLarge → lines_fit (paragraph_of broken.now previous_depth) ≡ false) }
 {
     let mut lines = Vec::with_capacity(alloc, broken.ends.len())?;
     let mut count = 0;
     let mut depth = previous_depth;
     for line in 0..broken.ends.len() {
         let Some(measured) = measure_line(broken, depth, line) else {
-            return Err(LinesFault::DimensionTooLarge);
+            return Err(SizeFault::DimensionTooLarge);
         };
         let planned = planned_line(alloc, broken, line, &measured)?;
         count += items_of_line(&planned);
@@ -118,14 +117,14 @@ pub(crate) fn plan_lines(
 }
 
 /// Why the lines of a broken list are not stacked.
-pub(crate) fn fault_of(broken: &BrokenList, previous_depth: Dimen) -> LinesFault
+pub(crate) fn fault_of(broken: &BrokenList, previous_depth: Dimen) -> SizeFault
     requires { length broken.now.nodes.now ≤ max_nodes }
-    ensures { result ≡ (if lines_fit (paragraph_of broken.now previous_depth) then LinesFault.OutOfMemory else LinesFault.DimensionTooLarge) }
+    ensures { result ≡ (if lines_fit (paragraph_of broken.now previous_depth) then SizeFault.OutOfMemory else SizeFault.DimensionTooLarge) }
 {
     if lines_fit(broken, previous_depth) {
-        return LinesFault::OutOfMemory;
+        return SizeFault::OutOfMemory;
     }
-    LinesFault::DimensionTooLarge
+    SizeFault::DimensionTooLarge
 }
 
 /// Plans the lines of a broken list. Refused memory hides no line that does not fit: then all lines are measured once more, without memory.
@@ -133,15 +132,15 @@ pub(crate) fn plan_lines_that_fit(
     alloc: Global,
     broken: &BrokenList,
     previous_depth: Dimen,
-) -> Result<PlannedLines, LinesFault>
+) -> Result<PlannedLines, SizeFault>
     requires { length broken.now.nodes.now ≤ max_nodes }
     ensures lines { IfOk result (λ plan. plan.lines.items ≡ map (plan_of_line (paragraph_of broken.now previous_depth))
         (up_to (length broken.now.ends.now))) }
     ensures count { IfOk result (λ plan. plan.count ≡ length (flat_map stacked_nodes plan.lines.items)) }
     ensures depth { IfOk result (λ plan. plan.depth ≡ last_depth (paragraph_of broken.now previous_depth)) }
     ensures fits { OnOk result (lines_fit (paragraph_of broken.now previous_depth) ≡ true) }
-    ensures fault { IfErr result (λ fault. fault ≡ LinesFault.DimensionTooLarge → lines_fit (paragraph_of broken.now previous_depth) ≡ false) }
-    ensures memory { IfErr result (λ fault. fault ≡ LinesFault.OutOfMemory → lines_fit (paragraph_of broken.now previous_depth) ≡ true) }
+    ensures fault { IfErr result (λ fault. fault ≡ SizeFault.DimensionTooLarge → lines_fit (paragraph_of broken.now previous_depth) ≡ false) }
+    ensures memory { IfErr result (λ fault. fault ≡ SizeFault.OutOfMemory → lines_fit (paragraph_of broken.now previous_depth) ≡ true) }
 {
     match plan_lines(alloc, broken, previous_depth) {
         Ok(plan) => Ok(plan),

@@ -9,12 +9,12 @@ ghost use Rattle.vert_core.specs.Private.Measuring.{paragraph_of};
 ghost use Rattle.vert_core.specs.Private.Planned.{HasPlainItems, closed_box, stacked_nodes};
 
 use crate::filling::copy_items;
-use crate::line_boxes::{LinesFault, keep_line};
+use crate::line_boxes::keep_line;
 use crate::measuring::BrokenList;
 use crate::planning::{PlannedLine, fault_of, plan_lines};
 use break_core::Breaks;
 use node_core::{HeapBox, Node, NodeList, Params, any_has_content};
-use scaled_core::Dimen;
+use scaled_core::{Dimen, SizeFault};
 use std::alloc::Global;
 
 /// The items that the lines of a paragraph add to a vertical list, and the new previous depth.
@@ -94,7 +94,7 @@ fn copied_lines(
     alloc: Global,
     broken: &BrokenList,
     previous_depth: Dimen,
-) -> Result<VerticalItems, LinesFault>
+) -> Result<VerticalItems, SizeFault>
     requires { length broken.now.nodes.now ≤ max_nodes }
     ensures ok { IfOk result (λ items. items.nodes.items ≡ vertical_items (paragraph_of broken.now previous_depth)) }
     ensures depth { IfOk result (λ items. items.depth ≡ last_depth (paragraph_of broken.now previous_depth)) }
@@ -121,7 +121,7 @@ pub fn lines(
     breaks: &Breaks,
     params: &Params,
     previous_depth: Dimen,
-) -> Result<VerticalItems, LinesFault>
+) -> Result<VerticalItems, SizeFault>
     requires list_bounded { length nodes.now ≤ max_nodes }
     ensures ok { IfOk result (λ items. items.nodes.items ≡ vertical_items (broken_list nodes.now breaks.now.lines.items params.now previous_depth)) }
     ensures depth { IfOk result (λ items. items.depth ≡ last_depth (broken_list nodes.now breaks.now.lines.items params.now previous_depth)) }
@@ -129,7 +129,7 @@ pub fn lines(
     ensures fits { OnOk result (lines_fit (broken_list nodes.now breaks.now.lines.items params.now previous_depth) ≡ true) }
     ensures fault { IfErr result (λ fault. fault ≡
         (if lines_fit (broken_list nodes.now breaks.now.lines.items params.now previous_depth)
-        then LinesFault.OutOfMemory else LinesFault.DimensionTooLarge)) }
+        then SizeFault.OutOfMemory else SizeFault.DimensionTooLarge)) }
 {
     let broken = BrokenList {
         nodes,
