@@ -16,6 +16,7 @@ use crate::buffers::put_after;
 use crate::mark_table::{DviMark, DviPage};
 use dvi_read::{CharCode, Mark, Sight, Sights};
 use dvi_scan::FontNumber;
+use scaled_core::COUNTS;
 
 /// The numbers of pages and of marks.
 #[derive(Clone, Copy, Debug, PartialEq)]
@@ -122,7 +123,7 @@ fn mark_row(mark: &Mark<'_>, sights: &Sights<'_, '_>) -> DviMark
 }
 
 /// Writes the row of a page that begins, as yet without marks.
-fn begin_page(counts: [i32; 10], written: &mut RowProgress, pages: &mut [DviPage])
+fn begin_page(counts: [i32; COUNTS], written: &mut RowProgress, pages: &mut [DviPage])
     requires { written.old.pages < length pages.old }
     ensures { BeginsPage counts written.old written.new pages.old pages.new }
 {
@@ -183,7 +184,7 @@ pub(crate) fn write_rows(sights: &mut Sights<'_, '_>, pages: &mut [DviPage], mar
         pages: 0,
         marks: 0,
         row: DviPage {
-            counts: [0; 10],
+            counts: [0; COUNTS],
             first_mark: 0,
             marks: 0,
         },

@@ -15,13 +15,14 @@ use crate::status::{ACCEPTED, BAD_FONT_NAME, BUFFER_TOO_SMALL, OUT_OF_MEMORY, RE
 use boxglue_print::{Dvi, DviFault, Output, refusal};
 use dvi_ops::Units;
 use dvi_read::Sights;
+use scaled_core::COUNTS;
 use std::alloc::{AllocError, Global};
 
 /// A page of a DVI file: its ten counts, and its marks, which stand one after the other in the table of marks.
 #[repr(C)]
 #[derive(Clone, Copy, Debug, PartialEq, Eq)]
 pub struct DviPage {
-    pub counts: [i32; 10],
+    pub counts: [i32; COUNTS],
     /// Where its first mark stands among the marks.
     pub first_mark: usize,
     /// How many marks it has.

@@ -7,7 +7,8 @@ use Rattle.std.specs.Str.Parse.{IsNumeral, without_leading_sign, signed_digits_v
 use Rattle.scaled_core.specs.Dimensions.{Fits, Within}
 use Rattle.scaled_core.specs.DimensionTexts.{IsDimensionText}
 use Rattle.tfm_core.specs.Scaling.{IsFontSize}
-use Rattle.node_core.specs.declared.limits.TheConstants.{REGISTERS, COUNTS}
+use Rattle.scaled_core.specs.declared.counts.TheConstants.{COUNTS}
+use Rattle.node_core.specs.declared.limits.TheConstants.{REGISTERS}
 use Rattle.tfm_core.specs.declared.slots.TheConstants.{FONT_SLOTS}
 use Rattle.node_core.specs.declared.tree.Kind.{Kind}
 use Rattle.node_core.specs.declared.tree.Kind.TheVariants.{Horizontal, Vertical}

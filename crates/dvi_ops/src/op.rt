@@ -4,6 +4,7 @@
 //! of them.
 
 use crate::body_op::BodyOp;
+use scaled_core::COUNTS;
 
 /// A font definition (DVItype, 18).
 #[derive(Clone, Copy, Debug, PartialEq)]
@@ -56,7 +57,7 @@ pub enum Op<'a> {
     FontDef(FontDefinition<'a>),
     /// Begins a page, with its ten counts and the place of the previous bop, or -1.
     Bop {
-        counts: [i32; 10],
+        counts: [i32; COUNTS],
         pointer: i32,
     },
     /// Ends a page.

@@ -5,6 +5,7 @@ ghost use Rattle.dvi_ops.specs.Private.Reading.{code_at, comment_at, half_at, ha
 ghost use Rattle.dvi_ops.specs.Table.{code, signed};
 
 use byteorder::{BigEndian, ByteOrder};
+use scaled_core::COUNTS;
 
 /// The value of one to four bytes as a signed number.
 fn signed_of(operand: &[u8]) -> i32
@@ -106,11 +107,11 @@ pub fn halves(bytes: &[u8]) -> Option<((u16, u16), &[u8])>
 }
 
 /// The ten counts of a page.
-pub fn counts_of(operand: &[u8]) -> [i32; 10]
+pub fn counts_of(operand: &[u8]) -> [i32; COUNTS]
     requires { length operand.now ≡ 40 }
     ensures { result ≡ words 10 operand.now }
 {
-    let mut counts = [0; 10];
+    let mut counts = [0; COUNTS];
     BigEndian::read_i32_into(operand, &mut counts);
     counts
 }

@@ -14,6 +14,7 @@ use crate::body_spelling::spell_body;
 use crate::op::{FontDefinition, Op, Postamble, Units};
 use crate::opcodes;
 use byteorder::{BigEndian, ByteOrder};
+use scaled_core::COUNTS;
 use std::alloc::AllocError;
 
 /// Appends the parts in order. Where memory is refused, `out` is cut back to its old length, so a caller never sees half a spelling.
@@ -186,7 +187,7 @@ fn units_of(units: &Units) -> [u8; 12]
 
 /// The forty bytes of the counts of a page.
 #[tactic(auto, unfolding(crate::specs::Spelling::operand))]
-fn counts_of(counts: &[i32; 10]) -> [u8; 40]
+fn counts_of(counts: &[i32; COUNTS]) -> [u8; 40]
     ensures bytes { result ≡ flat_map (operand 4) counts.now }
     ensures ten { length counts.now ≡ 10 }
     ensures fits { AllByRecursion NumberFits counts.now }
@@ -199,7 +200,7 @@ fn counts_of(counts: &[i32; 10]) -> [u8; 40]
 }
 
 /// Appends the beginning of a page.
-fn append_bop(out: &mut Vec<u8>, counts: &[i32; 10], pointer: i32) -> Result<(), AllocError>
+fn append_bop(out: &mut Vec<u8>, counts: &[i32; COUNTS], pointer: i32) -> Result<(), AllocError>
     ensures ok { OnOk result (out.new.items ≡ out.old.items ++ 139 ∷ (flat_map (operand 4) counts.now ++ operand 4 pointer)) }
     ensures ten { length counts.now ≡ 10 }
     ensures fits { AllByRecursion NumberFits counts.now }

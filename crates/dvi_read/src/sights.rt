@@ -26,6 +26,7 @@ use crate::check::checked_file::CheckedFile;
 use crate::fonts::{CharCode, ReadFonts, width_asked};
 use dvi_ops::{BodyOp, Op};
 use dvi_scan::{DviState, FontNumber, Mark, OpenPage, Position, read_at};
+use scaled_core::COUNTS;
 use smallvec::SmallVec;
 use std::alloc::{AllocError, Global};
 
@@ -33,7 +34,7 @@ use std::alloc::{AllocError, Global};
 #[derive(Clone, Copy, Debug, PartialEq)]
 pub enum Sight<'a> {
     /// A page begins, with these counts.
-    Page([i32; 10]),
+    Page([i32; COUNTS]),
     /// A mark of the page whose counts came last.
     Mark(Mark<'a>),
 }
@@ -61,7 +62,7 @@ pub(crate) fn page_room<'a>(alloc: Global, most: usize) -> Result<OpenPage<'a>, 
     let marks = Vec::with_capacity(alloc, 1)?;
     let stack = SmallVec::with_capacity(alloc, most)?;
     Ok(OpenPage {
-        counts: [0; 10],
+        counts: [0; COUNTS],
         marks,
         stack,
         state: DviState {

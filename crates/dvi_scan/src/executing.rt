@@ -15,6 +15,7 @@ use crate::drawing::Size;
 use crate::fault::{BadDvi, DviCause, FrameFault};
 use crate::page::{DviState, Mark, Page, Position};
 use dvi_ops::{BodyOp, Op};
+use scaled_core::COUNTS;
 use smallvec::SmallVec;
 use std::alloc::{AllocError, AllocFailed, Global};
 use std::mem;
@@ -23,7 +24,7 @@ use thiserror::Error;
 /// A page before its eop: its counts and its marks so far, the saved places with the last one at the end, and the state.
 #[derive(Drop)]
 pub struct OpenPage<'a> {
-    pub counts: [i32; 10],
+    pub counts: [i32; COUNTS],
     pub marks: Vec<Mark<'a>>,
     pub stack: SmallVec<Position, 2>,
     pub state: DviState,

@@ -1,5 +1,6 @@
 //! Pages as a reader sees them, and the state of a pass inside a page.
 
+use scaled_core::COUNTS;
 use smallvec::SmallVec;
 use std::alloc::Global;
 use std::default::MadeWith;
@@ -32,7 +33,7 @@ pub enum Mark<'a> {
 /// A page: its ten counts, and its marks in order.
 #[derive(Debug, Drop)]
 pub struct Page<'a> {
-    pub counts: [i32; 10],
+    pub counts: [i32; COUNTS],
     pub marks: Vec<Mark<'a>>,
 }
 

@@ -13,7 +13,7 @@ use dvi_ops::PageRuns;
 use move_core::reuse_runs;
 use node_core::BoxNode;
 use page_core::PagePoint;
-use scaled_core::Dimen;
+use scaled_core::{COUNTS, Dimen};
 use ship_core::{ShipFault, plan_runs};
 use std::alloc::Global;
 
@@ -32,7 +32,7 @@ pub struct PageLoad {
 pub struct AdmittedPage<'a> {
     pub box_node: &'a BoxNode,
     pub at: PagePoint,
-    pub counts: [i32; 10],
+    pub counts: [i32; COUNTS],
     pub load: PageLoad,
 }
 

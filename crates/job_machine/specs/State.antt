@@ -10,7 +10,8 @@ use Rattle.node_core.specs.Loads.{Load, load_with_box}
 use Rattle.node_core.specs.Parameters.{first_params}
 use Rattle.job_machine.specs.declared.OpenList.{OpenList}
 use Rattle.job_machine.specs.declared.command.FontLoad.{FontLoad}
-use Rattle.node_core.specs.declared.limits.TheConstants.{REGISTERS, COUNTS}
+use Rattle.scaled_core.specs.declared.counts.TheConstants.{COUNTS}
+use Rattle.node_core.specs.declared.limits.TheConstants.{REGISTERS}
 use Rattle.job_machine.specs.declared.replies.Refusal.{Refusal}
 use Rattle.tfm_core.specs.NamedBytes.{NamedBytes, file_named}
 use Rattle.tfm_core.specs.Fonts.{SizedFont}

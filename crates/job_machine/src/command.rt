@@ -5,10 +5,10 @@ ghost use Rattle.std.specs.Option.{SomeIff};
 ghost use Rattle.job_machine.specs.BoxForms.{kind_of};
 
 use crate::parameter::Parameter;
-use node_core::limits::{COUNTS, REGISTERS};
+use node_core::limits::REGISTERS;
 use node_core::{Glue, IntParameter, Kind, Rule};
 use pack_core::Target;
-use scaled_core::Dimen;
+use scaled_core::{COUNTS, Dimen};
 use std::marker::Model;
 use tfm_core::{FontName, FontSize};
 
@@ -65,7 +65,7 @@ pub struct CountNumber {
 
 impl Model for CountNumber {
     ghost use Rattle.std.specs.Prelude.{ℕ, ◌<◌};
-    ghost use Rattle.node_core.specs.declared.limits.TheConstants.{COUNTS};
+    ghost use Rattle.scaled_core.specs.declared.counts.TheConstants.{COUNTS};
 
     ghost Value = { ℕ };
 

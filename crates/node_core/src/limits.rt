@@ -6,9 +6,6 @@ ghost use Rattle.node_core.specs.Nodes.{max_nodes};
 /// The number of box registers.
 pub const REGISTERS: usize = 32_768;
 
-/// The number of counts of a page.
-pub const COUNTS: usize = 10;
-
 /// The greatest number of lists that are open at the same time.
 pub const MAX_OPEN_LISTS: usize = 64;
 
@@ -36,7 +33,6 @@ pub const MAX_SHIPPED_TEXT: u64 = 1_048_576;
 /// The limits of a job are these numbers.
 pub fn limits_of_a_job()
     ensures registers { REGISTERS ≡ 32768 }
-    ensures counts { COUNTS ≡ 10 }
     ensures open_lists { MAX_OPEN_LISTS ≡ 64 }
     ensures items { MAX_ITEMS ≡ 65536 }
     ensures nodes { MAX_NODES ≡ max_nodes }

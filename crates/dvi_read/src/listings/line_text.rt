@@ -9,6 +9,7 @@ ghost use Rattle.dvi_scan.specs.View.{mark_of};
 
 use crate::listings::part::ListingPart;
 use dvi_scan::Mark;
+use scaled_core::COUNTS;
 
 /// Writes numbers in decimal before the bytes of the part, with a space before each.
 fn put_numbers(numbers: &[i32], part: &mut ListingPart)
@@ -112,7 +113,7 @@ pub(crate) fn put_mark<'f>(mark: &Mark<'f>, part: &mut ListingPart) -> Option<&'
 
 /// Replaces the part by the first line of a page: its number and its counts.
 #[tactic(auto, unfolding(crate::specs::Listing::line))]
-pub(crate) fn put_counts(page: usize, counts: &[i32; 10], part: &mut ListingPart)
+pub(crate) fn put_counts(page: usize, counts: &[i32; COUNTS], part: &mut ListingPart)
     ensures { part.new ≡ line (codes "page " ++ (decimal page ++ codes " counts")) counts.now }
 {
     part.clear();

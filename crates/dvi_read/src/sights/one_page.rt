@@ -20,13 +20,14 @@ use crate::fonts::{ReadFonts, width_asked};
 use crate::sights::choose_font;
 use dvi_ops::Op;
 use dvi_scan::{DviState, OpenPage, Page, PassFault, Position, read_at};
+use scaled_core::COUNTS;
 use smallvec::SmallVec;
 use std::alloc::{AllocError, Global};
 
 /// The beginning of a page: its counts, and the place after its bop.
 #[derive(Clone, Copy, Debug)]
 struct PageStart {
-    counts: [i32; 10],
+    counts: [i32; COUNTS],
     at: usize,
 }
 
