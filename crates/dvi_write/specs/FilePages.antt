@@ -9,6 +9,7 @@ use Rattle.page_core.specs.Marks.{ShippedPage}
 use Rattle.ship_core.specs.Drawing.{body_of}
 use Rattle.move_core.specs.Reused.{reused_body}
 use Rattle.tfm_core.specs.declared.slots.LoadedFont.{LoadedFont}
+use Rattle.tfm_core.specs.declared.slots.TheConstants.{FONT_SLOTS}
 use Rattle.tfm_core.specs.Slots.{Slots, font_in}
 
 -- The body of a page as it is written: without empty groups, and with movements by w, x, y and z where their amounts come again. Only this body is
@@ -57,11 +58,11 @@ is_fresh fonts defined is slot = is_some (font_in fonts slot) && (not (is_among 
 
 -- The slots of the fonts that these instructions select and that are not defined yet, in rising order.
 unfoldable pub fresh_slots : Slots → (defined : List ℕ) → List Instruction → List ℕ
-fresh_slots fonts defined is = filter (is_fresh fonts defined is) (numbers_below 256)
+fresh_slots fonts defined is = filter (is_fresh fonts defined is) (numbers_below FONT_SLOTS)
 
 -- The slots of the fonts that are defined, in rising order.
 unfoldable pub in_rising_order : (defined : List ℕ) → List ℕ
-in_rising_order defined = filter (λ slot. is_among slot defined) (numbers_below 256)
+in_rising_order defined = filter (λ slot. is_among slot defined) (numbers_below FONT_SLOTS)
 
 -- The input to the layout for a page, where the fonts of these slots are defined before it.
 abbrev pub file_page_of : Slots → (defined : List ℕ) → ShippedPage → FilePage

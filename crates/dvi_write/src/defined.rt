@@ -51,7 +51,7 @@ impl DefinedSlots {
 
     /// Adds a slot after the others.
     fn push(&mut self, slot: u8)
-        requires { length self.old < 256 }
+        requires { length self.old < FONT_SLOTS }
         ensures { self.new ≡ self.old ++ slot ∷ [] }
     {
         self.slots[self.count] = slot;
@@ -60,7 +60,7 @@ impl DefinedSlots {
 
     /// Adds slots after the others, in order.
     pub fn append(&mut self, slots: &[u8])
-        requires { length self.old + length slots.now ≤ 256 }
+        requires { length self.old + length slots.now ≤ FONT_SLOTS }
         ensures { self.new ≡ self.old ++ slots.now }
     {
         for slot in slots {

@@ -16,6 +16,7 @@ ghost use Rattle.dvi_write.specs.Private.FilePages.{is_marked_fresh, slot_of};
 ghost use Rattle.dvi_ops.specs.Forest.{Forest, flat, nests};
 
 use dvi_ops::{BodyOp, FontDefinition, Op, PageRuns, Units, opcodes, spell};
+use scaled_core::COUNTS;
 use ship_core::pushed_after;
 use std::alloc::{AllocError, Global};
 use tfm_core::{FONT_SLOTS, Fonts, LoadedFont};
@@ -47,7 +48,7 @@ pub fn append_all(bytes: &mut Vec<u8>, ops: &[Op<'_>]) -> Result<(), AllocError>
 /// refused, a beginning of the spellings may be there, after what was there before.
 pub fn append_page(
     bytes: &mut Vec<u8>,
-    counts: &[i32; 10],
+    counts: &[i32; COUNTS],
     body: &PageRuns<'_>,
     last: i32,
 ) -> Result<(), AllocError>
@@ -77,7 +78,7 @@ fn slot_of(op: &BodyOp<'_>) -> Option<u8>
 
 /// Marks a slot.
 fn mark(marked: &mut [bool; FONT_SLOTS], slot: u8)
-    ensures { (other : ℕ) → other < 256 → get_or marked.new other false ≡ (get_or marked.old other false || int_eq (pos slot) (pos other)) }
+    ensures { (other : ℕ) → other < FONT_SLOTS → get_or marked.new other false ≡ (get_or marked.old other false || int_eq (pos slot) (pos other)) }
 {
     marked[usize::from(slot)] = true;
 }
@@ -93,9 +94,9 @@ struct FontsAndDepth {
 
 /// Passes over instructions of a body once.
 fn pass_over(ops: &[BodyOp<'_>]) -> FontsAndDepth
-    ensures selected { (slot : ℕ) → slot < 256 → get_or result.selected slot false ≡ list_any (selects slot) (map body_view ops.now) }
-    ensures limit { (slot : ℕ) → slot < 256 → result.limit ≤ slot → get_or result.selected slot false ≡ false }
-    ensures limit_bounded { result.limit ≤ 256 }
+    ensures selected { (slot : ℕ) → slot < FONT_SLOTS → get_or result.selected slot false ≡ list_any (selects slot) (map body_view ops.now) }
+    ensures limit { (slot : ℕ) → slot < FONT_SLOTS → result.limit ≤ slot → get_or result.selected slot false ≡ false }
+    ensures limit_bounded { result.limit ≤ FONT_SLOTS }
     ensures deepest { result.deepest ≡ max_pushed 0 (map body_view ops.now) }
 {
     let mut selected = [false; FONT_SLOTS];
@@ -150,9 +151,9 @@ fn marked_fresh(
     selected: &[bool; FONT_SLOTS],
     limit: usize,
 ) -> Result<Vec<u8>, AllocError>
-    requires limit { (slot : ℕ) → slot < 256 → limit ≤ slot → get_or selected.now slot false ≡ false }
-    requires limit_bounded { limit ≤ 256 }
-    ensures { IfOk result (λ slots. slots.items ≡ filter (is_marked_fresh fonts.now defined.now selected.now) (numbers_below 256)) }
+    requires limit { (slot : ℕ) → slot < FONT_SLOTS → limit ≤ slot → get_or selected.now slot false ≡ false }
+    requires limit_bounded { limit ≤ FONT_SLOTS }
+    ensures { IfOk result (λ slots. slots.items ≡ filter (is_marked_fresh fonts.now defined.now selected.now) (numbers_below FONT_SLOTS)) }
 {
     let mut slots = Vec::new(alloc);
     for slot in 0..limit {
@@ -184,7 +185,7 @@ pub fn in_rising_order(alloc: Global, defined: &[u8]) -> Result<Vec<u8>, AllocEr
     ensures { IfOk result (λ slots. slots.items ≡ in_rising_order defined.now) }
 {
     let mut slots = Vec::new(alloc);
-    for slot in 0..256usize {
+    for slot in 0..FONT_SLOTS {
         if is_among(slot as u8, defined) {
             slots.push(slot as u8)?;
         }

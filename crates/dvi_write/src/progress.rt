@@ -10,6 +10,7 @@ ghost use Rattle.dvi_ops.specs.Layout.{bytes_of, define};
 ghost use Rattle.dvi_ops.specs.Spelling.{HasSpelling, NumberFits};
 ghost use Rattle.dvi_ops.specs.Runs.{instructions_of};
 ghost use Rattle.dvi_ops.specs.View.{view};
+ghost use Rattle.tfm_core.specs.declared.slots.TheConstants.{FONT_SLOTS};
 ghost use Rattle.node_core.specs.Nodes.{box_count, box_text};
 ghost use Rattle.page_core.specs.Marks.{is_huge};
 ghost use Rattle.page_core.specs.Pages.{page_at, reach_down, reach_right};
@@ -28,7 +29,7 @@ use crate::page::{AdmittedPage, PageLoad, reach_down, reach_right, written_body}
 use dvi_ops::{Op, PageRuns, Postamble, opcodes};
 use node_core::BoxNode;
 use node_core::limits::{MAX_PAGES, MAX_SHIPPED_NODES, MAX_SHIPPED_TEXT};
-use scaled_core::Dimen;
+use scaled_core::{COUNTS, Dimen};
 use std::alloc::{AllocError, Global};
 use std::marker::Model;
 use tfm_core::Fonts;
@@ -178,7 +179,7 @@ impl Progress {
         alloc: Global,
         fonts: &Fonts,
         slots: &[u8],
-        counts: &[i32; 10],
+        counts: &[i32; COUNTS],
         body: &PageRuns<'_>,
     ) -> Result<LaidOutPage, AllocError>
         requires { AllByRecursion HasSpelling (instructions_of body.now) }
@@ -208,7 +209,7 @@ impl Progress {
 
     /// Adds a page to the numbers: the slots of the fonts that it defines, the place of its bop, its size, and its load.
     fn keep_size(&mut self, slots: &[u8], bop: usize, size: usize, load: PageLoad)
-        requires slots_bounded { length self.old.defined + length slots.now ≤ 256 }
+        requires slots_bounded { length self.old.defined + length slots.now ≤ FONT_SLOTS }
         requires bop_bounded { bop ≤ size }
         requires room { self.old.layout.size + size < 2 ^ 31 }
         requires pages { self.old.pages < MAX_PAGES }
