@@ -4,7 +4,7 @@ use Rattle.std.specs.Prelude.{if◌then◌else◌}
 use Rattle.job_machine.specs.declared.command.Command.{Command}
 use Rattle.job_machine.specs.declared.replies.Refusal.{Refusal}
 use Rattle.job_machine.specs.declared.replies.Refusal.TheVariants as refusals
-use Rattle.job_machine.specs.declared.replies.Summary.{Summary}
+use Rattle.page_core.specs.declared.summary.Summary.{Summary}
 use Rattle.job_machine.specs.Reply.{Reply}
 use Rattle.dvi_write.specs.Layout.{whole}
 use Rattle.job_machine.specs.Machine.{Machine}

@@ -2,7 +2,7 @@
 use Rattle.std.specs.Prelude.{◌≡◌, ◌≢◌, ◌<◌, ◌⊎◌, ◌^◌, ◌++◌, ℕ, true, List, [], length, drop, Result, Err, OnOk, IfOk, IfErr, IfSome}
 use Rattle.job_machine.specs.declared.replies.Refusal.{Refusal}
 use Rattle.job_machine.specs.declared.replies.Refusal.TheVariants as refusals
-use Rattle.job_machine.specs.declared.replies.Summary.{Summary}
+use Rattle.page_core.specs.declared.summary.Summary.{Summary}
 use Rattle.job_machine.specs.Reply.{Reply}
 use Rattle.dvi_write.specs.Layout.{whole}
 use Rattle.job_machine.specs.Machine.{Machine}

@@ -3,7 +3,7 @@ use Rattle.std.specs.Prelude.{◌-◌, ◌^◌, ℕ, pos, min, List, Option, Som
 use Rattle.std.specs.List.{zip}
 use Rattle.node_core.specs.declared.tree.Kind.{Kind}
 use Rattle.node_core.specs.declared.tree.Kind.TheVariants.{Horizontal, Vertical}
-use Rattle.job_machine.specs.declared.replies.Sizes.{Sizes}
+use Rattle.scaled_core.specs.declared.sizes.Sizes.{Sizes}
 use Rattle.job_machine.specs.declared.replies.Answer.{Answer}
 use Rattle.job_machine.specs.declared.replies.Answer.TheVariants.{
   Done,
@@ -19,7 +19,7 @@ use Rattle.job_machine.specs.declared.replies.Answer.TheVariants.{
 }
 use Rattle.job_machine.specs.declared.replies.Refusal.{Refusal}
 use Rattle.job_machine.specs.declared.replies.Refusal.TheVariants.{BadTfm}
-use Rattle.job_machine.specs.declared.replies.Summary.{Summary}
+use Rattle.page_core.specs.declared.summary.Summary.{Summary}
 use Rattle.job_machine.specs.Reply.{Reply}
 use Rattle.tfm_core.specs.declared.fault.TfmCause.{TfmCause}
 use Rattle.tfm_core.specs.declared.fault.TfmCause.TheVariants.{TooShort, Counts, DesignSize, CharInfo, FixWord, LigKern}

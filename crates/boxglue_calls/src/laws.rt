@@ -4,7 +4,7 @@ ghost use Rattle.std.specs.Prelude.{◌≡◌, ◌⊎◌, ◌↔◌, List, Conta
 ghost use Rattle.std.specs.List.{list_all};
 ghost use Rattle.job_machine.specs.declared.replies.Refusal.{Refusal};
 ghost use Rattle.job_machine.specs.declared.replies.Refusal.TheVariants.{OutOfMemory};
-ghost use Rattle.job_machine.specs.declared.replies.Summary.{Summary};
+ghost use Rattle.page_core.specs.declared.summary.Summary.{Summary};
 ghost use Rattle.job_machine.specs.Reply.{Reply};
 ghost use Rattle.boxglue_program.specs.Runs.{is_accepted};
 ghost use Rattle.boxglue_calls.specs.RunStatus.{replies_status, reply_status, run_status};

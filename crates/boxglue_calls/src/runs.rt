@@ -2,7 +2,7 @@
 
 ghost use Rattle.std.specs.Prelude.{◌≡◌, ◌↔◌, ◌⊎◌, false, true, List, [], Result, Some, IfOk};
 ghost use Rattle.job_machine.specs.declared.replies.Refusal.{Refusal};
-ghost use Rattle.job_machine.specs.declared.replies.Summary.{Summary};
+ghost use Rattle.page_core.specs.declared.summary.Summary.{Summary};
 ghost use Rattle.job_machine.specs.Reply.{Reply};
 ghost use Rattle.boxglue_script.specs.Blocks.{lines_of};
 ghost use Rattle.job_core.specs.Headline.{WasRunAndSent};

@@ -2,7 +2,7 @@
 use Rattle.std.proofs.Common.{◌≢◌, [], ◌∷◌, ℕ, List, map, Option, Some, None, Result, Ok, Err, refl}
 use Rattle.std.specs.Prelude.{IfSome, OnOk}
 use Rattle.job_machine.specs.declared.replies.Refusal.{Refusal}
-use Rattle.job_machine.specs.declared.replies.Summary.{Summary}
+use Rattle.page_core.specs.declared.summary.Summary.{Summary}
 use Rattle.dvi_ops.specs.File.{IsFileOfPages}
 use Rattle.dvi_read.specs.Opened.{OpenedFile, GivesPages, IsExact}
 use Rattle.dvi_read.specs.declared.fault.DviFault.{DviFault}

@@ -3,7 +3,7 @@
 
 ghost use Rattle.std.specs.Prelude.{◌≡◌, ◌≢◌, [], ℕ, Bool, List, Some, Result, Ok, IfSome, OnOk};
 ghost use Rattle.job_machine.specs.declared.replies.Refusal.{Refusal};
-ghost use Rattle.job_machine.specs.declared.replies.Summary.{Summary};
+ghost use Rattle.page_core.specs.declared.summary.Summary.{Summary};
 ghost use Rattle.job_core.specs.Jobs.{Represents, JobView};
 ghost use Rattle.job_core.specs.Shown.{FilesPages};
 ghost use Rattle.boxglue_print.specs.Outputs.{IsListed};

@@ -1,7 +1,7 @@
 -- What is said of the bytes that the device of a run reports, beside that they are a file of its machine's pages (own).
 use Rattle.std.specs.Prelude.{◌≡◌, ℕ, List, Option, Result}
 use Rattle.job_machine.specs.declared.replies.Refusal.{Refusal}
-use Rattle.job_machine.specs.declared.replies.Summary.{Summary}
+use Rattle.page_core.specs.declared.summary.Summary.{Summary}
 use Rattle.job_machine.specs.Machine.{Machine}
 use Rattle.dvi_device.specs.Pasts.{Past, KeepsPast}
 use Rattle.job_core.specs.Jobs.{JobView, Represents, due_bytes}

@@ -6,7 +6,7 @@ use Rattle.std.specs.Fmt.{signed_decimal}
 use Rattle.scaled_core.specs.PrintedDimensions.{dimension_text}
 use Rattle.node_core.specs.declared.tree.Kind.{Kind}
 use Rattle.node_core.specs.declared.tree.Kind.TheVariants.{Horizontal, Vertical}
-use Rattle.job_machine.specs.declared.replies.Sizes.{Sizes}
+use Rattle.scaled_core.specs.declared.sizes.Sizes.{Sizes}
 use Rattle.job_machine.specs.declared.replies.Answer.{Answer}
 use Rattle.job_machine.specs.declared.replies.Answer.TheVariants.{Done, Packed, Measured, MeasuredVoid, Shaped, Added, Paragraph, Split, SplitVoid}
 use Rattle.job_machine.specs.declared.replies.Answer.TheVariants.{Shipped}
@@ -14,7 +14,7 @@ use Rattle.job_machine.specs.declared.replies.Refusal.{Refusal}
 use Rattle.job_machine.specs.declared.replies.Refusal.TheVariants.{OutOfMemory, DimensionTooLarge, NoFont, BadTfm, SlotTaken, NoOpenList, WrongMode}
 use Rattle.job_machine.specs.declared.replies.Refusal.TheVariants.{WrongKind, ListTooLong, TooDeep, InfiniteShrink, TooManyBreaks, HugePage}
 use Rattle.job_machine.specs.declared.replies.Refusal.TheVariants.{TooManyPages, TooMuchShipped, TooMuchSpecial, ListsOpen, Device, JobOver, VoidBox}
-use Rattle.job_machine.specs.declared.replies.Summary.{Summary}
+use Rattle.page_core.specs.declared.summary.Summary.{Summary}
 use Rattle.tfm_core.specs.declared.fault.TfmCause.{TfmCause}
 use Rattle.tfm_core.specs.declared.fault.TfmCause.TheVariants.{TooShort, Counts, DesignSize, CharInfo, FixWord, LigKern}
 use Rattle.dvi_read.specs.Listing.{hexadecimal_digit}

@@ -3,7 +3,7 @@
 ghost use Rattle.std.specs.Prelude.{◌≡◌, ◌++◌, ◌∷◌, ◌<◌, ◌≤◌, ◌+◌, ◌^◌, ◌&&◌, true, [], ℕ, List, length, Result, is_ok, IfOk, OnOk, OnErr, vec_len};
 ghost use Rattle.std.specs.Str.Lines.{lines};
 ghost use Rattle.job_machine.specs.declared.replies.Refusal.{Refusal as ARefusal};
-ghost use Rattle.job_machine.specs.declared.replies.Summary.{Summary as ASummary};
+ghost use Rattle.page_core.specs.declared.summary.Summary.{Summary as ASummary};
 ghost use Rattle.dvi_write.specs.Writing.{GoesOn};
 ghost use Rattle.job_core.specs.Jobs.{writing_of};
 ghost use Rattle.boxglue_program.specs.Texts.{end_line};

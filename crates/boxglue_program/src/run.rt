@@ -4,7 +4,7 @@ ghost use Rattle.std.specs.Prelude.{◌≡◌, ◌<◌, ◌≤◌, ◌+◌, ◌*
 ghost use Rattle.std.specs.Prelude.{vec_capacity};
 ghost use Rattle.std.specs.Io.KnownBytes.{Appends};
 ghost use Rattle.job_machine.specs.declared.replies.Refusal.{Refusal as ARefusal};
-ghost use Rattle.job_machine.specs.declared.replies.Summary.{Summary as ASummary};
+ghost use Rattle.page_core.specs.declared.summary.Summary.{Summary as ASummary};
 ghost use Rattle.job_machine.specs.Reply.{Reply};
 ghost use Rattle.dvi_device.specs.Pasts.{KeepsPast};
 ghost use Rattle.dvi_device.specs.Seen.{device_view};

@@ -3,15 +3,10 @@
 use crate::{AdmittedPage, Fonts, NextPage, Offsets, Progress, WriteFault};
 use dvi_device::{Device, Snapshot, write_all};
 use node_core::BoxNode;
+use page_core::Summary;
+use scaled_core::COUNTS;
 use std::alloc::Global;
 use std::marker::Model;
-
-/// The number of pages and of bytes of a finished file.
-#[derive(Clone, Copy, Debug, PartialEq, Eq)]
-pub struct WrittenFile {
-    pub pages: u32,
-    pub bytes: u64,
-}
 
 /// The writer of a DVI file. It keeps no page, and no byte that was sent.
 #[derive(Drop)]
@@ -140,7 +135,7 @@ impl<D: Device> DviWriter<D> {
         alloc: Global,
         box_node: &BoxNode,
         offsets: Offsets,
-        counts: &[i32; 10],
+        counts: &[i32; COUNTS],
         fonts: &Fonts,
     ) -> Result<NextPage, WriteFault>
         requires { IsShippable fonts.now box_node.now }
@@ -178,7 +173,7 @@ impl<D: Device> DviWriter<D> {
         alloc: Global,
         box_node: &BoxNode,
         offsets: Offsets,
-        counts: &[i32; 10],
+        counts: &[i32; COUNTS],
         fonts: &Fonts,
     ) -> Result<(), WriteFault>
         requires { IsShippable fonts.now box_node.now }
@@ -213,7 +208,7 @@ impl<D: Device> DviWriter<D> {
     ///
     /// The fault is JobOver or OutOfMemory, and then nothing was sent and nothing has changed; or Device, and then the device has failed and the file
     /// is over.
-    pub fn finish(&mut self, alloc: Global, fonts: &Fonts) -> Result<WrittenFile, WriteFault>
+    pub fn finish(&mut self, alloc: Global, fonts: &Fonts) -> Result<Summary, WriteFault>
         ensures whole { OnOk result ((before : Option (List ℕ)) (pages : List ShippedPage) → HasWritten fonts.now before self.old pages
             → self.new.bytes_written ≡ written_then before (whole fonts.now pages)) }
         ensures past { OnOk result ((before : Option (List ℕ)) (pages : List ShippedPage) → HasWritten fonts.now before self.old pages
@@ -249,7 +244,7 @@ impl<D: Device> DviWriter<D> {
         let pages = self.progress.pages();
         if pages == 0 {
             self.over = true;
-            return Ok(WrittenFile { pages: 0, bytes: 0 });
+            return Ok(Summary { pages: 0, bytes: 0 });
         }
         let Ok(bytes) = self.progress.last_bytes(alloc, fonts) else {
             return Err(WriteFault::OutOfMemory);
@@ -257,7 +252,7 @@ impl<D: Device> DviWriter<D> {
         let size = self.progress.size() + bytes.len();
         self.send(&bytes)?;
         self.over = true;
-        Ok(WrittenFile {
+        Ok(Summary {
             pages,
             bytes: size as u64,
         })

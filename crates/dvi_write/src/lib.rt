@@ -13,10 +13,10 @@ mod page;
 pub mod progress;
 
 pub use dvi_device::{Device, DeviceFault, Fuse, Memory, Rest};
-pub use dvi_writer::{DviWriter, WrittenFile};
+pub use dvi_writer::DviWriter;
 pub use fault::WriteFault;
 pub use node_core::limits::{MAX_DEPTH, MAX_PAGES, MAX_SHIPPED_NODES};
 pub use page::{AdmittedPage, PageLoad};
-pub use page_core::Offsets;
+pub use page_core::{Offsets, Summary};
 pub use progress::{NextPage, Progress};
 pub use tfm_core::{Fonts, LoadedFont};

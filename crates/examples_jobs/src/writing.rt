@@ -22,6 +22,6 @@ pub fn same_pages(
         let offsets = Offsets { h: at.h, v: at.v };
         writer.page(alloc, shown, offsets, counts, fonts)?; // sent
     }
-    writer.finish(alloc, fonts)?; // WrittenFile { pages, bytes }
+    writer.finish(alloc, fonts)?; // Summary { pages, bytes }
     Ok(writer.into_device())
 }

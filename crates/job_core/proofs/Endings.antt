@@ -3,7 +3,7 @@ use Rattle.std.proofs.Common.{◌+◌, ◌≡◌, ◌≢◌, inl, inr, ℕ, Bool
 use Rattle.std.specs.Prelude.{◌==◌, not, map, IfSome}
 use Rattle.std.proofs.lemmas.Option.{IfSome_then}
 use Rattle.job_machine.specs.declared.replies.Refusal.TheVariants.{OutOfMemory, Device, JobOver, ListsOpen}
-use Rattle.job_machine.specs.declared.replies.Summary.{Summary}
+use Rattle.page_core.specs.declared.summary.Summary.{Summary}
 use Rattle.dvi_device.specs.Written.{written_then, GrowsByFront}
 use Rattle.dvi_device.specs.Pasts.{Past, KeepsPast}
 use Rattle.dvi_ops.specs.Fonts.{WidthsByName}

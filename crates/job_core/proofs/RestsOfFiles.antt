@@ -4,7 +4,7 @@ use Rattle.std.specs.Prelude.{IfSome, OnOk}
 use Rattle.std.proofs.Math.Seq.{take-length}
 use Rattle.job_machine.specs.declared.replies.Refusal.{Refusal}
 use Rattle.job_machine.specs.declared.replies.Refusal.TheVariants.{Device}
-use Rattle.job_machine.specs.declared.replies.Summary.{Summary}
+use Rattle.page_core.specs.declared.summary.Summary.{Summary}
 use Rattle.dvi_device.specs.Written.{written_then, IsFrontOf}
 use Rattle.dvi_device.specs.Beginnings.{Beginning}
 use Rattle.dvi_device.specs.Pasts.{Past, Differs, KeepsPast}

@@ -1,7 +1,7 @@
 -- How the finished file of a job ends (own).
 use Rattle.std.specs.Prelude.{◌≢◌, [], Result, OnOk, IfSome}
 use Rattle.job_machine.specs.declared.replies.Refusal.{Refusal}
-use Rattle.job_machine.specs.declared.replies.Summary.{Summary}
+use Rattle.page_core.specs.declared.summary.Summary.{Summary}
 use Rattle.dvi_write.specs.Closing.{IsClosedFor}
 use Rattle.job_machine.specs.Machine.{Machine}
 use Rattle.job_core.specs.Jobs.{JobView, Represents}

@@ -5,7 +5,7 @@ use Rattle.dvi_ops.specs.File.{IsFileOfPages}
 use Rattle.page_core.specs.Marks.{read_page}
 use Rattle.job_machine.specs.declared.command.Command.{Command}
 use Rattle.job_machine.specs.declared.replies.Refusal.{Refusal}
-use Rattle.job_machine.specs.declared.replies.Summary.{Summary}
+use Rattle.page_core.specs.declared.summary.Summary.{Summary}
 use Rattle.job_machine.specs.Reply.{Reply}
 use Rattle.tfm_core.specs.NamedBytes.{NamedBytes}
 use Rattle.job_machine.specs.Machine.{Machine, first_machine}

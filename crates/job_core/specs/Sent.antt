@@ -5,7 +5,7 @@ use Rattle.dvi_write.specs.Closing.{IsClosedFor}
 use Rattle.dvi_write.specs.Layout.{unfinished_file, whole}
 use Rattle.job_machine.specs.declared.replies.Refusal.{Refusal}
 use Rattle.job_machine.specs.declared.replies.Refusal.TheVariants as refusals
-use Rattle.job_machine.specs.declared.replies.Summary.{Summary}
+use Rattle.page_core.specs.declared.summary.Summary.{Summary}
 use Rattle.job_machine.specs.Machine.{Machine}
 use Rattle.job_core.specs.Jobs.{IsProperFrontOf, IsSentPart}
 

@@ -4,7 +4,7 @@ use Rattle.tfm_core.specs.NamedBytes.{NamedBytes}
 use Rattle.tfm_core.specs.FileWidths.{file_widths}
 use Rattle.dvi_ops.specs.Fonts.{WidthsByName}
 use Rattle.job_machine.specs.declared.replies.Refusal.{Refusal}
-use Rattle.job_machine.specs.declared.replies.Summary.{Summary}
+use Rattle.page_core.specs.declared.summary.Summary.{Summary}
 use Rattle.dvi_ops.specs.File.{IsFileOfPages}
 use Rattle.page_core.specs.Marks.{read_page}
 use Rattle.job_machine.specs.Machine.{Machine}

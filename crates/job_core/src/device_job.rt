@@ -202,15 +202,12 @@ impl<D: Device> Job<D> {
         if self.kept.is_open() {
             return Err(Refusal::ListsOpen);
         }
-        let file = match self.writer.finish(self.alloc, self.kept.fonts()) {
-            Ok(file) => file,
+        let summary = match self.writer.finish(self.alloc, self.kept.fonts()) {
+            Ok(summary) => summary,
             Err(WriteFault::Device) => return Err(Refusal::Device),
             Err(_) => return Err(Refusal::OutOfMemory),
         };
-        Ok(Summary {
-            pages: file.pages,
-            bytes: file.bytes,
-        })
+        Ok(summary)
     }
 
     /// Lends the device.

@@ -12,7 +12,7 @@ use Rattle.job_machine.specs.declared.command.Command.TheVariants.{LoadFont, Use
 use Rattle.job_machine.specs.declared.replies.Answer.{Answer}
 use Rattle.job_machine.specs.declared.replies.Refusal.{Refusal}
 use Rattle.job_machine.specs.declared.replies.Refusal.TheVariants.{OutOfMemory, DimensionTooLarge, Device, JobOver}
-use Rattle.job_machine.specs.declared.replies.Summary.{Summary}
+use Rattle.page_core.specs.declared.summary.Summary.{Summary}
 use Rattle.job_machine.specs.Reply.{Reply}
 use Rattle.node_core.specs.declared.params.Params.{Params}
 use Rattle.node_core.specs.declared.params.SplitParams.{SplitParams}

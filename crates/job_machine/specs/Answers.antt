@@ -8,7 +8,7 @@ use Rattle.node_core.specs.Nodes.{nodes_of}
 use Rattle.job_machine.specs.declared.OpenList.{OpenList}
 use Rattle.job_machine.specs.declared.ListPurpose.{ListPurpose}
 use Rattle.job_machine.specs.declared.ListPurpose.TheVariants as purposes
-use Rattle.job_machine.specs.declared.replies.Sizes.{Sizes}
+use Rattle.scaled_core.specs.declared.sizes.Sizes.{Sizes}
 use Rattle.job_machine.specs.declared.command.Command.{Command}
 use Rattle.job_machine.specs.declared.command.Command.TheVariants.{LoadFont, UseFont, Open, Paragraph, End, Text, Character, Rule, Kern, Glue}
 use Rattle.job_machine.specs.declared.command.Command.TheVariants.{Penalty, Append, Unbox, LastBox, Split, Measure, Void, Set, Count, Special, Ship}

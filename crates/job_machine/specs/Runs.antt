@@ -6,7 +6,7 @@ use Rattle.job_machine.specs.declared.command.Command.TheVariants.{LoadFont, Use
 use Rattle.job_machine.specs.declared.command.Command.TheVariants.{Penalty, Append, Unbox, LastBox, Split, Measure, Void, Set, Count, Special, Ship}
 use Rattle.job_machine.specs.declared.replies.Refusal.{Refusal}
 use Rattle.job_machine.specs.declared.replies.Refusal.TheVariants.{OutOfMemory, NoFont, SlotTaken, NoOpenList, Device, ListsOpen, JobOver}
-use Rattle.job_machine.specs.declared.replies.Summary.{Summary}
+use Rattle.page_core.specs.declared.summary.Summary.{Summary}
 use Rattle.job_machine.specs.Reply.{Reply}
 use Rattle.tfm_core.specs.NamedBytes.{file_named}
 use Rattle.tfm_core.specs.Slots.{font_in}

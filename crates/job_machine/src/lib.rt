@@ -24,9 +24,11 @@ pub use command::{
 };
 use node_core::{Kind, NodeList};
 pub use pack_core::Target;
+pub use page_core::Summary;
 pub use parameter::{NumberParameter, Parameter, SizeParameter, SkipParameter};
-pub use replies::{Answer, Refusal, Reply, Sizes, Summary};
+pub use replies::{Answer, Refusal, Reply};
 use scaled_core::Dimen;
+pub use scaled_core::Sizes;
 use std::alloc::Global;
 use std::default::MadeWith;
 pub use tfm_core::{FontName, FontSize, TfmCause};

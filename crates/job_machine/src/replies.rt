@@ -1,18 +1,10 @@
-//! The replies of a job: answers to commands, refusals, and what the end of a job reports.
+//! The replies of a job: answers to commands, and refusals.
 
 use node_core::Kind;
-use scaled_core::Dimen;
+use scaled_core::Sizes;
 use std::alloc::AllocError;
 use tfm_core::TfmCause;
 use thiserror::Error;
-
-/// Width, height and depth of a box, in scaled points.
-#[derive(Clone, Copy, Debug, PartialEq, Eq)]
-pub struct Sizes {
-    pub width: Dimen,
-    pub height: Dimen,
-    pub depth: Dimen,
-}
 
 /// The answer to a command that was accepted.
 #[derive(Clone, Copy, Debug, PartialEq, Eq)]
@@ -110,10 +102,3 @@ impl From<AllocError> for Refusal {
 
 /// The reply of a job to a command.
 pub type Reply = Result<Answer, Refusal>;
-
-/// What the end of a job reports: the number of pages that it shipped, and the number of bytes of their whole file, 0 without pages.
-#[derive(Clone, Copy, Debug, PartialEq, Eq)]
-pub struct Summary {
-    pub pages: u32,
-    pub bytes: u64,
-}

@@ -3,7 +3,7 @@
 ghost use Rattle.std.specs.Prelude.{◌≡◌, ℕ, List, length, Result};
 ghost use Rattle.job_machine.specs.declared.command.Command.{Command};
 ghost use Rattle.job_machine.specs.declared.replies.Refusal.{Refusal};
-ghost use Rattle.job_machine.specs.declared.replies.Summary.{Summary};
+ghost use Rattle.page_core.specs.declared.summary.Summary.{Summary};
 ghost use Rattle.job_machine.specs.Reply.{Reply};
 ghost use Rattle.tfm_core.specs.NamedBytes.{NamedBytes};
 ghost use Rattle.job_machine.specs.Machine.{Machine, first_machine};

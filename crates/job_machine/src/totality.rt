@@ -5,7 +5,7 @@ ghost use Rattle.std.specs.List.{AllByRecursion};
 ghost use Rattle.job_machine.specs.declared.command.Command.{Command};
 ghost use Rattle.job_machine.specs.declared.replies.Refusal.{Refusal as ARefusal};
 ghost use Rattle.job_machine.specs.declared.replies.Refusal.TheVariants as refusals;
-ghost use Rattle.job_machine.specs.declared.replies.Summary.{Summary};
+ghost use Rattle.page_core.specs.declared.summary.Summary.{Summary};
 ghost use Rattle.job_machine.specs.Reply.{Reply as AReply};
 ghost use Rattle.job_machine.specs.Machine.{Machine};
 ghost use Rattle.job_machine.specs.Runs.{StepsTo, Run, Finishes, MayRunOutOfMemory};

@@ -11,9 +11,11 @@ mod list_drawing;
 mod offsets;
 pub mod placing;
 pub mod sink;
+pub mod summary;
 
 pub use huge::is_huge;
 pub use list_drawing::draw_list;
 pub use offsets::Offsets;
 pub use placing::{PagePoint, PagePosition, Point};
 pub use sink::{MarkSink, NoMarks};
+pub use summary::Summary;

@@ -4,7 +4,7 @@ ghost use Rattle.std.specs.Prelude.{IfOk, None};
 ghost use Rattle.tfm_core.specs.Slots.{Slots};
 ghost use Rattle.dvi_write.specs.Shippable.{IsShippable};
 
-use dvi_write::{DviWriter, Fonts, Memory, Offsets, WriteFault, WrittenFile};
+use dvi_write::{DviWriter, Fonts, Memory, Offsets, WriteFault};
 use job_core::{
     Answer, BoxForm, Command, Device, DeviceFault, Job, Opening, Refusal, Register, Reply, Summary,
     Target, Transfer, Unboxing,
@@ -40,7 +40,7 @@ fn write_pages(
     pages: usize,
     offsets: Offsets,
     ends: bool,
-) -> Result<(Memory, Option<WrittenFile>), Fail> {
+) -> Result<(Memory, Option<Summary>), Fail> {
     let box_node = box_of_a_rule(alloc)?;
     let fonts = Fonts::new(alloc)?;
     let mut writer = DviWriter::new(Memory::new(alloc));
@@ -74,7 +74,7 @@ fn two_pages_point_back(rt: HostRuntime) -> Result<(), Fail> {
     let bytes = whole.bytes();
     assert_eq!(rt;
         file,
-        Some(WrittenFile {
+        Some(Summary {
             pages: 2,
             bytes: 172
         })
@@ -93,7 +93,7 @@ fn no_pages_and_a_page_after_the_end(rt: HostRuntime) -> Result<(), Fail> {
     let alloc = rt.alloc();
     let (nothing, file) = write_pages(alloc, 0, offsets(0, 0), true)?;
     assert!(rt; nothing.bytes().is_empty());
-    assert_eq!(rt; file, Some(WrittenFile { pages: 0, bytes: 0 }));
+    assert_eq!(rt; file, Some(Summary { pages: 0, bytes: 0 }));
     let box_node = box_of_a_rule(alloc)?;
     let fonts = Fonts::new(alloc)?;
     let mut writer = DviWriter::new(Memory::new(alloc));

@@ -2,7 +2,7 @@
 
 ghost use Rattle.std.specs.Prelude.{◌≡◌, ◌⊎◌, ◌↔◌, ◌++◌, [], ◌∷◌, false, true, ℕ, List, length, Some, Result, IfOk};
 ghost use Rattle.job_machine.specs.declared.replies.Refusal.{Refusal};
-ghost use Rattle.job_machine.specs.declared.replies.Summary.{Summary};
+ghost use Rattle.page_core.specs.declared.summary.Summary.{Summary};
 ghost use Rattle.job_machine.specs.Reply.{Reply};
 ghost use Rattle.job_core.specs.Headline.{WasRunAndSent};
 ghost use Rattle.boxglue_program.specs.Runs.{commands_of, line_numbers};
