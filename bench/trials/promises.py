@@ -43,8 +43,10 @@ class Names:
                 self.definitions.append(tuple(rest))
             elif kind == "function" and rest[2] in called(after, rest[0]):
                 self.functions[rest[0], rest[1]] = rest[2]
-            elif kind == "moved" and rest[1] in defined(after, rest[2]) | called(after, rest[2]):
-                self.moved[rest[0], rest[1]] = rest[2]
+            elif kind == "moved":
+                of_type = after.type_file(rest[2], self.types.get(rest[1], rest[1]))
+                if of_type or rest[1] in defined(after, rest[2]) | called(after, rest[2]):
+                    self.moved[rest[0], rest[1]] = rest[2]
             elif kind == "type" and after.type_file(rest[0], rest[2]):
                 self.types[rest[1]] = rest[2]
 
