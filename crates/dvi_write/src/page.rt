@@ -69,25 +69,19 @@ pub fn written_body<'a>(alloc: Global, page: &AdmittedPage<'a>) -> Result<PageRu
 }
 
 /// The bottom of a page.
-#[tactic(auto, unfolding(scaled_core::specs::Dimensions::dimension_of))]
+#[tactic(auto, using(scaled_core::proofs::Fitting::fits_within))]
 pub fn reach_down(page: &AdmittedPage<'_>) -> Dimen
     requires { fits (page.now.at.v +ℤ page.now.box_node.now.depth) ≡ true }
     ensures { result ≡ page.now.at.v +ℤ page.now.box_node.now.depth }
 {
-    match Dimen::try_new(i64::from(page.at.v) + i64::from(page.box_node.depth.get())) {
-        Some(end) => end,
-        None => unreachable!(),
-    }
+    Dimen::new(i64::from(page.at.v) + i64::from(page.box_node.depth.get()))
 }
 
 /// The right edge of a page.
-#[tactic(auto, unfolding(scaled_core::specs::Dimensions::dimension_of))]
+#[tactic(auto, using(scaled_core::proofs::Fitting::fits_within))]
 pub fn reach_right(page: &AdmittedPage<'_>) -> Dimen
     requires { fits (page.now.at.h +ℤ page.now.box_node.now.width) ≡ true }
     ensures { result ≡ page.now.at.h +ℤ page.now.box_node.now.width }
 {
-    match Dimen::try_new(i64::from(page.at.h) + i64::from(page.box_node.width.get())) {
-        Some(end) => end,
-        None => unreachable!(),
-    }
+    Dimen::new(i64::from(page.at.h) + i64::from(page.box_node.width.get()))
 }
