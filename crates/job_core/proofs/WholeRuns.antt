@@ -20,7 +20,8 @@ use Rattle.job_core.specs.Headline.{IsDone, WasRun}
 use Rattle.job_core.specs.Sent.{WasSent}
 
 run_joined :
-    (m : Machine) (n : ℕ) (commands : List Command) (replies : List Reply) (middle : Machine) (i : ℕ) (more : List Command) (others : List Reply) (next : Machine) (k : ℕ)
+    (m : Machine) (n : ℕ) (commands : List Command) (replies : List Reply) (middle : Machine) (i : ℕ) (more : List Command) (others : List Reply)
+    (next : Machine) (k : ℕ)
     → Run m n commands replies middle i → Run middle i more others next k → Run m n (commands ++ more) (replies ++ others) next k
 run_joined m n [] [] middle i more others next k (same, count) later =
     subst (λ x. Run x n more others next k) same (subst (λ j. Run middle j more others next k) count later)
@@ -77,7 +78,8 @@ count_at (Ok summary) run m holds count = count m holds
 count_at (Err refusal) run m holds count = tt
 
 -- A job from its beginning to its end, by what its calls say.
-abbrev pub was_run : (files : List NamedBytes) (commands : List Command) (replies : List Reply) (end : Result Summary Refusal) (new run ended : JobView)
+abbrev pub was_run : (files : List NamedBytes) (commands : List Command) (replies : List Reply) (end : Result Summary Refusal)
+    (new run ended : JobView)
     → Represents new (first_machine files) → RunsTo new commands replies run → FinishesTo run end ended → FilesPages run end ended
     → IfOk end (λ summary. (m : Machine) → Represents run m → IfSome ended.bytes_written (λ bytes. summary.bytes ≡ length bytes))
     → WasRun files new.failed commands replies end ended.failed ended.bytes_written
@@ -91,7 +93,8 @@ was_run files commands replies end new run ended begins runs finishes dvi size =
       ran = middle.1;
       last = last.0;
       finished = last.1;
-      dvi = λ metrics gives. dvi middle.0 metrics middle.2 (let P : List NamedBytes → Type 0 = λ all. GivesFiles metrics all in subst P (sym same) gives);
+      dvi = λ metrics gives. dvi middle.0 metrics middle.2
+          (let P : List NamedBytes → Type 0 = λ all. GivesFiles metrics all in subst P (sym same) gives);
       size = size_at end ended.bytes_written run middle.0 middle.2 size;
     }
 
@@ -101,7 +104,8 @@ pub was_sent : (files : List NamedBytes) (commands : List Command) (replies : Li
     → ((m : Machine) → Represents run m → OnOk end (IfSome ended.bytes_written (λ bytes. bytes ≡ whole m.state.fonts m.pages)))
     → ClosesFile run end ended
     → IfOk end (λ summary. (m : Machine) → Represents run m → summary.bytes ≡ length (whole m.state.fonts m.pages))
-    → (end ≡ Err Device → (m : Machine) → Represents run m → IfSome ended.bytes_written (λ bytes. IsProperFrontOf bytes (whole m.state.fonts m.pages)))
+    → (end ≡ Err Device → (m : Machine) → Represents run m
+    → IfSome ended.bytes_written (λ bytes. IsProperFrontOf bytes (whole m.state.fonts m.pages)))
     → let middle = runs (first_machine files) begins in
     WasSent middle.0 (finishes middle.0 middle.2).0 end ended.bytes_written
 was_sent files commands replies end new run ended begins runs finishes file closes count front =
@@ -119,7 +123,8 @@ was_sent files commands replies end new run ended begins runs finishes file clos
 
 -- What its device made of the bytes that it was to meet.
 pub was_past : (files : List NamedBytes) (commands : List Command) (replies : List Reply) (end : Result Summary Refusal) (new run ended : JobView)
-    → (begins : Represents new (first_machine files)) → (runs : RunsTo new commands replies run) → (finishes : FinishesTo run end ended) → ended.began ≡ new.began
+    → (begins : Represents new (first_machine files)) → (runs : RunsTo new commands replies run) → (finishes : FinishesTo run end ended)
+    → ended.began ≡ new.began
     → let middle = runs (first_machine files) begins in
     KeepsPast new.began (due_bytes (finishes middle.0 middle.2).0) ended.past
 was_past files commands replies end new run ended begins runs finishes began =
@@ -134,7 +139,8 @@ pub done :
     → FilesPages run result ended → ClosesFile run result ended
     → IfOk result (λ summary. (m : Machine) → Represents run m → IfSome ended.bytes_written (λ bytes. summary.bytes ≡ length bytes))
     → IfOk result (λ summary. (m : Machine) → Represents run m → summary.bytes ≡ length (whole m.state.fonts m.pages))
-    → (result ≡ Err Device → (m : Machine) → Represents run m → IfSome ended.bytes_written (λ bytes. IsProperFrontOf bytes (whole m.state.fonts m.pages)))
+    → (result ≡ Err Device → (m : Machine) → Represents run m
+    → IfSome ended.bytes_written (λ bytes. IsProperFrontOf bytes (whole m.state.fonts m.pages)))
     → IsDone files commands replies result new run ended
 done files commands replies result new run ended begins runs finishes file dvi closes size count front =
     let middle = runs (first_machine files) begins in
@@ -143,40 +149,49 @@ done files commands replies result new run ended begins runs finishes file dvi c
       job = was_run files commands replies result new run ended begins runs finishes dvi size;
       state = middle.2.state;
       over = last.2.state;
+      failed = refl;
       sent = was_sent files commands replies result new run ended begins runs finishes file closes count front;
     }
 
 -- A run of which this is known stays one if the numbers and bytes of its device are replaced by equal ones.
-pub same_run_with : (files : List NamedBytes) (n n' : ℕ) (commands : List Command) (replies : List Reply) (end : Result Summary Refusal) (k k' : ℕ) (bytes_written bytes_written' : Option (List ℕ))
+pub same_run_with : (files : List NamedBytes) (n n' : ℕ) (commands : List Command) (replies : List Reply) (end : Result Summary Refusal) (k k' : ℕ)
+    (bytes_written bytes_written' : Option (List ℕ))
     (P : Machine → Machine → Option (List ℕ) → Type 0) → n' ≡ n → k' ≡ k → bytes_written' ≡ bytes_written
     → (run : WasRun files n commands replies end k bytes_written) → P run.middle run.last bytes_written
     → (run : WasRun files n' commands replies end k' bytes_written') × P run.middle run.last bytes_written'
 same_run_with files n n' commands replies end k k' bytes_written bytes_written' P a b c run known = rw (a, b, c) (run, known)
 
 -- The replies and the result leave one machine before the end and one after it, so what is known of them in one run is known in each.
-pub known_in_each : (files : List NamedBytes) (n : ℕ) (commands : List Command) (replies : List Reply) (end : Result Summary Refusal) (k : ℕ) (bytes_written : Option (List ℕ)) (P : Machine → Machine → Type 0)
+pub known_in_each : (files : List NamedBytes) (n : ℕ) (commands : List Command) (replies : List Reply) (end : Result Summary Refusal) (k : ℕ)
+    (bytes_written : Option (List ℕ)) (P : Machine → Machine → Type 0)
     (one other : WasRun files n commands replies end k bytes_written) → P one.middle one.last → P other.middle other.last
 known_in_each files n commands replies end k bytes_written P one other known =
     let same = runs_agree (first_machine files) one.middle other.middle n one.failed other.failed commands replies one.ran other.ran in
     let counted : Finishes one.middle other.failed end one.last k = subst (λ (i : ℕ). Finishes one.middle i end one.last k) same.1 one.finished in
-    let finished : Finishes other.middle other.failed end one.last k = subst (λ (m : Machine). Finishes m other.failed end one.last k) same.0 counted in
+    let finished : Finishes other.middle other.failed end one.last k =
+    subst (λ (m : Machine). Finishes m other.failed end one.last k) same.0 counted in
     let ended = ends_agree other.middle one.last other.last other.failed k k end finished other.finished in
     subst (λ (m : Machine). P other.middle m) ended.0 (subst (λ (m : Machine). P m one.last) same.0 known)
 
 -- A whole job and its device, by what its calls say.
-pub job_run : (files : List NamedBytes) (commands : List Command) (replies : List Reply) (end : Result Summary Refusal) (new run ended : JobView) (n k : ℕ) (bytes_written : Option (List ℕ)) (start last : Past)
+pub job_run : (files : List NamedBytes) (commands : List Command) (replies : List Reply) (end : Result Summary Refusal) (new run ended : JobView)
+    (n k : ℕ) (bytes_written : Option (List ℕ)) (start last : Past)
     → Represents new (first_machine files) → RunsTo new commands replies run → FinishesTo run end ended
     → ((m : Machine) → Represents run m → OnOk end (IfSome ended.bytes_written (λ bytes. bytes ≡ whole m.state.fonts m.pages)))
     → FilesPages run end ended → ClosesFile run end ended
     → IfOk end (λ summary. (m : Machine) → Represents run m → IfSome ended.bytes_written (λ bytes. summary.bytes ≡ length bytes))
     → IfOk end (λ summary. (m : Machine) → Represents run m → summary.bytes ≡ length (whole m.state.fonts m.pages))
-    → (end ≡ Err Device → (m : Machine) → Represents run m → IfSome ended.bytes_written (λ bytes. IsProperFrontOf bytes (whole m.state.fonts m.pages)))
+    → (end ≡ Err Device → (m : Machine) → Represents run m
+    → IfSome ended.bytes_written (λ bytes. IsProperFrontOf bytes (whole m.state.fonts m.pages)))
     → ended.began ≡ new.began → n ≡ new.failed → k ≡ ended.failed → bytes_written ≡ ended.bytes_written → new.began ≡ start → last ≡ ended.past
-    → (run : WasRun files n commands replies end k bytes_written) × (WasSent run.middle run.last end bytes_written × KeepsPast start (due_bytes run.last) last)
-job_run files commands replies end new run ended n k bytes_written start last begins runs finishes file dvi closes size count front began n_is k_is bytes_are start_is last_is =
+    → (run : WasRun files n commands replies end k bytes_written)
+    × (WasSent run.middle run.last end bytes_written × KeepsPast start (due_bytes run.last) last)
+job_run files commands replies end new run ended n k bytes_written start last begins runs finishes file dvi closes size count front began n_is k_is
+    bytes_are start_is last_is =
     let ran = was_run files commands replies end new run ended begins runs finishes dvi size in
     let sent = was_sent files commands replies end new run ended begins runs finishes file closes count front in
     let past = was_past files commands replies end new run ended begins runs finishes began in
-    let kept = subst (λ (p : Past). KeepsPast start (due_bytes ran.last) p) (sym last_is) (subst (λ (p : Past). KeepsPast p (due_bytes ran.last) ended.past) start_is past) in
+    let kept = subst (λ (p : Past). KeepsPast start (due_bytes ran.last) p) (sym last_is)
+    (subst (λ (p : Past). KeepsPast p (due_bytes ran.last) ended.past) start_is past) in
     same_run_with files new.failed n commands replies end ended.failed k ended.bytes_written bytes_written
     (λ (m l : Machine) (bytes : Option (List ℕ)). WasSent m l end bytes × KeepsPast start (due_bytes l) last) n_is k_is bytes_are ran (sent, kept)

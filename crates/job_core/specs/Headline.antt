@@ -44,4 +44,6 @@ pub record IsDone (files : List NamedBytes) (commands : List Command) (replies :
   -- Before the end the job has the state of that machine, and after it the state of the machine that has ended.
   pub state : run.state ≡ job.middle.state
   pub over : ended.state ≡ job.last.state
+  -- The device had failed as often before the end as the run of that machine counts.
+  pub failed : run.failed ≡ job.failed
   pub sent : WasSent job.middle job.last result ended.bytes_written
