@@ -4,43 +4,52 @@ ghost use Rattle.std.specs.Prelude.{◌≡◌, ◌≢◌, ◌∷◌, [], None, S
 ghost use Rattle.job_machine.specs.declared.command.Command.TheVariants as commands;
 ghost use Rattle.tfm_core.specs.Slots.{font_in};
 ghost use Rattle.job_state.specs.JobStateView.{before_shipping};
+ghost use Rattle.job_state.specs.Private.Characters.{state_for_characters};
 ghost use Rattle.job_machine.specs.Checks.{checks, first_refusal, character_checks, item_checks, is_misplaced};
 ghost use Rattle.job_machine.specs.Effects.{with_items};
 ghost use Rattle.job_machine.specs.Machine.{reply_by, reply_to, state_by, state_after};
 ghost use Rattle.job_machine.specs.Runs.{early_checks};
 
 use super::JobState;
+use job_lists::nest::Nest;
 use job_lists::texts::{append_character, append_text};
 use job_machine::{Answer, Characters, Refusal, Reply};
 use node_core::limits::{MAX_ITEMS, MAX_SPECIAL_TEXT};
 use node_core::{Kind, Node, NodeList, Rule, RuleSize, SpecialText};
 use std::alloc::AllocError;
-use tfm_core::LoadedFont;
+use tfm_core::{Fonts, LoadedFont};
+
+/// The current font and its slot, or why no character may be appended. Where the characters would go is checked before the font.
+/// It takes fields of the state and not the whole, so that the font stays lent while the items change.
+fn font_for_characters<'a>(
+    nest: &Nest,
+    fonts: &'a Fonts,
+    current: Option<u8>,
+) -> Result<(u8, &'a LoadedFont), Refusal>
+    ensures slot { IfOk result (λ font. current ≡ Some font.0) }
+    ensures font { IfOk result (λ font. font_in fonts.now font.0 ≡ Some font.1.now) }
+    ensures ok { OnOk result (first_refusal (character_checks (state_for_characters nest.now fonts.now current)) ≡ None) }
+    ensures err { IfErr result
+        (λ refusal. first_refusal (character_checks (state_for_characters nest.now fonts.now current)) ≡ Some refusal) }
+{
+    let Some(innermost) = nest.innermost() else {
+        return Err(Refusal::NoOpenList);
+    };
+    if innermost.purpose.kind() == Kind::Vertical {
+        return Err(Refusal::WrongMode);
+    }
+    let Some(slot) = current else {
+        return Err(Refusal::NoFont);
+    };
+    let Some(loaded) = fonts.get(slot) else {
+        return Err(Refusal::NoFont);
+    };
+    Ok((slot, loaded))
+}
 
 impl JobState {
-    /// The current font and its slot, or why no character may be appended. Where the characters would go is checked before the font.
-    fn font_for_characters(&self) -> Result<(u8, &LoadedFont), Refusal>
-        ensures slot { IfOk result (λ font. self.now.current ≡ Some font.0) }
-        ensures font { IfOk result (λ font. font_in self.now.fonts font.0 ≡ Some font.1.now) }
-        ensures ok { OnOk result (first_refusal (character_checks (before_shipping self.now)) ≡ None) }
-        ensures err { IfErr result (λ refusal. first_refusal (character_checks (before_shipping self.now)) ≡ Some refusal) }
-    {
-        let Some(innermost) = self.nest.innermost() else {
-            return Err(Refusal::NoOpenList);
-        };
-        if innermost.purpose.kind() == Kind::Vertical {
-            return Err(Refusal::WrongMode);
-        }
-        let Some(slot) = self.current else {
-            return Err(Refusal::NoFont);
-        };
-        let Some(loaded) = self.fonts.get(slot) else {
-            return Err(Refusal::NoFont);
-        };
-        Ok((slot, loaded))
-    }
-
-    /// Appends a text in the current font. An empty text takes no memory.
+    /// Appends a text in the current font. An empty text takes no memory. Inside `obey` its loop would have too few registers.
+    #[inline(never)]
     pub(super) fn append_text(&mut self, text: &Characters) -> Result<Reply, AllocError>
         ensures reply { IfOk result (λ reply. reply ≡ reply_to (before_shipping self.old) (commands.Text text.now)) }
         ensures state { OnOk result (before_shipping self.new ≡ state_after (before_shipping self.old) (commands.Text text.now)) }
@@ -48,14 +57,11 @@ impl JobState {
         ensures early { OnErr result (first_refusal (early_checks (before_shipping self.old) (commands.Text text.now)) ≡ None) }
         ensures takes { OnErr result (text.now ≢ []) }
     {
-        let slot = match self.font_for_characters() {
-            Ok((slot, _)) => slot,
+        let (slot, loaded) = match font_for_characters(&self.nest, &self.fonts, self.current) {
+            Ok(font) => font,
             Err(refusal) => return Ok(Err(refusal)),
         };
         let mut items = self.nest.take_items();
-        let Some(loaded) = self.fonts.get(slot) else {
-            unreachable!()
-        };
         let reply = append_text(loaded, slot, text.codes(), &mut items);
         self.nest.refill(NodeList::from_vec(items));
         reply
@@ -68,14 +74,11 @@ impl JobState {
         ensures err { OnErr result (self.new ≡ self.old) }
         ensures early { OnErr result (first_refusal (early_checks (before_shipping self.old) (commands.Character code)) ≡ None) }
     {
-        let slot = match self.font_for_characters() {
-            Ok((slot, _)) => slot,
+        let (slot, loaded) = match font_for_characters(&self.nest, &self.fonts, self.current) {
+            Ok(font) => font,
             Err(refusal) => return Ok(Err(refusal)),
         };
         let mut items = self.nest.take_items();
-        let Some(loaded) = self.fonts.get(slot) else {
-            unreachable!()
-        };
         let reply = append_character(loaded, slot, code, &mut items);
         self.nest.refill(NodeList::from_vec(items));
         reply

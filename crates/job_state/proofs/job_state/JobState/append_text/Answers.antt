@@ -1,8 +1,6 @@
 use Rattle.std.proofs.Common.{◌≡◌, ◌∙◌, List, length, ap, sym, refl}
-use Rattle.std.specs.Option.{option_copied}
 use Rattle.job_machine.specs.declared.command.Command.TheVariants.{Text}
 use Rattle.job_machine.specs.declared.replies.Refusal.TheVariants.{JobOver}
-use Rattle.tfm_core.specs.Slots.{font_in}
 use Rattle.node_core.specs.Items.{Items}
 use Rattle.node_core.specs.Nodes.{nodes_of}
 use Rattle.job_machine.specs.declared.OpenList.{OpenList}
@@ -15,43 +13,50 @@ use Rattle.job_lists.specs.EmptiedNest.{refilled_nest}
 use Rattle.job_machine.specs.Machine.{reply_by, state_by}
 use Rattle.job_machine.proofs.States.{first_refused}
 use Rattle.job_lists.proofs.ShapedTexts.{put_more, put_back_all}
-use Rattle.std.specs.Prelude.{Some}
+use Rattle.std.specs.Prelude.{Some, None}
 use Rattle.job_state.specs.contracts.job_state.JobState as a_kept
 use Rattle.job_state.specs.JobStateView.{JobStateView, before_shipping}
-use Rattle.job_state.proofs.ShapedItems.{on_ok, on_err, text_state}
+use Rattle.job_state.proofs.ShapedItems.{on_ok, on_err, refused_as, current_as, font_as, text_state}
 use Rattle.job_state.proofs.job_state.JobState.append_text.Goals as goal
 
 pub returns-in-Err-clause-reply : goal.returns-in-Err-clause-reply
 returns-in-Err-clause-reply c =
     let s = before_shipping c.args.self.now in
+    let refused = refused_as (a_kept.the_view c.self.inside) c.args.self.now c.self.view_is (Some c.in-Err.refusal) c.in-Err.ensures.err in
     sym (ap (λ found. reply_by found (answer_of s (Text c.args.text.now)))
-    (first_refused s.over (character_checks s) (length_checks s (text_shaped s.fonts s.current c.args.text.now).items) JobOver c.in-Err.refusal refl c.in-Err.ensures.err))
+    (first_refused s.over (character_checks s) (length_checks s (text_shaped s.fonts s.current c.args.text.now).items) JobOver c.in-Err.refusal refl
+    refused))
 
 pub returns-in-Err-clause-state : goal.returns-in-Err-clause-state
 returns-in-Err-clause-state c =
     let s = before_shipping c.args.self.now in
+    let refused = refused_as (a_kept.the_view c.self.inside) c.args.self.now c.self.view_is (Some c.in-Err.refusal) c.in-Err.ensures.err in
     sym (ap (λ found. state_by found s (state_after_command s (Text c.args.text.now)))
-    (first_refused s.over (character_checks s) (length_checks s (text_shaped s.fonts s.current c.args.text.now).items) JobOver c.in-Err.refusal refl c.in-Err.ensures.err))
+    (first_refused s.over (character_checks s) (length_checks s (text_shaped s.fonts s.current c.args.text.now).items) JobOver c.in-Err.refusal refl
+    refused))
 
 pub returns-clause-state : goal.returns-clause-state
 returns-clause-state c =
     let s = before_shipping c.args.self.now in
-    let slot = c.in-Ok.slot in
-    let loaded = c.in-Some.loaded.now in
+    let slot = c.in-Ok.font.0 in
+    let loaded = c.in-Ok.font.1.now in
     let nest : List OpenList = c.self.inside.nest in
     let bare : List OpenList = c.take_items-items.new.self in
     let taken = c.take_items-items.result.items in
     let found = text_items_in (Some loaded) slot c.codes.result.now in
     let same : nest ≡ s.nest = ap (λ (t : JobStateView). t.nest) c.self.view_is in
-    let font : font_in s.fonts slot ≡ Some loaded =
-    ap (λ (t : JobStateView). font_in t.fonts slot) (sym c.self.view_is) ∙ (sym c.get.ensures ∙ ap option_copied c.in-Some.is) in
+    let view : JobStateView = a_kept.the_view c.self.inside in
+    let current = current_as view c.args.self.now c.self.view_is slot c.in-Ok.ensures.slot in
+    let font = font_as view c.args.self.now c.self.view_is slot loaded c.in-Ok.ensures.font in
+    let free = refused_as view c.args.self.now c.self.view_is None c.in-Ok.ensures.ok in
     let count : length taken ≡ length (nodes_of (items_in (innermost s.nest))) =
     ap length c.take_items-items.ensures.items ∙ ap (λ (n : List OpenList). length (nodes_of (items_in (innermost n)))) same in
     on_ok c.append_text-reply.result
     (λ are.
     ap (λ (t : JobStateView). record (before_shipping t) { nest = c.refill.new.self }) c.self.view_is
-    ∙ text_state s slot loaded refl c.in-Ok.ensures.slot font c.in-Ok.ensures.ok c.refill.new.self c.args.text.now c.codes.result.now (length taken) c.codes.ensures count
-    (put_more nest bare c.refill.new.self taken c.append_text-reply.new.items.items found.items (first_refusal (room_checks (length taken) found.items)) c.take_items-items.ensures.emptied
+    ∙ text_state s slot loaded refl current font free c.refill.new.self c.args.text.now c.codes.result.now (length taken) c.codes.ensures count
+    (put_more nest bare c.refill.new.self taken c.append_text-reply.new.items.items found.items
+    (first_refusal (room_checks (length taken) found.items)) c.take_items-items.ensures.emptied
     c.take_items-items.ensures.items are (c.refill.ensures ∙ ap (λ (i : Items). refilled_nest bare i (innermost bare)) c.from_vec.ensures.items)
     ∙ ap (λ (n : List OpenList). state_by (first_refusal (room_checks (length taken) found.items)) n (with_nodes n found.items (innermost n))) same))
     c.append_text-reply.ensures.items
@@ -63,7 +68,8 @@ returns-clause-err c =
     on_err c.append_text-reply.result
     (λ are.
     ap (λ (lists : List OpenList). a_kept.the_view (record (c.self.inside) { nest = lists }))
-    (put_back_all nest bare c.refill.new.self c.take_items-items.result.items c.append_text-reply.new.items.items c.take_items-items.ensures.emptied c.take_items-items.ensures.items are
+    (put_back_all nest bare c.refill.new.self c.take_items-items.result.items c.append_text-reply.new.items.items c.take_items-items.ensures.emptied
+    c.take_items-items.ensures.items are
     (c.refill.ensures ∙ ap (λ (i : Items). refilled_nest bare i (innermost bare)) c.from_vec.ensures.items))
     ∙ c.self.view_is)
     c.append_text-reply.ensures.err
