@@ -246,9 +246,7 @@ impl<D: Device> DviWriter<D> {
             self.over = true;
             return Ok(Summary { pages: 0, bytes: 0 });
         }
-        let Ok(bytes) = self.progress.last_bytes(alloc, fonts) else {
-            return Err(WriteFault::OutOfMemory);
-        };
+        let bytes = self.progress.last_bytes(alloc, fonts)?;
         let size = self.progress.size() + bytes.len();
         self.send(&bytes)?;
         self.over = true;
