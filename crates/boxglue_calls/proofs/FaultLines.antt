@@ -46,7 +46,7 @@ pub line_short : (fault : DviFault) → ((bad : BadDvi) → fault ≡ Bad bad �
 unfolding fault_line refusal_line refusal_text digits
 line_short OutOfMemory below = lit≤ tt
 line_short DimensionTooLarge below = lit≤ tt
-line_short NoFont below = lit≤ tt
+line_short (NoFont name) below = lit≤ tt
 line_short (BadTfm causes.TooShort) below = lit≤ tt
 line_short (BadTfm causes.Counts) below = lit≤ tt
 line_short (BadTfm causes.DesignSize) below = lit≤ tt

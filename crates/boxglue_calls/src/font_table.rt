@@ -85,8 +85,8 @@ fn table_of(alloc: Global, definitions: &[FontDefinition<'_>]) -> Result<FontTab
 }
 
 /// The table of a file that is refused.
-fn refused_table(alloc: Global, fault: DviFault) -> Result<FontTable, AllocError>
-    ensures { IfOk result (λ table. (bytes : List ℕ) → BreaksFonts bytes fault
+fn refused_table(alloc: Global, fault: DviFault<'_>) -> Result<FontTable, AllocError>
+    ensures { IfOk result (λ table. (bytes : List ℕ) → BreaksFonts bytes fault.entry
         → IsFontTable bytes table.fonts.items table.text.items table.accepted) }
 {
     let Output { text, accepted } = refusal(alloc, fault)?;

@@ -64,8 +64,8 @@ pub struct MarkSizes {
 }
 
 /// The place of a broken rule, or 0 for another fault.
-fn place_of(fault: DviFault) -> usize
-    ensures { result ≡ place_of fault }
+fn place_of(fault: DviFault<'_>) -> usize
+    ensures { result ≡ place_of fault.entry }
 {
     match fault {
         DviFault::Bad(bad) => bad.place,
@@ -74,8 +74,8 @@ fn place_of(fault: DviFault) -> usize
 }
 
 /// The line of a refusal. It is short, since a place is a number of 64 bits.
-fn short_refusal(alloc: Global, fault: DviFault) -> Result<Output, AllocError>
-    ensures { IfOk result (IsShortRefusal fault) }
+fn short_refusal(alloc: Global, fault: DviFault<'_>) -> Result<Output, AllocError>
+    ensures { IfOk result (IsShortRefusal fault.entry) }
 {
     let _ = place_of(fault);
     let output = refusal(alloc, fault)?;

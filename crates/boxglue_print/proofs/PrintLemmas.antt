@@ -58,4 +58,4 @@ has_page files bytes sheet text accepted (inr refuses) lacks = refuses.none lack
 -- The known lines, computed by the definitions.
 pub known_lines : KnownLines
 unfolding fault_line refusal_line refusal_text digits
-known_lines = (refl, refl, refl, refl, refl)
+known_lines = (refl, refl, (λ name. refl), refl, refl)

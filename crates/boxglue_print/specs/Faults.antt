@@ -1,5 +1,6 @@
 -- The lines of refusals (own).
 use Rattle.std.specs.Prelude.{◌≡◌, ℕ, List, ◌++◌, codes, decimal}
+use Rattle.std.specs.Borrow.{Bor}
 use Rattle.dvi_scan.specs.declared.fault.BadDvi.{BadDvi}
 use Rattle.dvi_scan.specs.declared.fault.DviCause.{DviCause}
 use Rattle.dvi_scan.specs.declared.fault.DviCause.TheVariants.{Trailer, Version, Opcode, Pointer, Count, Preamble, Truncated, Stack, Font, Glyph}
@@ -32,7 +33,7 @@ bad_line bad = codes "refused 20 BadDvi " ++ (decimal bad.place ++ (codes " " ++
 unfoldable pub fault_line : DviFault → List ℕ
 fault_line OutOfMemory = refusal_line refusals.OutOfMemory
 fault_line DimensionTooLarge = refusal_line refusals.DimensionTooLarge
-fault_line NoFont = refusal_line refusals.NoFont
+fault_line (NoFont name) = refusal_line refusals.NoFont
 fault_line (BadTfm cause) = refusal_line (refusals.BadTfm cause)
 fault_line (Bad bad) = bad_line bad
 
@@ -41,6 +42,6 @@ abbrev pub KnownLines : Type 0
 KnownLines =
     (fault_line OutOfMemory ≡ codes "refused 1 OutOfMemory\n")
     × (fault_line DimensionTooLarge ≡ codes "refused 3 DimensionTooLarge\n")
-    × (fault_line NoFont ≡ codes "refused 4 NoFont\n")
+    × ((name : Bor (List ℕ)) → fault_line (NoFont name) ≡ codes "refused 4 NoFont\n")
     × (fault_line (BadTfm TooShort) ≡ codes "refused 5 BadTfm TooShort\n")
     × (fault_line (BadTfm LigKern) ≡ codes "refused 5 BadTfm LigKern\n")

@@ -42,13 +42,13 @@ fn push_bad(bad: &BadDvi, out: &mut Vec<u8>) -> Result<(), AllocError>
 
 /// Appends the line of a refusal. Those that a job has too have its numbers and names.
 #[tactic(auto, unfolding(crate::specs::Faults::fault_line))]
-pub(crate) fn push_fault(fault: DviFault, out: &mut Vec<u8>) -> Result<(), AllocError>
-    ensures { OnOk result (out.new.items ≡ out.old.items ++ fault_line fault) }
+pub(crate) fn push_fault(fault: DviFault<'_>, out: &mut Vec<u8>) -> Result<(), AllocError>
+    ensures { OnOk result (out.new.items ≡ out.old.items ++ fault_line fault.entry) }
 {
     match fault {
         DviFault::OutOfMemory => push_refusal_line(Refusal::OutOfMemory, out),
         DviFault::DimensionTooLarge => push_refusal_line(Refusal::DimensionTooLarge, out),
-        DviFault::NoFont => push_refusal_line(Refusal::NoFont, out),
+        DviFault::NoFont(_) => push_refusal_line(Refusal::NoFont, out),
         DviFault::BadTfm(cause) => push_refusal_line(Refusal::BadTfm(cause), out),
         DviFault::Bad(bad) => push_bad(&bad, out),
     }

@@ -20,7 +20,7 @@ pub struct DefinedFonts<'a> {
 
 /// Reads the units of a DVI file and the definitions after post. The end of the file, the chain of its pages and its preamble are checked, and the
 /// pages are not read. It takes memory for the places of the pages and the definitions.
-pub fn defined_fonts<'a>(alloc: Global, dvi: &'a [u8]) -> Result<DefinedFonts<'a>, DviFault>
+pub fn defined_fonts<'a>(alloc: Global, dvi: &'a [u8]) -> Result<DefinedFonts<'a>, DviFault<'a>>
     ensures ok { IfOk result (λ defined. DefinesFonts dvi.now (units_of defined.units) (map definition defined.fonts.items)) }
     ensures bad { IfErr result (BreaksFonts dvi.now) }
 {

@@ -53,21 +53,23 @@ impl From<AllocError> for PaintFault {
 }
 
 /// Whether a file is refused because memory was refused.
-fn is_out_of_memory(fault: DviFault) -> bool
-    ensures { IsTrue result ↔ fault ≡ DviFault.OutOfMemory }
+fn is_out_of_memory(fault: DviFault<'_>) -> bool
+    ensures { IsTrue result ↔ fault.entry ≡ DviFault.OutOfMemory }
 {
     match fault {
         DviFault::OutOfMemory => true,
-        DviFault::DimensionTooLarge | DviFault::NoFont | DviFault::BadTfm(_) | DviFault::Bad(_) =>
-            false,
+        DviFault::DimensionTooLarge
+        | DviFault::NoFont(_)
+        | DviFault::BadTfm(_)
+        | DviFault::Bad(_) => false,
     }
 }
 
 /// The text for a file that is refused. The result is an Err where memory was refused, here or before.
-pub fn refusal(alloc: Global, fault: DviFault) -> Result<Output, AllocError>
-    ensures text { IfOk result (λ output. output.text.items ≡ fault_line fault) }
+pub fn refusal(alloc: Global, fault: DviFault<'_>) -> Result<Output, AllocError>
+    ensures text { IfOk result (λ output. output.text.items ≡ fault_line fault.entry) }
     ensures refused { IfOk result (λ output. output.accepted ≡ false) }
-    ensures other { OnOk result (fault ≢ DviFault.OutOfMemory) }
+    ensures other { OnOk result (fault.entry ≢ DviFault.OutOfMemory) }
 {
     if is_out_of_memory(fault) {
         return Err(AllocError);

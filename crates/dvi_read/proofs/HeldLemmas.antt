@@ -154,7 +154,7 @@ module _ (files : List NamedBytes) (part : PageBytes) (at : ℕ) (pass : PassSta
   by_fault : (fault : DviFault) → IsPagesFault files part at (read_in (bare pass) selected walk) fault → IsPagesFault files part at (read_in pass selected walk) fault
   by_fault faults.OutOfMemory (i, stands, b) = (i, stands, allocates_held i b)
   by_fault (faults.Bad bad) (place, b) = (place, pages_held bad.cause b)
-  by_fault faults.NoFont b = widths_held refusals.NoFont b
+  by_fault (faults.NoFont name) b = widths_held (refusals.NoFont name) b
   by_fault (faults.BadTfm cause) b = widths_held (refusals.BadTfm cause) b
   by_fault faults.DimensionTooLarge b = widths_held refusals.DimensionTooLarge b
 

@@ -11,16 +11,21 @@ use Rattle.dvi_ops.specs.Fonts.{WidthsByName, first_definition_of, font, widths_
 use Rattle.dvi_ops.specs.Instruction.{Definition}
 use Rattle.dvi_scan.specs.Reached.{has_number}
 use Rattle.dvi_scan.proofs.FontLemmas.{defined_more, has_definition, some_definition}
-use Rattle.dvi_read.specs.Faults.{of_font}
+use Rattle.dvi_read.specs.Faults.{of_read}
 use Rattle.dvi_read.specs.ReadFonts.{AreSound, HasWidthsAt, FontIsRead, read_font_at, font_place}
 use Rattle.dvi_read.specs.declared.fonts.ReadFonts.{ReadFonts}
 use Rattle.dvi_read.specs.Steps.{IsSelectFault, Selects}
-use Rattle.dvi_scan.specs.Widths.{HasBytes, IsFontRefusal}
+use Rattle.dvi_read.specs.declared.fault.StepFault.TheVariants.{OutOfMemory, Refused}
+use Rattle.dvi_scan.specs.Widths.{HasBytes, IsFontRefusal, MayAllocate}
 use Rattle.dvi_scan.specs.declared.widths.FontRefusal.{FontRefusal}
 use Rattle.dvi_scan.specs.declared.widths.FontRefusal.TheVariants as refusals
-use Rattle.tfm_core.specs.FileWidths.{file_widths, width_at}
+use Rattle.tfm_core.specs.FileWidths.{file_widths, width_at, widths_by}
+use Rattle.tfm_core.specs.FontReads.{IsReadRefusal}
 use Rattle.tfm_core.specs.Fonts.{SizedFont}
-use Rattle.tfm_core.specs.NamedBytes.{NamedBytes}
+use Rattle.tfm_core.specs.NamedBytes.{NamedBytes, file_named}
+use Rattle.tfm_core.specs.Rules.{metric_file}
+use Rattle.tfm_core.specs.declared.reading.FontReadFault.{FontReadFault}
+use Rattle.tfm_core.specs.declared.reading.FontReadFault.TheVariants as reads
 
 -- The value of an option that is not None.
 pub some_is : {X : Type 0} (o : Option X) → IsSome o → (x : X) × (o ≡ Some x)
@@ -113,13 +118,29 @@ sound_more metrics xs ys fonts sound =
       codes = sound.codes;
     }
 
--- A font is refused, or memory is refused for it.
-pub lacks : (files : List NamedBytes) (ahead : List ℤ) (known : List Definition) (fonts : ReadFonts) (f : ℤ) (d : Definition) (refusal : FontRefusal) → has_number ahead f ≡ true → first_definition_of f known ≡ Some d
-    → font_place f fonts ≡ None → IsFontRefusal files d refusal → IsSelectFault files ahead known fonts f (of_font refusal)
-lacks files ahead known fonts f d refusals.OutOfMemory named found new file = record { named = named; new = new; font = d; found = found; file = file }
-lacks files ahead known fonts f d refusals.NoFont named found new file = record { named = named; font = d; found = found; other = λ e. absurd cc; refused = file }
-lacks files ahead known fonts f d (refusals.BadTfm cause) named found new file = record { named = named; font = d; found = found; other = λ e. absurd cc; refused = file }
-lacks files ahead known fonts f d refusals.DimensionTooLarge named found new file = record { named = named; font = d; found = found; other = λ e. absurd cc; refused = file }
+-- The widths of a font that was read from the first file with its name are those that the files give.
+pub given_by : {bytes : List ℕ} (files : List NamedBytes) (d : Definition) (file : NamedBytes) (read : SizedFont)
+    → file_named d.name files ≡ Some file → bytes ≡ file.bytes → widths_by (metric_file bytes) d.size ≡ Some (width_at read)
+    → file_widths files d.name d.size ≡ Some (width_at read)
+given_by files d file read is same widths = rw is (rw (sym same) widths)
+
+module _ (files : List NamedBytes) (ahead : List ℤ) (known : List Definition) (fonts : ReadFonts) (f : ℤ) (d : Definition)
+    (named : has_number ahead f ≡ true) (found : first_definition_of f known ≡ Some d) where
+  -- The font is refused.
+  pub refused_font : (refusal : FontRefusal) → IsFontRefusal files d refusal → IsSelectFault files ahead known fonts f (Refused refusal)
+  refused_font refusal refused = record { named = named; font = d; found = found; refused = refused }
+
+  -- Memory is refused for the font.
+  pub lacks_memory : font_place f fonts ≡ None → MayAllocate files d → IsSelectFault files ahead known fonts f OutOfMemory
+  lacks_memory new file = record { named = named; new = new; font = d; found = found; file = file }
+
+  -- The first file with the name gives no font at the size.
+  pub not_read_from : (file : NamedBytes) (fault : FontReadFault) → font_place f fonts ≡ None → file_named d.name files ≡ Some file
+      → IsReadRefusal file.bytes (Some d.size) fault → IsSelectFault files ahead known fonts f (of_read fault)
+  not_read_from file reads.OutOfMemory new is refused = lacks_memory new (file, is, refused)
+  not_read_from file (reads.BadTfm cause) new is refused = refused_font (refusals.BadTfm cause) (file, is, refused)
+  not_read_from file reads.DimensionTooLarge new is refused =
+      refused_font refusals.DimensionTooLarge (file, is, refused.0, refused.1, refused.2)
 
 -- A font that was not read was not selected.
 or_both : (a b : Bool) → a ≡ false → b ≡ false → (a || b) ≡ false

@@ -66,8 +66,8 @@ taken : (files : List NamedBytes) (ahead : List ℤ) (bytes : List ℕ) (most at
     → BreaksStep files ahead most at s i fault → IsPagesFault files (page_bytes ahead bytes most post) at s (fault_in at fault)
 taken files ahead bytes most at post s i OutOfMemory stands b = (i, stands, b)
 taken files ahead bytes most at post s i (Broken cause) stands b = (refl, pages_break (file_widths files) ahead bytes most at post s cause i stands b)
-taken files ahead bytes most at post s i (Refused refusals.OutOfMemory) stands (f, is, selects) = absurd (selects.unread.other refl)
-taken files ahead bytes most at post s i (Refused refusals.NoFont) stands (f, is, unread) = (f, subst (λ (i : Instruction). StandsAt bytes at post i) is stands, unread)
+taken files ahead bytes most at post s i (Refused (refusals.NoFont name)) stands (f, is, unread) =
+    (f, subst (λ (i : Instruction). StandsAt bytes at post i) is stands, unread)
 taken files ahead bytes most at post s i (Refused (refusals.BadTfm cause)) stands (f, is, unread) = (f, subst (λ (i : Instruction). StandsAt bytes at post i) is stands, unread)
 taken files ahead bytes most at post s i (Refused refusals.DimensionTooLarge) stands (f, is, unread) = (f, subst (λ (i : Instruction). StandsAt bytes at post i) is stands, unread)
 
@@ -122,13 +122,13 @@ nothing_right files ahead bytes stop at post s i t fault other stands right = by
         let some = selected_has (HasWidths (file_widths files) s.known) f i is right.closing in
         let found : IsSome (widths_in (file_widths files) (Some unread.font)) = subst (λ (o : Option Definition). IsSome (widths_in (file_widths files) o)) unread.found some in
         let nowhere : Option (ℤ → Option ℤ) = None in
-        let none : IsSome nowhere = subst (λ (o : Option (ℤ → Option ℤ)). IsSome o) (no_widths files unread.font refusal unread.other unread.refused) found in
+        let none : IsSome nowhere = subst (λ (o : Option (ℤ → Option ℤ)). IsSome o) (no_widths files unread.font refusal unread.refused) found in
         cc
 
     by_fault : (fault : DviFault) → fault ≢ faults.OutOfMemory → IsPagesFault files (page_bytes ahead bytes (min 1024 stop.stack_depth) post) at s fault → ⊥
     by_fault faults.OutOfMemory other b = other refl
     by_fault (faults.Bad bad) other (place, b) = pages bad.cause b
-    by_fault faults.NoFont other b = widths refusals.NoFont b
+    by_fault (faults.NoFont name) other b = widths (refusals.NoFont name) b
     by_fault (faults.BadTfm cause) other b = widths (refusals.BadTfm cause) b
     by_fault faults.DimensionTooLarge other b = widths refusals.DimensionTooLarge b
 

@@ -1,5 +1,7 @@
 -- The faults of one call as those of its caller (own).
 use Rattle.std.specs.Prelude.{ℕ}
+use Rattle.tfm_core.specs.declared.reading.FontReadFault.{FontReadFault}
+use Rattle.tfm_core.specs.declared.reading.FontReadFault.TheVariants as reads
 use Rattle.dvi_scan.specs.declared.widths.FontRefusal.{FontRefusal}
 use Rattle.dvi_scan.specs.declared.widths.FontRefusal.TheVariants as refusals
 use Rattle.dvi_scan.specs.declared.fault.FrameFault.{FrameFault}
@@ -16,10 +18,17 @@ abbrev pub of_pass : PassFault → StepFault
 of_pass passes.OutOfMemory = OutOfMemory
 of_pass (passes.Broken cause) = Broken cause
 
--- A refusal of a font as a fault of an instruction.
-abbrev pub of_font : FontRefusal → StepFault
-of_font refusals.OutOfMemory = OutOfMemory
-of_font refusal = Refused refusal
+-- The fault of a font that was not read as a fault of the instruction that selects it.
+abbrev pub of_read : FontReadFault → StepFault
+of_read reads.OutOfMemory = OutOfMemory
+of_read (reads.BadTfm cause) = Refused (refusals.BadTfm cause)
+of_read reads.DimensionTooLarge = Refused refusals.DimensionTooLarge
+
+-- A refusal of a font as a fault of the file. A font without a metric file keeps its name.
+abbrev pub of_font : FontRefusal → DviFault
+of_font (refusals.NoFont name) = faults.NoFont name
+of_font (refusals.BadTfm cause) = faults.BadTfm cause
+of_font refusals.DimensionTooLarge = faults.DimensionTooLarge
 
 -- A fault of the end of a file, of its chain of pages or of the part after post, as a fault of the file.
 abbrev pub of_frame : FrameFault → DviFault
@@ -30,7 +39,4 @@ of_frame (frames.Bad bad) = faults.Bad bad
 abbrev pub fault_in : (place : ℕ) → StepFault → DviFault
 fault_in place OutOfMemory = faults.OutOfMemory
 fault_in place (Broken cause) = faults.Bad (record { place = place; cause = cause })
-fault_in place (Refused refusals.OutOfMemory) = faults.OutOfMemory
-fault_in place (Refused refusals.NoFont) = faults.NoFont
-fault_in place (Refused (refusals.BadTfm cause)) = faults.BadTfm cause
-fault_in place (Refused refusals.DimensionTooLarge) = faults.DimensionTooLarge
+fault_in place (Refused refusal) = of_font refusal

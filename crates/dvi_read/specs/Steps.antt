@@ -2,8 +2,7 @@
 -- they are about the values of the code.
 use Rattle.std.specs.Prelude.{◌≡◌, ◌++◌, ◌⊎◌, false, true, List, map, reverse, ℕ, ℤ, Some, None}
 use Rattle.std.specs.List.{AllByRecursion}
-use Rattle.dvi_scan.specs.Widths.{IsFontRefusal}
-use Rattle.dvi_scan.specs.declared.widths.FontRefusal.TheVariants as refusals
+use Rattle.dvi_scan.specs.Widths.{MayAllocate}
 use Rattle.dvi_scan.specs.declared.fault.DviCause.TheVariants.{Font}
 use Rattle.dvi_ops.specs.Body.{instruction_acts, bounded_acts}
 use Rattle.dvi_ops.specs.Fonts.{WidthsByName, IsRightAfter, first_definition_of, definitions_in, selection_of, widths_of}
@@ -40,7 +39,7 @@ pub record LacksFont (files : List NamedBytes) (ahead : List ℤ) (known : List 
   pub new : font_place f fonts ≡ None
   pub font : Definition
   pub found : first_definition_of f known ≡ Some font
-  pub file : IsFontRefusal files font refusals.OutOfMemory
+  pub file : MayAllocate files font
 
 -- Why a font was not selected, where these fonts were read.
 abbrev pub IsSelectFault : List NamedBytes → (ahead : List ℤ) → (known : List Definition) → ReadFonts → ℤ → StepFault → Type 0

@@ -1,7 +1,7 @@
 -- Why the reading of the pages of a file stops (own): the rule that is broken at a place, where all instructions before it are right. The definitions
 -- are about the file and what was read of it so far.
 use Rattle.std.specs.Prelude.{◌≡◌, ◌≢◌, ◌≤◌, ◌<◌, ◌⊎◌, min, [], false, true, List, slice_index, ℕ, ℤ, Some, None, IsSome}
-use Rattle.dvi_scan.specs.Widths.{IsFontRefusal}
+use Rattle.dvi_scan.specs.Widths.{IsFontRefusal, MayAllocate}
 use Rattle.dvi_scan.specs.declared.widths.FontRefusal.{FontRefusal}
 use Rattle.dvi_scan.specs.declared.widths.FontRefusal.TheVariants as refusals
 use Rattle.dvi_scan.specs.Ends.{StandsAt}
@@ -22,12 +22,11 @@ use Rattle.tfm_core.specs.FileWidths.{file_widths}
 use Rattle.tfm_core.specs.NamedBytes.{NamedBytes}
 
 -- Why a selected font is refused, whose number is defined after post too, by its first definition, which is before the selection: no file with its
--- name was given, or the file is bad, or a dimension at the size does not fit.
+-- name was given, and the refusal has this name; or the file is bad, or a dimension at the size does not fit.
 pub record FontIsUnread (files : List NamedBytes) (ahead : List ℤ) (known : List Definition) (f : ℤ) (refusal : FontRefusal) : Type 0 where
   pub named : has_number ahead f ≡ true
   pub font : Definition
   pub found : first_definition_of f known ≡ Some font
-  pub other : refusal ≢ refusals.OutOfMemory
   pub refused : IsFontRefusal files font refusal
 
 -- Memory is refused for a selected font: it was not selected before, its number is defined after post too, and a file with the name in its first
@@ -37,7 +36,7 @@ pub record LacksMemoryForFont (files : List NamedBytes) (ahead : List ℤ) (s : 
   pub new : has_number s.selected f ≡ false
   pub font : Definition
   pub found : first_definition_of f s.known ≡ Some font
-  pub file : IsFontRefusal files font refusals.OutOfMemory
+  pub file : MayAllocate files font
 
 -- The effect of an instruction on pages or fonts is wrong: a bop is not among the places left of the chain; a definition has no valid size or differs
 -- from an earlier one; a selected font is not defined before, or its number is not defined after post.
@@ -105,7 +104,7 @@ abbrev pub IsPagesFault : List NamedBytes → PageBytes → (at : ℕ) → ReadS
 IsPagesFault files part at s faults.OutOfMemory =
     (i : Instruction) × StandsAt part.bytes at part.post i × InstructionAllocates files part.ahead part.most s i
 IsPagesFault files part at s (faults.Bad fault) = (fault.place ≡ at) × BreaksPages (file_widths files) part at s fault.cause
-IsPagesFault files part at s faults.NoFont = LacksWidths files part at s refusals.NoFont
+IsPagesFault files part at s (faults.NoFont name) = LacksWidths files part at s (refusals.NoFont name)
 IsPagesFault files part at s (faults.BadTfm cause) = LacksWidths files part at s (refusals.BadTfm cause)
 IsPagesFault files part at s faults.DimensionTooLarge = LacksWidths files part at s refusals.DimensionTooLarge
 

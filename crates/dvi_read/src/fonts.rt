@@ -1,14 +1,15 @@
 //! The fonts that were read, the selection of a font, and the widths of characters (DVItype, 18; TFtoPL, 11).
 
-ghost use Rattle.std.specs.Prelude.{◌≡◌, ◌++◌, ◌∷◌, [], false, length, option_map, true, ℕ, None, OnErr, OnOk, Some, ◌⊎◌, IfErr, IfSome};
+ghost use Rattle.std.specs.Prelude.{◌≡◌, ◌++◌, ◌∷◌, [], false, length, option_map, true, ℕ, None, OnErr, OnOk, Some, ◌⊎◌, IfErr, IfOk, IfSome};
 ghost use Rattle.std.specs.BTreeMap.{IsEmpty, Updates};
 ghost use Rattle.std.specs.Ordering.{int_cmp};
-ghost use Rattle.dvi_scan.specs.Widths.{HasBytes};
+ghost use Rattle.dvi_scan.specs.Widths.{HasBytes, IsFontRefusal};
 ghost use Rattle.dvi_ops.specs.View.{view, definition};
 ghost use Rattle.dvi_read.specs.PageMarks.{read_width};
 ghost use Rattle.dvi_read.specs.ReadFonts.{AreSound, AreUnchanged, HaveByteCodes};
 ghost use Rattle.dvi_read.specs.ReadFonts.{asked_width, code_in, font_place, read_font_at, width_in, with_current};
 ghost use Rattle.tfm_core.specs.FileWidths.{width_at, file_widths};
+ghost use Rattle.tfm_core.specs.NamedBytes.{file_named};
 ghost use Rattle.std.specs.List.{AllByRecursion};
 ghost use Rattle.dvi_ops.specs.Fonts.{IsFontSize, first_definition_of};
 ghost use Rattle.dvi_scan.specs.Reached.{has_number};
@@ -17,10 +18,10 @@ ghost use Rattle.dvi_read.specs.Steps.{IsSelectFault, Selects};
 use crate::check::walk::Source;
 use crate::fault::StepFault;
 use dvi_ops::{BodyOp, FontDefinition, Op};
-use dvi_scan::{DviCause, FontNumber, KnownFonts, NumbersAhead, is_ahead, read_font};
+use dvi_scan::{DviCause, FontNumber, FontRefusal, KnownFonts, NumbersAhead, is_ahead, read_font};
 use std::alloc::{AllocError, Global};
 use std::collections::BTreeMap;
-use tfm_core::Font;
+use tfm_core::{Font, FontFile, file_named};
 
 /// The fonts that were read, in the order of their first selections; the place of each number among them; and the place of the font that was selected
 /// last.
@@ -158,16 +159,27 @@ fn definition_in<'f, 'a>(
     known.get(number)
 }
 
+/// The metric file of a font, which is the first one with the name in its definition. The refusal is NoFont, with this name.
+fn font_file<'f, 'a>(
+    files: &'f [FontFile],
+    font: &FontDefinition<'a>,
+) -> Result<&'f FontFile, FontRefusal<'a>>
+    ensures found { IfOk result (λ file. file_named font.now.name.now files.now ≡ Some file.now) }
+    ensures none { IfErr result (IsFontRefusal files.now (definition font.now)) }
+{
+    file_named(files, font.name).ok_or(FontRefusal::NoFont(font.name))
+}
+
 /// Selects the font of a number, and reads it where it was not read before. The fault is Font where no definition of the number is before the
-/// selection, or none is after post. It is a refusal of the font where no metric file with the name in its first definition is given, or the file is
-/// bad; or OutOfMemory.
-pub fn select(
+/// selection, or none is after post. It is a refusal of the font where no metric file with the name in its first definition is given, or the first
+/// such file is bad; or OutOfMemory.
+pub fn select<'a>(
     alloc: Global,
-    source: &Source<'_, '_>,
-    known: &KnownFonts<'_>,
+    source: &Source<'_, 'a>,
+    known: &KnownFonts<'a>,
     fonts: &mut ReadFonts,
     number: FontNumber,
-) -> Result<(), StepFault>
+) -> Result<(), StepFault<'a>>
     requires sizes { AllByRecursion (λ d. IsFontSize d.size) known.now }
     requires sound { AreSound (file_widths source.now.files.now) known.now fonts.old }
     ensures ok { OnOk result (Selects (file_widths source.now.files.now) source.now.ahead.now.keys known.now number.value fonts.old fonts.new) }
@@ -181,7 +193,8 @@ pub fn select(
     if fonts.choose(number) {
         return Ok(());
     }
-    let read = read_font(alloc, source.files, font)?;
+    let file = font_file(source.files, font)?;
+    let read = read_font(alloc, file.bytes(), font)?;
     fonts.add(number, read)?;
     Ok(())
 }

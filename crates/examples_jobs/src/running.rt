@@ -72,7 +72,8 @@ pub fn run_same_pages<W: Write>(alloc: Global, output: &mut W) -> Result<()> {
 /// Lists and paints a page with one rule.
 pub fn run_shown<W: Write>(alloc: Global, output: &mut W) -> Result<()> {
     let memory = rule_pages(alloc, &[[0; 10]])?;
-    let (listing, picture) = listing_and_picture(alloc, memory.bytes(), &[])?;
+    let shown = listing_and_picture(alloc, memory.bytes(), &[]).ok();
+    let (listing, picture) = shown.context("the file was not read")?;
     print_listing(output, &listing, &picture)?;
     Ok(())
 }

@@ -1,4 +1,4 @@
-//! DVI files that are cut off.
+//! DVI files that are refused: cut off, or without the file of a font.
 
 use dvi_read::{Dvi, DviFault};
 use dvi_scan::{BadDvi, DviCause};
@@ -34,4 +34,13 @@ fn cut_files_are_refused(rt: HostRuntime) {
             Some(fault)
         );
     }
+}
+
+/// The fault of a font without a file has the font's name.
+#[test]
+fn a_font_without_a_file_is_named(rt: HostRuntime) {
+    assert_eq!(rt;
+        Dvi::open(rt.alloc(), &NESTED, &[]).err(),
+        Some(DviFault::NoFont(b"tiny"))
+    );
 }

@@ -20,7 +20,7 @@ pub struct BeforePages {
 }
 
 /// Finds the end of a file, the places of its pages, and its preamble, in this order. It takes memory for the places.
-pub fn find_front(alloc: Global, bytes: &[u8]) -> Result<BeforePages, DviFault>
+pub fn find_front(alloc: Global, bytes: &[u8]) -> Result<BeforePages, DviFault<'_>>
     ensures ok { IfOk result (HasFront bytes.now) }
     ensures bad { IfErr result (IsFrontFault bytes.now) }
 {

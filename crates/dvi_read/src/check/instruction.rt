@@ -44,7 +44,7 @@ fn note<'a>(
     walk: &mut Walk<'_, 'a>,
     at: usize,
     op: &Op<'a>,
-) -> Result<(), StepFault>
+) -> Result<(), StepFault<'a>>
     requires sizes { AllByRecursion (λ d. IsFontSize d.size) (known_of walk.old) }
     requires sound { AreSound (file_widths source.now.files.now) (known_of walk.old) walk.old.fonts }
     ensures ok { OnOk result (Notes (file_widths source.now.files.now) source.now.ahead.now.keys at (view op.now) walk.old walk.new) }
@@ -76,7 +76,7 @@ fn pass_on<'a>(
     most: usize,
     op: &Op<'a>,
     walk: &mut Walk<'_, 'a>,
-) -> Result<(), StepFault>
+) -> Result<(), StepFault<'a>>
     requires { HaveByteCodes walk.old.fonts }
     ensures ok { OnOk result (PassesOn most (view op.now) walk.old walk.new) }
     ensures bad { IfErr result (BreaksPass most (view op.now) walk.old) }
@@ -103,7 +103,7 @@ pub fn step<'a>(
     at: usize,
     op: &Op<'a>,
     walk: &mut Walk<'_, 'a>,
-) -> Result<(), StepFault>
+) -> Result<(), StepFault<'a>>
     requires sizes { AllByRecursion (λ d. IsFontSize d.size) (known_of walk.old) }
     requires sound { AreSound (file_widths source.now.files.now) (known_of walk.old) walk.old.fonts }
     requires current { IsCurrent walk.old.fonts walk.old.stand }

@@ -24,7 +24,7 @@ pub(crate) fn check_pages<'c, 'a>(
     ending: &FileEnd,
     from: usize,
     chain: &'c [usize],
-) -> Result<Walk<'c, 'a>, DviFault>
+) -> Result<Walk<'c, 'a>, DviFault<'a>>
     requires low { ending.now.after + 5 ≤ ending.now.last }
     requires high { ending.now.last ≤ length bytes.now }
     requires starts { StartsAt bytes.now ending.now.post ending.now.after ending.now.last (postamble ending.now.stop) chain.now from }
@@ -47,7 +47,7 @@ pub(crate) fn finish<'a>(
     bytes: &'a [u8],
     ending: &FileEnd,
     walk: &mut Walk<'_, 'a>,
-) -> Result<(), DviFault>
+) -> Result<(), DviFault<'a>>
     requires low { ending.now.after + 5 ≤ ending.now.last }
     requires high { ending.now.last ≤ length bytes.now }
     ensures ended { OnOk result (PagesHaveEnded (stand_of walk.old) (places_left walk.old) (map marked_page walk.old.done.items)) }

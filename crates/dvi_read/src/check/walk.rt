@@ -59,7 +59,7 @@ fn read_step<'a>(
     source: &Source<'_, 'a>,
     at: usize,
     walk: &mut Walk<'_, 'a>,
-) -> Result<usize, DviFault>
+) -> Result<usize, DviFault<'a>>
     requires low { at < source.now.ending.now.post }
     requires high { source.now.ending.now.post ≤ length source.now.bytes.now }
     requires sizes { AllByRecursion (λ d. IsFontSize d.size) (known_of walk.old) }
@@ -172,7 +172,7 @@ pub fn walk_pages<'c, 'a>(
     source: &Source<'_, 'a>,
     from: usize,
     left: &'c [usize],
-) -> Result<Walk<'c, 'a>, DviFault>
+) -> Result<Walk<'c, 'a>, DviFault<'a>>
     requires low { from ≤ source.now.ending.now.post }
     requires high { source.now.ending.now.post ≤ length source.now.bytes.now }
     requires reached { IsReached (file_widths source.now.files.now) source.now.ahead.now.keys source.now.bytes.now
