@@ -41,10 +41,10 @@ def options_of(text):
 
 
 def words_of_help(programs, root):
-    """The options of the program alone, and of each subcommand. Those without a text in tests/program have the options of `typeset`."""
+    """The options of the program alone, and of each subcommand."""
     text = help_of(programs, root, "")
     uses = [line.split()[0] for line in rows(text, "Commands")]
-    found = {use: options_of(help_of(programs, root, use if programs or use == "paint" else "typeset")) for use in uses}
+    found = {use: options_of(help_of(programs, root, use)) for use in uses}
     return {"": options_of(text), **found}
 
 

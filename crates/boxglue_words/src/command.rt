@@ -26,7 +26,13 @@ Uses:
   boxglue fonts page.dvi
       prints the units of a DVI file, and the fonts that it defines
   boxglue paint --page 1 --dpi 100 --width 850 --height 1100 page.dvi cmr10=cmr10.tfm > page.pbm
-      prints page 1 as a bitmap: its rules, without the shapes of glyphs";
+      prints page 1 as a bitmap: its rules, without the shapes of glyphs
+
+The manual page boxglue(1) describes every command, and docs/REFUSALS.md explains every refusal.";
+
+/// What a reader of a subcommand's help reads next; clap prints it at the end of that help. `USES` ends with the same line.
+const READ_NEXT: &str =
+    "The manual page boxglue(1) describes every command, and docs/REFUSALS.md explains every refusal.";
 
 /// A required path.
 fn path<'a>(alloc: Global, id: &'static str, help: &'static str) -> Arg<'a>
@@ -74,6 +80,7 @@ fn typeset<'a>(alloc: Global) -> Result<Command<'a>, AllocError>
 {
     Command::new(alloc, "typeset")
         .about("runs the script of standard input and writes the DVI file")
+        .after_help(READ_NEXT)
         .arg(path(alloc, "OUT", "the DVI file that is written"))?
         .arg(fonts(alloc))
 }
@@ -85,6 +92,7 @@ fn session<'a>(alloc: Global) -> Result<Command<'a>, AllocError>
 {
     Command::new(alloc, "session")
         .about("runs the lines of standard input as they come and writes the DVI file")
+        .after_help(READ_NEXT)
         .arg(path(alloc, "OUT", "the DVI file that is written"))?
         .arg(fonts(alloc))
 }
@@ -96,6 +104,7 @@ fn lists<'a>(alloc: Global) -> Result<Command<'a>, AllocError>
 {
     Command::new(alloc, "list")
         .about("prints the pages of a DVI file and their marks")
+        .after_help(READ_NEXT)
         .arg(path(alloc, "DVI", "the DVI file that is read"))?
         .arg(fonts(alloc))
 }
@@ -107,6 +116,7 @@ fn names_fonts<'a>(alloc: Global) -> Result<Command<'a>, AllocError>
 {
     Command::new(alloc, "fonts")
         .about("prints the units of a DVI file and the fonts that it defines")
+        .after_help(READ_NEXT)
         .arg(path(alloc, "DVI", "the DVI file that is read"))
 }
 
@@ -117,6 +127,7 @@ fn paint<'a>(alloc: Global) -> Result<Command<'a>, AllocError>
 {
     Command::new(alloc, "paint")
         .about("prints a page of a DVI file as a bitmap in plain PBM")
+        .after_help(READ_NEXT)
         .arg(number(alloc, "page", u32::MAX, "the page, from 1 on"))?
         .arg(number(alloc, "dpi", 10_000, "pixels an inch"))?
         .arg(number(alloc, "width", 10_000, "pixels across"))?
