@@ -1,5 +1,5 @@
 -- What the lines of an input say.
-use Rattle.std.proofs.Common.{◌≡◌, inl, inr, ℕ, ◌+◌, Bool, true, false, List, [], ◌∷◌, ◌++◌, Result, Ok, Err, IsOk, OnErr, refl, ap, sym, ◌∙◌, subst, append_assoc}
+use Rattle.std.proofs.Common.{◌≡◌, inl, inr, ℕ, ◌+◌, Bool, true, false, List, [], ◌∷◌, ◌++◌, Result, Ok, Err, IsOk, IfOk, OnErr, refl, ap, sym, ◌∙◌, subst, append_assoc}
 use Rattle.std.specs.Str.Lines.{lines}
 use Rattle.job_machine.specs.declared.command.Command.{Command as ACommand}
 use Rattle.boxglue_script.specs.declared.cause.Cause.{Cause}
@@ -11,7 +11,7 @@ use Rattle.boxglue_script.specs.Causes.{IsCause}
 use Rattle.boxglue_script.specs.Script.{SaysLine, SayFrom}
 use Rattle.boxglue_script.specs.LineContents.{Says, SayEach, SayOne, IsWhole, lines_said, has_no_bad}
 use Rattle.boxglue_script.specs.declared.script.ScriptFault.TheVariants.{BadScript}
-use Rattle.boxglue_script.specs.Private.Reading.{command_of_line, LinesOrFault, lines_then, reading_from, GivesCommand, ReadsOn, StopsAtLine}
+use Rattle.boxglue_script.specs.Private.Reading.{command_of_line, content_of, LinesOrFault, lines_then, reading_from, GivesCommand, ReadsOn, StopsAtLine}
 use Rattle.boxglue_script.proofs.LineLemmas.{lines_joined}
 use Rattle.boxglue_script.proofs.ScriptLaws.{line_said, line_read, line_fault}
 use Rattle.boxglue_script.proofs.OneCause.{one_line_cause, not_said}
@@ -38,8 +38,7 @@ fault_read line cause counted holds = fault_by line cause (command_of_line line)
 -- What a line says, by what is read of it.
 said_by : Bool → Result ACommand Cause → LineContent
 said_by true read = Nothing
-said_by false (Ok command) = Command command
-said_by false (Err cause) = Bad cause
+said_by false read = content_of read
 
 abbrev what_says : List ℕ → LineContent
 what_says line = said_by (is_passed_over line) (command_of_line line)
@@ -49,6 +48,16 @@ unfolding said_by
 says_by line true r e read = e
 says_by line false (Ok command) e read = line_said line command e read
 says_by line false (Err cause) e read = (e, line_fault line cause _ refl read)
+
+-- What was read of a line is said by it.
+read_says : (line : List ℕ) (said : LineContent) → is_passed_over line ≡ false → said ≡ content_of (command_of_line line) → Says line said
+unfolding said_by
+read_says line said counted read = subst (Says line) (sym read) (says_by line false (command_of_line line) counted refl)
+
+pub read_is_said : {E : Type 0} (line : List ℕ) (r : Result LineContent E) → is_passed_over line ≡ false
+    → IfOk r (λ said. said ≡ content_of (command_of_line line)) → IfOk r (Says line)
+read_is_said line (Ok said) counted read = read_says line said counted read
+read_is_said line (Err e) counted read = tt
 
 says_only : (line : List ℕ) (said : LineContent) → Says line said → said ≡ what_says line
 unfolding said_by
@@ -124,6 +133,18 @@ read_gives line counted is = let (command, read) = read_command (command_of_line
 pub on_any_err : {A E : Type 0} {P : Type 0} (r : Result A E) → P → OnErr r P
 on_any_err (Ok x) p = tt
 on_any_err (Err e) p = p
+
+-- A line for which memory is refused gives a command.
+pub refused_gives : {A E : Type 0} (line : List ℕ) (r : Result A E) → is_passed_over line ≡ false → OnErr r (IsOk (command_of_line line))
+    → OnErr r ((command : ACommand) × SaysLine line command)
+refused_gives line (Ok x) counted is = tt
+refused_gives line (Err e) counted is = read_gives line counted is
+
+-- What a line says is the only thing that it says.
+pub said_alone : {E : Type 0} (line : List ℕ) (r : Result LineContent E) → IfOk r (Says line)
+    → IfOk r (λ said. (other : LineContent) → Says line other → other ≡ said)
+said_alone line (Ok said) h = λ other k. says_one line said other h k
+said_alone line (Err e) h = tt
 
 abbrev read_lines : List Line → LinesOrFault
 read_lines all = Ok all

@@ -11,11 +11,12 @@ ghost use Rattle.boxglue_script.specs.Private.Reading.{last_penalty, last_amount
 ghost use Rattle.boxglue_script.specs.Private.Reading.{shift_of};
 ghost use Rattle.boxglue_script.specs.Private.Reading.{append_of, unboxing_command, split_into, split_height, split_to, split_of, glue, shrink_of};
 ghost use Rattle.boxglue_script.specs.Private.Reading.{last_shrink_of, parts_of, glue_of, parameter_of, rule_of, command_named, command_by};
-ghost use Rattle.boxglue_script.specs.Private.Reading.{first_word};
+ghost use Rattle.boxglue_script.specs.Private.Reading.{first_word, content_of};
 
 use crate::amounts::Amount;
 use crate::cause::Cause;
 use crate::fields::Fields;
+use crate::line_content::{LineContent, content_of};
 use crate::name::Name;
 use crate::parameter::{names_first_lines, number_name, size_name, skip_name};
 use job_machine::{
@@ -58,13 +59,13 @@ impl<'a> Fields<'a> {
     }
 
     /// The command of what follows `font`. The error is a refused growth, for the name, so only where there is such a command.
-    fn font(&mut self, alloc: Global) -> Result<Result<Command, Cause>, AllocError>
-        ensures read { IfOk result (λ read. read ≡ font_of (fields_of self.old.rest.now)) }
+    fn font(&mut self, alloc: Global) -> Result<LineContent, AllocError>
+        ensures read { IfOk result (λ content. content ≡ content_of (font_of (fields_of self.old.rest.now))) }
         ensures memory { OnErr result (IsOk (font_of (fields_of self.old.rest.now))) }
     {
         match self.font_words() {
-            Ok(words) => Ok(Ok(Command::LoadFont(words.load(alloc)?))),
-            Err(cause) => Ok(Err(cause)),
+            Ok(words) => Ok(LineContent::Command(Command::LoadFont(words.load(alloc)?))),
+            Err(cause) => Ok(LineContent::Bad(cause)),
         }
     }
 
@@ -293,53 +294,47 @@ impl<'a> Fields<'a> {
 
     /// The command of that name with the fields after it. The error is a refused growth, only where there is such a command.
     #[tactic(auto, unfolding(crate::specs::Private::Reading::command_named))]
-    fn command_named(
-        &mut self,
-        alloc: Global,
-        name: Name,
-    ) -> Result<Result<Command, Cause>, AllocError>
-        ensures read { IfOk result (λ read. read ≡ command_named name (fields_of self.old.rest.now)) }
+    fn command_named(&mut self, alloc: Global, name: Name) -> Result<LineContent, AllocError>
+        ensures read { IfOk result (λ content. content ≡ content_of (command_named name (fields_of self.old.rest.now))) }
         ensures memory { OnErr result (IsOk (command_named name (fields_of self.old.rest.now))) }
     {
         match name {
             Name::Font => self.font(alloc),
-            Name::Use => Ok(self.last_value::<u8>().map(Command::UseFont)),
-            Name::Open(form) => Ok(self.opening(form)),
-            Name::Paragraph => Ok(self.end().map(|()| Command::Paragraph)),
-            Name::End => Ok(self.end().map(|()| Command::End)),
-            Name::Character => Ok(self.last_value::<u8>().map(Command::Character)),
-            Name::Rule => Ok(self.rule()),
-            Name::Kern => Ok(self.last_value::<Dimen>().map(Command::Kern)),
-            Name::Glue => Ok(self.glue().map(Command::Glue)),
-            Name::Penalty => Ok(self.last_value::<IntParameter>().map(Command::Penalty)),
-            Name::Append(taking) => Ok(self.append(taking)),
-            Name::Unbox(kind, taking) => Ok(self.unboxing(kind, taking)),
-            Name::LastBox => Ok(self.last_value::<Register>().map(Command::LastBox)),
-            Name::Split => Ok(self.split()),
-            Name::Measure => Ok(self.last_value::<Register>().map(Command::Measure)),
-            Name::Void => Ok(self.last_value::<Register>().map(Command::Void)),
-            Name::Set => Ok(self.parameter().map(Command::Set)),
-            Name::Count => Ok(self.counting()),
-            Name::Ship => Ok(self.last_value::<Register>().map(Command::Ship)),
+            Name::Use => Ok(content_of(self.last_value::<u8>().map(Command::UseFont))),
+            Name::Open(form) => Ok(content_of(self.opening(form))),
+            Name::Paragraph => Ok(content_of(self.end().map(|()| Command::Paragraph))),
+            Name::End => Ok(content_of(self.end().map(|()| Command::End))),
+            Name::Character => Ok(content_of(self.last_value::<u8>().map(Command::Character))),
+            Name::Rule => Ok(content_of(self.rule())),
+            Name::Kern => Ok(content_of(self.last_value::<Dimen>().map(Command::Kern))),
+            Name::Glue => Ok(content_of(self.glue().map(Command::Glue))),
+            Name::Penalty => Ok(content_of(
+                self.last_value::<IntParameter>().map(Command::Penalty),
+            )),
+            Name::Append(taking) => Ok(content_of(self.append(taking))),
+            Name::Unbox(kind, taking) => Ok(content_of(self.unboxing(kind, taking))),
+            Name::LastBox => Ok(content_of(self.last_value::<Register>().map(Command::LastBox))),
+            Name::Split => Ok(content_of(self.split())),
+            Name::Measure => Ok(content_of(self.last_value::<Register>().map(Command::Measure))),
+            Name::Void => Ok(content_of(self.last_value::<Register>().map(Command::Void))),
+            Name::Set => Ok(content_of(self.parameter().map(Command::Set))),
+            Name::Count => Ok(content_of(self.counting())),
+            Name::Ship => Ok(content_of(self.last_value::<Register>().map(Command::Ship))),
         }
     }
 
     /// The command that a first word and the fields after it give, or the cause at the first bad field from the left. Where there is no field the
     /// word is empty. The error is a refused growth, only where they give a command.
-    pub fn command(
-        &mut self,
-        alloc: Global,
-        word: &[u8],
-    ) -> Result<Result<Command, Cause>, AllocError>
-        ensures read { IfOk result (λ read. read ≡ command_by (first_word word.now) (fields_of self.old.rest.now)) }
+    pub fn command(&mut self, alloc: Global, word: &[u8]) -> Result<LineContent, AllocError>
+        ensures read { IfOk result (λ content. content ≡ content_of (command_by (first_word word.now) (fields_of self.old.rest.now))) }
         ensures memory { OnErr result (IsOk (command_by (first_word word.now) (fields_of self.old.rest.now))) }
     {
         if word.is_empty() {
-            return Ok(Err(Cause::Missing));
+            return Ok(LineContent::Bad(Cause::Missing));
         }
         match Name::of(word) {
             Some(name) => self.command_named(alloc, name),
-            None => Ok(Err(Cause::Word)),
+            None => Ok(LineContent::Bad(Cause::Word)),
         }
     }
 }

@@ -8,7 +8,7 @@ ghost use Rattle.boxglue_script.specs.ScriptLines.{is_printable};
 ghost use Rattle.boxglue_script.specs.Causes.{IsPrintable};
 ghost use Rattle.boxglue_script.specs.Script.{SaysLine};
 ghost use Rattle.boxglue_script.specs.LineContents.{Says};
-ghost use Rattle.boxglue_script.specs.Private.Reading.{command_of_line};
+ghost use Rattle.boxglue_script.specs.Private.Reading.{command_of_line, content_of};
 
 use crate::cause::Cause;
 use crate::fields::Fields;
@@ -50,9 +50,16 @@ pub(crate) fn read_line_of(
     if is_passed_over(line) {
         return Ok(LineContent::Nothing);
     }
-    match command_of(alloc, line, plain)? {
-        Ok(command) => Ok(LineContent::Command(command)),
-        Err(cause) => Ok(LineContent::Bad(cause)),
+    command_of(alloc, line, plain)
+}
+
+/// What a line says of which this was read.
+pub(crate) fn content_of(read: Result<Command, Cause>) -> LineContent
+    ensures { result ≡ content_of read }
+{
+    match read {
+        Ok(command) => LineContent::Command(command),
+        Err(cause) => LineContent::Bad(cause),
     }
 }
 
@@ -64,24 +71,26 @@ fn has_printable_bytes(line: &[u8], plain: bool) -> bool
     plain || is_printable(line)
 }
 
-/// The command of a line, or the cause why it has none. Byte comes first, since a line with a byte that is not printable is not cut into fields. A
-/// text may have any length here: how long a special may be is a limit of the job, so the other commands run. The error is a refused growth, only
-/// where the line gives a command.
+/// What a line says that is not passed over: its command, or the cause why it has none. Byte comes first, since a line with a byte that is not
+/// printable is not cut into fields. A text may have any length here: how long a special may be is a limit of the job, so the other commands run. The
+/// error is a refused growth, only where the line gives a command.
 #[tactic(auto, unfolding(crate::specs::Private::Reading::command_of_line, crate::specs::Private::Reading::command_of_printable))]
-fn command_of(alloc: Global, line: &[u8], plain: bool) -> Result<Result<Command, Cause>, AllocError>
+fn command_of(alloc: Global, line: &[u8], plain: bool) -> Result<LineContent, AllocError>
     requires { plain ≡ true → IsPrintable line.now }
-    ensures read { IfOk result (λ read. read ≡ command_of_line line.now) }
+    ensures read { IfOk result (λ content. content ≡ content_of (command_of_line line.now)) }
     ensures memory { OnErr result (IsOk (command_of_line line.now)) }
 {
     if !has_printable_bytes(line, plain) {
-        return Ok(Err(Cause::Byte));
+        return Ok(LineContent::Bad(Cause::Byte));
     }
     let (word, rest) = first_field(line);
     if word == b"text".as_slice() {
-        return Ok(Ok(Command::Text(Characters::new(text_after(rest).to_vec(alloc)?))));
+        let text = Characters::new(text_after(rest).to_vec(alloc)?);
+        return Ok(LineContent::Command(Command::Text(text)));
     }
     if word == b"special".as_slice() {
-        return Ok(Ok(Command::Special(Characters::new(text_after(rest).to_vec(alloc)?))));
+        let text = Characters::new(text_after(rest).to_vec(alloc)?);
+        return Ok(LineContent::Command(Command::Special(text)));
     }
     Fields::new(rest).command(alloc, word)
 }

@@ -32,6 +32,8 @@ use Rattle.boxglue_script.specs.declared.amounts.Amount.{Amount}
 use Rattle.boxglue_script.specs.declared.script.Line.{Line}
 use Rattle.boxglue_script.specs.declared.script.ScriptFault.{ScriptFault}
 use Rattle.boxglue_script.specs.declared.script.ScriptFault.TheVariants.{BadScript}
+use Rattle.boxglue_script.specs.declared.line_content.LineContent.{LineContent}
+use Rattle.boxglue_script.specs.declared.line_content.LineContent.TheVariants as contents
 use Rattle.boxglue_script.specs.declared.name.Name.{Name}
 use Rattle.boxglue_script.specs.declared.name.Name.TheVariants as names
 use Rattle.boxglue_script.specs.Private.Names.{name_of}
@@ -475,6 +477,11 @@ command_of_printable line =
 -- The command of a line, or the cause why it has none.
 unfoldable pub command_of_line : List ℕ → Result Command Cause
 command_of_line line = if list_all is_printable line then command_of_printable line else Err Byte
+
+-- What a line says that is not passed over, by what was read of it: its command, or the cause why it has none.
+abbrev pub content_of : Result Command Cause → LineContent
+content_of (Ok command) = contents.Command command
+content_of (Err cause) = contents.Bad cause
 
 -- The result of reading lines: the lines that give commands, or why the script was not read.
 abbrev pub LinesOrFault : Type 0

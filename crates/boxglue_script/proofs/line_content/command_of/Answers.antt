@@ -9,15 +9,15 @@ use Rattle.boxglue_script.proofs.line_content.command_of.Goals as goal
 pub returns-clause-read : goal.returns-clause-read
 unfolding command_of_line command_of_printable
 returns-clause-read c =
-    let same : command_by (first_word c.first_field.result.0.now) (fields_of c.new-2.result.rest.now) ≡ command_of (fields_of c.args.line.now) =
-    line_command c.args.line.now c.first_field.result.0.now c.first_field.result.1.now (fields_of c.new-2.result.rest.now)
-    c.first_field.ensures.field c.first_field.ensures.text_left c.new-2.ensures in
+    let same : command_by (first_word c.first_field.result.0.now) (fields_of c.new.result.rest.now) ≡ command_of (fields_of c.args.line.now) =
+    line_command c.args.line.now c.first_field.result.0.now c.first_field.result.1.now (fields_of c.new.result.rest.now)
+    c.first_field.ensures.field c.first_field.ensures.text_left c.new.ensures in
     grind (arith, common_steps, same)
 
 pub returns-clause-memory : goal.returns-clause-memory
 unfolding command_of_line command_of_printable
 returns-clause-memory c =
-    let same : command_by (first_word c.first_field.result.0.now) (fields_of c.new-2.result.rest.now) ≡ command_of (fields_of c.args.line.now) =
-    line_command c.args.line.now c.first_field.result.0.now c.first_field.result.1.now (fields_of c.new-2.result.rest.now)
-    c.first_field.ensures.field c.first_field.ensures.text_left c.new-2.ensures in
+    let same : command_by (first_word c.first_field.result.0.now) (fields_of c.new.result.rest.now) ≡ command_of (fields_of c.args.line.now) =
+    line_command c.args.line.now c.first_field.result.0.now c.first_field.result.1.now (fields_of c.new.result.rest.now)
+    c.first_field.ensures.field c.first_field.ensures.text_left c.new.ensures in
     grind (arith, common_steps, same)
