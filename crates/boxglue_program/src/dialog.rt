@@ -17,6 +17,7 @@ use boxglue_script::{Line, LineContent, first_line, read_line};
 use job_core::{Device, Job};
 use std::alloc::{AllocError, Global};
 use std::io::Write;
+use std::marker::Model;
 use std::slice::from_ref;
 
 /// Room for the answers that wait.
@@ -64,15 +65,24 @@ pub(crate) struct Dialog<D: Device> {
     pub(crate) accepted: bool,
 }
 
+impl<D: Device> Model for Dialog<D> {
+    ghost use Rattle.boxglue_program.specs.Sessions.{DialogView};
+    ghost use Rattle.boxglue_program.specs.Private.Dialogs.{coded_dialog, dialog_of};
+
+    ghost Value = { DialogView };
+
+    ghost coded = { coded_dialog };
+
+    ghost view = { λ d. dialog_of d.job d.lines d.accepted };
+}
+
 impl<D: Device> Dialog<D> {
     /// Runs the next line, and appends its answer, if it has one. If memory is refused, nothing was run, and nothing is appended.
     fn answer(&mut self, line: &[u8], answers: &mut Vec<u8>) -> Result<(), AllocError>
         requires countable { self.old.lines + 1 < 2 ^ 64 }
         ensures ok { OnOk result ((text : List ℕ) × (answers.new.items ≡ answers.old.items ++ text)
-            × AnswersLines (dialog_of self.old.job self.old.lines self.old.accepted) (line.now ∷ []) text
-            (dialog_of self.new.job self.new.lines self.new.accepted)) }
-        ensures unchanged { OnErr result (dialog_of self.new.job self.new.lines self.new.accepted
-            ≡ dialog_of self.old.job self.old.lines self.old.accepted) }
+            × AnswersLines self.old (line.now ∷ []) text self.new) }
+        ensures unchanged { OnErr result (self.new ≡ self.old) }
         ensures cut { OnErr result (answers.new.items ≡ answers.old.items) }
         ensures counted { self.new.lines ≤ self.old.lines + 1 }
     {
@@ -87,8 +97,7 @@ impl<D: Device> Dialog<D> {
         ensures ended { IfOk result (λ accepted. (end : Result ASummary ARefusal)
             × EndsRun self.old.job end self.new.job.failed self.new.job.bytes_written
             × (answers.new.items ≡ answers.old.items ++ end_line end) × (accepted ≡ (self.old.accepted && is_ok end))) }
-        ensures none { OnErr result (dialog_of self.new.job self.new.lines self.new.accepted
-            ≡ dialog_of self.old.job self.old.lines self.old.accepted) }
+        ensures none { OnErr result (self.new ≡ self.old) }
         ensures cut { OnErr result (answers.new.items ≡ answers.old.items) }
         ensures goes_on { GoesOn (writing_of self.old.job) (writing_of self.new.job) }
     {
@@ -148,13 +157,11 @@ impl Outbox {
     ) -> Result<(), AllocError>
         requires countable { dialog.old.lines + length text.now < 2 ^ 64 }
         ensures ok { OnOk result ((answers : List ℕ)
-            × AnswersLines (dialog_of dialog.old.job dialog.old.lines dialog.old.accepted) (lines text.now) answers
-            (dialog_of dialog.new.job dialog.new.lines dialog.new.accepted)
+            × AnswersLines dialog.old (lines text.now) answers dialog.new
             × Sends (outbox_of self.old.waiting.items self.old.reads) (outbox_of self.new.waiting.items self.new.reads) (W.contents writer.old)
             (W.contents writer.new) answers) }
         ensures stopped { OnErr result ((answers : List ℕ)
-            × StopsIn text.now (dialog_of dialog.old.job dialog.old.lines dialog.old.accepted) answers
-            (dialog_of dialog.new.job dialog.new.lines dialog.new.accepted)
+            × StopsIn text.now dialog.old answers dialog.new
             × Sends (outbox_of self.old.waiting.items self.old.reads) (outbox_of self.new.waiting.items self.new.reads) (W.contents writer.old)
             (W.contents writer.new) answers) }
         ensures counted { dialog.new.lines ≤ dialog.old.lines + length text.now }
@@ -179,12 +186,10 @@ impl Outbox {
         requires countable { dialog.old.lines + length text.now < 2 ^ 64 }
         requires empty { self.old.waiting.items ≡ [] }
         ensures ok { OnOk result ((answers : List ℕ)
-            × AnswersLines (dialog_of dialog.old.job dialog.old.lines dialog.old.accepted) (lines text.now) answers
-            (dialog_of dialog.new.job dialog.new.lines dialog.new.accepted)
+            × AnswersLines dialog.old (lines text.now) answers dialog.new
             × IsSent self.old.reads self.new.reads (W.contents writer.old) (W.contents writer.new) answers) }
         ensures stopped { OnErr result ((answers : List ℕ)
-            × StopsIn text.now (dialog_of dialog.old.job dialog.old.lines dialog.old.accepted) answers
-            (dialog_of dialog.new.job dialog.new.lines dialog.new.accepted)
+            × StopsIn text.now dialog.old answers dialog.new
             × IsSent self.old.reads self.new.reads (W.contents writer.old) (W.contents writer.new) answers) }
         ensures emptied { self.new.waiting.items ≡ [] }
         ensures counted { dialog.new.lines ≤ dialog.old.lines + length text.now }
@@ -204,13 +209,12 @@ impl Outbox {
         requires countable { dialog.old.lines + length text.now < 2 ^ 64 }
         requires empty { self.old.waiting.items ≡ [] }
         ensures ended { IfOk result (λ accepted. (answers : List ℕ) × (middle : DialogView) × (end : Result ASummary ARefusal)
-            × AnswersLines (dialog_of dialog.old.job dialog.old.lines dialog.old.accepted) (lines text.now) answers middle
+            × AnswersLines dialog.old (lines text.now) answers middle
             × EndsRun middle.job end dialog.new.job.failed dialog.new.job.bytes_written
             × IsSent self.old.reads self.new.reads (W.contents writer.old) (W.contents writer.new) (answers ++ end_line end)
             × (accepted ≡ (middle.accepted && is_ok end)) × GoesOn (writing_of middle.job) (writing_of dialog.new.job)) }
         ensures stopped { OnErr result ((answers : List ℕ)
-            × StopsIn text.now (dialog_of dialog.old.job dialog.old.lines dialog.old.accepted) answers
-            (dialog_of dialog.new.job dialog.new.lines dialog.new.accepted)
+            × StopsIn text.now dialog.old answers dialog.new
             × IsSent self.old.reads self.new.reads (W.contents writer.old) (W.contents writer.new) answers) }
     {
         self.answer(dialog, text, writer)?;
@@ -228,8 +232,7 @@ impl Outbox {
             × EndsRun dialog.old.job end dialog.new.job.failed dialog.new.job.bytes_written
             × IsSent self.old.reads self.new.reads (W.contents writer.old) (W.contents writer.new) (end_line end)
             × (accepted ≡ (dialog.old.accepted && is_ok end))) }
-        ensures none { OnErr result ((dialog_of dialog.new.job dialog.new.lines dialog.new.accepted
-            ≡ dialog_of dialog.old.job dialog.old.lines dialog.old.accepted)
+        ensures none { OnErr result ((dialog.new ≡ dialog.old)
             × IsSent self.old.reads self.new.reads (W.contents writer.old) (W.contents writer.new) []) }
         ensures goes_on { GoesOn (writing_of dialog.old.job) (writing_of dialog.new.job) }
     {

@@ -11,7 +11,7 @@ ghost use Rattle.job_core.specs.Jobs.{writing_of};
 ghost use Rattle.boxglue_script.specs.LineContents.{IsWhole};
 ghost use Rattle.boxglue_program.specs.Reports.{written_bytes};
 ghost use Rattle.boxglue_program.specs.Sessions.{AnswersLines, RanSession, LacksSessionMemory, IsUnreadable, IsCutOff, IsSent, StopsIn};
-ghost use Rattle.boxglue_program.specs.Private.Dialogs.{dialog_of, IsCutAfterLines};
+ghost use Rattle.boxglue_program.specs.Private.Dialogs.{IsCutAfterLines};
 
 use crate::dialog::{Dialog, OUTBOX_SIZE, Outbox};
 use job_core::{Device, FontFile, Job};
@@ -66,14 +66,13 @@ pub struct Session<D: Device> {
 impl<D: Device> Model for Session<D> {
     ghost use Rattle.std.specs.Prelude.{◌≡◌, ◌≤◌, ◌<◌, ◌+◌, ◌^◌, [], length, Contains, vec_len};
     ghost use Rattle.boxglue_program.specs.Sessions.{SessionView};
-    ghost use Rattle.boxglue_program.specs.Private.Dialogs.{dialog_of, coded_session};
+    ghost use Rattle.boxglue_program.specs.Private.Dialogs.{coded_session, session_of};
 
     ghost Value = { SessionView };
 
     ghost coded = { coded_session };
 
-    ghost view = { λ s.
-        record { dialog = dialog_of s.dialog.job s.dialog.lines s.dialog.accepted; reads = s.outbox.reads; kept = s.kept.items; left = s.left } };
+    ghost view = { λ s. session_of s.dialog s.outbox.reads s.kept.items s.left };
 
     ghost invariant = { λ s. (s.outbox.waiting.items ≡ []) × (vec_len s.buffer ≡ 65536) × (Contains s.kept.items 10 → ⊥)
         × (s.dialog.lines + length s.kept.items + s.left < 2 ^ 64) };
@@ -131,12 +130,10 @@ fn take_piece<D: Device, W: Write>(
     requires unended { Contains kept.old.items 10 → ⊥ }
     requires countable { dialog.old.lines + length kept.old.items + length piece.now < 2 ^ 64 }
     ensures ok { OnOk result ((whole answers : List ℕ) × (kept.old.items ++ piece.now ≡ whole ++ kept.new.items) × IsWhole whole
-        × AnswersLines (dialog_of dialog.old.job dialog.old.lines dialog.old.accepted) (lines whole) answers
-        (dialog_of dialog.new.job dialog.new.lines dialog.new.accepted)
+        × AnswersLines dialog.old (lines whole) answers dialog.new
         × IsSent outbox.old.reads outbox.new.reads (W.contents writer.old) (W.contents writer.new) answers) }
     ensures stopped { OnErr result ((answers : List ℕ)
-        × StopsIn (kept.old.items ++ piece.now) (dialog_of dialog.old.job dialog.old.lines dialog.old.accepted) answers
-        (dialog_of dialog.new.job dialog.new.lines dialog.new.accepted)
+        × StopsIn (kept.old.items ++ piece.now) dialog.old answers dialog.new
         × IsSent outbox.old.reads outbox.new.reads (W.contents writer.old) (W.contents writer.new) answers) }
     ensures emptied { outbox.new.waiting.items ≡ [] }
     ensures rest { Contains kept.new.items 10 → ⊥ }

@@ -26,8 +26,8 @@ pub record Sends (old new : OutboxView) (before after : Option (List ℕ)) (text
   pub is_sent : IsSent old.reads new.reads before after sent
 
 -- A session by its parts.
-abbrev pub session_of : JobView → ℕ → Bool → Bool → List ℕ → ℕ → SessionView
-session_of job lines accepted reads kept left = record { dialog = dialog_of job lines accepted; reads = reads; kept = kept; left = left }
+abbrev pub session_of : DialogView → Bool → List ℕ → ℕ → SessionView
+session_of dialog reads kept left = record { dialog = dialog; reads = reads; kept = kept; left = left }
 
 -- A piece was cut after its last line feed.
 pub record IsCutAfterLines (piece whole rest : List ℕ) : Type 0 where
@@ -35,10 +35,14 @@ pub record IsCutAfterLines (piece whole rest : List ℕ) : Type 0 where
   pub ends : IsWhole whole
   pub unended : Contains rest 10 → ⊥
 
+-- How the logic stores the view of a dialog.
+abbrev pub coded_dialog : Coded DialogView
+coded_dialog =
+    code_by ((JobView × ℕ) × Bool) (coded× (coded× coded_job_view coded_ℕ) coded_bool) (λ d. ((d.job, d.lines), d.accepted))
+    (λ p. dialog_of p.0.0 p.0.1 p.1) (λ _. refl)
+
 -- How the logic stores the view of a session.
 abbrev pub coded_session : Coded SessionView
 coded_session =
-    code_by (((JobView × ℕ) × Bool) × ((Bool × List ℕ) × ℕ))
-    (coded× (coded× (coded× coded_job_view coded_ℕ) coded_bool) (coded× (coded× coded_bool (coded_list coded_ℕ)) coded_ℕ))
-    (λ s. (((s.dialog.job, s.dialog.lines), s.dialog.accepted), ((s.reads, s.kept), s.left)))
-    (λ p. record { dialog = record { job = p.0.0.0; lines = p.0.0.1; accepted = p.0.1 }; reads = p.1.0.0; kept = p.1.0.1; left = p.1.1 }) (λ _. refl)
+    code_by (DialogView × ((Bool × List ℕ) × ℕ)) (coded× coded_dialog (coded× (coded× coded_bool (coded_list coded_ℕ)) coded_ℕ))
+    (λ s. (s.dialog, ((s.reads, s.kept), s.left))) (λ p. session_of p.0 p.1.0.0 p.1.0.1 p.1.1) (λ _. refl)

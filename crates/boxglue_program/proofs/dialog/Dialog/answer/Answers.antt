@@ -5,4 +5,4 @@ use Rattle.boxglue_program.proofs.dialog.Dialog.answer.Goals as goal
 pub returns-clause-ok : goal.returns-clause-ok
 returns-clause-ok g c =
     let line = c.in_ok-accepted.ensures.ok in
-    (line.0, line.1, answered_after _ _ _ _ _ _ c.args.self.now.accepted _ line.2)
+    rw (← c.self.view_is) (line.0, line.1, answered_after _ _ _ _ _ _ c.self.inside.accepted _ line.2)

@@ -1,7 +1,6 @@
 -- The lines, and then the end.
 use Rattle.std.proofs.lemmas.Result.{IfOk-weaker, on_err_weaker}
 use Rattle.boxglue_program.specs.Texts.{end_line}
-use Rattle.boxglue_program.specs.Private.Dialogs.{dialog_of}
 use Rattle.boxglue_program.proofs.SessionLaws.{sent_both}
 use Rattle.boxglue_program.proofs.DialogLaws.{stops_at_end, sent_no_more}
 use Rattle.boxglue_program.proofs.dialog.Outbox.answer_last.Goals as goal
@@ -12,7 +11,7 @@ returns-clause-ended g c =
     IfOk-weaker c.finish.result _ _
     (λ accepted h. (
       lines.0,
-      dialog_of c.answer.new.dialog.job c.answer.new.dialog.lines c.answer.new.dialog.accepted,
+      c.answer.new.dialog,
       h.0,
       lines.1,
       h.1,
@@ -26,12 +25,12 @@ returns-clause-ended g c =
 pub returns-clause-stopped : goal.returns-clause-stopped
 returns-clause-stopped g c =
     let lines = c.in_ok-answer.ensures.ok in
-    let old = dialog_of c.args.dialog.now.job c.args.dialog.now.lines c.args.dialog.now.accepted in
-    let now = dialog_of c.answer.new.dialog.job c.answer.new.dialog.lines c.answer.new.dialog.accepted in
+    let old = c.args.dialog.now in
+    let now = c.answer.new.dialog in
     on_err_weaker c.finish.result
     (λ h. (
       lines.0,
-      stops_at_end c.args.text.now lines.0 old now (dialog_of c.finish.new.dialog.job c.finish.new.dialog.lines c.finish.new.dialog.accepted) lines.1 h.0,
+      stops_at_end c.args.text.now lines.0 old now c.finish.new.dialog lines.1 h.0,
       sent_no_more c.args.self.now.reads c.answer.new.self.reads c.finish.new.self.reads (g.W.Write.contents c.args.writer.now) (g.W.Write.contents c.answer.new.writer) (g.W.Write.contents c.finish.new.writer) lines.0 lines.2 h.1,
     ))
     c.finish.ensures.none

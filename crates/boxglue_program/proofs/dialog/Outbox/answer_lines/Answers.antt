@@ -2,7 +2,7 @@
 use Rattle.std.proofs.Common.{◌<◌, ◌++◌, [], length, arith}
 use Rattle.std.proofs.lemmas.Bool.Decides.{nat_tests}
 use Rattle.boxglue_script.proofs.LineContentLaws.{on_any_err}
-use Rattle.boxglue_program.specs.Private.Dialogs.{dialog_of, outbox_of}
+use Rattle.boxglue_program.specs.Private.Dialogs.{outbox_of}
 use Rattle.boxglue_program.proofs.DialogLaws.{up_to_start, up_to_more, up_to_end, stops_after, sends_none, sends_line, sends_no_line}
 use Rattle.boxglue_program.proofs.dialog.Outbox.answer_lines.Goals as goal
 
@@ -10,7 +10,7 @@ pub loop-rest-init : goal.loop-rest-init
 loop-rest-init g c = record {
   done = (
     [],
-    up_to_start c.args.text.now (dialog_of c.args.dialog.now.job c.args.dialog.now.lines c.args.dialog.now.accepted),
+    up_to_start c.args.text.now c.args.dialog.now,
     sends_none (outbox_of c.args.self.now.waiting.items c.args.self.now.reads) (g.W.Write.contents c.args.writer.now),
   );
   counted = omega arith;
@@ -18,31 +18,31 @@ loop-rest-init g c = record {
 
 pub returns-in_err-answer-clause-stopped : goal.returns-in_err-answer-clause-stopped
 returns-in_err-answer-clause-stopped g c =
-    let old = dialog_of c.args.dialog.now.job c.args.dialog.now.lines c.args.dialog.now.accepted in
-    let now = dialog_of c.loop-rest.dialog.job c.loop-rest.dialog.lines c.loop-rest.dialog.accepted in
+    let old = c.args.dialog.now in
+    let now = c.loop-rest.dialog in
     let start = outbox_of c.args.self.now.waiting.items c.args.self.now.reads in
     let held = outbox_of c.loop-rest.self.waiting.items c.loop-rest.self.reads in
     let room = outbox_of c.make_room.new.self.waiting.items c.make_room.new.self.reads in
     let before = c.loop-rest.invariant.done in
     on_any_err c.from_residual.result (
       before.0,
-      stops_after c.args.text.now c.loop-rest.rest.now before.0 old now (dialog_of c.answer.new.self.job c.answer.new.self.lines c.answer.new.self.accepted) before.1 c.in_err-answer.ensures.unchanged,
+      stops_after c.args.text.now c.loop-rest.rest.now before.0 old now c.answer.new.self before.1 c.in_err-answer.ensures.unchanged,
       sends_no_line start held room (g.W.Write.contents c.args.writer.now) (g.W.Write.contents c.loop-rest.writer) (g.W.Write.contents c.make_room.new.writer) before.0 c.answer.new.answers.items before.2
           c.make_room.ensures.sent c.in_err-answer.ensures.cut,
     )
 
 pub returns-clause-ok : goal.returns-clause-ok
 returns-clause-ok g c =
-    let old = dialog_of c.args.dialog.now.job c.args.dialog.now.lines c.args.dialog.now.accepted in
-    let now = dialog_of c.loop-rest.dialog.job c.loop-rest.dialog.lines c.loop-rest.dialog.accepted in
+    let old = c.args.dialog.now in
+    let now = c.loop-rest.dialog in
     let before = c.loop-rest.invariant.done in
     (before.0, up_to_end c.args.text.now c.loop-rest.rest.now before.0 old now (grind (arith, nat_tests)) before.1, before.2)
 
 pub loop-rest-preserved : goal.loop-rest-preserved
 loop-rest-preserved g c =
-    let old = dialog_of c.args.dialog.now.job c.args.dialog.now.lines c.args.dialog.now.accepted in
-    let now = dialog_of c.loop-rest.dialog.job c.loop-rest.dialog.lines c.loop-rest.dialog.accepted in
-    let new = dialog_of c.answer.new.self.job c.answer.new.self.lines c.answer.new.self.accepted in
+    let old = c.args.dialog.now in
+    let now = c.loop-rest.dialog in
+    let new = c.answer.new.self in
     let start = outbox_of c.args.self.now.waiting.items c.args.self.now.reads in
     let held = outbox_of c.loop-rest.self.waiting.items c.loop-rest.self.reads in
     let room = outbox_of c.make_room.new.self.waiting.items c.make_room.new.self.reads in

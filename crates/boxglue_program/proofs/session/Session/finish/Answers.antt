@@ -1,16 +1,15 @@
 -- The last line was run, and the job was finished.
 use Rattle.std.proofs.Common.{ℕ, List, subst}
 use Rattle.std.specs.Str.Lines.{lines}
-use Rattle.boxglue_program.specs.Private.Dialogs.{dialog_of}
-use Rattle.boxglue_program.specs.Sessions.{AnswersLines, DialogView, SessionView, StopsIn}
+use Rattle.boxglue_program.specs.Private.Dialogs.{session_of}
+use Rattle.boxglue_program.specs.Sessions.{AnswersLines, StopsIn}
 use Rattle.boxglue_program.proofs.SessionCalls.{session_finished, session_unfinished}
 use Rattle.boxglue_program.proofs.session.Session.finish.Goals as goal
 
 pub returns-in-Ok-clause-ended : goal.returns-in-Ok-clause-ended
 returns-in-Ok-clause-ended g c =
     let inside = c.self.inside in
-    let was : SessionView =
-    record { dialog = dialog_of inside.dialog.job inside.dialog.lines inside.dialog.accepted; reads = inside.outbox.reads; kept = inside.kept.items; left = inside.left } in
+    let was = session_of inside.dialog inside.outbox.reads inside.kept.items inside.left in
     let ends = c.in-Ok.ensures.ended in
     let ran : AnswersLines was.dialog (lines was.kept) ends.0 ends.1 = subst (λ (text : List ℕ). AnswersLines was.dialog (lines text) ends.0 ends.1) c.deref.ensures.value ends.3 in
     session_finished c.args.self was c.close.result.outcome c.in-Ok.accepted c.answer_last.new.self.reads c.close.result.written (g.D.Device.failed c.close.result.device) c.answer_last.new.dialog.job.failed
@@ -20,10 +19,8 @@ returns-in-Ok-clause-ended g c =
 pub returns-clause-memory : goal.returns-clause-memory
 returns-clause-memory g c =
     let inside = c.self.inside in
-    let was : SessionView =
-    record { dialog = dialog_of inside.dialog.job inside.dialog.lines inside.dialog.accepted; reads = inside.outbox.reads; kept = inside.kept.items; left = inside.left } in
-    let now = c.answer_last.new.dialog in
-    let ended : DialogView = dialog_of now.job now.lines now.accepted in
+    let was = session_of inside.dialog inside.outbox.reads inside.kept.items inside.left in
+    let ended = c.answer_last.new.dialog in
     let lacks = c.in-Err.ensures.stopped in
     let stops : StopsIn was.kept was.dialog lacks.0 ended = subst (λ (text : List ℕ). StopsIn text was.dialog lacks.0 ended) c.deref.ensures.value lacks.1 in
     session_unfinished c.args.self was ended c.close-in-Err.result.outcome c.answer_last.new.self.reads c.close-in-Err.result.written (g.D.Device.failed c.close-in-Err.result.device)
