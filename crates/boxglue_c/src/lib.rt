@@ -1,22 +1,17 @@
 //! The typesetter for programs in C, and for languages that call C. Each function calls the one of its name in `boxglue_calls`, or in its module
-//! `jobs`, and states its clauses again; `include/boxglue.h` describes them for callers in C. A function has no `requires`: it returns a status for
-//! every input.
+//! `jobs`, and has the same clauses, which that crate's `Calls` defines; `include/boxglue.h` describes them for callers in C. A function has no
+//! `requires`: it returns a status for every input.
 #![tactic(auto)]
 
-ghost use Rattle.std.specs.Prelude.{◌≡◌, ◌≢◌, ◌↔◌, ◌⊎◌, ◌≤◌, ◌/◌, length, false, true, None, Some};
+ghost use Rattle.std.specs.Prelude.{◌≡◌, ◌≢◌, None};
 ghost use Rattle.boxglue_program.specs.Reports.{any_bytes, written_bytes};
-ghost use Rattle.boxglue_calls.specs.Fonts.{are_named, files_of};
-ghost use Rattle.boxglue_calls.specs.FontTables.{HandsOverFonts};
-ghost use Rattle.boxglue_calls.specs.MarkTables.{HandsOverMarks, mark_outputs};
-ghost use Rattle.boxglue_calls.specs.Pages.{HandsOverPages, is_in_range};
-ghost use Rattle.boxglue_calls.specs.Runs.{HandsOverRun, IsRun};
-ghost use Rattle.boxglue_calls.specs.Calls.{OnJob};
-ghost use Rattle.boxglue_calls.specs.Jobs.{IsNewJob, KeptState};
+ghost use Rattle.boxglue_calls.specs.MarkTables.{mark_outputs};
 ghost use Rattle.boxglue_calls.specs.Pieces.{DoesCommands, FinishesKept, HandsAnswers, HandsBytes};
-ghost use Rattle.boxglue_calls.specs.Replies.{RepliesTo, RepliesToEnd};
-ghost use Rattle.boxglue_calls.specs.Whole.{IsReplied};
-ghost use Rattle.boxglue_print.specs.Outputs.{IsListed, IsPainted, LacksPage};
+ghost use Rattle.boxglue_calls.specs.Replies.{RepliesTo, RepliesToEnd, row_room};
 ghost use Rattle.raster_core.specs.Sheets.{sheet_of};
+ghost use Rattle.boxglue_calls.specs.Calls.{HasRoomForMarks, IsStatusOfNew, KeepsUndone, KeepsUnpainted, KeepsUnread, KeepsWithoutJob, Lists};
+ghost use Rattle.boxglue_calls.specs.Calls.{MakesJob, NeedsJob, NoticesNoPage, OnJob, Paints, ReadsFonts, ReadsMarks, RefusesJob, RefusesNames};
+ghost use Rattle.boxglue_calls.specs.Calls.{RefusesNamesOfJob, RefusesNumbers, RefusesPage, Runs, RunsInRows};
 
 use boxglue_calls::jobs::{JobHandle, ReplyRow, ReplySizes};
 use boxglue_calls::{DviFont, DviMark, DviPage, Font, FontSizes, Lengths, MarkSizes};
@@ -32,16 +27,12 @@ pub extern "C" fn boxglue_run(
     dvi: &mut [u8],
     lengths: &mut Lengths,
 ) -> u32
-    ensures named { result ≡ 3 ↔ are_named fonts.now ≡ false }
-    ensures done { (result ≡ 2) ⊎ (result ≡ 3)
-        ⊎ HandsOverRun (IsRun any_bytes script.now (files_of fonts.now)) answers.old answers.new dvi.old dvi.new
-        (lengths.new.answers, lengths.new.dvi) result }
-    ensures sent { (result ≡ 2) ⊎ (result ≡ 3)
-        ⊎ HandsOverRun (IsRun written_bytes script.now (files_of fonts.now)) answers.old answers.new dvi.old dvi.new
-        (lengths.new.answers, lengths.new.dvi) result }
-    ensures answers { (result ≡ 2) ⊎ (result ≡ 3) → answers.new ≡ answers.old }
-    ensures dvi { (result ≡ 2) ⊎ (result ≡ 3) → dvi.new ≡ dvi.old }
-    ensures lengths { (result ≡ 2) ⊎ (result ≡ 3) → lengths.new ≡ lengths.old }
+    ensures named { RefusesNames fonts.now result }
+    ensures done { Runs any_bytes script.now fonts.now (answers.old, answers.new) (dvi.old, dvi.new) lengths.new result }
+    ensures sent { Runs written_bytes script.now fonts.now (answers.old, answers.new) (dvi.old, dvi.new) lengths.new result }
+    ensures answers { KeepsUndone result answers.old answers.new }
+    ensures dvi { KeepsUndone result dvi.old dvi.new }
+    ensures lengths { KeepsUndone result lengths.old lengths.new }
 {
     boxglue_calls::run(alloc, script, fonts, answers, dvi, lengths)
 }
@@ -56,10 +47,10 @@ pub extern "C" fn boxglue_list(
     text: &mut [u8],
     size: &mut usize,
 ) -> u32
-    ensures named { result ≡ 3 ↔ are_named fonts.now ≡ false }
-    ensures done { (result ≡ 2) ⊎ (result ≡ 3) ⊎ HandsOverPages (IsListed (files_of fonts.now) dvi.now) text.old text.new size.new result }
-    ensures text { (result ≡ 2) ⊎ (result ≡ 3) → text.new ≡ text.old }
-    ensures size { (result ≡ 2) ⊎ (result ≡ 3) → size.new ≡ size.old }
+    ensures named { RefusesNames fonts.now result }
+    ensures done { Lists dvi.now fonts.now (text.old, text.new) size.new result }
+    ensures text { KeepsUndone result text.old text.new }
+    ensures size { KeepsUndone result size.old size.new }
 {
     boxglue_calls::list(alloc, dvi, fonts, text, size)
 }
@@ -78,15 +69,13 @@ pub extern "C" fn boxglue_paint(
     text: &mut [u8],
     size: &mut usize,
 ) -> u32
-    ensures named { result ≡ 3 ↔ are_named fonts.now ≡ false }
-    ensures range { result ≡ 6 ↔ ((are_named fonts.now ≡ true) × (is_in_range page dpi width height ≡ false)) }
-    ensures lacking { result ≡ 5 → LacksPage (files_of fonts.now) dvi.now page }
-    ensures found { LacksPage (files_of fonts.now) dvi.now page → are_named fonts.now ≡ true → is_in_range page dpi width height ≡ true
-        → (result ≡ 2) ⊎ (result ≡ 5) }
-    ensures done { (result ≡ 2) ⊎ (result ≡ 3) ⊎ (result ≡ 5) ⊎ (result ≡ 6)
-        ⊎ HandsOverPages (IsPainted (files_of fonts.now) dvi.now (sheet_of page dpi width height)) text.old text.new size.new result }
-    ensures text { (result ≡ 2) ⊎ (result ≡ 3) ⊎ (result ≡ 5) ⊎ (result ≡ 6) → text.new ≡ text.old }
-    ensures size { (result ≡ 2) ⊎ (result ≡ 3) ⊎ (result ≡ 5) ⊎ (result ≡ 6) → size.new ≡ size.old }
+    ensures named { RefusesNames fonts.now result }
+    ensures range { RefusesNumbers fonts.now page dpi width height result }
+    ensures lacking { RefusesPage dvi.now fonts.now page result }
+    ensures found { NoticesNoPage dvi.now fonts.now page dpi width height result }
+    ensures done { Paints dvi.now fonts.now (sheet_of page dpi width height) (text.old, text.new) size.new result }
+    ensures text { KeepsUnpainted result text.old text.new }
+    ensures size { KeepsUnpainted result size.old size.new }
 {
     boxglue_calls::paint(alloc, dvi, fonts, page, dpi, width, height, text, size)
 }
@@ -101,10 +90,10 @@ pub extern "C" fn boxglue_fonts(
     text: &mut [u8],
     sizes: &mut FontSizes,
 ) -> u32
-    ensures done { (result ≡ 2) ⊎ HandsOverFonts dvi.now fonts.old fonts.new text.old text.new sizes.new result }
-    ensures fonts { result ≡ 2 → fonts.new ≡ fonts.old }
-    ensures text { result ≡ 2 → text.new ≡ text.old }
-    ensures sizes { result ≡ 2 → sizes.new ≡ sizes.old }
+    ensures done { ReadsFonts dvi.now (fonts.old, fonts.new) (text.old, text.new) sizes.new result }
+    ensures fonts { KeepsUnread result fonts.old fonts.new }
+    ensures text { KeepsUnread result text.old text.new }
+    ensures sizes { KeepsUnread result sizes.old sizes.new }
 {
     boxglue_calls::fonts(alloc, dvi, fonts, text, sizes)
 }
@@ -121,14 +110,14 @@ pub extern "C" fn boxglue_marks(
     text: &mut [u8],
     sizes: &mut MarkSizes,
 ) -> u32
-    ensures named { result ≡ 3 ↔ are_named fonts.now ≡ false }
-    ensures done { (result ≡ 2) ⊎ (result ≡ 3) ⊎ HandsOverMarks (files_of fonts.now) dvi.now
-        (mark_outputs pages.old marks.old text.old) (mark_outputs pages.new marks.new text.new) sizes.new result }
-    ensures enough { length dvi.now / 46 ≤ length pages.old → length dvi.now ≤ length marks.old → 64 ≤ length text.old → result ≢ 4 }
-    ensures pages { (result ≡ 2) ⊎ (result ≡ 3) → pages.new ≡ pages.old }
-    ensures marks { (result ≡ 2) ⊎ (result ≡ 3) → marks.new ≡ marks.old }
-    ensures text { (result ≡ 2) ⊎ (result ≡ 3) → text.new ≡ text.old }
-    ensures sizes { (result ≡ 2) ⊎ (result ≡ 3) → sizes.new ≡ sizes.old }
+    ensures named { RefusesNames fonts.now result }
+    ensures done { ReadsMarks dvi.now fonts.now (mark_outputs pages.old marks.old text.old)
+        (mark_outputs pages.new marks.new text.new) sizes.new result }
+    ensures enough { HasRoomForMarks dvi.now (mark_outputs pages.old marks.old text.old) result }
+    ensures pages { KeepsUndone result pages.old pages.new }
+    ensures marks { KeepsUndone result marks.old marks.new }
+    ensures text { KeepsUndone result text.old text.new }
+    ensures sizes { KeepsUndone result sizes.old sizes.new }
 {
     boxglue_calls::marks(alloc, dvi, fonts, pages, marks, text, sizes)
 }
@@ -144,11 +133,11 @@ pub extern "C" fn boxglue_version() -> u32
 /// Makes a job with these fonts, and keeps it in a handle that is null.
 #[unsafe(no_mangle)]
 pub extern "C" fn boxglue_job_new(alloc: Global, job: &mut JobHandle, fonts: &[Font<'_>]) -> u32
-    ensures exists { result ≡ 9 ↔ job.old.value ≢ None }
-    ensures named { result ≡ 3 ↔ ((job.old.value ≡ None) × (are_named fonts.now ≡ false)) }
-    ensures made { result ≡ 0 → (kept : KeptState) × (job.new.value ≡ Some kept) × IsNewJob (files_of fonts.now) kept }
+    ensures exists { RefusesJob job.old.value result }
+    ensures named { RefusesNamesOfJob job.old.value fonts.now result }
+    ensures made { MakesJob fonts.now job.new.value result }
     ensures same { result ≢ 0 → job.new.value ≡ job.old.value }
-    ensures statuses { (result ≡ 0) ⊎ (result ≡ 2) ⊎ (result ≡ 3) ⊎ (result ≡ 9) }
+    ensures statuses { IsStatusOfNew result }
 {
     boxglue_calls::jobs::new(alloc, job, fonts)
 }
@@ -156,7 +145,7 @@ pub extern "C" fn boxglue_job_new(alloc: Global, job: &mut JobHandle, fonts: &[F
 /// Runs a piece of a script, which is whole lines, on a job.
 #[unsafe(no_mangle)]
 pub extern "C" fn boxglue_job_commands(alloc: Global, job: &mut JobHandle, script: &[u8]) -> u32
-    ensures no_job { result ≡ 8 ↔ job.old.value ≡ None }
+    ensures no_job { NeedsJob job.old.value result }
     ensures done { OnJob (DoesCommands script.now) job.old.value job.new.value result }
 {
     boxglue_calls::jobs::commands(alloc, job, script)
@@ -170,10 +159,10 @@ pub extern "C" fn boxglue_job_answers(
     text: &mut [u8],
     size: &mut usize,
 ) -> u32
-    ensures no_job { result ≡ 8 ↔ job.old.value ≡ None }
+    ensures no_job { NeedsJob job.old.value result }
     ensures done { OnJob (HandsAnswers text.old text.new size.new) job.old.value job.new.value result }
-    ensures text { result ≡ 8 → text.new ≡ text.old }
-    ensures size { result ≡ 8 → size.new ≡ size.old }
+    ensures text { KeepsWithoutJob result text.old text.new }
+    ensures size { KeepsWithoutJob result size.old size.new }
 {
     boxglue_calls::jobs::answers(alloc, job, text, size)
 }
@@ -186,10 +175,10 @@ pub extern "C" fn boxglue_job_take(
     dvi: &mut [u8],
     size: &mut usize,
 ) -> u32
-    ensures no_job { result ≡ 8 ↔ job.old.value ≡ None }
+    ensures no_job { NeedsJob job.old.value result }
     ensures done { OnJob (HandsBytes dvi.old dvi.new size.new) job.old.value job.new.value result }
-    ensures dvi { result ≡ 8 → dvi.new ≡ dvi.old }
-    ensures size { result ≡ 8 → size.new ≡ size.old }
+    ensures dvi { KeepsWithoutJob result dvi.old dvi.new }
+    ensures size { KeepsWithoutJob result size.old size.new }
 {
     boxglue_calls::jobs::take(alloc, job, dvi, size)
 }
@@ -197,7 +186,7 @@ pub extern "C" fn boxglue_job_take(
 /// Writes the end of the file of a job.
 #[unsafe(no_mangle)]
 pub extern "C" fn boxglue_job_finish(alloc: Global, job: &mut JobHandle) -> u32
-    ensures no_job { result ≡ 8 ↔ job.old.value ≡ None }
+    ensures no_job { NeedsJob job.old.value result }
     ensures done { OnJob FinishesKept job.old.value job.new.value result }
 {
     boxglue_calls::jobs::finish(alloc, job)
@@ -212,11 +201,10 @@ pub extern "C" fn boxglue_job_run(
     replies: &mut [ReplyRow],
     count: &mut usize,
 ) -> u32
-    ensures no_job { result ≡ 8 ↔ job.old.value ≡ None }
-    ensures done { OnJob (RepliesTo script.now (record { rows = replies.old; count = count.old }) (record { rows = replies.new; count = count.new }))
-        job.old.value job.new.value result }
-    ensures replies { result ≡ 8 → replies.new ≡ replies.old }
-    ensures count { result ≡ 8 → count.new ≡ count.old }
+    ensures no_job { NeedsJob job.old.value result }
+    ensures done { OnJob (RepliesTo script.now (row_room replies.old count.old) (row_room replies.new count.new)) job.old.value job.new.value result }
+    ensures replies { KeepsWithoutJob result replies.old replies.new }
+    ensures count { KeepsWithoutJob result count.old count.new }
 {
     boxglue_calls::jobs::run(alloc, job, script, replies, count)
 }
@@ -224,9 +212,9 @@ pub extern "C" fn boxglue_job_run(
 /// Writes the end of the file of a job. Its reply goes into `reply`.
 #[unsafe(no_mangle)]
 pub extern "C" fn boxglue_job_end(alloc: Global, job: &mut JobHandle, reply: &mut ReplyRow) -> u32
-    ensures no_job { result ≡ 8 ↔ job.old.value ≡ None }
+    ensures no_job { NeedsJob job.old.value result }
     ensures done { OnJob (RepliesToEnd reply.new) job.old.value job.new.value result }
-    ensures reply { result ≡ 8 → reply.new ≡ reply.old }
+    ensures reply { KeepsWithoutJob result reply.old reply.new }
 {
     boxglue_calls::jobs::end(alloc, job, reply)
 }
@@ -241,12 +229,11 @@ pub extern "C" fn boxglue_run_replies(
     dvi: &mut [u8],
     sizes: &mut ReplySizes,
 ) -> u32
-    ensures named { result ≡ 3 ↔ are_named fonts.now ≡ false }
-    ensures done { (result ≡ 2) ⊎ (result ≡ 3)
-        ⊎ HandsOverRun (IsReplied script.now (files_of fonts.now)) replies.old replies.new dvi.old dvi.new (sizes.new.replies, sizes.new.dvi) result }
-    ensures replies { (result ≡ 2) ⊎ (result ≡ 3) → replies.new ≡ replies.old }
-    ensures dvi { (result ≡ 2) ⊎ (result ≡ 3) → dvi.new ≡ dvi.old }
-    ensures sizes { (result ≡ 2) ⊎ (result ≡ 3) → sizes.new ≡ sizes.old }
+    ensures named { RefusesNames fonts.now result }
+    ensures done { RunsInRows script.now fonts.now (replies.old, replies.new) (dvi.old, dvi.new) sizes.new result }
+    ensures replies { KeepsUndone result replies.old replies.new }
+    ensures dvi { KeepsUndone result dvi.old dvi.new }
+    ensures sizes { KeepsUndone result sizes.old sizes.new }
 {
     boxglue_calls::jobs::run_replies(alloc, script, fonts, replies, dvi, sizes)
 }

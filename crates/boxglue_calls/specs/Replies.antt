@@ -17,6 +17,9 @@ pub record RowRoom : Type 0 where
   pub rows : List ReplyRow
   pub count : ℕ
 
+abbrev pub row_room : List ReplyRow → ℕ → RowRoom
+row_room rows count = record { rows = rows; count = count }
+
 -- The lines of a piece of a script were run, and the room begins with the rows of the replies. The lines are numbered after those of the pieces
 -- before. The status is that of the replies.
 pub record RepliesToPiece (script : List ℕ) (before after : RowRoom) (old new : KeptState) (status : ℕ) : Type 0 where

@@ -1,9 +1,10 @@
 //! The fonts that a DVI file defines after its pages.
 
-ghost use Rattle.std.specs.Prelude.{◌≡◌, ◌++◌, ◌∷◌, ◌⊎◌, ℕ, List, [], length, map, true, IfOk, OnOk};
-ghost use Rattle.boxglue_calls.specs.FontTables.{HandsOverFonts, IsFontTable, names_of, row_at, rows_from};
+ghost use Rattle.std.specs.Prelude.{◌≡◌, ◌++◌, ◌∷◌, ℕ, List, [], length, map, true, IfOk, OnOk};
+ghost use Rattle.boxglue_calls.specs.FontTables.{IsFontTable, names_of, row_at, rows_from};
 ghost use Rattle.boxglue_print.specs.Fonts.{BreaksFonts};
 ghost use Rattle.dvi_ops.specs.View.{definition};
+ghost use Rattle.boxglue_calls.specs.Calls.{KeepsUnread, ReadsFonts};
 
 use crate::buffers::hand_over_both;
 use crate::pages::file_status;
@@ -120,10 +121,10 @@ pub fn fonts(
     text: &mut [u8],
     sizes: &mut FontSizes,
 ) -> u32
-    ensures done { (result ≡ 2) ⊎ HandsOverFonts dvi.now fonts.old fonts.new text.old text.new sizes.new result }
-    ensures fonts { result ≡ 2 → fonts.new ≡ fonts.old }
-    ensures text { result ≡ 2 → text.new ≡ text.old }
-    ensures sizes { result ≡ 2 → sizes.new ≡ sizes.old }
+    ensures done { ReadsFonts dvi.now (fonts.old, fonts.new) (text.old, text.new) sizes.new result }
+    ensures fonts { KeepsUnread result fonts.old fonts.new }
+    ensures text { KeepsUnread result text.old text.new }
+    ensures sizes { KeepsUnread result sizes.old sizes.new }
 {
     match font_table(alloc, dvi) {
         Ok(table) => {

@@ -1,12 +1,13 @@
 //! The pages of a DVI file and their marks, as tables.
 
-ghost use Rattle.std.specs.Prelude.{◌≡◌, ◌≢◌, ◌↔◌, ◌⊎◌, ◌≤◌, ◌<◌, ◌/◌, ℕ, List, length, false, true, IfOk, OnErr};
+ghost use Rattle.std.specs.Prelude.{◌≡◌, ◌⊎◌, ◌≤◌, ◌<◌, ℕ, List, length, false, true, IfOk, OnErr};
 ghost use Rattle.dvi_ops.specs.File.{MarkedPage};
 ghost use Rattle.dvi_ops.specs.View.{units as view_units};
 ghost use Rattle.tfm_core.specs.NamedBytes.{NamedBytes};
 ghost use Rattle.boxglue_calls.specs.Fonts.{are_named, files_of};
 ghost use Rattle.boxglue_calls.specs.Private.MarkFiles.{HandsOverFully, IsChecked, IsRefusal, IsShortRefusal, place_of};
-ghost use Rattle.boxglue_calls.specs.MarkTables.{HandsOverMarks, mark_outputs};
+ghost use Rattle.boxglue_calls.specs.MarkTables.{mark_outputs};
+ghost use Rattle.boxglue_calls.specs.Calls.{HasRoomForMarks, KeepsUndone, ReadsMarks, RefusesNames};
 
 use crate::buffers::hand_over;
 use crate::given::{Font, are_named, font_files};
@@ -193,14 +194,14 @@ pub fn marks(
     text: &mut [u8],
     sizes: &mut MarkSizes,
 ) -> u32
-    ensures named { result ≡ 3 ↔ are_named fonts.now ≡ false }
-    ensures done { (result ≡ 2) ⊎ (result ≡ 3) ⊎ HandsOverMarks (files_of fonts.now) dvi.now
-        (mark_outputs pages.old marks.old text.old) (mark_outputs pages.new marks.new text.new) sizes.new result }
-    ensures enough { length dvi.now / 46 ≤ length pages.old → length dvi.now ≤ length marks.old → 64 ≤ length text.old → result ≢ 4 }
-    ensures pages { (result ≡ 2) ⊎ (result ≡ 3) → pages.new ≡ pages.old }
-    ensures marks { (result ≡ 2) ⊎ (result ≡ 3) → marks.new ≡ marks.old }
-    ensures text { (result ≡ 2) ⊎ (result ≡ 3) → text.new ≡ text.old }
-    ensures sizes { (result ≡ 2) ⊎ (result ≡ 3) → sizes.new ≡ sizes.old }
+    ensures named { RefusesNames fonts.now result }
+    ensures done { ReadsMarks dvi.now fonts.now (mark_outputs pages.old marks.old text.old)
+        (mark_outputs pages.new marks.new text.new) sizes.new result }
+    ensures enough { HasRoomForMarks dvi.now (mark_outputs pages.old marks.old text.old) result }
+    ensures pages { KeepsUndone result pages.old pages.new }
+    ensures marks { KeepsUndone result marks.old marks.new }
+    ensures text { KeepsUndone result text.old text.new }
+    ensures sizes { KeepsUndone result sizes.old sizes.new }
 {
     if !are_named(fonts) {
         return BAD_FONT_NAME;

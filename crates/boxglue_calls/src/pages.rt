@@ -1,12 +1,13 @@
 //! The pages of DVI files: their listing, and bitmaps of their rules.
 
-ghost use Rattle.std.specs.Prelude.{◌≡◌, ◌↔◌, ◌⊎◌, false, length, true, Err, IfOk, IsTrue, OnErr, SomeIff};
+ghost use Rattle.std.specs.Prelude.{◌≡◌, length, true, Err, IfOk, IsTrue, OnErr, SomeIff};
 ghost use Rattle.boxglue_calls.specs.Buffers.{HandsOver};
 ghost use Rattle.boxglue_calls.specs.Fonts.{are_named, files_of};
 ghost use Rattle.boxglue_calls.specs.Pages.{HandsOverPages, is_in_range, read_status};
 ghost use Rattle.boxglue_print.specs.Outputs.{IsListed, IsPainted, LacksPage};
 ghost use Rattle.boxglue_print.specs.declared.output.PaintFault.TheVariants.{NoSuchPage};
 ghost use Rattle.raster_core.specs.Sheets.{sheet_of};
+ghost use Rattle.boxglue_calls.specs.Calls.{KeepsUndone, KeepsUnpainted, Lists, NoticesNoPage, Paints, RefusesNames, RefusesNumbers, RefusesPage};
 
 use crate::buffers::hand_over;
 use crate::given::{Font, are_named, font_files};
@@ -61,10 +62,10 @@ fn list_named(
 /// Returns ACCEPTED or REFUSED, and then both are written; BUFFER_TOO_SMALL, and then `size` alone is written;
 /// OUT_OF_MEMORY or BAD_FONT_NAME, and then nothing is.
 pub fn list(alloc: Global, dvi: &[u8], fonts: &[Font<'_>], text: &mut [u8], size: &mut usize) -> u32
-    ensures named { result ≡ 3 ↔ are_named fonts.now ≡ false }
-    ensures done { (result ≡ 2) ⊎ (result ≡ 3) ⊎ HandsOverPages (IsListed (files_of fonts.now) dvi.now) text.old text.new size.new result }
-    ensures text { (result ≡ 2) ⊎ (result ≡ 3) → text.new ≡ text.old }
-    ensures size { (result ≡ 2) ⊎ (result ≡ 3) → size.new ≡ size.old }
+    ensures named { RefusesNames fonts.now result }
+    ensures done { Lists dvi.now fonts.now (text.old, text.new) size.new result }
+    ensures text { KeepsUndone result text.old text.new }
+    ensures size { KeepsUndone result size.old size.new }
 {
     if !are_named(fonts) {
         return BAD_FONT_NAME;
@@ -116,15 +117,13 @@ pub fn paint(
     text: &mut [u8],
     size: &mut usize,
 ) -> u32
-    ensures named { result ≡ 3 ↔ are_named fonts.now ≡ false }
-    ensures range { result ≡ 6 ↔ ((are_named fonts.now ≡ true) × (is_in_range page dpi width height ≡ false)) }
-    ensures lacking { result ≡ 5 → LacksPage (files_of fonts.now) dvi.now page }
-    ensures found { LacksPage (files_of fonts.now) dvi.now page → are_named fonts.now ≡ true → is_in_range page dpi width height ≡ true
-        → (result ≡ 2) ⊎ (result ≡ 5) }
-    ensures done { (result ≡ 2) ⊎ (result ≡ 3) ⊎ (result ≡ 5) ⊎ (result ≡ 6)
-        ⊎ HandsOverPages (IsPainted (files_of fonts.now) dvi.now (sheet_of page dpi width height)) text.old text.new size.new result }
-    ensures text { (result ≡ 2) ⊎ (result ≡ 3) ⊎ (result ≡ 5) ⊎ (result ≡ 6) → text.new ≡ text.old }
-    ensures size { (result ≡ 2) ⊎ (result ≡ 3) ⊎ (result ≡ 5) ⊎ (result ≡ 6) → size.new ≡ size.old }
+    ensures named { RefusesNames fonts.now result }
+    ensures range { RefusesNumbers fonts.now page dpi width height result }
+    ensures lacking { RefusesPage dvi.now fonts.now page result }
+    ensures found { NoticesNoPage dvi.now fonts.now page dpi width height result }
+    ensures done { Paints dvi.now fonts.now (sheet_of page dpi width height) (text.old, text.new) size.new result }
+    ensures text { KeepsUnpainted result text.old text.new }
+    ensures size { KeepsUnpainted result size.old size.new }
 {
     if !are_named(fonts) {
         return BAD_FONT_NAME;

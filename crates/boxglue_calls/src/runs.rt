@@ -1,6 +1,6 @@
 //! Runs of scripts in memory.
 
-ghost use Rattle.std.specs.Prelude.{◌≡◌, ◌↔◌, ◌⊎◌, false, true, List, [], Result, Some, IfOk};
+ghost use Rattle.std.specs.Prelude.{◌≡◌, true, List, [], Result, Some, IfOk};
 ghost use Rattle.job_machine.specs.declared.replies.Refusal.{Refusal};
 ghost use Rattle.page_core.specs.declared.summary.Summary.{Summary};
 ghost use Rattle.job_machine.specs.Reply.{Reply};
@@ -11,7 +11,8 @@ ghost use Rattle.boxglue_program.specs.Runs.{commands_of, line_numbers};
 ghost use Rattle.boxglue_program.specs.Texts.{answers_text, script_refusal_text};
 ghost use Rattle.boxglue_calls.specs.Fonts.{are_named, files_of};
 ghost use Rattle.boxglue_calls.specs.RunStatus.{run_status};
-ghost use Rattle.boxglue_calls.specs.Runs.{HandsOverRun, IsRun};
+ghost use Rattle.boxglue_calls.specs.Runs.{IsRun};
+ghost use Rattle.boxglue_calls.specs.Calls.{KeepsUndone, RefusesNames, Runs};
 
 use crate::buffers::hand_over_both;
 use crate::given::{Font, are_named, font_files};
@@ -102,18 +103,14 @@ pub fn run(
     dvi: &mut [u8],
     lengths: &mut Lengths,
 ) -> u32
-    ensures named { result ≡ 3 ↔ are_named fonts.now ≡ false }
-    ensures done { (result ≡ 2) ⊎ (result ≡ 3)
-        ⊎ HandsOverRun (IsRun any_bytes script.now (files_of fonts.now)) answers.old answers.new dvi.old dvi.new
-        (lengths.new.answers, lengths.new.dvi) result }
+    ensures named { RefusesNames fonts.now result }
+    ensures done { Runs any_bytes script.now fonts.now (answers.old, answers.new) (dvi.old, dvi.new) lengths.new result }
 
     // The same with the bytes of the file by the rules of its writer, also if something failed.
-    ensures sent { (result ≡ 2) ⊎ (result ≡ 3)
-        ⊎ HandsOverRun (IsRun written_bytes script.now (files_of fonts.now)) answers.old answers.new dvi.old dvi.new
-        (lengths.new.answers, lengths.new.dvi) result }
-    ensures answers { (result ≡ 2) ⊎ (result ≡ 3) → answers.new ≡ answers.old }
-    ensures dvi { (result ≡ 2) ⊎ (result ≡ 3) → dvi.new ≡ dvi.old }
-    ensures lengths { (result ≡ 2) ⊎ (result ≡ 3) → lengths.new ≡ lengths.old }
+    ensures sent { Runs written_bytes script.now fonts.now (answers.old, answers.new) (dvi.old, dvi.new) lengths.new result }
+    ensures answers { KeepsUndone result answers.old answers.new }
+    ensures dvi { KeepsUndone result dvi.old dvi.new }
+    ensures lengths { KeepsUndone result lengths.old lengths.new }
 {
     if !are_named(fonts) {
         return BAD_FONT_NAME;

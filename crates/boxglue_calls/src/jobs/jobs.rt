@@ -1,11 +1,11 @@
 //! The calls on a handle.
 
-ghost use Rattle.std.specs.Prelude.{◌≡◌, ◌≢◌, ◌↔◌, ◌⊎◌, None, Some, false, true, IfOk};
+ghost use Rattle.std.specs.Prelude.{◌≡◌, ◌≢◌, None, true, IfOk};
 ghost use Rattle.boxglue_calls.specs.Fonts.{are_named, files_of};
-ghost use Rattle.boxglue_calls.specs.Calls.{OnJob};
-ghost use Rattle.boxglue_calls.specs.Jobs.{IsNewJob, KeptState};
+ghost use Rattle.boxglue_calls.specs.Jobs.{IsNewJob};
 ghost use Rattle.boxglue_calls.specs.Pieces.{DoesCommands, FinishesKept, HandsAnswers, HandsBytes};
-ghost use Rattle.boxglue_calls.specs.Replies.{RepliesTo, RepliesToEnd};
+ghost use Rattle.boxglue_calls.specs.Replies.{RepliesTo, RepliesToEnd, row_room};
+ghost use Rattle.boxglue_calls.specs.Calls.{IsStatusOfNew, KeepsWithoutJob, MakesJob, NeedsJob, OnJob, RefusesJob, RefusesNamesOfJob};
 
 use crate::jobs::handle::{JobHandle, put, take as take_out};
 use crate::jobs::kept_job::KeptJob;
@@ -32,11 +32,11 @@ fn new_job(alloc: Global, fonts: &[Font<'_>]) -> Result<Box<KeptJob>, AllocError
 ///
 /// Returns ACCEPTED; JOB_EXISTS, BAD_FONT_NAME or OUT_OF_MEMORY, and then the handle is as it was.
 pub fn new(alloc: Global, job: &mut JobHandle, fonts: &[Font<'_>]) -> u32
-    ensures exists { result ≡ 9 ↔ job.old.value ≢ None }
-    ensures named { result ≡ 3 ↔ ((job.old.value ≡ None) × (are_named fonts.now ≡ false)) }
-    ensures made { result ≡ 0 → (kept : KeptState) × (job.new.value ≡ Some kept) × IsNewJob (files_of fonts.now) kept }
+    ensures exists { RefusesJob job.old.value result }
+    ensures named { RefusesNamesOfJob job.old.value fonts.now result }
+    ensures made { MakesJob fonts.now job.new.value result }
     ensures same { result ≢ 0 → job.new.value ≡ job.old.value }
-    ensures statuses { (result ≡ 0) ⊎ (result ≡ 2) ⊎ (result ≡ 3) ⊎ (result ≡ 9) }
+    ensures statuses { IsStatusOfNew result }
 {
     if let Some(kept) = take_out(alloc, job) {
         put(alloc, job, kept);
@@ -61,7 +61,7 @@ pub fn new(alloc: Global, job: &mut JobHandle, fonts: &[Font<'_>]) -> u32
 /// for the text of their answers; NO_JOB or OUT_OF_MEMORY, and then nothing changed.
 #[tactic(auto, using(crate::proofs::KeptLaws::on_a_job, crate::proofs::KeptLaws::on_no_job, crate::proofs::KeptLaws::there_was_none))]
 pub fn commands(alloc: Global, job: &mut JobHandle, script: &[u8]) -> u32
-    ensures no_job { result ≡ 8 ↔ job.old.value ≡ None }
+    ensures no_job { NeedsJob job.old.value result }
     ensures done { OnJob (DoesCommands script.now) job.old.value job.new.value result }
 {
     let Some(mut kept) = take_out(alloc, job) else {
@@ -77,10 +77,10 @@ pub fn commands(alloc: Global, job: &mut JobHandle, script: &[u8]) -> u32
 /// Returns ACCEPTED; BUFFER_TOO_SMALL, and then `size` alone is written, and the answers are still kept; or NO_JOB, and then nothing is written.
 #[tactic(auto, using(crate::proofs::KeptLaws::on_a_job, crate::proofs::KeptLaws::on_no_job, crate::proofs::KeptLaws::there_was_none, crate::proofs::KeptLaws::answers_on_a_job))]
 pub fn answers(alloc: Global, job: &mut JobHandle, text: &mut [u8], size: &mut usize) -> u32
-    ensures no_job { result ≡ 8 ↔ job.old.value ≡ None }
+    ensures no_job { NeedsJob job.old.value result }
     ensures done { OnJob (HandsAnswers text.old text.new size.new) job.old.value job.new.value result }
-    ensures text { result ≡ 8 → text.new ≡ text.old }
-    ensures size { result ≡ 8 → size.new ≡ size.old }
+    ensures text { KeepsWithoutJob result text.old text.new }
+    ensures size { KeepsWithoutJob result size.old size.new }
 {
     let Some(mut kept) = take_out(alloc, job) else {
         return NO_JOB;
@@ -96,10 +96,10 @@ pub fn answers(alloc: Global, job: &mut JobHandle, text: &mut [u8], size: &mut u
 /// is written.
 #[tactic(auto, using(crate::proofs::KeptLaws::on_a_job, crate::proofs::KeptLaws::on_no_job, crate::proofs::KeptLaws::there_was_none, crate::proofs::KeptLaws::take_on_a_job))]
 pub fn take(alloc: Global, job: &mut JobHandle, dvi: &mut [u8], size: &mut usize) -> u32
-    ensures no_job { result ≡ 8 ↔ job.old.value ≡ None }
+    ensures no_job { NeedsJob job.old.value result }
     ensures done { OnJob (HandsBytes dvi.old dvi.new size.new) job.old.value job.new.value result }
-    ensures dvi { result ≡ 8 → dvi.new ≡ dvi.old }
-    ensures size { result ≡ 8 → size.new ≡ size.old }
+    ensures dvi { KeepsWithoutJob result dvi.old dvi.new }
+    ensures size { KeepsWithoutJob result size.old size.new }
 {
     let Some(mut kept) = take_out(alloc, job) else {
         return NO_JOB;
@@ -116,7 +116,7 @@ pub fn take(alloc: Global, job: &mut JobHandle, dvi: &mut [u8], size: &mut usize
 /// then nothing changed.
 #[tactic(auto, using(crate::proofs::KeptLaws::on_a_job, crate::proofs::KeptLaws::on_no_job, crate::proofs::KeptLaws::there_was_none, crate::proofs::KeptLaws::finish_on_a_job))]
 pub fn finish(alloc: Global, job: &mut JobHandle) -> u32
-    ensures no_job { result ≡ 8 ↔ job.old.value ≡ None }
+    ensures no_job { NeedsJob job.old.value result }
     ensures done { OnJob FinishesKept job.old.value job.new.value result }
 {
     let Some(mut kept) = take_out(alloc, job) else {
@@ -140,11 +140,10 @@ pub fn run(
     rows: &mut [ReplyRow],
     count: &mut usize,
 ) -> u32
-    ensures no_job { result ≡ 8 ↔ job.old.value ≡ None }
-    ensures done { OnJob (RepliesTo script.now (record { rows = rows.old; count = count.old }) (record { rows = rows.new; count = count.new }))
-        job.old.value job.new.value result }
-    ensures rows { result ≡ 8 → rows.new ≡ rows.old }
-    ensures count { result ≡ 8 → count.new ≡ count.old }
+    ensures no_job { NeedsJob job.old.value result }
+    ensures done { OnJob (RepliesTo script.now (row_room rows.old count.old) (row_room rows.new count.new)) job.old.value job.new.value result }
+    ensures rows { KeepsWithoutJob result rows.old rows.new }
+    ensures count { KeepsWithoutJob result count.old count.new }
 {
     let Some(mut kept) = take_out(alloc, job) else {
         return NO_JOB;
@@ -159,9 +158,9 @@ pub fn run(
 /// Returns ACCEPTED, REFUSED or REFUSED_MEMORY; or NO_JOB, and then nothing changed.
 #[tactic(auto, using(crate::proofs::KeptLaws::on_a_job, crate::proofs::KeptLaws::on_no_job, crate::proofs::KeptLaws::there_was_none, crate::proofs::KeptLaws::end_on_a_job))]
 pub fn end(alloc: Global, job: &mut JobHandle, row: &mut ReplyRow) -> u32
-    ensures no_job { result ≡ 8 ↔ job.old.value ≡ None }
+    ensures no_job { NeedsJob job.old.value result }
     ensures done { OnJob (RepliesToEnd row.new) job.old.value job.new.value result }
-    ensures row { result ≡ 8 → row.new ≡ row.old }
+    ensures row { KeepsWithoutJob result row.old row.new }
 {
     let Some(mut kept) = take_out(alloc, job) else {
         return NO_JOB;

@@ -1,16 +1,16 @@
 //! Whole scripts, which are replied to in rows.
 
-ghost use Rattle.std.specs.Prelude.{◌≡◌, ◌⊎◌, ◌↔◌, ◌++◌, [], ◌∷◌, false, true, ℕ, List, length, Some, Result, IfOk};
+ghost use Rattle.std.specs.Prelude.{◌≡◌, ◌++◌, [], ◌∷◌, true, List, length, Some, Result, IfOk};
 ghost use Rattle.job_machine.specs.declared.replies.Refusal.{Refusal};
 ghost use Rattle.page_core.specs.declared.summary.Summary.{Summary};
 ghost use Rattle.job_machine.specs.Reply.{Reply};
 ghost use Rattle.job_core.specs.Headline.{WasRunAndSent};
 ghost use Rattle.boxglue_program.specs.Runs.{commands_of, line_numbers};
 ghost use Rattle.boxglue_calls.specs.Fonts.{are_named, files_of};
-ghost use Rattle.boxglue_calls.specs.Runs.{HandsOverRun};
 ghost use Rattle.boxglue_calls.specs.RunStatus.{run_status};
 ghost use Rattle.boxglue_calls.specs.Rows.{bad_row, end_row, reply_rows};
 ghost use Rattle.boxglue_calls.specs.Whole.{IsReplied};
+ghost use Rattle.boxglue_calls.specs.Calls.{KeepsUndone, RefusesNames, RunsInRows};
 
 use crate::buffers::hand_over_both;
 use crate::jobs::replied::reply_to_each;
@@ -110,12 +110,11 @@ pub fn run_replies(
     dvi: &mut [u8],
     sizes: &mut ReplySizes,
 ) -> u32
-    ensures named { result ≡ 3 ↔ are_named fonts.now ≡ false }
-    ensures done { (result ≡ 2) ⊎ (result ≡ 3)
-        ⊎ HandsOverRun (IsReplied script.now (files_of fonts.now)) rows.old rows.new dvi.old dvi.new (sizes.new.replies, sizes.new.dvi) result }
-    ensures rows { (result ≡ 2) ⊎ (result ≡ 3) → rows.new ≡ rows.old }
-    ensures dvi { (result ≡ 2) ⊎ (result ≡ 3) → dvi.new ≡ dvi.old }
-    ensures sizes { (result ≡ 2) ⊎ (result ≡ 3) → sizes.new ≡ sizes.old }
+    ensures named { RefusesNames fonts.now result }
+    ensures done { RunsInRows script.now fonts.now (rows.old, rows.new) (dvi.old, dvi.new) sizes.new result }
+    ensures rows { KeepsUndone result rows.old rows.new }
+    ensures dvi { KeepsUndone result dvi.old dvi.new }
+    ensures sizes { KeepsUndone result sizes.old sizes.new }
 {
     if !are_named(fonts) {
         return BAD_FONT_NAME;
