@@ -19,7 +19,7 @@ REACHED = {
     "Load": "Load",
     "is_discardable": "is_discardable ItemClass",
     "IsBreakList": "IsBreakList IsFalling top Problem BreakState Fitness LineCost",
-    "is_paintable": "is_paintable is_size Sheet",
+    "is_paintable": "is_paintable is_size PaintOptionsView",
     "baseline_glue": "baseline_glue fits DimensionTooLarge Glue Order Dimen Params SplitParams IntParameter FirstLines",
 }
 # Among what has to be believed: the machine, the order of ties between lists of breaks, what a job counts, the files, and a host.
@@ -30,7 +30,7 @@ HEADLINE = ("job_core::run_commands.headline", "boxglue_program::run_script.answ
 # Where these rules are: the crates that draw, choose registers and write, and the layout and the spellings of dvi_ops.
 WRITER = {"ship_core", "move_core", "dvi_write"}, {"Layout", "Spelling", "Runs"}
 # What only other contracts reach, by a function whose contract does.
-ELSEWHERE = {"IsStop": "break_core::active_breaks", "IsBreakList": "break_core::breaks", "StandsIn": "tfm_core::read"}
+ELSEWHERE = {"IsStop": "break_core::active_breaks", "IsBreakList": "break_core::breaks", "IsFileIn": "tfm_core::read"}
 
 
 def roots(tree):

@@ -1,4 +1,4 @@
-//! Streams that are waited for while they have no room, or nothing to read.
+//! Streams that are waited for while they have no space, or nothing to read.
 
 use std::io::{Error, ErrorKind, Read, Result, Write};
 use std::thread::sleep;
@@ -8,7 +8,7 @@ use std::time::Duration;
 /// `Net`.
 const PAUSE: u64 = 1;
 
-/// A stream that is waited for. Whoever opened it may have set it not to wait (`O_NONBLOCK`), and then a write for which there is no room fails, and
+/// A stream that is waited for. Whoever opened it may have set it not to wait (`O_NONBLOCK`), and then a write for which there is no space fails, and
 /// so does a reading where nothing has come yet. Here such a call returns a moment later as an interrupted one, so the caller makes it again.
 #[derive(Drop)]
 pub struct Waiting<'a, W> {

@@ -7,9 +7,9 @@ ghost use Rattle.std.specs.Prelude.{◌≡◌, ◌≢◌, None};
 ghost use Rattle.boxglue_program.specs.Reports.{any_bytes, written_bytes};
 ghost use Rattle.boxglue_calls.specs.MarkTables.{mark_outputs};
 ghost use Rattle.boxglue_calls.specs.Pieces.{DoesCommands, FinishesKept, HandsAnswers, HandsBytes};
-ghost use Rattle.boxglue_calls.specs.Replies.{RepliesTo, RepliesToEnd, row_room};
-ghost use Rattle.raster_core.specs.Sheets.{sheet_of};
-ghost use Rattle.boxglue_calls.specs.Calls.{HasRoomForMarks, IsStatusOfNew, KeepsUndone, KeepsUnpainted, KeepsUnread, KeepsWithoutJob, Lists};
+ghost use Rattle.boxglue_calls.specs.Replies.{RepliesTo, RepliesToEnd, row_space};
+ghost use Rattle.raster_core.specs.PaintOptions.{options_of};
+ghost use Rattle.boxglue_calls.specs.Calls.{HasSpaceForMarks, IsStatusOfNew, KeepsUndone, KeepsUnpainted, KeepsUnread, KeepsWithoutJob, Lists};
 ghost use Rattle.boxglue_calls.specs.Calls.{MakesJob, NeedsJob, NoticesNoPage, OnJob, Paints, ReadsFonts, ReadsMarks, RefusesJob, RefusesNames};
 ghost use Rattle.boxglue_calls.specs.Calls.{RefusesNamesOfJob, RefusesNumbers, RefusesPage, Runs, RunsInRows};
 
@@ -73,7 +73,7 @@ pub extern "C" fn boxglue_paint(
     ensures range { RefusesNumbers fonts.now page dpi width height result }
     ensures lacking { RefusesPage dvi.now fonts.now page result }
     ensures found { NoticesNoPage dvi.now fonts.now page dpi width height result }
-    ensures done { Paints dvi.now fonts.now (sheet_of page dpi width height) (text.old, text.new) size.new result }
+    ensures done { Paints dvi.now fonts.now (options_of page dpi width height) (text.old, text.new) size.new result }
     ensures text { KeepsUnpainted result text.old text.new }
     ensures size { KeepsUnpainted result size.old size.new }
 {
@@ -113,7 +113,7 @@ pub extern "C" fn boxglue_marks(
     ensures named { RefusesNames fonts.now result }
     ensures done { ReadsMarks dvi.now fonts.now (mark_outputs pages.old marks.old text.old)
         (mark_outputs pages.new marks.new text.new) sizes.new result }
-    ensures enough { HasRoomForMarks dvi.now (mark_outputs pages.old marks.old text.old) result }
+    ensures enough { HasSpaceForMarks dvi.now (mark_outputs pages.old marks.old text.old) result }
     ensures pages { KeepsUndone result pages.old pages.new }
     ensures marks { KeepsUndone result marks.old marks.new }
     ensures text { KeepsUndone result text.old text.new }
@@ -202,7 +202,8 @@ pub extern "C" fn boxglue_job_run(
     count: &mut usize,
 ) -> u32
     ensures no_job { NeedsJob job.old.value result }
-    ensures done { OnJob (RepliesTo script.now (row_room replies.old count.old) (row_room replies.new count.new)) job.old.value job.new.value result }
+    ensures done { OnJob (RepliesTo script.now (row_space replies.old count.old) (row_space replies.new count.new)) job.old.value
+        job.new.value result }
     ensures replies { KeepsWithoutJob result replies.old replies.new }
     ensures count { KeepsWithoutJob result count.old count.new }
 {

@@ -9,7 +9,7 @@ use Rattle.dvi_write.specs.Writing.{GoesOn}
 use Rattle.job_core.specs.Jobs.{JobView, writing_of}
 use Rattle.boxglue_calls.specs.Jobs.{HasHanded, KeptState, reported_bytes, sent_by}
 use Rattle.boxglue_calls.specs.Pieces.{DoesCommands, FinishesKept, HandsAnswers, HandsBytes}
-use Rattle.boxglue_calls.specs.Replies.{RepliesTo, RepliesToEnd, RowRoom}
+use Rattle.boxglue_calls.specs.Replies.{RepliesTo, RepliesToEnd, RowBuffer}
 use Rattle.boxglue_calls.specs.declared.jobs.rows.ReplyRow.{ReplyRow}
 
 -- More was reported after what was reported.
@@ -44,11 +44,12 @@ commands_handed script handed old new status has (inr (inr (same, lacks))) = sub
 pub finish_handed : (handed : List ℕ) (old new : KeptState) (status : ℕ) → HasHanded old handed → FinishesKept old new status → HasHanded new handed
 finish_handed handed old new status has ends = still_handed old new handed has ends.ended.goes_on ends.ended.taken
 
-pub replies_handed : (script handed : List ℕ) (before after : RowRoom) (old new : KeptState) (status : ℕ) → HasHanded old handed → RepliesTo script before after old new status → HasHanded new handed
+pub replies_handed : (script handed : List ℕ) (before after : RowBuffer) (old new : KeptState) (status : ℕ) → HasHanded old handed
+    → RepliesTo script before after old new status → HasHanded new handed
 replies_handed script handed before after old new status has (inl ran) = still_handed old new handed has ran.run.goes_on ran.run.taken
 replies_handed script handed before after old new status has (inr (inl bad)) = subst (λ (k : KeptState). HasHanded k handed) (sym bad.same) has
 replies_handed script handed before after old new status has (inr (inr (inl lacks))) = subst (λ (k : KeptState). HasHanded k handed) (sym lacks.same) has
-replies_handed script handed before after old new status has (inr (inr (inr (same, room, lacks)))) =
+replies_handed script handed before after old new status has (inr (inr (inr (same, space, lacks)))) =
     subst (λ (k : KeptState). HasHanded k handed) (sym same) has
 
 pub end_handed : (handed : List ℕ) (row : ReplyRow) (old new : KeptState) (status : ℕ) → HasHanded old handed → RepliesToEnd row old new status → HasHanded new handed

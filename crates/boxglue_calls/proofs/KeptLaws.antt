@@ -8,7 +8,7 @@ use Rattle.boxglue_calls.proofs.StatusLaws.{replies_status_small, reply_status_s
 use Rattle.boxglue_calls.specs.Calls.{OnJob}
 use Rattle.boxglue_calls.specs.Jobs.{KeptState}
 use Rattle.boxglue_calls.specs.Pieces.{Answers, DoesCommands, FinishesKept, HandsAnswers, HandsBytes}
-use Rattle.boxglue_calls.specs.Replies.{RepliesTo, RepliesToEnd, RowRoom}
+use Rattle.boxglue_calls.specs.Replies.{RepliesTo, RepliesToEnd, RowBuffer}
 use Rattle.boxglue_calls.specs.declared.jobs.rows.ReplyRow.{ReplyRow}
 
 answered_is_not_8 : (old new text : List ℕ) (done status : ℕ) → done ≤ 7 → Answers old new text done status → status ≡ 8 → ⊥
@@ -33,14 +33,15 @@ take_is_not_8 dvi_old dvi_new size old new status does e = handed_is_not_8 _ _ _
 pub finish_is_not_8 : (old new : KeptState) (status : ℕ) → FinishesKept old new status → status ≡ 8 → ⊥
 finish_is_not_8 old new status does e = answered_is_not_8 _ _ _ _ status (reply_status_small does.ended.end) does.answered e
 
-pub run_is_not_8 : (script : List ℕ) (before after : RowRoom) (old new : KeptState) (status : ℕ) → RepliesTo script before after old new status → status ≡ 8 → ⊥
+pub run_is_not_8 : (script : List ℕ) (before after : RowBuffer) (old new : KeptState) (status : ℕ) → RepliesTo script before after old new status
+    → status ≡ 8 → ⊥
 run_is_not_8 script before after old new status (inl ran) e =
     let small : replies_status ran.run.replies ≤ 7 = replies_status_small ran.run.replies in
     let is = ran.status_is in
     omega (arith, small, is, e)
 run_is_not_8 script before after old new status (inr (inl bad)) e = let h = bad.status_is in omega (arith, h, e)
 run_is_not_8 script before after old new status (inr (inr (inl lacks))) e = let h = lacks.status_is in omega (arith, h, e)
-run_is_not_8 script before after old new status (inr (inr (inr (same, room, h)))) e = omega (arith, h, e)
+run_is_not_8 script before after old new status (inr (inr (inr (same, space, h)))) e = omega (arith, h, e)
 
 pub end_is_not_8 : (row : ReplyRow) (old new : KeptState) (status : ℕ) → RepliesToEnd row old new status → status ≡ 8 → ⊥
 end_is_not_8 row old new status does e =

@@ -16,7 +16,7 @@ pub mod LineCounts
 pub mod LineNumbers
 pub mod NodesCrossing
 pub mod PieceLaws
-pub mod RoomLaws
+pub mod SpaceLaws
 pub mod RowLaws
 pub mod Values
 pub mod WholeLaws

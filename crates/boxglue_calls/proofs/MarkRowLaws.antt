@@ -6,8 +6,8 @@ use Rattle.dvi_ops.specs.File.{MarkedPage}
 use Rattle.dvi_ops.specs.Fonts.{WidthsByName, widths_of}
 use Rattle.dvi_ops.specs.Instruction.{Definition}
 use Rattle.dvi_read.specs.PageMarks.{IsGlyphWidth, OfGlyph, marks_of, text_in}
-use Rattle.dvi_read.specs.Seen.{SeenItem, Counts, Marked, seen_of, seen_on}
-use Rattle.dvi_read.specs.SeenAhead.{TextEndsAt}
+use Rattle.dvi_read.specs.Seen.{SeenItemView, Counts, Marked, seen_of, seen_on}
+use Rattle.dvi_read.specs.ItemsLeft.{TextEndsAt}
 use Rattle.dvi_read.specs.declared.fonts.ReadFonts.{ReadFonts}
 use Rattle.scaled_core.specs.Mark.{Mark, Glyph, Rule, Special}
 use Rattle.boxglue_calls.specs.Private.MarkRows.{marks_among, pages_among, row_of, size_of}
@@ -77,12 +77,12 @@ length-rows bytes metrics table [] (m ∷ marks) are = absurd are
 length-rows bytes metrics table (r ∷ rows) [] are = absurd are
 
 -- Pages and marks among what is seen.
-pub pages-among : (xs ys : List SeenItem) → pages_among (xs ++ ys) ≡ pages_among xs + pages_among ys
+pub pages-among : (xs ys : List SeenItemView) → pages_among (xs ++ ys) ≡ pages_among xs + pages_among ys
 pages-among [] ys = omega arith
 pages-among (Counts counts ∷ xs) ys = let rest = pages-among xs ys in omega arith
 pages-among (Marked mark ∷ xs) ys = pages-among xs ys
 
-pub marks-among : (xs ys : List SeenItem) → marks_among (xs ++ ys) ≡ marks_among xs ++ marks_among ys
+pub marks-among : (xs ys : List SeenItemView) → marks_among (xs ++ ys) ≡ marks_among xs ++ marks_among ys
 marks-among [] ys = refl
 marks-among (Counts counts ∷ xs) ys = marks-among xs ys
 marks-among (Marked mark ∷ xs) ys = ap (λ (ms : List Mark). mark ∷ ms) (marks-among xs ys)
@@ -109,12 +109,12 @@ marks_seen_in (page ∷ pages) =
     ∙ (ap (λ (ms : List Mark). ms ++ marks_among (seen_of pages)) (marked_marks page.marks) ∙ ap (λ (ms : List Mark). page.marks ++ ms) (marks_seen_in pages))
 
 -- What is seen of pages says which they are.
-abbrev leading : List SeenItem → List Mark
+abbrev leading : List SeenItemView → List Mark
 leading [] = []
 leading (Counts counts ∷ rest) = []
 leading (Marked mark ∷ rest) = mark ∷ leading rest
 
-abbrev grouped : List SeenItem → List MarkedPage
+abbrev grouped : List SeenItemView → List MarkedPage
 grouped [] = []
 grouped (Counts counts ∷ rest) = record { counts = counts; marks = leading rest } ∷ grouped rest
 grouped (Marked mark ∷ rest) = grouped rest
@@ -124,7 +124,7 @@ leading_marks [] [] = refl
 leading_marks [] (page ∷ pages) = refl
 leading_marks (mark ∷ marks) pages = ap (λ (ms : List Mark). mark ∷ ms) (leading_marks marks pages)
 
-grouped_marks : (marks : List Mark) (rest : List SeenItem) → grouped (map Marked marks ++ rest) ≡ grouped rest
+grouped_marks : (marks : List Mark) (rest : List SeenItemView) → grouped (map Marked marks ++ rest) ≡ grouped rest
 grouped_marks [] rest = refl
 grouped_marks (mark ∷ marks) rest = grouped_marks marks rest
 
@@ -141,6 +141,6 @@ pub one_seen : (one other : List MarkedPage) → seen_of one ≡ seen_of other �
 one_seen one other same = sym (grouped_seen one) ∙ (ap grouped same ∙ grouped_seen other)
 
 -- No mark is seen before a page.
-pub no_mark_first : (pages : List MarkedPage) (mark : Mark) (rest : List SeenItem) → seen_of pages ≡ Marked mark ∷ rest → ⊥
+pub no_mark_first : (pages : List MarkedPage) (mark : Mark) (rest : List SeenItemView) → seen_of pages ≡ Marked mark ∷ rest → ⊥
 no_mark_first [] mark rest e = absurd cc
 no_mark_first (page ∷ pages) mark rest e = absurd cc

@@ -8,18 +8,18 @@ use Rattle.dvi_ops.specs.Tokens.{token_instructions}
 use Rattle.dvi_ops.specs.View.{units as view_units}
 use Rattle.dvi_ops.specs.declared.op.Units.{Units as UnitsOf}
 use Rattle.dvi_read.specs.Opened.{HasUnitsOf, OpenedFile}
-use Rattle.dvi_read.specs.PageMarks.{HasGlyphWidths, HasRoomFor, marks_of, text_places}
+use Rattle.dvi_read.specs.PageMarks.{HasGlyphWidths, HasSpaceFor, marks_of, text_places}
 use Rattle.dvi_read.specs.Seen.{seen_of}
-use Rattle.dvi_read.specs.SeenAhead.{HasCheckedPages, HasCheckedTexts, IsSeenAhead}
+use Rattle.dvi_read.specs.ItemsLeft.{HasCheckedPages, HasCheckedTexts, AreItemsLeft}
 use Rattle.dvi_read.specs.declared.check.checked_file.CheckedFile.{CheckedFile}
-use Rattle.dvi_read.specs.declared.sights.Sights.{Sights}
+use Rattle.dvi_read.specs.declared.seen_items.SeenItems.{SeenItems}
 use Rattle.tfm_core.specs.FileWidths.{file_widths}
 use Rattle.tfm_core.specs.NamedBytes.{NamedBytes}
 use Rattle.boxglue_print.specs.declared.output.Output.{Output}
 use Rattle.boxglue_calls.specs.Buffers.{HandsOver}
 use Rattle.boxglue_calls.specs.Private.MarkFiles.{FitsIn, HandsOverFully, IsChecked, IsRefusal}
 use Rattle.boxglue_calls.specs.Private.MarkRows.{HasRowsFor, HoldsRows}
-use Rattle.boxglue_calls.specs.MarkTables.{AreMarkRows, HandsOverAll, LacksRoom, MarkOutputs, mark_outputs, no_units, page_rows, text_starts}
+use Rattle.boxglue_calls.specs.MarkTables.{AreMarkRows, HandsOverAll, LacksSpace, MarkOutputs, mark_outputs, no_units, page_rows, text_starts}
 use Rattle.boxglue_calls.specs.Pages.{read_status}
 use Rattle.boxglue_calls.specs.declared.mark_table.DviMark.{DviMark}
 use Rattle.boxglue_calls.specs.declared.mark_table.DviPage.{DviPage}
@@ -28,26 +28,30 @@ use Rattle.boxglue_calls.proofs.MarkRowLaws.{length-pages, length-rows}
 use Rattle.boxglue_calls.proofs.WrittenParts.{holds_none}
 
 -- A file that was opened, and what is to be seen of it.
-pub opened_checked : (files : List NamedBytes) (bytes : List ℕ) (dvi : OpenedFile) (units : UnitsOf) (s : Sights) → (file : IsFile (file_widths files) bytes dvi.pages) → HasUnitsOf bytes dvi → dvi.file.bytes.now ≡ bytes
-    → ((f : Frame bytes) → HasGlyphWidths (file_widths files) (definitions (token_instructions f.front ++ token_instructions f.tail)) dvi.file.fonts (marks_of dvi.pages)) → HasRoomFor bytes dvi.pages
-    → ((f : Frame bytes) → HasCheckedTexts dvi.file (text_places 0 f.front)) → view_units units ≡ dvi.units → IsSeenAhead s (seen_of dvi.pages) → HasCheckedPages s.file.now dvi.pages → s.at ≡ s.file.now.from
+pub opened_checked : (files : List NamedBytes) (bytes : List ℕ) (dvi : OpenedFile) (units : UnitsOf) (s : SeenItems)
+    → (file : IsFile (file_widths files) bytes dvi.pages) → HasUnitsOf bytes dvi → dvi.file.bytes.now ≡ bytes
+    → ((f : Frame bytes) → HasGlyphWidths (file_widths files) (definitions (token_instructions f.front ++ token_instructions f.tail)) dvi.file.fonts
+    (marks_of dvi.pages)) → HasSpaceFor bytes dvi.pages
+    → ((f : Frame bytes) → HasCheckedTexts dvi.file (text_places 0 f.front)) → view_units units ≡ dvi.units → AreItemsLeft s (seen_of dvi.pages)
+    → HasCheckedPages s.file.now dvi.pages → s.at ≡ s.file.now.from
     → s.file.now ≡ dvi.file → IsChecked files bytes units s dvi.pages
-opened_checked files bytes dvi units s file units_are bytes_are widths room texts units_is ahead all begun same =
+opened_checked files bytes dvi units s file units_are bytes_are widths space texts units_is remaining all begun same =
     record {
       file = file;
       units_are = units_is ∙ units_are file.frame;
-      ahead = ahead;
+      remaining = remaining;
       all = all;
       texts = subst (λ (f : CheckedFile). HasCheckedTexts f (text_places 0 file.frame.front)) (sym same) (texts file.frame);
       begun = begun;
       bytes_are = ap (λ (f : CheckedFile). f.bytes.now) same ∙ bytes_are;
       widths = subst (λ (f : CheckedFile). HasGlyphWidths (file_widths files) (definitions (token_instructions file.frame.front ++ token_instructions file.frame.tail)) f.fonts (marks_of dvi.pages)) (sym same)
           (widths file.frame);
-      room = room;
+      space = space;
     }
 
 -- The tables of a checked file.
-module _ (files : List NamedBytes) (bytes : List ℕ) (units : UnitsOf) (s : Sights) (all : List MarkedPage) (checked : IsChecked files bytes units s all) (sizes : MarkSizes)
+module _ (files : List NamedBytes) (bytes : List ℕ) (units : UnitsOf) (s : SeenItems) (all : List MarkedPage)
+    (checked : IsChecked files bytes units s all) (sizes : MarkSizes)
     (pages_size : sizes.pages ≡ length all) (marks_size : sizes.marks ≡ length (marks_of all)) (text_size : sizes.text ≡ 0)
     (units_is : view_units units ≡ record { num = sizes.num; den = sizes.den; mag = sizes.mag }) where
   abbrev pub table : List Definition
@@ -61,8 +65,8 @@ module _ (files : List NamedBytes) (bytes : List ℕ) (units : UnitsOf) (s : Sig
   handed_rows rows are starts old new status handed =
       let pages : length (page_rows 0 all) ≡ length all = length-pages 0 all in
       let marks : length rows ≡ length (marks_of all) = length-rows bytes (file_widths files) table rows (marks_of all) are in
-      let few = checked.room.marks_fit in
-      let low = checked.room.pages_fit in (
+      let few = checked.space.marks_fit in
+      let low = checked.space.pages_fit in (
         record {
           outputs = mark_outputs (page_rows 0 all) rows [];
           accepted = true;
@@ -84,7 +88,7 @@ module _ (files : List NamedBytes) (bytes : List ℕ) (units : UnitsOf) (s : Sig
       handed_rows rows here starts (mark_outputs pages marks text) (mark_outputs pages marks text) 4 (inr (lacks rows pages_is marks_is few, refl, refl, refl, refl))
     where
       lacks : (rows : List DviMark) → length (page_rows 0 all) ≡ length all → length rows ≡ length (marks_of all) → (length pages < n) ⊎ (length marks < m)
-          → LacksRoom (mark_outputs pages marks text) (mark_outputs (page_rows 0 all) rows [])
+          → LacksSpace (mark_outputs pages marks text) (mark_outputs (page_rows 0 all) rows [])
       lacks rows pages_is marks_is (inl few) = inl (omega arith)
       lacks rows pages_is marks_is (inr few) = inr (inl (omega arith))
 
@@ -132,16 +136,19 @@ handed_loud files bytes old new sizes status (h, fits) silent = by_status (done_
     by_status small (inr (few, pages, marks, text, is)) (inl two) = absurd (omega arith)
     by_status small (inr (few, pages, marks, text, is)) (inr three) = absurd (omega arith)
 
--- The rooms that always suffice.
-lacks_none : (size : ℕ) (old outputs : MarkOutputs) → FitsIn size outputs → size / 46 ≤ length old.pages → size ≤ length old.marks → 64 ≤ length old.text → LacksRoom old outputs → ⊥
-lacks_none size old outputs fits pages_room marks_room text_room (inl few) = let fit = fits.pages_fit in absurd (omega arith)
-lacks_none size old outputs fits pages_room marks_room text_room (inr (inl few)) = let fit = fits.marks_fit in absurd (omega arith)
-lacks_none size old outputs fits pages_room marks_room text_room (inr (inr few)) = let fit = fits.text_fits in absurd (omega arith)
+-- The buffers that always suffice.
+lacks_none : (size : ℕ) (old outputs : MarkOutputs) → FitsIn size outputs → size / 46 ≤ length old.pages → size ≤ length old.marks
+    → 64 ≤ length old.text → LacksSpace old outputs → ⊥
+lacks_none size old outputs fits pages_space marks_space text_space (inl few) = let fit = fits.pages_fit in absurd (omega arith)
+lacks_none size old outputs fits pages_space marks_space text_space (inr (inl few)) = let fit = fits.marks_fit in absurd (omega arith)
+lacks_none size old outputs fits pages_space marks_space text_space (inr (inr few)) = let fit = fits.text_fits in absurd (omega arith)
 
-pub rooms_suffice : (files : List NamedBytes) (bytes : List ℕ) (old new : MarkOutputs) (sizes : MarkSizes) (status : ℕ) → HandsOverFully files bytes old new sizes status
+pub spaces_suffice : (files : List NamedBytes) (bytes : List ℕ) (old new : MarkOutputs) (sizes : MarkSizes) (status : ℕ)
+    → HandsOverFully files bytes old new sizes status
     → length bytes / 46 ≤ length old.pages → length bytes ≤ length old.marks → 64 ≤ length old.text → status ≢ 4
-rooms_suffice files bytes old new sizes status (h, fits) pages_room marks_room text_room four = by_status (done_small h.accepted (read_status h.accepted) refl) h.handed
+spaces_suffice files bytes old new sizes status (h, fits) pages_space marks_space text_space four =
+    by_status (done_small h.accepted (read_status h.accepted) refl) h.handed
   where
     by_status : read_status h.accepted ≤ 1 → HandsOverAll old new h.outputs (read_status h.accepted) status → ⊥
     by_status small (inl (pages, marks, text, is)) = absurd (omega arith)
-    by_status small (inr (few, pages, marks, text, is)) = lacks_none (length bytes) old h.outputs fits pages_room marks_room text_room few
+    by_status small (inr (few, pages, marks, text, is)) = lacks_none (length bytes) old h.outputs fits pages_space marks_space text_space few

@@ -41,10 +41,10 @@ pub row_put : (old now : List ReplyRow) (front more : List Line) (line : Line) (
 row_put old now front more line replies reply i row is each at within row_is now_is =
     let items : List ReplyRow = reply_rows (line_numbers front) replies in
     let size : length items ≡ i = length_rows front replies each ∙ sym at in
-    let room : length items < length old = omega (arith, size, within) in
+    let space : length items < length old = omega (arith, size, within) in
     let next : suc (length items) ≡ length items + 1 = omega arith in
     let Q : ℕ → Type 0 = λ n. set (items ++ drop (length items) old) (length items) (reply_row line.number reply) ≡ (items ++ reply_row line.number reply ∷ []) ++ drop n old in
-    let put = subst Q next (put_next items old (reply_row line.number reply) room) in
+    let put = subst Q next (put_next items old (reply_row line.number reply) space) in
     let rows : items ++ reply_row line.number reply ∷ [] ≡ reply_rows (line_numbers more) (replies ++ reply ∷ []) =
     sym (rows_more front replies line reply each) ∙ ap (λ (ls : List Line). reply_rows (line_numbers ls) (replies ++ reply ∷ [])) (sym is) in
     let done : set (items ++ drop (length items) old) (length items) (reply_row line.number reply) ≡ reply_rows (line_numbers more) (replies ++ reply ∷ []) ++ drop (length items + 1) old =
@@ -55,8 +55,8 @@ row_put old now front more line replies reply i row is each at within row_is now
 
 -- A buffer that begins with these items, and has what it had after them, holds them.
 pub holds_front : {A : Type 0} (old new items : List A) → length items ≤ length old → new ≡ items ++ drop (length items) old → Holds old new items
-holds_front {A = A} old new items room is = record {
-  room = room;
+holds_front {A = A} old new items space is = record {
+  space = space;
   front = ap (λ (xs : List A). take (length items) xs) is ∙ take-append_seam items (drop (length items) old);
   rest = ap (λ (xs : List A). drop (length items) xs) is ∙ drop-append_seam items (drop (length items) old);
 }
@@ -67,7 +67,7 @@ pub all_replied : (old new : JobView) (lines ran : List Line) (replies : List Re
     → status ≡ replies_status replies
     → (replies : List Reply) × RunsTo old (commands_of lines) replies new × (length replies ≡ length lines) × Holds rows_old rows_new (reply_rows (line_numbers lines) replies)
     × (status ≡ replies_status replies)
-all_replied old new lines ran replies rows_old rows_new i status all at room runs each rows_is status_is =
+all_replied old new lines ran replies rows_old rows_new i status all at space runs each rows_is status_is =
     let items : List ReplyRow = reply_rows (line_numbers lines) replies in
     let same : length replies ≡ length lines = each ∙ ap length all in
     let size : length items ≡ length lines = length_rows lines replies same in
@@ -76,10 +76,10 @@ all_replied old new lines ran replies rows_old rows_new i status all at room run
       replies,
       subst (λ (ls : List Line). RunsTo old (commands_of ls) replies new) all runs,
       same,
-      holds_front rows_old rows_new items (omega (arith, size, room)) is,
+      holds_front rows_old rows_new items (omega (arith, size, space)) is,
       status_is,
     )
 
--- A buffer that has just room for the items that it holds is these items.
+-- A buffer that has just space for the items that it holds is these items.
 pub filled : {A : Type 0} (old new items : List A) → length old ≡ length items → length new ≡ length old → Holds old new items → new ≡ items
-filled old new items room size holds = sym (take_all (length items) new (omega (arith, room, size))) ∙ holds.front
+filled old new items space size holds = sym (take_all (length items) new (omega (arith, space, size))) ∙ holds.front

@@ -10,16 +10,17 @@ use Rattle.dvi_ops.specs.Fonts.{WidthsByName, widths_of}
 use Rattle.dvi_ops.specs.Instruction.{Definition}
 use Rattle.dvi_read.proofs.SeenLemmas.{more_marks, page_seen}
 use Rattle.dvi_read.specs.PageMarks.{HasGlyphWidths, IsGlyphWidth, OfGlyph, marks_of}
-use Rattle.dvi_read.specs.Seen.{SeenItem, Counts, Marked, seen_of}
-use Rattle.dvi_read.specs.SeenAhead.{AreTextsAhead, EndsText, IsSeenAhead, PassesText, ShowsNext, TextEndsAt}
+use Rattle.dvi_read.specs.Seen.{SeenItemView, Counts, Marked, seen_of}
+use Rattle.dvi_read.specs.ItemsLeft.{AreTextsLeft, EndsText, AreItemsLeft, PassesText, ShowsNext, TextEndsAt}
 use Rattle.dvi_read.specs.declared.check.checked_file.CheckedFile.{CheckedFile}
-use Rattle.dvi_read.specs.declared.sights.Sight.{Sight}
-use Rattle.dvi_read.specs.declared.sights.Sight.TheVariants as sights
-use Rattle.dvi_read.specs.declared.sights.Sights.{Sights}
+use Rattle.dvi_read.specs.declared.seen_items.SeenItem.{SeenItem}
+use Rattle.dvi_read.specs.declared.seen_items.SeenItem.TheVariants as seen_items
+use Rattle.dvi_read.specs.declared.seen_items.SeenItems.{SeenItems}
 use Rattle.dvi_scan.specs.View.{mark_of}
 use Rattle.boxglue_calls.specs.Buffers.{Holds}
 use Rattle.boxglue_calls.specs.MarkTables.{AreMarkRows, IsMarkRow, MarkOutputs, page_row, page_rows, text_start_of, text_starts}
-use Rattle.boxglue_calls.specs.Private.MarkRows.{AddsMark, BeginsPage, CanBeWritten, HasPlace, HasRowsFor, HoldsRows, WritesSight, marks_among, pages_among, row_of}
+use Rattle.boxglue_calls.specs.Private.MarkRows.{AddsMark, BeginsPage, CanBeWritten, HasPlace, HasRowsFor, HoldsRows, WritesItem, marks_among}
+use Rattle.boxglue_calls.specs.Private.MarkRows.{pages_among, row_of}
 use Rattle.boxglue_calls.specs.declared.mark_rows.RowProgress.{RowProgress}
 use Rattle.boxglue_calls.specs.declared.mark_table.DviMark.{DviMark}
 use Rattle.boxglue_calls.specs.declared.mark_table.DviPage.{DviPage}
@@ -48,7 +49,7 @@ empty_page counts = record { counts = counts; marks = [] }
 module _ (bytes : List ℕ) (metrics : WidthsByName) (table : List Definition) (old mid after : MarkOutputs) (w new : RowProgress) (places : List ℕ) (shown : List MarkedPage) (has : HasWritten bytes metrics table old mid w places shown) where
   page_more : (counts : List ℤ) → length shown + 1 ≤ length old.pages → BeginsPage counts w new mid.pages after.pages → after.marks ≡ mid.marks
       → HasWritten bytes metrics table old after new places (shown ++ empty_page counts ∷ [])
-  page_more counts room begins same =
+  page_more counts space begins same =
       let page = empty_page counts in
       let size : length (page_rows 0 shown) ≡ length shown = length-pages 0 shown in
       let here : w.pages ≡ length (page_rows 0 shown) = has.pages_count ∙ sym size in
@@ -77,7 +78,7 @@ module _ (bytes : List ℕ) (metrics : WidthsByName) (table : List Definition) (
   mark_more : (row : DviMark) (mark : Mark) (before : List MarkedPage) (page : MarkedPage) → shown ≡ before ++ page ∷ [] → w.row ≡ page_row (length (marks_of before)) page
       → length (marks_of shown) + 1 ≤ length old.marks → IsMarkRow bytes (widths_of metrics table) row mark → AddsMark row w new mid after
       → HasWritten bytes metrics table old after new (places ++ text_start_of row) (before ++ record page { marks = page.marks ++ mark ∷ [] } ∷ [])
-  mark_more row mark before page is row_is room is_row adds =
+  mark_more row mark before page is row_is space is_row adds =
       let next : MarkedPage = record page { marks = page.marks ++ mark ∷ [] } in
       let start : ℕ = length (marks_of before) in
       let size : length (page_rows 0 before) ≡ length before = length-pages 0 before in
@@ -120,19 +121,21 @@ module _ (bytes : List ℕ) (metrics : WidthsByName) (table : List Definition) (
       }
 
 -- What is written, and what is still to be seen.
-pub record IsWriting (metrics : WidthsByName) (table : List Definition) (first : Sights) (old new : MarkOutputs) (w : RowProgress) (places : List ℕ) (all : List MarkedPage) (s : Sights) : Type 0 where
+pub record IsWriting (metrics : WidthsByName) (table : List Definition) (first : SeenItems) (old new : MarkOutputs) (w : RowProgress)
+    (places : List ℕ) (all : List MarkedPage) (s : SeenItems) : Type 0 where
   pub shown : List MarkedPage
-  pub rest : List SeenItem
+  pub rest : List SeenItemView
   pub passed : List ℕ
   pub left : List ℕ
   pub parts : seen_of all ≡ seen_of shown ++ rest
-  pub ahead : IsSeenAhead s rest
+  pub remaining : AreItemsLeft s rest
   pub texts_parts : places ≡ passed ++ left
-  pub texts : AreTextsAhead s left
+  pub texts : AreTextsLeft s left
   pub same : s.file ≡ first.file
   pub has : HasWritten first.file.now.bytes.now metrics table old new w passed shown
 
-pub writing_first : (metrics : WidthsByName) (table : List Definition) (s : Sights) (old : MarkOutputs) (w : RowProgress) (places : List ℕ) (all : List MarkedPage) → CanBeWritten metrics table s old places all
+pub writing_first : (metrics : WidthsByName) (table : List Definition) (s : SeenItems) (old : MarkOutputs) (w : RowProgress) (places : List ℕ)
+    (all : List MarkedPage) → CanBeWritten metrics table s old places all
     → w.pages ≡ 0 → w.marks ≡ 0 → IsWriting metrics table s old old w places all s
 writing_first metrics table s old w places all can pages marks =
     record {
@@ -141,7 +144,7 @@ writing_first metrics table s old w places all can pages marks =
       passed = [];
       left = places;
       parts = refl;
-      ahead = can.ahead;
+      remaining = can.remaining;
       texts_parts = refl;
       texts = can.texts;
       same = refl;
@@ -157,35 +160,37 @@ writing_first metrics table s old w places all can pages marks =
       };
     }
 
-module _ (metrics : WidthsByName) (table : List Definition) (first : Sights) (old mid : MarkOutputs) (w : RowProgress) (places : List ℕ) (all : List MarkedPage) (s : Sights) (can : CanBeWritten metrics table first old places all)
+module _ (metrics : WidthsByName) (table : List Definition) (first : SeenItems) (old mid : MarkOutputs) (w : RowProgress) (places : List ℕ)
+    (all : List MarkedPage) (s : SeenItems) (can : CanBeWritten metrics table first old places all)
     (writing : IsWriting metrics table first old mid w places all s) where
   abbrev shown : List MarkedPage
   shown = writing.shown
 
-  -- Where a page comes next, there is room for its row.
-  page_room : (counts : List ℤ) (later : List SeenItem) → writing.rest ≡ Counts counts ∷ later → length shown + 1 ≤ length old.pages
-  page_room counts later is =
+  -- Where a page comes next, there is space for its row.
+  page_space : (counts : List ℤ) (later : List SeenItemView) → writing.rest ≡ Counts counts ∷ later → length shown + 1 ≤ length old.pages
+  page_space counts later is =
       let parts : length all ≡ length shown + (pages_among later + 1) =
       sym (pages_seen_in all)
-      ∙ (ap pages_among (writing.parts ∙ ap (λ (ss : List SeenItem). seen_of shown ++ ss) is)
+      ∙ (ap pages_among (writing.parts ∙ ap (λ (ss : List SeenItemView). seen_of shown ++ ss) is)
       ∙ (pages-among (seen_of shown) (Counts counts ∷ later) ∙ ap (λ (n : ℕ). n + (pages_among later + 1)) (pages_seen_in shown))) in
       let fit = can.pages_fit in omega arith
 
   -- Where a mark comes next, it is one of all.
-  marks_parts : (mark : Mark) (later : List SeenItem) → writing.rest ≡ Marked mark ∷ later → marks_of all ≡ marks_of shown ++ (mark ∷ marks_among later)
+  marks_parts : (mark : Mark) (later : List SeenItemView) → writing.rest ≡ Marked mark ∷ later
+      → marks_of all ≡ marks_of shown ++ (mark ∷ marks_among later)
   marks_parts mark later is =
       sym (marks_seen_in all)
-      ∙ (ap marks_among (writing.parts ∙ ap (λ (ss : List SeenItem). seen_of shown ++ ss) is)
+      ∙ (ap marks_among (writing.parts ∙ ap (λ (ss : List SeenItemView). seen_of shown ++ ss) is)
       ∙ (marks-among (seen_of shown) (Marked mark ∷ later) ∙ ap (λ (ms : List Mark). ms ++ (mark ∷ marks_among later)) (marks_seen_in shown)))
 
-  mark_room : (mark : Mark) (later : List SeenItem) → writing.rest ≡ Marked mark ∷ later → length (marks_of shown) + 1 ≤ length old.marks
-  mark_room mark later is =
+  mark_space : (mark : Mark) (later : List SeenItemView) → writing.rest ≡ Marked mark ∷ later → length (marks_of shown) + 1 ≤ length old.marks
+  mark_space mark later is =
       let parts : length (marks_of all) ≡ length (marks_of shown) + length (mark ∷ marks_among later) =
       ap (λ (ms : List Mark). length ms) (marks_parts mark later is) ∙ length-append (marks_of shown) (mark ∷ marks_among later) in
       let fit = can.marks_fit in omega arith
 
   -- Some page is open there.
-  opened : (mark : Mark) (later : List SeenItem) → writing.rest ≡ Marked mark ∷ later
+  opened : (mark : Mark) (later : List SeenItemView) → writing.rest ≡ Marked mark ∷ later
       → (before : List MarkedPage) × (page : MarkedPage) × (shown ≡ before ++ page ∷ []) × (w.row ≡ page_row (length (marks_of before)) page)
   opened mark later is = by_last writing.has.last
     where
@@ -194,13 +199,13 @@ module _ (metrics : WidthsByName) (table : List Definition) (first : Sights) (ol
           absurd (no_mark_first all mark later (writing.parts ∙ (ap (λ (ps : List MarkedPage). seen_of ps ++ writing.rest) none ∙ is)))
       by_last (inr last) = last
 
-  pub place_there : (new : Sights) (sight : Sight) → ShowsNext writing.rest new (Some sight) → HasPlace sight w mid
-  place_there new (sights.Page counts) (later, is, ahead) =
-      let room = page_room counts later is in
+  pub place_there : (new : SeenItems) (item : SeenItem) → ShowsNext writing.rest new (Some item) → HasPlace item w mid
+  place_there new (seen_items.Page counts) (later, is, remaining) =
+      let space = page_space counts later is in
       let count = writing.has.pages_count in
       let long = same_length old.pages mid.pages (page_rows 0 shown) writing.has.pages in omega arith
-  place_there new (sights.Mark mark) (later, is, ahead) =
-      let room = mark_room (mark_of mark) later is in
+  place_there new (seen_items.Mark mark) (later, is, remaining) =
+      let space = mark_space (mark_of mark) later is in
       let (before, page, shown_is, row_is) = opened (mark_of mark) later is in
       let count = writing.has.pages_count in
       let marks_count = writing.has.marks_count in
@@ -210,38 +215,43 @@ module _ (metrics : WidthsByName) (table : List Definition) (first : Sights) (ol
       ∙ (ap (λ (ms : List Mark). length ms) (marks-append before page) ∙ length-append (marks_of before) page.marks) in
       let own : w.row.marks ≡ length page.marks = ap (λ (r : DviPage). r.marks) row_is in
       let rows : length (page_rows 0 shown) ≡ length shown = length-pages 0 shown in
-      let fit = writing.has.pages.room in
+      let fit = writing.has.pages.space in
       let long = same_length old.pages mid.pages (page_rows 0 shown) writing.has.pages in
       let long_marks = same_length old.marks mid.marks writing.has.rows writing.has.marks in
       (omega arith, omega arith, omega arith, omega arith)
 
   -- The glyph has its width in the fonts as they are now.
-  glyph_now : (new : Sights) (mark : Mark) (later : List SeenItem) → new.file ≡ first.file → writing.rest ≡ Marked mark ∷ later → OfGlyph (IsGlyphWidth metrics table new.file.now.fonts) mark
+  glyph_now : (new : SeenItems) (mark : Mark) (later : List SeenItemView) → new.file ≡ first.file → writing.rest ≡ Marked mark ∷ later
+      → OfGlyph (IsGlyphWidth metrics table new.file.now.fonts) mark
   glyph_now new mark later same is =
       let each = subst (λ (ms : List Mark). AllByRecursion (OfGlyph (IsGlyphWidth metrics table first.file.now.fonts)) ms) (marks_parts mark later is) can.widths.widths in
       let here : OfGlyph (IsGlyphWidth metrics table first.file.now.fonts) mark =
       (all_back (OfGlyph (IsGlyphWidth metrics table first.file.now.fonts)) (marks_of shown) (mark ∷ marks_among later) each).0 in
       subst (λ (file : Bor CheckedFile). OfGlyph (IsGlyphWidth metrics table file.now.fonts) mark) (sym same) here
 
-  pub written_next : (new : Sights) (sight : Sight) (w_new : RowProgress) (after : MarkOutputs) → new.file ≡ s.file → EndsText s.file.now.bytes.now new.at (Some sight)
-      → PassesText writing.left new (Some sight) → ShowsNext writing.rest new (Some sight) → WritesSight sight new w w_new mid after → IsWriting metrics table first old after w_new places all new
-  written_next new (sights.Page counts) w_new after same text (left, left_is, texts) (later, is, ahead) (begins, marks) =
+  pub written_next : (new : SeenItems) (item : SeenItem) (w_new : RowProgress) (after : MarkOutputs) → new.file ≡ s.file
+      → EndsText s.file.now.bytes.now new.at (Some item)
+      → PassesText writing.left new (Some item) → ShowsNext writing.rest new (Some item) → WritesItem item new w w_new mid after
+      → IsWriting metrics table first old after w_new places all new
+  written_next new (seen_items.Page counts) w_new after same text (left, left_is, texts) (later, is, remaining) (begins, marks) =
       let page = empty_page counts in
       record {
         shown = shown ++ page ∷ [];
         rest = later;
         parts = writing.parts
-            ∙ (ap (λ (ss : List SeenItem). seen_of shown ++ ss) is
-            ∙ (sym (append_assoc (seen_of shown) (Counts counts ∷ []) later) ∙ ap (λ (ss : List SeenItem). ss ++ later) (sym (page_seen shown page))));
-        ahead = ahead;
+            ∙ (ap (λ (ss : List SeenItemView). seen_of shown ++ ss) is
+            ∙ (sym (append_assoc (seen_of shown) (Counts counts ∷ []) later)
+            ∙ ap (λ (ss : List SeenItemView). ss ++ later) (sym (page_seen shown page))));
+        remaining = remaining;
         passed = writing.passed;
         left = left;
         texts_parts = writing.texts_parts ∙ ap (λ (ps : List ℕ). writing.passed ++ ps) left_is;
         texts = texts;
         same = same ∙ writing.same;
-        has = page_more first.file.now.bytes.now metrics table old mid after w w_new writing.passed shown writing.has counts (page_room counts later is) begins marks;
+        has = page_more first.file.now.bytes.now metrics table old mid after w w_new writing.passed shown writing.has counts
+            (page_space counts later is) begins marks;
       }
-  written_next new (sights.Mark mark) w_new after same text (left, left_is, texts) (later, is, ahead) adds =
+  written_next new (seen_items.Mark mark) w_new after same text (left, left_is, texts) (later, is, remaining) adds =
       let m = mark_of mark in
       let (before, page, shown_is, row_is) = opened m later is in
       let next : MarkedPage = record page { marks = page.marks ++ m ∷ [] } in
@@ -251,27 +261,28 @@ module _ (metrics : WidthsByName) (table : List Definition) (first : Sights) (ol
       let start : List ℕ = text_start_of (row_of new.file.now.fonts new.at m) in
       let left_parts : writing.left ≡ start ++ left = left_is ∙ ap (λ (ps : List ℕ). ps ++ left) (sym (start_of new.file.now.fonts new.at m)) in
       let seen : seen_of shown ++ (Marked m ∷ []) ≡ seen_of (before ++ next ∷ []) =
-      ap (λ (ss : List SeenItem). ss ++ (Marked m ∷ [])) (ap (λ (ps : List MarkedPage). seen_of ps) shown_is ∙ page_seen before page)
+      ap (λ (ss : List SeenItemView). ss ++ (Marked m ∷ [])) (ap (λ (ps : List MarkedPage). seen_of ps) shown_is ∙ page_seen before page)
       ∙ (sym (more_marks before page.counts page.marks (m ∷ [])) ∙ sym (page_seen before next)) in
       record {
         shown = before ++ next ∷ [];
         rest = later;
         parts = writing.parts
-            ∙ (ap (λ (ss : List SeenItem). seen_of shown ++ ss) is
-            ∙ (sym (append_assoc (seen_of shown) (Marked m ∷ []) later) ∙ ap (λ (ss : List SeenItem). ss ++ later) seen));
-        ahead = ahead;
+            ∙ (ap (λ (ss : List SeenItemView). seen_of shown ++ ss) is
+            ∙ (sym (append_assoc (seen_of shown) (Marked m ∷ []) later) ∙ ap (λ (ss : List SeenItemView). ss ++ later) seen));
+        remaining = remaining;
         passed = writing.passed ++ start;
         left = left;
         texts_parts = writing.texts_parts ∙ (ap (λ (ps : List ℕ). writing.passed ++ ps) left_parts ∙ sym (append_assoc writing.passed start left));
         texts = texts;
         same = all_same;
-        has = mark_more first.file.now.bytes.now metrics table old mid after w w_new writing.passed shown writing.has (row_of new.file.now.fonts new.at m) m before page shown_is row_is (mark_room m later is) row adds;
+        has = mark_more first.file.now.bytes.now metrics table old mid after w w_new writing.passed shown writing.has
+            (row_of new.file.now.fonts new.at m) m before page shown_is row_is (mark_space m later is) row adds;
       }
 
   pub written_all : writing.rest ≡ [] → writing.left ≡ [] → HoldsRows metrics table first.file.now.bytes.now old mid places all
   written_all none no_texts =
       let whole : seen_of all ≡ seen_of shown =
-      writing.parts ∙ (ap (λ (ss : List SeenItem). seen_of shown ++ ss) none ∙ append-nil (seen_of shown)) in
+      writing.parts ∙ (ap (λ (ss : List SeenItemView). seen_of shown ++ ss) none ∙ append-nil (seen_of shown)) in
       let is : shown ≡ all = sym (one_seen all shown whole) in
       record {
         pages = subst (λ (ps : List MarkedPage). Holds old.pages mid.pages (page_rows 0 ps)) is writing.has.pages;
@@ -282,35 +293,38 @@ module _ (metrics : WidthsByName) (table : List Definition) (first : Sights) (ol
       }
 
 -- The rows of the marks that were counted.
-pub record HasCounted (metrics : WidthsByName) (table : List Definition) (first : Sights) (places : List ℕ) (seen : List SeenItem) (s : Sights) : Type 0 where
+pub record HasCounted (metrics : WidthsByName) (table : List Definition) (first : SeenItems) (places : List ℕ) (seen : List SeenItemView)
+    (s : SeenItems) : Type 0 where
   pub done : List Mark
-  pub rest : List SeenItem
+  pub rest : List SeenItemView
   pub passed : List ℕ
   pub left : List ℕ
-  pub ahead : IsSeenAhead s rest
+  pub remaining : AreItemsLeft s rest
   pub parts : marks_among seen ≡ done ++ marks_among rest
   pub texts_parts : places ≡ passed ++ left
-  pub texts : AreTextsAhead s left
+  pub texts : AreTextsLeft s left
   pub rows : HasRowsFor metrics table first.file.now.bytes.now passed done
 
-pub counted_row : (metrics : WidthsByName) (table : List Definition) (first : Sights) (places : List ℕ) (seen : List SeenItem) (s new : Sights) (sight : Sight) → HasGlyphWidths metrics table first.file.now.fonts (marks_among seen)
-    → s.file ≡ first.file → new.file ≡ s.file → EndsText s.file.now.bytes.now new.at (Some sight) → (c : HasCounted metrics table first places seen s) → PassesText c.left new (Some sight) → ShowsNext c.rest new (Some sight)
+pub counted_row : (metrics : WidthsByName) (table : List Definition) (first : SeenItems) (places : List ℕ) (seen : List SeenItemView)
+    (s new : SeenItems) (item : SeenItem) → HasGlyphWidths metrics table first.file.now.fonts (marks_among seen)
+    → s.file ≡ first.file → new.file ≡ s.file → EndsText s.file.now.bytes.now new.at (Some item) → (c : HasCounted metrics table first places seen s)
+    → PassesText c.left new (Some item) → ShowsNext c.rest new (Some item)
     → HasCounted metrics table first places seen new
-counted_row metrics table first places seen s new (sights.Page counts) widths before same text c (left, left_is, texts) (later, is, ahead) =
+counted_row metrics table first places seen s new (seen_items.Page counts) widths before same text c (left, left_is, texts) (later, is, remaining) =
     record {
       done = c.done;
       rest = later;
       passed = c.passed;
       left = left;
-      ahead = ahead;
-      parts = c.parts ∙ ap (λ (ss : List SeenItem). c.done ++ marks_among ss) is;
+      remaining = remaining;
+      parts = c.parts ∙ ap (λ (ss : List SeenItemView). c.done ++ marks_among ss) is;
       texts_parts = c.texts_parts ∙ ap (λ (ps : List ℕ). c.passed ++ ps) left_is;
       texts = texts;
       rows = c.rows;
     }
-counted_row metrics table first places seen s new (sights.Mark mark) widths before same text c (left, left_is, texts) (later, is, ahead) =
+counted_row metrics table first places seen s new (seen_items.Mark mark) widths before same text c (left, left_is, texts) (later, is, remaining) =
     let m = mark_of mark in
-    let parts : marks_among seen ≡ c.done ++ (m ∷ marks_among later) = c.parts ∙ ap (λ (ss : List SeenItem). c.done ++ marks_among ss) is in
+    let parts : marks_among seen ≡ c.done ++ (m ∷ marks_among later) = c.parts ∙ ap (λ (ss : List SeenItemView). c.done ++ marks_among ss) is in
     let each = subst (λ (ms : List Mark). AllByRecursion (OfGlyph (IsGlyphWidth metrics table first.file.now.fonts)) ms) parts widths.widths in
     let here : OfGlyph (IsGlyphWidth metrics table first.file.now.fonts) m =
     (all_back (OfGlyph (IsGlyphWidth metrics table first.file.now.fonts)) c.done (m ∷ marks_among later) each).0 in
@@ -326,32 +340,37 @@ counted_row metrics table first places seen s new (sights.Mark mark) widths befo
       rest = later;
       passed = c.passed ++ start;
       left = left;
-      ahead = ahead;
+      remaining = remaining;
       parts = parts ∙ sym (append_assoc c.done (m ∷ []) (marks_among later));
       texts_parts = c.texts_parts ∙ (ap (λ (ps : List ℕ). c.passed ++ ps) left_parts ∙ sym (append_assoc c.passed start left));
       texts = texts;
       rows = (rows ++ made ∷ [], rows_more first.file.now.bytes.now metrics table rows c.done made m are row, starts_more rows made c.passed starts);
     }
 
-pub counted_rows : (metrics : WidthsByName) (table : List Definition) (first : Sights) (places : List ℕ) (seen : List SeenItem) (s : Sights) (c : HasCounted metrics table first places seen s) → c.rest ≡ [] → c.left ≡ []
+pub counted_rows : (metrics : WidthsByName) (table : List Definition) (first : SeenItems) (places : List ℕ) (seen : List SeenItemView) (s : SeenItems)
+    (c : HasCounted metrics table first places seen s) → c.rest ≡ [] → c.left ≡ []
     → HasRowsFor metrics table first.file.now.bytes.now places (marks_among seen)
 counted_rows metrics table first places seen s c none no_texts =
-    let whole : marks_among seen ≡ c.done = c.parts ∙ (ap (λ (ss : List SeenItem). c.done ++ marks_among ss) none ∙ append-nil c.done) in
+    let whole : marks_among seen ≡ c.done = c.parts ∙ (ap (λ (ss : List SeenItemView). c.done ++ marks_among ss) none ∙ append-nil c.done) in
     let all : places ≡ c.passed = c.texts_parts ∙ (ap (λ (ps : List ℕ). c.passed ++ ps) no_texts ∙ append-nil c.passed) in
     subst₂ (λ (ps : List ℕ) (ms : List Mark). HasRowsFor metrics table first.file.now.bytes.now ps ms) (sym all) (sym whole) c.rows
 
 -- The glyphs have their widths in the same file.
-pub same_widths : (metrics : WidthsByName) (table : List Definition) (a b : Sights) (marks : List Mark) → b.file ≡ a.file → HasGlyphWidths metrics table a.file.now.fonts marks
+pub same_widths : (metrics : WidthsByName) (table : List Definition) (a b : SeenItems) (marks : List Mark) → b.file ≡ a.file
+    → HasGlyphWidths metrics table a.file.now.fonts marks
     → HasGlyphWidths metrics table b.file.now.fonts marks
 same_widths metrics table a b marks same has = subst (λ (file : Bor CheckedFile). HasGlyphWidths metrics table file.now.fonts marks) (sym same) has
 
 -- One more row is counted.
-pub counted_next : (rest later : List SeenItem) (seen : SeenItem) (pages marks pages_new marks_new pages_all marks_all : ℕ) → rest ≡ seen ∷ later → pages + pages_among rest ≡ pages_all
+pub counted_next : (rest later : List SeenItemView) (seen : SeenItemView) (pages marks pages_new marks_new pages_all marks_all : ℕ)
+    → rest ≡ seen ∷ later → pages + pages_among rest ≡ pages_all
     → marks + length (marks_among rest) ≡ marks_all → pages_new ≡ pages + pages_among (seen ∷ []) → marks_new ≡ marks + length (marks_among (seen ∷ []))
     → (pages_new + pages_among later ≡ pages_all) × (marks_new + length (marks_among later) ≡ marks_all)
 counted_next rest later (Counts counts) pages marks pages_new marks_new pages_all marks_all is have have_marks one one_mark =
     let size : pages_among rest ≡ pages_among later + 1 = ap pages_among is in
-    let marks_size : length (marks_among rest) ≡ length (marks_among later) = ap (λ (ss : List SeenItem). length (marks_among ss)) is in (omega arith, omega arith)
+    let marks_size : length (marks_among rest) ≡ length (marks_among later) = ap (λ (ss : List SeenItemView). length (marks_among ss)) is in
+    (omega arith, omega arith)
 counted_next rest later (Marked mark) pages marks pages_new marks_new pages_all marks_all is have have_marks one one_mark =
     let size : pages_among rest ≡ pages_among later = ap pages_among is in
-    let marks_size : length (marks_among rest) ≡ length (mark ∷ marks_among later) = ap (λ (ss : List SeenItem). length (marks_among ss)) is in (omega arith, omega arith)
+    let marks_size : length (marks_among rest) ≡ length (mark ∷ marks_among later) = ap (λ (ss : List SeenItemView). length (marks_among ss)) is in
+    (omega arith, omega arith)

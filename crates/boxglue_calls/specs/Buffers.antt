@@ -3,7 +3,7 @@ use Rattle.std.specs.Prelude.{◌≡◌, ◌≤◌, ◌<◌, ◌⊎◌, ℕ, Lis
 
 -- The buffer begins with these items, and after them it is as it was.
 pub record Holds {A : Type 0} (old new items : List A) : Type 0 where
-  pub room : length items ≤ length old
+  pub space : length items ≤ length old
   pub front : take (length items) new ≡ items
   pub rest : drop (length items) new ≡ drop (length items) old
 

@@ -2,7 +2,7 @@
 use Rattle.std.specs.Prelude.{◌≡◌, ◌≢◌, ◌≤◌, ◌↔◌, ◌⊎◌, ◌/◌, ℕ, true, false, List, length, Option, Some, None}
 use Rattle.boxglue_program.specs.Reports.{Reports}
 use Rattle.boxglue_print.specs.Outputs.{IsListed, IsPainted, LacksPage}
-use Rattle.raster_core.specs.Sheets.{sheet_of, Sheet}
+use Rattle.raster_core.specs.PaintOptions.{options_of, PaintOptionsView}
 use Rattle.boxglue_calls.specs.Fonts.{are_named, files_of}
 use Rattle.boxglue_calls.specs.FontTables.{HandsOverFonts}
 use Rattle.boxglue_calls.specs.Jobs.{IsNewJob, KeptState}
@@ -59,9 +59,9 @@ NoticesNoPage dvi fonts page dpi width height status =
     LacksPage (files_of fonts) dvi page → are_named fonts ≡ true → is_in_range page dpi width height ≡ true → (status ≡ 2) ⊎ (status ≡ 5)
 
 -- The bitmap of a page of a DVI file with these fonts, or the line of the file's refusal, is handed over, unless nothing is done.
-abbrev pub Paints : (dvi : List ℕ) → List Font → Sheet → (text : List ℕ × List ℕ) → (size status : ℕ) → Type 0
-Paints dvi fonts sheet text size status =
-    (status ≡ 2) ⊎ (status ≡ 3) ⊎ (status ≡ 5) ⊎ (status ≡ 6) ⊎ HandsOverPages (IsPainted (files_of fonts) dvi sheet) text.0 text.1 size status
+abbrev pub Paints : (dvi : List ℕ) → List Font → PaintOptionsView → (text : List ℕ × List ℕ) → (size status : ℕ) → Type 0
+Paints dvi fonts options text size status =
+    (status ≡ 2) ⊎ (status ≡ 3) ⊎ (status ≡ 5) ⊎ (status ≡ 6) ⊎ HandsOverPages (IsPainted (files_of fonts) dvi options) text.0 text.1 size status
 
 -- A call that paints no page leaves this as it was.
 abbrev pub KeepsUnpainted : {A : Type 0} → (status : ℕ) → (old new : A) → Type 0
@@ -80,8 +80,8 @@ abbrev pub ReadsMarks : (dvi : List ℕ) → List Font → (old new : MarkOutput
 ReadsMarks dvi fonts old new sizes status = (status ≡ 2) ⊎ (status ≡ 3) ⊎ HandsOverMarks (files_of fonts) dvi old new sizes status
 
 -- These buffers are large enough for the marks of any file of this size.
-abbrev pub HasRoomForMarks : (dvi : List ℕ) → MarkOutputs → (status : ℕ) → Type 0
-HasRoomForMarks dvi old status =
+abbrev pub HasSpaceForMarks : (dvi : List ℕ) → MarkOutputs → (status : ℕ) → Type 0
+HasSpaceForMarks dvi old status =
     length dvi / 46 ≤ length old.pages → length dvi ≤ length old.marks → 64 ≤ length old.text → status ≢ 4
 
 -- A call that makes a job says 9 exactly if the handle has one.

@@ -6,7 +6,7 @@ use Rattle.dvi_ops.specs.File.{IsFile, MarkedPage}
 use Rattle.dvi_ops.specs.Fonts.{definitions, widths_of}
 use Rattle.dvi_ops.specs.Instruction.{Units}
 use Rattle.dvi_ops.specs.Tokens.{token_instructions}
-use Rattle.dvi_read.specs.PageMarks.{TextStandsAt, marks_of, text_places}
+use Rattle.dvi_read.specs.PageMarks.{TextIsAt, marks_of, text_places}
 use Rattle.scaled_core.specs.Mark.{Mark, Glyph, Rule, Special}
 use Rattle.tfm_core.specs.FileWidths.{file_widths}
 use Rattle.tfm_core.specs.NamedBytes.{NamedBytes}
@@ -57,7 +57,7 @@ special_row h v size place = record (empty_row special_kind h v) { text_size = s
 abbrev pub IsMarkRow : List ℕ → Widths → DviMark → Mark → Type 0
 IsMarkRow bytes widths row (Glyph font code h v) = (width : ℤ) × (widths font code ≡ Some width) × (row ≡ glyph_row font code h v width)
 IsMarkRow bytes widths row (Rule h v height width) = row ≡ rule_row h v height width
-IsMarkRow bytes widths row (Special h v text) = (place : ℕ) × TextStandsAt bytes place text × (row ≡ special_row h v (length text) place)
+IsMarkRow bytes widths row (Special h v text) = (place : ℕ) × TextIsAt bytes place text × (row ≡ special_row h v (length text) place)
 
 -- Each row is that of the mark with its index.
 abbrev pub AreMarkRows : List ℕ → Widths → List DviMark → List Mark → Type 0
@@ -83,7 +83,7 @@ pub record TabulatesMarks (files : List NamedBytes) (bytes : List ℕ) (rows : L
       (marks_of pages)
   -- The text of each special begins where its own instruction has it, also where the same text stands elsewhere in the file.
   pub starts_are : text_starts marks ≡ text_places 0 file.frame.front
-  pub units_are : units ≡ file.frame.stop.units
+  pub units_are : units ≡ file.frame.postamble.units
 
 -- No units.
 abbrev pub no_units : Units
@@ -105,8 +105,8 @@ IsMarkTable files bytes outputs units accepted =
     ⊎ (RefusesFile files bytes outputs.text accepted × (outputs.pages ≡ []) × (outputs.marks ≡ []) × (units ≡ no_units))
 
 -- One of three buffers has fewer places than its output has items.
-abbrev pub LacksRoom : (old outputs : MarkOutputs) → Type 0
-LacksRoom old outputs =
+abbrev pub LacksSpace : (old outputs : MarkOutputs) → Type 0
+LacksSpace old outputs =
     (length old.pages < length outputs.pages) ⊎ (length old.marks < length outputs.marks) ⊎ (length old.text < length outputs.text)
 
 -- Three outputs are handed over: each buffer holds its own, and the status is that of the call; or one is too small, all are as they were, and the
@@ -114,7 +114,7 @@ LacksRoom old outputs =
 abbrev pub HandsOverAll : (old new outputs : MarkOutputs) → (done status : ℕ) → Type 0
 HandsOverAll old new outputs done status =
     (Holds old.pages new.pages outputs.pages × Holds old.marks new.marks outputs.marks × Holds old.text new.text outputs.text × (status ≡ done))
-    ⊎ (LacksRoom old outputs × (new.pages ≡ old.pages) × (new.marks ≡ old.marks) × (new.text ≡ old.text) × (status ≡ 4))
+    ⊎ (LacksSpace old outputs × (new.pages ≡ old.pages) × (new.marks ≡ old.marks) × (new.text ≡ old.text) × (status ≡ 4))
 
 -- The outputs for a file are handed over, and the sizes and the units are theirs.
 pub record HandsOverMarks (files : List NamedBytes) (bytes : List ℕ) (old new : MarkOutputs) (sizes : MarkSizes) (status : ℕ) : Type 0 where

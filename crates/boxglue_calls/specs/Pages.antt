@@ -1,6 +1,6 @@
 -- Listings and bitmaps of DVI files (own).
 use Rattle.std.specs.Prelude.{◌≡◌, ◌&&◌, ℕ, Bool, if◌then◌else◌, List, length, nat_le}
-use Rattle.raster_core.specs.Sheets.{is_paintable, sheet_of}
+use Rattle.raster_core.specs.PaintOptions.{is_paintable, options_of}
 use Rattle.boxglue_calls.specs.Buffers.{HandsOver}
 
 -- The status of a DVI file that was read: 0 where it is accepted, 1 where it is refused.
@@ -9,7 +9,7 @@ read_status accepted = if accepted then 0 else 1
 
 -- Whether the numbers of a page are in their ranges: the page 1 or more, the pixels an inch, width and height 1 to 10,000.
 abbrev pub is_in_range : (page dpi width height : ℕ) → Bool
-is_in_range page dpi width height = nat_le 1 dpi && is_paintable (sheet_of page dpi width height)
+is_in_range page dpi width height = nat_le 1 dpi && is_paintable (options_of page dpi width height)
 
 -- The text of a DVI file is handed over, and the size is its length.
 pub record HandsOverPages (Is : (text : List ℕ) → (accepted : Bool) → Type 0) (old new : List ℕ) (size status : ℕ) : Type 0 where

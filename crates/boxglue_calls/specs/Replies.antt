@@ -12,17 +12,17 @@ use Rattle.boxglue_calls.specs.Pieces.{RunsLines, EndsJob}
 use Rattle.boxglue_calls.specs.Rows.{bad_row, end_row, reply_rows}
 use Rattle.boxglue_calls.specs.declared.jobs.rows.ReplyRow.{ReplyRow}
 
--- The room of a caller for rows, and the number that goes out beside them.
-pub record RowRoom : Type 0 where
+-- The buffer of a caller for rows, and the number that goes out beside them.
+pub record RowBuffer : Type 0 where
   pub rows : List ReplyRow
   pub count : ℕ
 
-abbrev pub row_room : List ReplyRow → ℕ → RowRoom
-row_room rows count = record { rows = rows; count = count }
+abbrev pub row_space : List ReplyRow → ℕ → RowBuffer
+row_space rows count = record { rows = rows; count = count }
 
--- The lines of a piece of a script were run, and the room begins with the rows of the replies. The lines are numbered after those of the pieces
+-- The lines of a piece of a script were run, and the buffer begins with the rows of the replies. The lines are numbered after those of the pieces
 -- before. The status is that of the replies.
-pub record RepliesToPiece (script : List ℕ) (before after : RowRoom) (old new : KeptState) (status : ℕ) : Type 0 where
+pub record RepliesToPiece (script : List ℕ) (before after : RowBuffer) (old new : KeptState) (status : ℕ) : Type 0 where
   pub run : RunsLines old script new
   pub written : Holds before.rows after.rows (reply_rows (line_numbers (numbered_lines old.lines run.lines)) run.replies)
   pub count_is : after.count ≡ length run.lines
@@ -30,7 +30,7 @@ pub record RepliesToPiece (script : List ℕ) (before after : RowRoom) (old new 
   pub answers : new.answers ≡ old.answers
 
 -- A piece is bad: one row says so, the job is as it was, and the status is 1.
-pub record RefusesPieceInRow (script : List ℕ) (before after : RowRoom) (old new : KeptState) (status : ℕ) : Type 0 where
+pub record RefusesPieceInRow (script : List ℕ) (before after : RowBuffer) (old new : KeptState) (status : ℕ) : Type 0 where
   pub number : ℕ
   pub cause : Cause
   pub bad : IsFirstBad script number cause
@@ -45,17 +45,17 @@ NeedsRows script count =
     ((lines : List Line) × IsScript script lines × (count ≡ length lines))
     ⊎ ((number : ℕ) × (cause : Cause) × IsFirstBad script number cause × (count ≡ 1))
 
--- A piece needs more rows than there is room for: no line was run, nothing changes but the count, which says how many it needs, and the status is 4.
-pub record LacksRows (script : List ℕ) (before after : RowRoom) (old new : KeptState) (status : ℕ) : Type 0 where
+-- A piece needs more rows than there is space for: no line was run, nothing changes but the count, which says how many it needs, and the status is 4.
+pub record LacksRows (script : List ℕ) (before after : RowBuffer) (old new : KeptState) (status : ℕ) : Type 0 where
   pub needs : NeedsRows script after.count
   pub small : length before.rows < after.count
   pub rows : after.rows ≡ before.rows
   pub same : new ≡ old
   pub status_is : status ≡ 4
 
--- A piece of a script was run; or is bad; or there is no room for its rows; or memory was refused before a line was run: nothing changed, and the
+-- A piece of a script was run; or is bad; or there is no space for its rows; or memory was refused before a line was run: nothing changed, and the
 -- status is 2.
-abbrev pub RepliesTo : (script : List ℕ) → (before after : RowRoom) → (old new : KeptState) → (status : ℕ) → Type 0
+abbrev pub RepliesTo : (script : List ℕ) → (before after : RowBuffer) → (old new : KeptState) → (status : ℕ) → Type 0
 RepliesTo script before after old new status =
     RepliesToPiece script before after old new status ⊎ RefusesPieceInRow script before after old new status
     ⊎ LacksRows script before after old new status ⊎ ((new ≡ old) × (after ≡ before) × (status ≡ 2))

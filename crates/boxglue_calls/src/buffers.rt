@@ -5,7 +5,7 @@ ghost use Rattle.boxglue_calls.specs.Buffers.{Holds, HandsOver, HandsOverBoth};
 
 use crate::status::BUFFER_TOO_SMALL;
 
-/// Puts items at the front of a buffer that has room for them.
+/// Puts items at the front of a buffer that has space for them.
 pub(crate) fn put<T: Copy>(items: &[T], buffer: &mut [T])
     requires { length items.now ≤ length buffer.old }
     ensures { Holds buffer.old buffer.new items.now }
@@ -13,7 +13,7 @@ pub(crate) fn put<T: Copy>(items: &[T], buffer: &mut [T])
     buffer[..items.len()].copy_from_slice(items);
 }
 
-/// Puts items into a buffer, after this number of others. It has room for all of them.
+/// Puts items into a buffer, after this number of others. It has space for all of them.
 pub(crate) fn put_after<T: Copy>(count: usize, items: &[T], buffer: &mut [T])
     requires { count + length items.now ≤ length buffer.old }
     ensures { buffer.new ≡ take count buffer.old ++ (items.now ++ drop (count + length items.now) buffer.old) }

@@ -2,7 +2,7 @@
 
 ghost use Rattle.std.specs.Prelude.{◌≡◌, ◌≤◌, ℕ, List, length, vec_capacity, IfOk, IfSome, OnErr};
 ghost use Rattle.dvi_read.specs.Listing.{listing};
-ghost use Rattle.dvi_read.specs.SeenAhead.{AreLinesAhead, HasAllLines};
+ghost use Rattle.dvi_read.specs.ItemsLeft.{AreLinesLeft, HasAllLines};
 ghost use Rattle.dvi_read.specs.declared.listings.part.TheConstants.{PART};
 ghost use Rattle.boxglue_calls.specs.Buffers.{HandsOver, Holds};
 
@@ -16,12 +16,12 @@ const PIECE: usize = 65_536;
 
 /// The number of bytes of a listing, if it is below 2^64.
 fn listing_size(lines: &mut Lines<'_, '_>, piece: &mut Vec<u8>) -> Option<usize>
-    requires room { PART ≤ vec_capacity piece.old }
-    requires ahead { (text : List ℕ) × AreLinesAhead lines.old text }
-    ensures size { (text : List ℕ) → AreLinesAhead lines.old text → IfSome result (λ size. size ≡ length text) }
+    requires space { PART ≤ vec_capacity piece.old }
+    requires remaining { (text : List ℕ) × AreLinesLeft lines.old text }
+    ensures size { (text : List ℕ) → AreLinesLeft lines.old text → IfSome result (λ size. size ≡ length text) }
     ensures all_lines { (text : List ℕ) → HasAllLines lines.old text → HasAllLines lines.new text }
-    ensures ahead { (text : List ℕ) × AreLinesAhead lines.new text }
-    ensures room { PART ≤ vec_capacity piece.new }
+    ensures remaining { (text : List ℕ) × AreLinesLeft lines.new text }
+    ensures space { PART ≤ vec_capacity piece.new }
 {
     let mut size = 0_usize;
     while lines.next_piece(piece) {
@@ -30,11 +30,11 @@ fn listing_size(lines: &mut Lines<'_, '_>, piece: &mut Vec<u8>) -> Option<usize>
     Some(size)
 }
 
-/// Writes a listing to the front of a buffer that has room for it.
+/// Writes a listing to the front of a buffer that has space for it.
 fn write_listing(lines: &mut Lines<'_, '_>, piece: &mut Vec<u8>, text: &mut [u8])
-    requires room { PART ≤ vec_capacity piece.old }
-    requires ahead { (whole : List ℕ) × AreLinesAhead lines.old whole × (length whole ≤ length text.old) }
-    ensures { (whole : List ℕ) → AreLinesAhead lines.old whole → length whole ≤ length text.old → Holds text.old text.new whole }
+    requires space { PART ≤ vec_capacity piece.old }
+    requires remaining { (whole : List ℕ) × AreLinesLeft lines.old whole × (length whole ≤ length text.old) }
+    ensures { (whole : List ℕ) → AreLinesLeft lines.old whole → length whole ≤ length text.old → Holds text.old text.new whole }
 {
     let mut count = 0;
     while lines.next_piece(piece) {
@@ -43,7 +43,7 @@ fn write_listing(lines: &mut Lines<'_, '_>, piece: &mut Vec<u8>, text: &mut [u8]
     }
 }
 
-/// Hands a listing over: its bytes are counted, and where the buffer has room for them they are made once more, and written into it. Where memory is
+/// Hands a listing over: its bytes are counted, and where the buffer has space for them they are made once more, and written into it. Where memory is
 /// refused, or the number of bytes is not below 2^64, nothing is written.
 fn hand_over_listing(
     lines: &mut Lines<'_, '_>,
@@ -51,9 +51,9 @@ fn hand_over_listing(
     text: &mut [u8],
     size: &mut usize,
 ) -> Result<u32, AllocError>
-    requires room { PART ≤ vec_capacity piece.old }
-    requires lines { (whole : List ℕ) × AreLinesAhead lines.old whole × HasAllLines lines.old whole }
-    ensures handed { (whole : List ℕ) → AreLinesAhead lines.old whole → HasAllLines lines.old whole
+    requires space { PART ≤ vec_capacity piece.old }
+    requires lines { (whole : List ℕ) × AreLinesLeft lines.old whole × HasAllLines lines.old whole }
+    ensures handed { (whole : List ℕ) → AreLinesLeft lines.old whole → HasAllLines lines.old whole
         → IfOk result (λ status. HandsOver text.old text.new whole 0 status × (size.new ≡ length whole)) }
     ensures text { OnErr result (text.new ≡ text.old) }
     ensures size { OnErr result (size.new ≡ size.old) }

@@ -5,16 +5,16 @@ ghost use Rattle.dvi_ops.specs.File.{MarkedPage};
 ghost use Rattle.dvi_ops.specs.Fonts.{WidthsByName};
 ghost use Rattle.dvi_ops.specs.Instruction.{Definition};
 ghost use Rattle.dvi_read.specs.PageMarks.{HasGlyphWidths};
-ghost use Rattle.dvi_read.specs.Seen.{SeenItem};
-ghost use Rattle.dvi_read.specs.SeenAhead.{AreTextsAhead, IsSeenAhead, sight_of};
+ghost use Rattle.dvi_read.specs.Seen.{SeenItemView};
+ghost use Rattle.dvi_read.specs.ItemsLeft.{AreTextsLeft, AreItemsLeft, seen_item_view};
 ghost use Rattle.dvi_scan.specs.View.{mark_of};
 ghost use Rattle.boxglue_calls.specs.MarkTables.{empty_row, mark_outputs};
-ghost use Rattle.boxglue_calls.specs.Private.MarkRows.{AddsMark, BeginsPage, CanBeWritten, HasPlace, HasRowsFor, HoldsRows, WritesSight};
+ghost use Rattle.boxglue_calls.specs.Private.MarkRows.{AddsMark, BeginsPage, CanBeWritten, HasPlace, HasRowsFor, HoldsRows, WritesItem};
 ghost use Rattle.boxglue_calls.specs.Private.MarkRows.{marks_among, pages_among, row_of, size_of};
 
 use crate::buffers::put_after;
 use crate::mark_table::{DviMark, DviPage};
-use dvi_read::{CharCode, Mark, Sight, Sights};
+use dvi_read::{CharCode, Mark, SeenItem, SeenItems};
 use dvi_scan::FontNumber;
 use scaled_core::COUNTS;
 
@@ -34,33 +34,33 @@ pub(crate) struct RowProgress {
 }
 
 /// Counts what is seen.
-fn count_sight(sight: &Sight<'_>, counts: &mut RowCounts)
+fn count_item(item: &SeenItem<'_>, counts: &mut RowCounts)
     requires { counts.old.pages + counts.old.marks + 1 < 2 ^ 64 }
-    ensures pages { counts.new.pages ≡ counts.old.pages + pages_among (sight_of sight.now ∷ []) }
-    ensures marks { counts.new.marks ≡ counts.old.marks + length (marks_among (sight_of sight.now ∷ [])) }
+    ensures pages { counts.new.pages ≡ counts.old.pages + pages_among (seen_item_view item.now ∷ []) }
+    ensures marks { counts.new.marks ≡ counts.old.marks + length (marks_among (seen_item_view item.now ∷ [])) }
     ensures one { counts.new.pages + counts.new.marks ≡ counts.old.pages + counts.old.marks + 1 }
 {
-    match *sight {
-        Sight::Page(_) => counts.pages += 1,
-        Sight::Mark(_) => counts.marks += 1,
+    match *item {
+        SeenItem::Page(_) => counts.pages += 1,
+        SeenItem::Mark(_) => counts.marks += 1,
     }
 }
 
 /// The numbers of pages and marks that are still to be seen. Each takes a byte of the file, so they fit.
-pub(crate) fn count_rows(sights: &mut Sights<'_, '_>) -> RowCounts
-    requires { (seen : List SeenItem) × IsSeenAhead sights.old seen }
-    ensures pages { (seen : List SeenItem) → IsSeenAhead sights.old seen → result.pages ≡ pages_among seen }
-    ensures marks { (seen : List SeenItem) → IsSeenAhead sights.old seen → result.marks ≡ length (marks_among seen) }
+pub(crate) fn count_rows(seen_items: &mut SeenItems<'_, '_>) -> RowCounts
+    requires { (seen : List SeenItemView) × AreItemsLeft seen_items.old seen }
+    ensures pages { (seen : List SeenItemView) → AreItemsLeft seen_items.old seen → result.pages ≡ pages_among seen }
+    ensures marks { (seen : List SeenItemView) → AreItemsLeft seen_items.old seen → result.marks ≡ length (marks_among seen) }
     // There is a row for each mark.
-    ensures rows { (metrics : WidthsByName) (table : List Definition) (places : List ℕ) (seen : List SeenItem) → IsSeenAhead sights.old seen
-        → AreTextsAhead sights.old places → HasGlyphWidths metrics table sights.old.file.now.fonts (marks_among seen)
-        → HasRowsFor metrics table sights.old.file.now.bytes.now places (marks_among seen) }
-    ensures ahead { (seen : List SeenItem) × IsSeenAhead sights.new seen }
-    ensures same { sights.new.file ≡ sights.old.file }
+    ensures rows { (metrics : WidthsByName) (table : List Definition) (places : List ℕ) (seen : List SeenItemView) → AreItemsLeft seen_items.old seen
+        → AreTextsLeft seen_items.old places → HasGlyphWidths metrics table seen_items.old.file.now.fonts (marks_among seen)
+        → HasRowsFor metrics table seen_items.old.file.now.bytes.now places (marks_among seen) }
+    ensures remaining { (seen : List SeenItemView) × AreItemsLeft seen_items.new seen }
+    ensures same { seen_items.new.file ≡ seen_items.old.file }
 {
     let mut counts = RowCounts { pages: 0, marks: 0 };
-    while let Some(sight) = sights.next_sight() {
-        count_sight(&sight, &mut counts);
+    while let Some(item) = seen_items.next_item() {
+        count_item(&item, &mut counts);
     }
     counts
 }
@@ -90,13 +90,13 @@ fn size_in_32(size: usize) -> u32
 }
 
 /// The row of the mark that was seen last.
-fn mark_row(mark: &Mark<'_>, sights: &Sights<'_, '_>) -> DviMark
-    requires { (seen : List SeenItem) × IsSeenAhead sights.now seen }
-    ensures { result ≡ row_of sights.now.file.now.fonts sights.now.at (mark_of mark.now) }
+fn mark_row(mark: &Mark<'_>, seen_items: &SeenItems<'_, '_>) -> DviMark
+    requires { (seen : List SeenItemView) × AreItemsLeft seen_items.now seen }
+    ensures { result ≡ row_of seen_items.now.file.now.fonts seen_items.now.at (mark_of mark.now) }
 {
     match *mark {
         Mark::Glyph { font, code, h, v } => {
-            let width = sights.width(FontNumber { value: font }, CharCode { value: code });
+            let width = seen_items.width(FontNumber { value: font }, CharCode { value: code });
             DviMark {
                 font,
                 code,
@@ -116,7 +116,7 @@ fn mark_row(mark: &Mark<'_>, sights: &Sights<'_, '_>) -> DviMark
         },
         Mark::Special { h, v, text } => DviMark {
             text_size: size_in_32(text.len()),
-            text_start: sights.text_start(text) as u64,
+            text_start: seen_items.text_start(text) as u64,
             ..empty_row(3, h, v)
         },
     }
@@ -151,33 +151,37 @@ fn add_mark(row: DviMark, written: &mut RowProgress, pages: &mut [DviPage], mark
 }
 
 /// Writes the row of what was seen last.
-fn write_sight(
-    sight: &Sight<'_>,
-    sights: &Sights<'_, '_>,
+fn write_item(
+    item: &SeenItem<'_>,
+    seen_items: &SeenItems<'_, '_>,
     written: &mut RowProgress,
     pages: &mut [DviPage],
     marks: &mut [DviMark],
 )
-    requires ahead { (seen : List SeenItem) × IsSeenAhead sights.now seen }
-    requires place { HasPlace sight.now written.old (mark_outputs pages.old marks.old []) }
-    ensures { WritesSight sight.now sights.now written.old written.new (mark_outputs pages.old marks.old []) (mark_outputs pages.new marks.new []) }
+    requires remaining { (seen : List SeenItemView) × AreItemsLeft seen_items.now seen }
+    requires place { HasPlace item.now written.old (mark_outputs pages.old marks.old []) }
+    ensures { WritesItem item.now seen_items.now written.old written.new (mark_outputs pages.old marks.old []) (mark_outputs pages.new marks.new []) }
 {
-    match *sight {
-        Sight::Page(counts) => begin_page(counts, written, pages),
-        Sight::Mark(mark) => {
-            let row = mark_row(&mark, sights);
+    match *item {
+        SeenItem::Page(counts) => begin_page(counts, written, pages),
+        SeenItem::Mark(mark) => {
+            let row = mark_row(&mark, seen_items);
             add_mark(row, written, pages, marks);
         }
     }
 }
 
-/// Writes the rows of all pages that are still to be seen, and of their marks, to the fronts of buffers that have room for them.
-pub(crate) fn write_rows(sights: &mut Sights<'_, '_>, pages: &mut [DviPage], marks: &mut [DviMark])
+/// Writes the rows of all pages that are still to be seen, and of their marks, to the fronts of buffers that have space for them.
+pub(crate) fn write_rows(
+    seen_items: &mut SeenItems<'_, '_>,
+    pages: &mut [DviPage],
+    marks: &mut [DviMark],
+)
     requires { (metrics : WidthsByName) × (table : List Definition) × (places : List ℕ) × (all : List MarkedPage)
-        × CanBeWritten metrics table sights.old (mark_outputs pages.old marks.old []) places all }
+        × CanBeWritten metrics table seen_items.old (mark_outputs pages.old marks.old []) places all }
     ensures { (metrics : WidthsByName) (table : List Definition) (places : List ℕ) (all : List MarkedPage)
-        → CanBeWritten metrics table sights.old (mark_outputs pages.old marks.old []) places all
-        → HoldsRows metrics table sights.old.file.now.bytes.now (mark_outputs pages.old marks.old []) (mark_outputs pages.new marks.new [])
+        → CanBeWritten metrics table seen_items.old (mark_outputs pages.old marks.old []) places all
+        → HoldsRows metrics table seen_items.old.file.now.bytes.now (mark_outputs pages.old marks.old []) (mark_outputs pages.new marks.new [])
         places all }
 {
     let mut written = RowProgress {
@@ -189,7 +193,7 @@ pub(crate) fn write_rows(sights: &mut Sights<'_, '_>, pages: &mut [DviPage], mar
             marks: 0,
         },
     };
-    while let Some(sight) = sights.next_sight() {
-        write_sight(&sight, sights, &mut written, pages, marks);
+    while let Some(item) = seen_items.next_item() {
+        write_item(&item, seen_items, &mut written, pages, marks);
     }
 }

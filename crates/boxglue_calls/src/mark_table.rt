@@ -7,7 +7,7 @@ ghost use Rattle.tfm_core.specs.NamedBytes.{NamedBytes};
 ghost use Rattle.boxglue_calls.specs.Fonts.{are_named, files_of};
 ghost use Rattle.boxglue_calls.specs.Private.MarkFiles.{HandsOverFully, IsChecked, IsRefusal, IsShortRefusal, place_of};
 ghost use Rattle.boxglue_calls.specs.MarkTables.{mark_outputs};
-ghost use Rattle.boxglue_calls.specs.Calls.{HasRoomForMarks, KeepsUndone, ReadsMarks, RefusesNames};
+ghost use Rattle.boxglue_calls.specs.Calls.{HasSpaceForMarks, KeepsUndone, ReadsMarks, RefusesNames};
 
 use crate::buffers::hand_over;
 use crate::given::{Font, are_named, font_files};
@@ -15,7 +15,7 @@ use crate::mark_rows::{RowCounts, count_rows, write_rows};
 use crate::status::{ACCEPTED, BAD_FONT_NAME, BUFFER_TOO_SMALL, OUT_OF_MEMORY, REFUSED};
 use boxglue_print::{Dvi, DviFault, Output, refusal};
 use dvi_ops::Units;
-use dvi_read::Sights;
+use dvi_read::SeenItems;
 use scaled_core::COUNTS;
 use std::alloc::{AllocError, Global};
 
@@ -100,33 +100,33 @@ fn sizes_of(counts: RowCounts, units: Units) -> MarkSizes
     }
 }
 
-/// Whether buffers have room for these numbers of rows.
-fn have_room(counts: RowCounts, pages: &[DviPage], marks: &[DviMark]) -> bool
+/// Whether buffers have space for these numbers of rows.
+fn have_space(counts: RowCounts, pages: &[DviPage], marks: &[DviMark]) -> bool
     ensures yes { result ≡ true → (counts.pages ≤ length pages.now) × (counts.marks ≤ length marks.now) }
     ensures no { result ≡ false → (length pages.now < counts.pages) ⊎ (length marks.now < counts.marks) }
 {
     counts.pages <= pages.len() && counts.marks <= marks.len()
 }
 
-/// Hands the tables of a checked file over: its rows are counted, and where the buffers have room for them they are written. It takes no memory.
+/// Hands the tables of a checked file over: its rows are counted, and where the buffers have space for them they are written. It takes no memory.
 fn hand_over_rows(
-    sights: &mut Sights<'_, '_>,
+    seen_items: &mut SeenItems<'_, '_>,
     units: Units,
     pages: &mut [DviPage],
     marks: &mut [DviMark],
     sizes: &mut MarkSizes,
 ) -> u32
-    requires { (files : List NamedBytes) × (bytes : List ℕ) × (all : List MarkedPage) × IsChecked files bytes units sights.old all }
-    ensures { (files : List NamedBytes) (bytes : List ℕ) (all : List MarkedPage) (text : List ℕ) → IsChecked files bytes units sights.old all
+    requires { (files : List NamedBytes) × (bytes : List ℕ) × (all : List MarkedPage) × IsChecked files bytes units seen_items.old all }
+    ensures { (files : List NamedBytes) (bytes : List ℕ) (all : List MarkedPage) (text : List ℕ) → IsChecked files bytes units seen_items.old all
         → HandsOverFully files bytes (mark_outputs pages.old marks.old text) (mark_outputs pages.new marks.new text) sizes.new result }
 {
-    let counts = count_rows(sights);
+    let counts = count_rows(seen_items);
     *sizes = sizes_of(counts, units);
-    if !have_room(counts, pages, marks) {
+    if !have_space(counts, pages, marks) {
         return BUFFER_TOO_SMALL;
     }
-    sights.rewind();
-    write_rows(sights, pages, marks);
+    seen_items.rewind();
+    write_rows(seen_items, pages, marks);
     ACCEPTED
 }
 
@@ -167,9 +167,9 @@ fn hand_over_marks(
     let files = font_files(alloc, fonts)?;
     match Dvi::open(alloc, dvi, &files) {
         Ok(opened) => {
-            let mut sights = opened.sights()?;
+            let mut seen_items = opened.seen_items()?;
             let units = opened.units();
-            Ok(hand_over_rows(&mut sights, units, pages, marks, sizes))
+            Ok(hand_over_rows(&mut seen_items, units, pages, marks, sizes))
         }
         Err(fault) => {
             let output = short_refusal(alloc, fault)?;
@@ -197,7 +197,7 @@ pub fn marks(
     ensures named { RefusesNames fonts.now result }
     ensures done { ReadsMarks dvi.now fonts.now (mark_outputs pages.old marks.old text.old)
         (mark_outputs pages.new marks.new text.new) sizes.new result }
-    ensures enough { HasRoomForMarks dvi.now (mark_outputs pages.old marks.old text.old) result }
+    ensures enough { HasSpaceForMarks dvi.now (mark_outputs pages.old marks.old text.old) result }
     ensures pages { KeepsUndone result pages.old pages.new }
     ensures marks { KeepsUndone result marks.old marks.new }
     ensures text { KeepsUndone result text.old text.new }

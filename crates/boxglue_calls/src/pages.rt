@@ -6,7 +6,7 @@ ghost use Rattle.boxglue_calls.specs.Fonts.{are_named, files_of};
 ghost use Rattle.boxglue_calls.specs.Pages.{HandsOverPages, is_in_range, read_status};
 ghost use Rattle.boxglue_print.specs.Outputs.{IsListed, IsPainted, LacksPage};
 ghost use Rattle.boxglue_print.specs.declared.output.PaintFault.TheVariants.{NoSuchPage};
-ghost use Rattle.raster_core.specs.Sheets.{sheet_of};
+ghost use Rattle.raster_core.specs.PaintOptions.{options_of};
 ghost use Rattle.boxglue_calls.specs.Calls.{KeepsUndone, KeepsUnpainted, Lists, NoticesNoPage, Paints, RefusesNames, RefusesNumbers, RefusesPage};
 
 use crate::buffers::hand_over;
@@ -77,8 +77,8 @@ pub fn list(alloc: Global, dvi: &[u8], fonts: &[Font<'_>], text: &mut [u8], size
 }
 
 /// The options with these numbers, if they are in their ranges: the page 1 or more, the pixels an inch, width and height 1 to 10,000.
-fn options(page: u32, dpi: u32, width: u32, height: u32) -> Option<PaintOptions>
-    ensures { SomeIff result (IsTrue (is_in_range page dpi width height)) (sheet_of page dpi width height) }
+fn options_in_range(page: u32, dpi: u32, width: u32, height: u32) -> Option<PaintOptions>
+    ensures { SomeIff result (IsTrue (is_in_range page dpi width height)) (options_of page dpi width height) }
 {
     if dpi < 1 {
         return None;
@@ -91,14 +91,14 @@ fn bitmap_text(
     alloc: Global,
     dvi: &[u8],
     fonts: &[Font<'_>],
-    sheet: PaintOptions,
+    options: PaintOptions,
 ) -> Result<Output, PaintFault>
     requires { are_named fonts.now ≡ true }
-    ensures ok { IfOk result (λ output. IsPainted (files_of fonts.now) dvi.now sheet output.text.items output.accepted) }
-    ensures missing { result ≡ Err NoSuchPage → LacksPage (files_of fonts.now) dvi.now sheet.page }
+    ensures ok { IfOk result (λ output. IsPainted (files_of fonts.now) dvi.now options output.text.items output.accepted) }
+    ensures missing { result ≡ Err NoSuchPage → LacksPage (files_of fonts.now) dvi.now options.page }
 {
     let files = font_files(alloc, fonts)?;
-    paint_text(alloc, dvi, &files, sheet)
+    paint_text(alloc, dvi, &files, options)
 }
 
 /// Paints the rules of a page of a DVI file with these fonts. Pages are counted from 1. The bitmap as plain PBM, or the line of the refusal, goes
@@ -121,17 +121,17 @@ pub fn paint(
     ensures range { RefusesNumbers fonts.now page dpi width height result }
     ensures lacking { RefusesPage dvi.now fonts.now page result }
     ensures found { NoticesNoPage dvi.now fonts.now page dpi width height result }
-    ensures done { Paints dvi.now fonts.now (sheet_of page dpi width height) (text.old, text.new) size.new result }
+    ensures done { Paints dvi.now fonts.now (options_of page dpi width height) (text.old, text.new) size.new result }
     ensures text { KeepsUnpainted result text.old text.new }
     ensures size { KeepsUnpainted result size.old size.new }
 {
     if !are_named(fonts) {
         return BAD_FONT_NAME;
     }
-    let Some(sheet) = options(page, dpi, width, height) else {
+    let Some(options) = options_in_range(page, dpi, width, height) else {
         return OUT_OF_RANGE;
     };
-    match bitmap_text(alloc, dvi, fonts, sheet) {
+    match bitmap_text(alloc, dvi, fonts, options) {
         Ok(output) => {
             *size = output.text.len();
             hand_over(&output.text, text, file_status(output.accepted))

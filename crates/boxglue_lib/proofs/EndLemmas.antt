@@ -10,8 +10,8 @@ use Rattle.boxglue_words.specs.Hosts.{AreFilesOf, IsUnread, begun_for, created_a
 use Rattle.std.specs.Coded.{Coded}
 use Rattle.boxglue_words.proofs.HostLemmas.{begun_alike}
 use Rattle.tfm_core.specs.NamedBytes.{NamedBytes}
-use Rattle.boxglue_words.specs.declared.font_files.Unread.{Unread}
-use Rattle.boxglue_words.specs.declared.font_files.Unread.TheVariants.{OutOfMemory as WantsMemory, File}
+use Rattle.boxglue_words.specs.declared.font_files.FontFileFault.{FontFileFault}
+use Rattle.boxglue_words.specs.declared.font_files.FontFileFault.TheVariants.{OutOfMemory as WantsMemory, File}
 use Rattle.boxglue_words.specs.declared.fonts.NamedPath.{NamedPath}
 use Rattle.boxglue_lib.specs.Inputs.{IsUnreadDvi, IsUnreadScript}
 use Rattle.boxglue_lib.specs.Private.Parts.{end_of}
@@ -61,9 +61,9 @@ front_of_pieces old mid new taken piece rest whole is before front =
     subst (λ (text : List ℕ). WritesFront old new text) is (front_after old mid new taken (piece ++ rest) before (front_more mid new piece rest front))
 
 -- A piece was written, and the rest is still to come.
-pub piece_written : (old mid new : Option (List ℕ)) (piece ahead rest whole : List ℕ) → ahead ≡ piece ++ rest → Appends mid new piece
-    → (taken : List ℕ) × Appends old mid taken × (taken ++ ahead ≡ whole) → (taken : List ℕ) × Appends old new taken × (taken ++ rest ≡ whole)
-piece_written old mid new piece ahead rest whole is written (taken, before, same) = (
+pub piece_written : (old mid new : Option (List ℕ)) (piece remaining rest whole : List ℕ) → remaining ≡ piece ++ rest → Appends mid new piece
+    → (taken : List ℕ) × Appends old mid taken × (taken ++ remaining ≡ whole) → (taken : List ℕ) × Appends old new taken × (taken ++ rest ≡ whole)
+piece_written old mid new piece remaining rest whole is written (taken, before, same) = (
   taken ++ piece,
   appends_both old mid new taken piece before written,
   append_assoc taken piece rest ∙ (ap (λ (text : List ℕ). taken ++ text) (sym is) ∙ same),
@@ -155,7 +155,8 @@ ends_weaker rules weaker (Unreadable path) old new f u l h = (u path h.0, h.1)
 ends_weaker rules weaker NoSuchPage old new f u l h = (l h.0, h.1)
 
 -- Files that were not read, and the report of it.
-pub unread_output : {H : Type 0} (fonts : List NamedPath) (host back : HostView H) (file : OutFile) (fault : Unread) (old new : Option (List ℕ))
+pub unread_output : {H : Type 0} (fonts : List NamedPath) (host back : HostView H) (file : OutFile) (fault : FontFileFault)
+    (old new : Option (List ℕ))
     → IsLeftAlone (IsSame host back) file → IsUnreadScript host.files host.input fonts fault → TellsOutput (end_of fault) old new
     → EndsOutput (typesetting_rules written_bytes fonts host back file) (end_of fault) old new
 unread_output fonts host back file WantsMemory old new alone unread said = said
@@ -172,7 +173,7 @@ pub typeset_ended : {H : Type 0} (fonts : List NamedPath) (out : List ℕ) (old 
     → IsReading old.input text → AreFilesOf old.files fonts files → EndsTask (script_rules written_bytes text files (IsSame old new) file) end before.output mid
     → (end ≡ OutOfMemory → IsLeftToFile written_bytes text files file) → LeavesHost out old new file → TellsUnwritten file.done out before.errors between
     → TellsOutput end mid after.output → TellsErrors end between after.errors → status ≡ status_of end → HasTypeset written_bytes out fonts old new before after status
-typeset_ended fonts out old new file text files end mid between before after status read filed ended left leaves unwritten said told is =
+typeset_ended fonts out old new file text files end mid between before after status read filed ended left leaves unwritten said output_is is =
     record {
       end = end;
       file = file;
@@ -181,7 +182,7 @@ typeset_ended fonts out old new file text files end mid between before after sta
           (ends_weaker (script_rules written_bytes text files (IsSame old new) file) (typesetting_rules written_bytes fonts old new file) end before.output mid
           (λ answer fine to. (text, files, read, filed, to)) (λ path none. absurd none) (λ none. none) ended) said;
       memory = λ wants. inr (text, files, read, filed, left wants);
-      reported = record { middle = between; unwritten = unwritten; ended = told };
+      reported = record { middle = between; unwritten = unwritten; ended = output_is };
       status_is = is;
     }
 
@@ -220,30 +221,30 @@ pub placed_since : (path out : List ℕ) (paths before now : List (List ℕ)) (c
 placed_since path out paths before now created same alike is = is ∙ (ap (λ (p : List ℕ). created_after created p paths) same ∙ ap (λ (ps : List (List ℕ)). created_after created out ps) alike)
 
 -- Fonts that were not read, before standard input.
-pub unread_script : (reported : List ℕ → Option (Option (List ℕ))) (input : Option (List ℕ)) (fonts : List NamedPath) (fault : Unread)
+pub unread_script : (reported : List ℕ → Option (Option (List ℕ))) (input : Option (List ℕ)) (fonts : List NamedPath) (fault : FontFileFault)
     → IsUnread reported fonts fault → IsUnreadScript reported input fonts fault
 unread_script reported input fonts WantsMemory unread = inl unread
 unread_script reported input fonts (File path) unread = inl unread
 
 -- Fonts that were not read, after the DVI file.
-pub unread_dvi : (reported : List ℕ → Option (Option (List ℕ))) (dvi bytes : List ℕ) (fonts : List NamedPath) (fault : Unread)
+pub unread_dvi : (reported : List ℕ → Option (Option (List ℕ))) (dvi bytes : List ℕ) (fonts : List NamedPath) (fault : FontFileFault)
     → IsFileReading (reported dvi) bytes → IsUnread reported fonts fault → IsUnreadDvi reported dvi fonts fault
 unread_dvi reported dvi bytes fonts WantsMemory read unread = inr ((bytes, read), unread)
 unread_dvi reported dvi bytes fonts (File path) read unread = inr ((bytes, read), unread)
 
 -- What is known of the input of `typeset` if memory was refused for it.
-wanting_script : (reported : List ℕ → Option (Option (List ℕ))) (input : Option (List ℕ)) (fonts : List NamedPath) (fault : Unread)
+wanting_script : (reported : List ℕ → Option (Option (List ℕ))) (input : Option (List ℕ)) (fonts : List NamedPath) (fault : FontFileFault)
     → end_of fault ≡ OutOfMemory → IsUnreadScript reported input fonts fault → IsUnreadScript reported input fonts WantsMemory
 wanting_script reported input fonts WantsMemory wants unread = unread
 wanting_script reported input fonts (File path) wants unread = absurd (cc)
 
 -- The input of `typeset` was not read, and that was reported.
 pub not_typeset : {H : Type 0} (known : H → Files) (created : H → List (List ℕ)) (written : H → Option (List ℕ)) (failures : H → ℕ) (input left : Option (List ℕ)) (host : H)
-    (fonts : List NamedPath) (out : List ℕ) (fault : Unread) (before after : Streams) (status : ℕ)
+    (fonts : List NamedPath) (out : List ℕ) (fault : FontFileFault) (before after : Streams) (status : ℕ)
     → IsUnreadScript (known host) input fonts fault → TellsOutput (end_of fault) before.output after.output → TellsErrors (end_of fault) before.errors after.errors
     → status ≡ status_of (end_of fault)
     → HasTypeset written_bytes out fonts (view_of known created written failures input host) (view_of known created written failures left host) before after status
-not_typeset known created written failures input left host fonts out fault before after status unread said told is =
+not_typeset known created written failures input left host fonts out fault before after status unread said output_is is =
     let old = view_of known created written failures input host in
     let new = view_of known created written failures left host in
     let file : OutFile = record { created = false; done = true; written = written host } in
@@ -254,7 +255,7 @@ not_typeset known created written failures input left host fonts out fault befor
       leaves = record { written = refl; placed = refl; untouched = λ _. refl; unchanged = λ _ _. refl; blamed = unfailed (failures host) };
       printed = unread_output fonts old new file fault before.output after.output alone unread said;
       memory = λ wants. inl (alone, wanting_script (known host) input fonts fault wants unread);
-      reported = record { middle = before.errors; unwritten = keeps_same before.errors; ended = told };
+      reported = record { middle = before.errors; unwritten = keeps_same before.errors; ended = output_is };
       status_is = is;
     }
 
@@ -266,7 +267,7 @@ not_created true done None used fine reported empty = cc
 not_created true done (Some bytes) used fine reported empty = absurd (used refl fine bytes refl empty)
 
 -- Inputs that were not read, for a task whose memory was refused.
-pub wanting_dvi : (reported : List ℕ → Option (Option (List ℕ))) (dvi : List ℕ) (fonts : List NamedPath) (fault : Unread) (end : TaskEnd)
+pub wanting_dvi : (reported : List ℕ → Option (Option (List ℕ))) (dvi : List ℕ) (fonts : List NamedPath) (fault : FontFileFault) (end : TaskEnd)
     → IsUnreadDvi reported dvi fonts fault → end ≡ end_of fault → end ≡ OutOfMemory → LacksMemoryForDvi reported dvi fonts
 wanting_dvi reported dvi fonts WantsMemory end unread is wants = inl unread
 wanting_dvi reported dvi fonts (File path) end unread is wants = absurd (cc)

@@ -4,14 +4,14 @@ use Rattle.std.specs.Prelude.{◌==◌, ◌≤◌, length, IfOk}
 use Rattle.std.specs.Io.KnownBytes.{Consumes, IsAtEnd}
 use Rattle.boxglue_words.specs.Hosts.{AreFilesOf, IsUnread, written_to_file}
 use Rattle.boxglue_words.specs.Readings.{Files, IsBeginning, IsReading}
-use Rattle.boxglue_words.specs.declared.font_files.Unread.{Unread}
-use Rattle.boxglue_words.specs.declared.font_files.Unread.TheVariants.{OutOfMemory as WantsMemory, File}
+use Rattle.boxglue_words.specs.declared.font_files.FontFileFault.{FontFileFault}
+use Rattle.boxglue_words.specs.declared.font_files.FontFileFault.TheVariants.{OutOfMemory as WantsMemory, File}
 use Rattle.boxglue_words.specs.declared.host.TheConstants.{READ_LIMIT}
 use Rattle.tfm_core.specs.NamedBytes.{NamedBytes}
 use Rattle.boxglue_program.specs.Reports.{written_bytes}
 use Rattle.boxglue_program.specs.Sessions.{IsCutOff, IsSent, IsUnreadable, LacksSessionMemory, RanSession}
 use Rattle.boxglue_program.specs.declared.session.SessionFault.{SessionFault}
-use Rattle.boxglue_program.specs.declared.session.SessionFault.TheVariants.{OutOfMemory as WantsRoom, Unreadable as LosesInput}
+use Rattle.boxglue_program.specs.declared.session.SessionFault.TheVariants.{OutOfMemory as RefusesMemory, Unreadable as LosesInput}
 use Rattle.boxglue_lib.specs.Ends.{TellsErrors, TellsOutput, status_of}
 use Rattle.boxglue_lib.specs.Private.Parts.{IsSessionEnd, end_of}
 use Rattle.boxglue_lib.specs.Sessions.{EndsSession, HasSession, HoldsOfFile}
@@ -61,7 +61,8 @@ Loses input left files reads old new k bytes =
 pub session_ends : (input left : Option (List ℕ)) (files : List NamedBytes) (outcome : Result Bool SessionFault) (reads : Bool) (end : TaskEnd) (old new : Option (List ℕ))
     (k : ℕ) (bytes : Option (List ℕ)) (file : OutFile)
     → IsSessionEnd outcome reads end → IfOk outcome (Ran input left files reads old new k bytes)
-    → (outcome ≡ Err WantsRoom → Lacks input left files reads old new k bytes) → (outcome ≡ Err LosesInput → Loses input left files reads old new k bytes)
+    → (outcome ≡ Err RefusesMemory → Lacks input left files reads old new k bytes)
+    → (outcome ≡ Err LosesInput → Loses input left files reads old new k bytes)
     → ((Holds : ℕ → Option (List ℕ) → Type 0) → Holds k bytes → HoldsOfFile Holds file) → EndsSession written_bytes input files file end old new
 session_ends input left files (Ok accepted) true end old new k bytes file is ran lacks loses known =
     let ended : EndsSession written_bytes input files file (Printed accepted) old new = (
@@ -77,7 +78,7 @@ session_ends input left files (Ok accepted) false end old new k bytes file is ra
       ran.6,
     ) in
     subst (λ (it : TaskEnd). EndsSession written_bytes input files file it old new) (sym is) ended
-session_ends input left files (Err WantsRoom) true end old new k bytes file is ran lacks loses known =
+session_ends input left files (Err RefusesMemory) true end old new k bytes file is ran lacks loses known =
     let lack = lacks refl in
     let ended : EndsSession written_bytes input files file OutOfMemory old new = (
       lack.1,
@@ -85,7 +86,7 @@ session_ends input left files (Err WantsRoom) true end old new k bytes file is r
       lack.4,
     ) in
     subst (λ (it : TaskEnd). EndsSession written_bytes input files file it old new) (sym is) ended
-session_ends input left files (Err WantsRoom) false end old new k bytes file is ran lacks loses known =
+session_ends input left files (Err RefusesMemory) false end old new k bytes file is ran lacks loses known =
     let lack = lacks refl in
     let ended : EndsSession written_bytes input files file Unwritten old new = (
       lack.1,
@@ -112,14 +113,14 @@ session_ends input left files (Err LosesInput) reads end old new k bytes file (p
 
 -- The files of fonts were not read, and that was reported.
 pub not_held : {H : Type 0} (known : H → Files) (created : H → List (List ℕ)) (written : H → Option (List ℕ)) (failures : H → ℕ) (input left : Option (List ℕ)) (host : H)
-    (fonts : List NamedPath) (out : List ℕ) (fault : Unread) (before after : Streams) (status : ℕ)
+    (fonts : List NamedPath) (out : List ℕ) (fault : FontFileFault) (before after : Streams) (status : ℕ)
     → IsUnread (known host) fonts fault → TellsOutput (end_of fault) before.output after.output → TellsErrors (end_of fault) before.errors after.errors
     → status ≡ status_of (end_of fault)
     → HasSession written_bytes out fonts (view_of known created written failures input host) (view_of known created written failures left host) before after status
-not_held known created written failures input left host fonts out WantsMemory before after status unread said told is =
-    inl (refl, record { end = OutOfMemory; printed = said; memory = λ _. unread; reported = told; status_is = is })
-not_held known created written failures input left host fonts out (File path) before after status unread said told is =
-    inl (refl, record { end = Unreadable path; printed = (unread, said); memory = λ wants. absurd (cc); reported = told; status_is = is })
+not_held known created written failures input left host fonts out WantsMemory before after status unread said output_is is =
+    inl (refl, record { end = OutOfMemory; printed = said; memory = λ _. unread; reported = output_is; status_is = is })
+not_held known created written failures input left host fonts out (File path) before after status unread said output_is is =
+    inl (refl, record { end = Unreadable path; printed = (unread, said); memory = λ wants. absurd (cc); reported = output_is; status_is = is })
 
 -- A session was held, and its end was reported.
 pub held : {H : Type 0} (fonts : List NamedPath) (out : List ℕ) (old new : HostView H) (file : OutFile) (files : List NamedBytes) (end : TaskEnd)
@@ -127,7 +128,7 @@ pub held : {H : Type 0} (fonts : List NamedPath) (out : List ℕ) (old new : Hos
     → AreFilesOf old.files fonts files → EndsSession written_bytes old.input files file end before.output mid → LeavesHost out old new file
     → TellsUnwritten file.done out before.errors between → TellsOutput end mid after.output → TellsErrors end between after.errors → status ≡ status_of end
     → HasSession written_bytes out fonts old new before after status
-held fonts out old new file files end mid between before after status filed ended leaves unwritten said told is =
+held fonts out old new file files end mid between before after status filed ended leaves unwritten said output_is is =
     inr (
       files,
       filed,
@@ -137,8 +138,8 @@ held fonts out old new file files end mid between before after status filed ende
         leaves = leaves;
         middle = mid;
         printed = ended;
-        told = said;
-        reported = record { middle = between; unwritten = unwritten; ended = told };
+        output_is = said;
+        reported = record { middle = between; unwritten = unwritten; ended = output_is };
         status_is = is;
       },
     )

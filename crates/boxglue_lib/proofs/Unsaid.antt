@@ -129,7 +129,7 @@ had_session_unsaid out fonts old new before after status (inr (files, filed, has
     leaves = has.leaves;
     middle = has.middle;
     printed = ended_unsaid old.input files has.file has.end before.output has.middle has.printed;
-    told = has.told;
+    output_is = has.output_is;
     reported = has.reported;
     status_is = has.status_is;
   },
@@ -165,4 +165,4 @@ done_unsaid (tasks.Typeset out fonts) old new before after status has = typeset_
 done_unsaid (tasks.Session out fonts) old new before after status has = had_session_unsaid out.now fonts.items old new before after status has
 done_unsaid (tasks.Listing dvi fonts) old new before after status has = has
 done_unsaid (tasks.Fonts dvi) old new before after status has = has
-done_unsaid (tasks.Painting sheet dvi fonts) old new before after status has = has
+done_unsaid (tasks.Painting options dvi fonts) old new before after status has = has

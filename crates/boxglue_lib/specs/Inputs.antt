@@ -2,14 +2,14 @@
 use Rattle.std.specs.Prelude.{◌≡◌, ◌⊎◌, ℕ, List, Option, codes}
 use Rattle.boxglue_words.specs.Hosts.{AreFilesOf, IsUnread}
 use Rattle.boxglue_words.specs.Readings.{Files, IsFileReading, IsReadable, IsReadableFile, IsUnreadable, IsUnreadableFile}
-use Rattle.boxglue_words.specs.declared.font_files.Unread.{Unread}
-use Rattle.boxglue_words.specs.declared.font_files.Unread.TheVariants.{OutOfMemory, File}
+use Rattle.boxglue_words.specs.declared.font_files.FontFileFault.{FontFileFault}
+use Rattle.boxglue_words.specs.declared.font_files.FontFileFault.TheVariants.{OutOfMemory, File}
 use Rattle.tfm_core.specs.NamedBytes.{NamedBytes}
 use Rattle.boxglue_words.specs.declared.fonts.NamedPath.{NamedPath}
 
 -- Why the files of the fonts and then the script of standard input were not read: out of memory, at the file of a font or at standard input that can
 -- be read, or one of them cannot be read. What comes before it was read.
-abbrev pub IsUnreadScript : Files → (input : Option (List ℕ)) → List NamedPath → Unread → Type 0
+abbrev pub IsUnreadScript : Files → (input : Option (List ℕ)) → List NamedPath → FontFileFault → Type 0
 IsUnreadScript contents input fonts OutOfMemory =
     IsUnread contents fonts OutOfMemory
     ⊎ (((files : List NamedBytes) × AreFilesOf contents fonts files) × IsReadable input)
@@ -19,7 +19,7 @@ IsUnreadScript contents input fonts (File path) =
 
 -- Why a DVI file and then the files of the fonts were not read: out of memory, at the DVI file or the file of a font that can be read, or one of them
 -- cannot be read. What comes before it was read.
-abbrev pub IsUnreadDvi : Files → (dvi : List ℕ) → List NamedPath → Unread → Type 0
+abbrev pub IsUnreadDvi : Files → (dvi : List ℕ) → List NamedPath → FontFileFault → Type 0
 IsUnreadDvi contents dvi fonts OutOfMemory =
     IsReadableFile (contents dvi)
     ⊎ (((bytes : List ℕ) × IsFileReading (contents dvi) bytes) × IsUnread contents fonts OutOfMemory)

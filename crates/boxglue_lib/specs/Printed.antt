@@ -3,8 +3,8 @@ use Rattle.std.specs.Prelude.{◌⊎◌, ℕ, Bool, List}
 use Rattle.boxglue_print.specs.Outputs.{IsListed, IsPainted, LacksPage}
 use Rattle.boxglue_words.specs.Hosts.{AreFilesOf}
 use Rattle.boxglue_words.specs.Readings.{Files, IsFileReading}
-use Rattle.boxglue_words.specs.declared.font_files.Unread.TheVariants.{OutOfMemory as WantsMemory, File}
-use Rattle.raster_core.specs.Sheets.{Sheet}
+use Rattle.boxglue_words.specs.declared.font_files.FontFileFault.TheVariants.{OutOfMemory as WantsMemory, File}
+use Rattle.raster_core.specs.PaintOptions.{PaintOptionsView}
 use Rattle.tfm_core.specs.NamedBytes.{NamedBytes}
 use Rattle.boxglue_words.specs.declared.fonts.NamedPath.{NamedPath}
 use Rattle.boxglue_lib.specs.Ends.{TaskRules}
@@ -27,14 +27,14 @@ IsListing contents dvi fonts text fine =
     (bytes : List ℕ) × (files : List NamedBytes) × InputsAreRead contents dvi fonts bytes files × IsListed files bytes text fine
 
 -- The text is the bitmap of a page of the file at a path, or the line of the file's refusal.
-abbrev pub IsPainting : Files → Sheet → (dvi : List ℕ) → List NamedPath → (text : List ℕ) → (fine : Bool) → Type 0
-IsPainting contents sheet dvi fonts text fine =
-    (bytes : List ℕ) × (files : List NamedBytes) × InputsAreRead contents dvi fonts bytes files × IsPainted files bytes sheet text fine
+abbrev pub IsPainting : Files → PaintOptionsView → (dvi : List ℕ) → List NamedPath → (text : List ℕ) → (fine : Bool) → Type 0
+IsPainting contents options dvi fonts text fine =
+    (bytes : List ℕ) × (files : List NamedBytes) × InputsAreRead contents dvi fonts bytes files × IsPainted files bytes options text fine
 
 -- The file at a path has no such page.
-abbrev pub HasNoPage : Files → Sheet → (dvi : List ℕ) → List NamedPath → Type 0
-HasNoPage contents sheet dvi fonts =
-    (bytes : List ℕ) × (files : List NamedBytes) × InputsAreRead contents dvi fonts bytes files × LacksPage files bytes sheet.page
+abbrev pub HasNoPage : Files → PaintOptionsView → (dvi : List ℕ) → List NamedPath → Type 0
+HasNoPage contents options dvi fonts =
+    (bytes : List ℕ) × (files : List NamedBytes) × InputsAreRead contents dvi fonts bytes files × LacksPage files bytes options.page
 
 -- The rules of `list`: the listing of the file at a path or the line of its refusal; or a path that cannot be read. No page is missing.
 abbrev pub listing_rules : Files → (dvi : List ℕ) → List NamedPath → TaskRules
@@ -47,10 +47,10 @@ listing_rules contents dvi fonts = record {
 
 -- The rules of `paint`: the bitmap of a page of the file at a path or the line of its refusal; a path that cannot be read; or the file has no such
 -- page.
-abbrev pub painting_rules : Files → Sheet → (dvi : List ℕ) → List NamedPath → TaskRules
-painting_rules contents sheet dvi fonts = record {
-  IsAnswer = IsPainting contents sheet dvi fonts;
+abbrev pub painting_rules : Files → PaintOptionsView → (dvi : List ℕ) → List NamedPath → TaskRules
+painting_rules contents options dvi fonts = record {
+  IsAnswer = IsPainting contents options dvi fonts;
   IsUnread = λ path. IsUnreadDvi contents dvi fonts (File path);
-  LacksPage = HasNoPage contents sheet dvi fonts;
+  LacksPage = HasNoPage contents options dvi fonts;
   LacksMemory = LacksMemoryForDvi contents dvi fonts;
 }

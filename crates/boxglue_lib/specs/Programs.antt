@@ -60,8 +60,8 @@ HasDone reports (tasks.Session out fonts) old new before after status = HasSessi
 HasDone reports (tasks.Listing dvi fonts) old new before after status =
     IsSame old new × TaskHasEnded (listing_rules old.files dvi.now fonts.items) before after status
 HasDone reports (tasks.Fonts dvi) old new before after status = IsSame old new × TaskHasEnded (font_rules old.files dvi.now) before after status
-HasDone reports (tasks.Painting sheet dvi fonts) old new before after status =
-    IsSame old new × TaskHasEnded (painting_rules old.files sheet dvi.now fonts.items) before after status
+HasDone reports (tasks.Painting options dvi fonts) old new before after status =
+    IsSame old new × TaskHasEnded (painting_rules old.files options dvi.now fonts.items) before after status
 
 -- The program was run with these words: `old` is the host that it was given and `new` the one that it returned, which has handed out its standard
 -- input, `before` and `after` are what the output and the errors had taken, and this is its status. There are two cases. Its words are refused, for a

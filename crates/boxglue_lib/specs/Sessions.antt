@@ -3,7 +3,7 @@ use Rattle.std.specs.Prelude.{◌≡◌, ◌==◌, ◌⊎◌, ◌++◌, ℕ, Boo
 use Rattle.std.specs.Io.KnownBytes.{Appends}
 use Rattle.boxglue_words.specs.Hosts.{AreFilesOf, IsUnread, written_to_file}
 use Rattle.boxglue_words.specs.Readings.{Files, IsBeginning, IsReading}
-use Rattle.boxglue_words.specs.declared.font_files.Unread.TheVariants.{OutOfMemory as WantsMemory, File}
+use Rattle.boxglue_words.specs.declared.font_files.FontFileFault.TheVariants.{OutOfMemory as WantsMemory, File}
 use Rattle.boxglue_words.specs.declared.host.TheConstants.{READ_LIMIT}
 use Rattle.boxglue_program.specs.Reports.{Reports}
 use Rattle.boxglue_program.specs.Runs.{WritesFront}
@@ -62,7 +62,7 @@ pub record HasHeld {H : Type 0} (reports : Reports) (out : List ℕ) (files : Li
   pub leaves : LeavesHost out old new file
   pub middle : Option (List ℕ)
   pub printed : EndsSession reports old.input files file end before.output middle
-  pub told : TellsOutput end middle after.output
+  pub output_is : TellsOutput end middle after.output
   pub reported : TellsTypeset out file.done end before.errors after.errors
   pub status_is : status ≡ status_of end
 

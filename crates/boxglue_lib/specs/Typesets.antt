@@ -4,7 +4,7 @@ use Rattle.std.specs.Option.{ForSome}
 use Rattle.std.specs.Io.KnownBytes.{Keeps}
 use Rattle.boxglue_words.specs.Hosts.{AreFilesOf, created_after, has_failed, written_to_file}
 use Rattle.boxglue_words.specs.Readings.{IsReading}
-use Rattle.boxglue_words.specs.declared.font_files.Unread.TheVariants.{OutOfMemory as WantsMemory, File}
+use Rattle.boxglue_words.specs.declared.font_files.FontFileFault.TheVariants.{OutOfMemory as WantsMemory, File}
 use Rattle.boxglue_program.specs.Reports.{Reports}
 use Rattle.boxglue_program.specs.Runs.{IsUntouched, RanScript, RefusedScript}
 use Rattle.tfm_core.specs.NamedBytes.{NamedBytes}

@@ -34,5 +34,5 @@ view_of files created written failures input host = record {
 }
 
 -- What the output and the errors took, by what is known of writers of their kinds.
-abbrev pub streams_of : {W E : Type 0} → (taken : W → Option (List ℕ)) → (told : E → Option (List ℕ)) → W → E → Streams
-streams_of taken told output errors = record { output = taken output; errors = told errors }
+abbrev pub streams_of : {W E : Type 0} → (taken : W → Option (List ℕ)) → (reported : E → Option (List ℕ)) → W → E → Streams
+streams_of taken reported output errors = record { output = taken output; errors = reported errors }

@@ -6,7 +6,7 @@ ghost use Rattle.boxglue_words.specs.Readings.{IsFileReading, IsReading};
 ghost use Rattle.boxglue_lib.specs.Inputs.{IsUnreadDvi, IsUnreadScript};
 
 use boxglue_program::FontFile;
-use boxglue_words::{FileHost, HostFault, NamedPath, StandardInput, Unread, read_fonts};
+use boxglue_words::{FileHost, FontFileFault, HostFault, NamedPath, StandardInput, read_fonts};
 use std::alloc::Global;
 
 /// The bytes of a script or a DVI file, and the files of the fonts.
@@ -26,7 +26,7 @@ pub fn read_script_inputs<'a, H: FileHost, I: StandardInput + Drop>(
     host: &H,
     input: I,
     fonts: &[NamedPath<'a>],
-) -> Result<Inputs, Unread<'a>>
+) -> Result<Inputs, FontFileFault<'a>>
     ensures script { IfOk result (λ read. IsReading (I.remaining input) read.bytes.items) }
     ensures files { IfOk result (λ read. AreFilesOf (H.file host.now) fonts.now read.files.items) }
     ensures err { IfErr result (IsUnreadScript (H.file host.now) (I.remaining input) fonts.now) }
@@ -34,8 +34,8 @@ pub fn read_script_inputs<'a, H: FileHost, I: StandardInput + Drop>(
     let files = read_fonts(alloc, host, fonts)?;
     match input.read_whole(alloc) {
         Ok(bytes) => Ok(Inputs { bytes, files }),
-        Err(HostFault::OutOfMemory) => Err(Unread::OutOfMemory),
-        Err(HostFault::Failed) => Err(Unread::File("-")),
+        Err(HostFault::OutOfMemory) => Err(FontFileFault::OutOfMemory),
+        Err(HostFault::Failed) => Err(FontFileFault::File("-")),
     }
 }
 
@@ -48,15 +48,15 @@ pub fn read_dvi_inputs<'a, H: FileHost>(
     host: &H,
     dvi: &'a str,
     fonts: &[NamedPath<'a>],
-) -> Result<Inputs, Unread<'a>>
+) -> Result<Inputs, FontFileFault<'a>>
     ensures dvi { IfOk result (λ read. IsFileReading (H.file host.now dvi.entry.now) read.bytes.items) }
     ensures files { IfOk result (λ read. AreFilesOf (H.file host.now) fonts.now read.files.items) }
     ensures err { IfErr result (IsUnreadDvi (H.file host.now) dvi.entry.now fonts.now) }
 {
     let bytes = match host.read_file(alloc, dvi) {
         Ok(bytes) => bytes,
-        Err(HostFault::OutOfMemory) => return Err(Unread::OutOfMemory),
-        Err(HostFault::Failed) => return Err(Unread::File(dvi)),
+        Err(HostFault::OutOfMemory) => return Err(FontFileFault::OutOfMemory),
+        Err(HostFault::Failed) => return Err(FontFileFault::File(dvi)),
     };
     let files = read_fonts(alloc, host, fonts)?;
     Ok(Inputs { bytes, files })

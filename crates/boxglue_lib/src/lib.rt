@@ -16,12 +16,12 @@ mod typesetting;
 
 pub use boxglue_print::fonts_text;
 pub use boxglue_program::{
-    Cause, Device, DeviceFault, FontFile, FontName, Line, Memory, RunFault, ScriptFault, Unwritten,
-    read_script, refuse_memory, run_memory, run_script, write_text,
+    Cause, Device, DeviceFault, FontFile, FontName, Line, Memory, RunFault, ScriptFault,
+    UnwrittenText, read_script, refuse_memory, run_memory, run_script, write_text,
 };
 pub use boxglue_words::{
-    CreatedPaths, FailureCount, FileDevice, FileHost, HeldFile, Host, HostFault, HostParts,
-    MemoryFiles, MemoryHost, NamedPath, PaintOptions, READ_LIMIT, StandardInput, Task, Unread,
+    CreatedPaths, FailureCount, FileDevice, FileHost, FontFileFault, HeldFile, Host, HostFault,
+    HostParts, MemoryFiles, MemoryHost, NamedPath, PaintOptions, READ_LIMIT, StandardInput, Task,
     VERSION_LINE, WordFault, read_all, read_fonts, read_words, write_some,
 };
 pub use inputs::{Inputs, read_dvi_inputs, read_script_inputs};

@@ -2,7 +2,7 @@
 
 ghost use Rattle.std.specs.Prelude.{◌≡◌, ◌≢◌, ◌≤◌, ◌⊎◌, ℕ, Bool, List, vec_capacity, Err, IfOk, OnErr, OnOk};
 ghost use Rattle.std.specs.Io.KnownBytes.{Appends, Keeps};
-ghost use Rattle.dvi_read.specs.SeenAhead.{AreLinesAhead};
+ghost use Rattle.dvi_read.specs.ItemsLeft.{AreLinesLeft};
 ghost use Rattle.dvi_read.specs.declared.listings.part.TheConstants.{PART};
 ghost use Rattle.boxglue_print.specs.Outputs.{IsListed, IsPainted, LacksPage};
 ghost use Rattle.raster_core.specs.PlainText.{pbm};
@@ -13,7 +13,7 @@ ghost use Rattle.boxglue_lib.specs.declared.printing.PrintFault.TheVariants.{Out
 use boxglue_print::{
     Bitmap, Dvi, Lines, Output, PaintFault, PaintOptions, Painting, page_bitmap, refusal,
 };
-use boxglue_program::{FontFile, Unwritten, write_text};
+use boxglue_program::{FontFile, UnwrittenText, write_text};
 use std::alloc::{AllocError, Global};
 use std::io::Write;
 use thiserror::Error;
@@ -40,10 +40,10 @@ impl From<AllocError> for PrintFault {
     }
 }
 
-impl From<Unwritten> for PrintFault {
+impl From<UnwrittenText> for PrintFault {
     ghost from_gives = { λ _ fault. fault ≡ Unwritten };
 
-    fn from(_error: Unwritten) -> PrintFault {
+    fn from(_error: UnwrittenText) -> PrintFault {
         PrintFault::Unwritten
     }
 }
@@ -51,16 +51,16 @@ impl From<Unwritten> for PrintFault {
 /// The most bytes of a listing or a bitmap that are offered to a writer at once. It must be at least PART and ROW_TEXT, the longest line or row.
 const PIECE: usize = 65_536;
 
-/// Writes the lines of a listing in pieces. All memory is taken before: a piece has room for PART bytes, so memory is never refused within the text.
+/// Writes the lines of a listing in pieces. All memory is taken before: a piece has space for PART bytes, so memory is never refused within the text.
 fn write_listing<W: Write>(
     lines: &mut Lines<'_, '_>,
     piece: &mut Vec<u8>,
     writer: &mut W,
-) -> Result<(), Unwritten>
-    requires room { PART ≤ vec_capacity piece.old }
-    requires ahead { (text : List ℕ) × AreLinesAhead lines.old text }
-    ensures all { (text : List ℕ) → AreLinesAhead lines.old text → OnOk result (Appends (W.contents writer.old) (W.contents writer.new) text) }
-    ensures front { (text : List ℕ) → AreLinesAhead lines.old text → OnErr result (WritesFront (W.contents writer.old) (W.contents writer.new) text) }
+) -> Result<(), UnwrittenText>
+    requires space { PART ≤ vec_capacity piece.old }
+    requires remaining { (text : List ℕ) × AreLinesLeft lines.old text }
+    ensures all { (text : List ℕ) → AreLinesLeft lines.old text → OnOk result (Appends (W.contents writer.old) (W.contents writer.new) text) }
+    ensures front { (text : List ℕ) → AreLinesLeft lines.old text → OnErr result (WritesFront (W.contents writer.old) (W.contents writer.new) text) }
 {
     while lines.next_piece(piece) {
         write_text(writer, piece)?;
@@ -99,13 +99,13 @@ pub fn list_file<W: Write>(
     Ok(true)
 }
 
-/// Writes the text of a bitmap in pieces. All memory is taken before: a piece has room for ROW_TEXT bytes, so memory is never refused within the
+/// Writes the text of a bitmap in pieces. All memory is taken before: a piece has space for ROW_TEXT bytes, so memory is never refused within the
 /// text.
 fn write_bitmap<W: Write>(
     bitmap: &Bitmap,
     rows: &mut Vec<u8>,
     writer: &mut W,
-) -> Result<(), Unwritten>
+) -> Result<(), UnwrittenText>
     requires { ROW_TEXT ≤ vec_capacity rows.old }
     ensures all { OnOk result (Appends (W.contents writer.old) (W.contents writer.new) (pbm bitmap.now)) }
     ensures front { OnErr result (WritesFront (W.contents writer.old) (W.contents writer.new) (pbm bitmap.now)) }
@@ -126,25 +126,25 @@ pub fn paint_file<W: Write>(
     alloc: Global,
     dvi: &[u8],
     files: &[FontFile],
-    sheet: PaintOptions,
+    options: PaintOptions,
     writer: &mut W,
 ) -> Result<bool, PrintFault>
-    ensures painted { IfOk result (λ fine. (text : List ℕ) × IsPainted files.now dvi.now sheet text fine
+    ensures painted { IfOk result (λ fine. (text : List ℕ) × IsPainted files.now dvi.now options text fine
         × Appends (W.contents writer.old) (W.contents writer.new) text) }
     ensures unwritten { result ≡ Err PrintFault.Unwritten → (text : List ℕ) × (fine : Bool)
-        × IsPainted files.now dvi.now sheet text fine × WritesFront (W.contents writer.old) (W.contents writer.new) text }
+        × IsPainted files.now dvi.now options text fine × WritesFront (W.contents writer.old) (W.contents writer.new) text }
     ensures silent { result ≡ Err PrintFault.OutOfMemory → Keeps (W.contents writer.old) (W.contents writer.new) }
     ensures unpainted { result ≡ Err PrintFault.NoSuchPage → Keeps (W.contents writer.old) (W.contents writer.new) }
-    ensures missing { result ≡ Err PrintFault.NoSuchPage → LacksPage files.now dvi.now sheet.page }
-    ensures found { LacksPage files.now dvi.now sheet.page → (result ≡ Err PrintFault.NoSuchPage) ⊎ (result ≡ Err PrintFault.OutOfMemory) }
+    ensures missing { result ≡ Err PrintFault.NoSuchPage → LacksPage files.now dvi.now options.page }
+    ensures found { LacksPage files.now dvi.now options.page → (result ≡ Err PrintFault.NoSuchPage) ⊎ (result ≡ Err PrintFault.OutOfMemory) }
 {
-    let painting = match page_bitmap(alloc, dvi, files, sheet) {
+    let painting = match page_bitmap(alloc, dvi, files, options) {
         Ok(painting) => painting,
         Err(PaintFault::OutOfMemory) => return Err(PrintFault::OutOfMemory),
         Err(PaintFault::NoSuchPage) => return Err(PrintFault::NoSuchPage),
     };
     let bitmap = match painting {
-        Painting::Picture(bitmap) => bitmap,
+        Painting::Painted(bitmap) => bitmap,
         Painting::Refusal(Output { text, accepted }) => {
             write_text(writer, &text)?;
             return Ok(accepted);

@@ -62,8 +62,12 @@ fn do_task<H: FileHost, I: StandardInput + Drop, W: Write, E: Write>(
             let end = list_fonts(alloc, &host.files, dvi, output);
             (finish(alloc, end, output, errors), host.files)
         }
-        Task::Painting { sheet, dvi, fonts } => {
-            let end = paint(alloc, &host.files, sheet, dvi, &fonts, output);
+        Task::Painting {
+            options,
+            dvi,
+            fonts,
+        } => {
+            let end = paint(alloc, &host.files, options, dvi, &fonts, output);
             (finish(alloc, end, output, errors), host.files)
         }
     }

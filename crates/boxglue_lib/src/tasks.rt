@@ -19,18 +19,19 @@ use crate::telling::{finish, tell};
 use crate::typesetting::{TypesetEnd, typeset_file};
 use boxglue_program::{RunFault, run_memory};
 use boxglue_words::{
-    FileHost, HostFault, HostParts, NamedPath, PaintOptions, StandardInput, Unread, read_fonts,
+    FileHost, FontFileFault, HostFault, HostParts, NamedPath, PaintOptions, StandardInput,
+    read_fonts,
 };
 use std::alloc::Global;
 use std::io::Write;
 
 /// The end of a task whose files were not read.
-fn end_of(fault: Unread<'_>) -> TaskEnd<'_>
+fn end_of(fault: FontFileFault<'_>) -> TaskEnd<'_>
     ensures { result ≡ end_of fault.entry }
 {
     match fault {
-        Unread::OutOfMemory => TaskEnd::OutOfMemory,
-        Unread::File(path) => TaskEnd::Unreadable(path),
+        FontFileFault::OutOfMemory => TaskEnd::OutOfMemory,
+        FontFileFault::File(path) => TaskEnd::Unreadable(path),
     }
 }
 
@@ -85,19 +86,20 @@ pub fn list<'a, H: FileHost, W: Write>(
 pub fn paint<'a, H: FileHost, W: Write>(
     alloc: Global,
     host: &H,
-    sheet: PaintOptions,
+    options: PaintOptions,
     dvi: &'a str,
     fonts: &[NamedPath<'a>],
     output: &mut W,
 ) -> TaskEnd<'a>
-    ensures ended { EndsTask (painting_rules (H.file host.now) sheet dvi.entry.now fonts.now) result (W.contents output.old) (W.contents output.new) }
+    ensures ended { EndsTask (painting_rules (H.file host.now) options dvi.entry.now fonts.now) result (W.contents output.old)
+        (W.contents output.new) }
     ensures memory { result ≡ TaskEnd.OutOfMemory → LacksMemoryForDvi (H.file host.now) dvi.entry.now fonts.now }
 {
     let inputs = match read_dvi_inputs(alloc, host, dvi, fonts) {
         Ok(inputs) => inputs,
         Err(fault) => return end_of(fault),
     };
-    match paint_file(alloc, &inputs.bytes, &inputs.files, sheet, output) {
+    match paint_file(alloc, &inputs.bytes, &inputs.files, options, output) {
         Ok(accepted) => TaskEnd::Printed(accepted),
         Err(PrintFault::OutOfMemory) => TaskEnd::OutOfMemory,
         Err(PrintFault::Unwritten) => TaskEnd::Unwritten,

@@ -6,7 +6,7 @@ ghost use Rattle.boxglue_program.specs.Runs.{WritesFront, memory_line};
 ghost use Rattle.boxglue_lib.specs.Ends.{PrintsVersion, TakesText, TellsErrors, TellsOutput, message_line, status_of};
 
 use crate::task_end::TaskEnd;
-use boxglue_program::{Unwritten, refuse_memory, write_text};
+use boxglue_program::{UnwrittenText, refuse_memory, write_text};
 use boxglue_words::VERSION_LINE;
 use std::alloc::{AllocError, Global};
 use std::io::Write;
@@ -36,15 +36,15 @@ fn message_line(alloc: Global, what: &str, name: &str) -> Result<Vec<u8>, AllocE
 }
 
 /// Writes a line of two parts, without memory of its own.
-fn write_line<W: Write>(writer: &mut W, what: &str, name: &str) -> Result<(), Unwritten>
+fn write_line<W: Write>(writer: &mut W, what: &str, name: &str) -> Result<(), UnwrittenText>
     ensures all { OnOk result (Appends (W.contents writer.old) (W.contents writer.new) (what.now ++ (name.now ++ codes "\n"))) }
     ensures front { OnErr result (WritesFront (W.contents writer.old) (W.contents writer.new) (what.now ++ (name.now ++ codes "\n"))) }
 {
     let Ok(()) = write_text(writer, what.as_bytes()) else {
-        return Err(Unwritten);
+        return Err(UnwrittenText);
     };
     let Ok(()) = write_text(writer, name.as_bytes()) else {
-        return Err(Unwritten);
+        return Err(UnwrittenText);
     };
     write_text(writer, b"\n")
 }
@@ -73,7 +73,7 @@ pub fn print_version<W: Write>(output: &mut W) -> u8
 {
     match write_text(output, VERSION_LINE.as_bytes()) {
         Ok(()) => 0,
-        Err(Unwritten) => 1,
+        Err(UnwrittenText) => 1,
     }
 }
 

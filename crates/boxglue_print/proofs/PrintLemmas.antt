@@ -13,10 +13,10 @@ use Rattle.dvi_read.specs.Opened.{IsNoFile}
 use Rattle.dvi_read.specs.Opening.{IsDviFault}
 use Rattle.dvi_read.specs.declared.fault.DviFault.{DviFault}
 use Rattle.dvi_read.specs.declared.fault.DviFault.TheVariants.{OutOfMemory}
-use Rattle.raster_core.specs.Pictures.{PixelGrid, painted_picture, white}
+use Rattle.raster_core.specs.PixelGrids.{PixelGrid, painted_grid, white}
 use Rattle.raster_core.specs.Pixels.{is_covered, scale_of}
 use Rattle.raster_core.specs.PlainText.{pbm}
-use Rattle.raster_core.specs.Sheets.{Sheet}
+use Rattle.raster_core.specs.PaintOptions.{PaintOptionsView}
 use Rattle.tfm_core.specs.FileWidths.{file_widths}
 use Rattle.tfm_core.specs.NamedBytes.{NamedBytes}
 
@@ -33,27 +33,32 @@ refuses files bytes text fault accepted other broken none text_is accepted_is = 
 }
 
 -- The bitmap of a page is printed.
-pub paints : (files : List NamedBytes) (bytes : List ℕ) (sheet : Sheet) (pages : List MarkedPage) (units : Units) (shown : MarkedPage) (picture : PixelGrid)
-    → IsFile (file_widths files) bytes pages → ((f : Frame bytes) → units ≡ f.stop.units) → slice_get pages (sheet.page - 1) ≡ Some shown
-    → picture ≡ painted_picture (is_covered (scale_of units sheet.dpi) shown.marks) (white sheet.width sheet.height) → Paints files bytes sheet (pbm picture) true
-paints files bytes sheet pages units shown picture file same page_is picture_is = record {
+pub paints : (files : List NamedBytes) (bytes : List ℕ) (options : PaintOptionsView) (pages : List MarkedPage) (units : Units) (shown : MarkedPage)
+    (grid : PixelGrid)
+    → IsFile (file_widths files) bytes pages → ((f : Frame bytes) → units ≡ f.postamble.units) → slice_get pages (options.page - 1) ≡ Some shown
+    → grid ≡ painted_grid (is_covered (scale_of units options.dpi) shown.marks) (white options.width options.height)
+    → Paints files bytes options (pbm grid) true
+paints files bytes options pages units shown grid file same page_is picture_is = record {
   pages = pages;
   file = file;
   shown = shown;
   page_is = page_is;
-  text_is = ap pbm picture_is ∙ ap (λ (u : Units). pbm (painted_picture (is_covered (scale_of u sheet.dpi) shown.marks) (white sheet.width sheet.height))) (same file.frame);
+  text_is = ap pbm picture_is
+      ∙ ap (λ (u : Units). pbm (painted_grid (is_covered (scale_of u options.dpi) shown.marks) (white options.width options.height)))
+      (same file.frame);
   accepted_is = refl;
 }
 
 -- A file whose page is painted has that page.
-pub has_page : (files : List NamedBytes) (bytes : List ℕ) (sheet : Sheet) (text : List ℕ) (accepted : Bool) → IsPainted files bytes sheet text accepted
-    → LacksPage files bytes sheet.page → ⊥
-has_page files bytes sheet text accepted (inl paints) lacks =
+pub has_page : (files : List NamedBytes) (bytes : List ℕ) (options : PaintOptionsView) (text : List ℕ) (accepted : Bool)
+    → IsPainted files bytes options text accepted
+    → LacksPage files bytes options.page → ⊥
+has_page files bytes options text accepted (inl paints) lacks =
     let same = ap (λ (pages : List MarkedPage). length pages) (one_list_of_pages (file_widths files) bytes paints.pages lacks.pages paints.file lacks.file) in
-    let within = slice_get_within paints.pages (sheet.page - 1) paints.shown paints.page_is in
+    let within = slice_get_within paints.pages (options.page - 1) paints.shown paints.page_is in
     let few = lacks.few in
     absurd (omega arith)
-has_page files bytes sheet text accepted (inr refuses) lacks = refuses.none lacks.pages lacks.file
+has_page files bytes options text accepted (inr refuses) lacks = refuses.none lacks.pages lacks.file
 
 -- The known lines, computed by the definitions.
 pub known_lines : KnownLines

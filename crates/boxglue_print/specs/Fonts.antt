@@ -18,19 +18,20 @@ pub record DefinesFonts (bytes : List ℕ) (units : Units) (fonts : List Definit
   pub post : ℕ
   pub after : ℕ
   pub last : ℕ
-  pub stop : Postamble
+  pub postamble : Postamble
   pub chain : List ℕ
   pub from : ℕ
-  pub starts : StartsAt bytes post after last stop chain from
-  pub units_are : units ≡ stop.units
+  pub starts : StartsAt bytes post after last postamble chain from
+  pub units_are : units ≡ postamble.units
   pub closes : ClosesTo bytes after (last - 5) [] fonts
 
 -- A rule is broken at the place that the fault names, before the pages or after post; or memory is refused there.
 abbrev pub BreaksFonts : List ℕ → DviFault → Type 0
 BreaksFonts bytes fault =
     IsFrontFault bytes fault
-    ⊎ ((post : ℕ) × (after : ℕ) × (last : ℕ) × (stop : Postamble) × (chain : List ℕ) × (from : ℕ) × (new : List Definition) × (frame : FrameFault)
-    × StartsAt bytes post after last stop chain from × IsClosingFault bytes after (last - 5) [] new frame × (fault ≡ of_frame frame))
+    ⊎ ((post : ℕ) × (after : ℕ) × (last : ℕ) × (postamble : Postamble) × (chain : List ℕ) × (from : ℕ) × (new : List Definition)
+    × (frame : FrameFault)
+    × StartsAt bytes post after last postamble chain from × IsClosingFault bytes after (last - 5) [] new frame × (fault ≡ of_frame frame))
 
 -- The bytes define no fonts in this way, and are no DVI file, whatever the font files. The text is the line of a refusal that names a rule that they
 -- break before the pages or after post.

@@ -6,15 +6,15 @@ use Rattle.dvi_read.specs.Opened.{IsNoFile}
 use Rattle.dvi_read.specs.Opening.{IsDviFault}
 use Rattle.dvi_read.specs.declared.fault.DviFault.{DviFault}
 use Rattle.dvi_read.specs.declared.fault.DviFault.TheVariants.{OutOfMemory}
-use Rattle.raster_core.specs.Pictures.{painted_picture, white}
+use Rattle.raster_core.specs.PixelGrids.{painted_grid, white}
 use Rattle.raster_core.specs.Pixels.{is_covered, scale_of}
 use Rattle.raster_core.specs.PlainText.{pbm}
-use Rattle.raster_core.specs.Sheets.{Sheet}
+use Rattle.raster_core.specs.PaintOptions.{PaintOptionsView}
 use Rattle.tfm_core.specs.FileWidths.{file_widths}
 use Rattle.tfm_core.specs.NamedBytes.{NamedBytes}
 use Rattle.boxglue_print.specs.Faults.{fault_line}
 use Rattle.boxglue_print.specs.declared.output.Painting.{Painting}
-use Rattle.boxglue_print.specs.declared.output.Painting.TheVariants.{Picture, Refusal}
+use Rattle.boxglue_print.specs.declared.output.Painting.TheVariants.{Painted, Refusal}
 
 -- The bytes are a file, and the text lists its pages.
 pub record Lists (files : List NamedBytes) (bytes text : List ℕ) (accepted : Bool) : Type 0 where
@@ -33,13 +33,13 @@ pub record RefusesFile (files : List NamedBytes) (bytes text : List ℕ) (accept
   pub accepted_is : accepted ≡ false
 
 -- The bytes are a file with this page, counted from 1, and the text is its bitmap: its rules black, the rest white.
-pub record Paints (files : List NamedBytes) (bytes : List ℕ) (sheet : Sheet) (text : List ℕ) (accepted : Bool) : Type 0 where
+pub record Paints (files : List NamedBytes) (bytes : List ℕ) (options : PaintOptionsView) (text : List ℕ) (accepted : Bool) : Type 0 where
   pub pages : List MarkedPage
   pub file : IsFile (file_widths files) bytes pages
   pub shown : MarkedPage
-  pub page_is : slice_get pages (sheet.page - 1) ≡ Some shown
+  pub page_is : slice_get pages (options.page - 1) ≡ Some shown
   pub text_is : text
-      ≡ pbm (painted_picture (is_covered (scale_of file.frame.stop.units sheet.dpi) shown.marks) (white sheet.width sheet.height))
+      ≡ pbm (painted_grid (is_covered (scale_of file.frame.postamble.units options.dpi) shown.marks) (white options.width options.height))
   pub accepted_is : accepted ≡ true
 
 -- The bytes are a file that has no such page.
@@ -53,10 +53,10 @@ abbrev pub IsListed : List NamedBytes → List ℕ → (text : List ℕ) → (ac
 IsListed files bytes text accepted = Lists files bytes text accepted ⊎ RefusesFile files bytes text accepted
 
 -- The text that `paint` prints, and whether the file was accepted.
-abbrev pub IsPainted : List NamedBytes → List ℕ → Sheet → (text : List ℕ) → (accepted : Bool) → Type 0
-IsPainted files bytes sheet text accepted = Paints files bytes sheet text accepted ⊎ RefusesFile files bytes text accepted
+abbrev pub IsPainted : List NamedBytes → List ℕ → PaintOptionsView → (text : List ℕ) → (accepted : Bool) → Type 0
+IsPainted files bytes options text accepted = Paints files bytes options text accepted ⊎ RefusesFile files bytes text accepted
 
--- The picture of a page, from which its text is made; or the text of the file's refusal.
-abbrev pub IsPainting : List NamedBytes → List ℕ → Sheet → Painting → Type 0
-IsPainting files bytes sheet (Picture picture) = Paints files bytes sheet (pbm picture) true
-IsPainting files bytes sheet (Refusal output) = RefusesFile files bytes output.text.items output.accepted
+-- The bitmap of a page, from which its text is made; or the text of the file's refusal.
+abbrev pub IsPainting : List NamedBytes → List ℕ → PaintOptionsView → Painting → Type 0
+IsPainting files bytes options (Painted grid) = Paints files bytes options (pbm grid) true
+IsPainting files bytes options (Refusal output) = RefusesFile files bytes output.text.items output.accepted

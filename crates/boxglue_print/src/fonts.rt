@@ -28,7 +28,7 @@ pub fn defined_fonts<'a>(alloc: Global, dvi: &'a [u8]) -> Result<DefinedFonts<'a
     let mut known = KnownFonts::new(alloc);
     read_trailing_definitions(dvi, ending.after, ending.last - 5, &mut known)?;
     Ok(DefinedFonts {
-        units: ending.stop.units,
+        units: ending.postamble.units,
         fonts: known.into_all(),
     })
 }

@@ -7,7 +7,7 @@ ghost use Rattle.dvi_scan.specs.View.{marked_page};
 ghost use Rattle.boxglue_print.specs.Faults.{fault_line};
 ghost use Rattle.boxglue_print.specs.declared.output.PaintFault.TheVariants.{OutOfMemory};
 ghost use Rattle.boxglue_print.specs.Outputs.{IsPainted, IsPainting, LacksPage};
-ghost use Rattle.raster_core.specs.Pictures.{painted_picture, white};
+ghost use Rattle.raster_core.specs.PixelGrids.{painted_grid, white};
 ghost use Rattle.raster_core.specs.Pixels.{is_covered, scale_of};
 
 use crate::faults::push_fault;
@@ -29,7 +29,7 @@ pub struct Output {
 /// A page of a DVI file as a bitmap, or the text of the file's refusal.
 #[derive(Debug, Drop)]
 pub enum Painting {
-    Picture(Bitmap),
+    Painted(Bitmap),
     Refusal(Output),
 }
 
@@ -87,16 +87,16 @@ fn painted_page(
     alloc: Global,
     page: &Page<'_>,
     units: Units,
-    sheet: PaintOptions,
+    options: PaintOptions,
 ) -> Result<Bitmap, AllocError>
     requires { AreUnits (units_of units) }
     ensures { IfOk result (λ bitmap. bitmap
-        ≡ painted_picture (is_covered (scale_of (units_of units) sheet.dpi) (marked_page page.now).marks) (white sheet.width sheet.height)) }
+        ≡ painted_grid (is_covered (scale_of (units_of units) options.dpi) (marked_page page.now).marks) (white options.width options.height)) }
 {
-    let Ok(mut bitmap) = Bitmap::new(alloc, sheet.width(), sheet.height()) else {
+    let Ok(mut bitmap) = Bitmap::new(alloc, options.width(), options.height()) else {
         return Err(AllocError);
     };
-    bitmap.paint(page, units, sheet.dpi());
+    bitmap.paint(page, units, options.dpi());
     Ok(bitmap)
 }
 
@@ -107,23 +107,23 @@ pub fn page_bitmap(
     alloc: Global,
     dvi: &[u8],
     files: &[FontFile],
-    sheet: PaintOptions,
+    options: PaintOptions,
 ) -> Result<Painting, PaintFault>
-    ensures ok { IfOk result (IsPainting files.now dvi.now sheet) }
-    ensures missing { result ≡ Err PaintFault.NoSuchPage → LacksPage files.now dvi.now sheet.page }
-    ensures found { LacksPage files.now dvi.now sheet.page → (result ≡ Err PaintFault.NoSuchPage) ⊎ (result ≡ Err PaintFault.OutOfMemory) }
+    ensures ok { IfOk result (IsPainting files.now dvi.now options) }
+    ensures missing { result ≡ Err PaintFault.NoSuchPage → LacksPage files.now dvi.now options.page }
+    ensures found { LacksPage files.now dvi.now options.page → (result ≡ Err PaintFault.NoSuchPage) ⊎ (result ≡ Err PaintFault.OutOfMemory) }
 {
     let opened = match Dvi::open(alloc, dvi, files) {
         Ok(opened) => opened,
         Err(fault) => return Ok(Painting::Refusal(refusal(alloc, fault)?)),
     };
-    let index = sheet.page() as usize - 1;
+    let index = options.page() as usize - 1;
     if opened.pages() <= index {
         return Err(PaintFault::NoSuchPage);
     }
     let page = opened.page(index)?;
-    let bitmap = painted_page(alloc, &page, opened.units(), sheet)?;
-    Ok(Painting::Picture(bitmap))
+    let bitmap = painted_page(alloc, &page, opened.units(), options)?;
+    Ok(Painting::Painted(bitmap))
 }
 
 /// The text of the bitmap of a page of a DVI file, or the line of the file's refusal, as `page_bitmap`.
@@ -131,15 +131,15 @@ pub fn paint_text(
     alloc: Global,
     dvi: &[u8],
     files: &[FontFile],
-    sheet: PaintOptions,
+    options: PaintOptions,
 ) -> Result<Output, PaintFault>
-    ensures ok { IfOk result (λ output. IsPainted files.now dvi.now sheet output.text.items output.accepted) }
-    ensures missing { result ≡ Err PaintFault.NoSuchPage → LacksPage files.now dvi.now sheet.page }
-    ensures found { LacksPage files.now dvi.now sheet.page → (result ≡ Err PaintFault.NoSuchPage) ⊎ (result ≡ Err PaintFault.OutOfMemory) }
+    ensures ok { IfOk result (λ output. IsPainted files.now dvi.now options output.text.items output.accepted) }
+    ensures missing { result ≡ Err PaintFault.NoSuchPage → LacksPage files.now dvi.now options.page }
+    ensures found { LacksPage files.now dvi.now options.page → (result ≡ Err PaintFault.NoSuchPage) ⊎ (result ≡ Err PaintFault.OutOfMemory) }
 {
-    let painting = page_bitmap(alloc, dvi, files, sheet)?;
+    let painting = page_bitmap(alloc, dvi, files, options)?;
     let bitmap = match painting {
-        Painting::Picture(bitmap) => bitmap,
+        Painting::Painted(bitmap) => bitmap,
         Painting::Refusal(output) => return Ok(output),
     };
     let mut text = Vec::new(alloc);

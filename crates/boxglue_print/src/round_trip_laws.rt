@@ -13,7 +13,7 @@ ghost use Rattle.boxglue_program.specs.Runs.{RanScript};
 ghost use Rattle.boxglue_print.specs.ReadBack.{IsReadBack, ListsPages};
 ghost use Rattle.tfm_core.specs.NamedBytes.{NamedBytes};
 
-use dvi_ops::dvi_file::one_file;
+use dvi_ops::dvi_file_laws::one_file;
 
 /// The file of a finished job with at least one page is opened with the job's font files, unless memory is refused, and its pages are those of the
 /// machine, in order: the same counts, glyphs, rules and specials.

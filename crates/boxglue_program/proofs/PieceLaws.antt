@@ -5,7 +5,7 @@ use Rattle.std.specs.Io.KnownBytes.{Consumes}
 use Rattle.std.specs.Str.Lines.{lines}
 use Rattle.std.proofs.lemmas.List.{append-nil}
 use Rattle.boxglue_script.specs.LineContents.{IsWhole}
-use Rattle.boxglue_program.specs.Sessions.{IsSent, DialogView, AnswersLines, SessionView, Exchanges, LacksRoom, StopsIn}
+use Rattle.boxglue_program.specs.Sessions.{IsSent, DialogView, AnswersLines, SessionView, Exchanges, LacksMemory, StopsIn}
 use Rattle.boxglue_program.specs.Private.Dialogs.{IsCutAfterLines}
 use Rattle.boxglue_program.proofs.SessionLaws.{none_answered, sent_none}
 use Rattle.boxglue_program.proofs.DialogLaws.{stops_further, stops_at_once, stops_at_rest}
@@ -128,8 +128,9 @@ nothing_exchanged old was before same rest =
     ([], [], append-nil was.kept, inl refl, none_answered was.dialog, sent_none was.reads before) rest (omega arith)
 
 -- Memory was refused after a piece was read.
-pub room_lacked : (old was new : SessionView) (piece : List ℕ) (before after : Option (List ℕ)) → was ≡ old
+pub space_lacked : (old was new : SessionView) (piece : List ℕ) (before after : Option (List ℕ)) → was ≡ old
     → (answers : List ℕ) × StopsIn (was.kept ++ piece) was.dialog answers new.dialog × IsSent was.reads new.reads before after answers
-    → new.kept ≡ [] → new.left + length piece ≡ was.left → LacksRoom old piece new before after
-room_lacked old was new piece before after same (answers, stops, sent) none left =
-    subst (λ (s : SessionView). LacksRoom s piece new before after) same (record { answers = answers; stops = stops; sent = sent; kept = none; left = left })
+    → new.kept ≡ [] → new.left + length piece ≡ was.left → LacksMemory old piece new before after
+space_lacked old was new piece before after same (answers, stops, sent) none left =
+    subst (λ (s : SessionView). LacksMemory s piece new before after) same
+    (record { answers = answers; stops = stops; sent = sent; kept = none; left = left })

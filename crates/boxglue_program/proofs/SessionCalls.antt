@@ -10,7 +10,8 @@ use Rattle.page_core.specs.declared.summary.Summary.{Summary}
 use Rattle.tfm_core.specs.NamedBytes.{NamedBytes}
 use Rattle.boxglue_program.specs.Reports.{written_bytes}
 use Rattle.boxglue_program.specs.Texts.{end_line}
-use Rattle.boxglue_program.specs.Sessions.{IsSent, DialogView, AnswersLines, EndsRun, SessionView, Exchanges, LacksRoom, StopsIn, IsNewSession, EndsSession, RanSession, LacksSessionMemory, IsUnreadable, IsCutOff}
+use Rattle.boxglue_program.specs.Sessions.{IsSent, DialogView, AnswersLines, EndsRun, SessionView, Exchanges, LacksMemory, StopsIn, IsNewSession}
+use Rattle.boxglue_program.specs.Sessions.{EndsSession, RanSession, LacksSessionMemory, IsUnreadable, IsCutOff}
 use Rattle.boxglue_program.specs.declared.session.SessionFault.{SessionFault}
 use Rattle.boxglue_program.specs.declared.session.SessionFault.TheVariants.{OutOfMemory, Unreadable}
 use Rattle.boxglue_program.proofs.WritingLemmas.{appends_keeps, keeps_appends}
@@ -183,16 +184,16 @@ pub returned_silent : {D : Type 0} (bytes_written : D → Option (List ℕ)) (de
 returned_silent bytes_written device back same silent = rw same silent
 
 -- Memory was refused after a reading.
-pub run_lacks_room : (files : List NamedBytes) (n k : ℕ) (start now last : SessionView)
+pub run_lacks_space : (files : List NamedBytes) (n k : ℕ) (start now last : SessionView)
     (input left rest before middle after bytes_written : Option (List ℕ)) (outcome : Result Bool SessionFault) (fault : SessionFault) (written : Bool)
     → IsNewSession files n start → InSession start now input left before middle
-    → (fault ≡ OutOfMemory → (piece : List ℕ) × Consumes left rest piece × LacksRoom now piece last middle after)
+    → (fault ≡ OutOfMemory → (piece : List ℕ) × Consumes left rest piece × LacksMemory now piece last middle after)
     → outcome ≡ Err fault → written ≡ last.reads → k ≡ last.dialog.job.failed → bytes_written ≡ last.dialog.job.bytes_written
     → outcome ≡ Err OutOfMemory → (text answer : List ℕ) × Consumes input rest text × LacksSessionMemory written_bytes text files n k bytes_written answer
     × IsSent true written before after answer
-run_lacks_room files n k start now last input left rest before middle after bytes_written outcome fault written new so_far room is told count
+run_lacks_space files n k start now last input left rest before middle after bytes_written outcome fault written new so_far space is told count
     bytes wants =
-    let (piece, consumed, lacks) = room (same_fault (sym is ∙ wants)) in
+    let (piece, consumed, lacks) = space (same_fault (sym is ∙ wants)) in
     let split : so_far.text ++ piece ≡ so_far.done.whole ++ (now.kept ++ piece) =
     ap (λ (l : List ℕ). l ++ piece) so_far.done.split ∙ append_assoc so_far.done.whole now.kept piece in
     rw (told, count, bytes) (
@@ -251,7 +252,7 @@ run_not_begun files n k input before bytes_written same silent =
 -- A session that stops for a fault has the past that its device had at the beginning.
 pub began_stays : (start now new : SessionView) (input left rest before middle after : Option (List ℕ)) (fault : SessionFault)
     → InSession start now input left before middle
-    → (fault ≡ OutOfMemory → (piece : List ℕ) × Consumes left rest piece × LacksRoom now piece new middle after)
+    → (fault ≡ OutOfMemory → (piece : List ℕ) × Consumes left rest piece × LacksMemory now piece new middle after)
     → (fault ≡ Unreadable → (new ≡ now) × (lost : List ℕ) × Consumes left rest lost × (length lost ≤ 65536)
     × (lost ≢ [] → now.left < length lost) × Keeps middle after)
     → new.dialog.job.began ≡ start.dialog.job.began

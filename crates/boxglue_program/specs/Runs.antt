@@ -152,8 +152,8 @@ IsAnswerOfRest text files sent bytes_written answer fine =
     CompletesFile text files sent bytes_written answer fine ⊎ (RefusedScript text answer fine × (bytes_written ≡ Some sent))
 
 -- No reply is Device, and the end succeeded, unless memory was refused or a list is open.
-abbrev pub NeverLost : List Reply → Result Summary Refusal → Type 0
-NeverLost replies end =
+abbrev pub HasNoLoss : List Reply → Result Summary Refusal → Type 0
+HasNoLoss replies end =
     AllByRecursion (λ reply. reply ≢ Err refusals.Device) replies
     × IfErr end (λ refusal. (refusal ≡ refusals.OutOfMemory) ⊎ (refusal ≡ refusals.ListsOpen))
 
@@ -169,7 +169,7 @@ pub record RanOverRest {D : Type 0} (text : List ℕ) (files : List NamedBytes) 
   pub ran : RanScript written_bytes text files device.failed (back.failed + differing) reported answer fine
   pub own : (differing ≡ 0) ⊎ ((differing ≡ 1) × Differs sent (due_bytes ran.run.last))
   pub lossless : (file : List ℕ) → IsFrontOf sent file → IsFrontOf (due_bytes ran.run.last) file → back.failed ≡ device.failed
-      → NeverLost ran.replies ran.end
+      → HasNoLoss ran.replies ran.end
   pub rest : let all = whole ran.run.middle.state.fonts ran.run.middle.pages in
       IsFrontOf sent all → OnOk ran.end (back.bytes_written ≡ written_then device.bytes_written (drop (length sent) all))
 

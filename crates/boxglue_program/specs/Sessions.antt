@@ -93,7 +93,7 @@ pub record StopsIn (text : List ℕ) (old : DialogView) (answers : List ℕ) (ne
   pub ran : AnswersLines old (lines whole) answers new
 
 -- Memory was refused after a piece was read. What was not run of it is lost, with the bytes that were kept.
-pub record LacksRoom (old : SessionView) (piece : List ℕ) (new : SessionView) (before after : Option (List ℕ)) : Type 0 where
+pub record LacksMemory (old : SessionView) (piece : List ℕ) (new : SessionView) (before after : Option (List ℕ)) : Type 0 where
   pub answers : List ℕ
   pub stops : StopsIn (old.kept ++ piece) old.dialog answers new.dialog
   pub sent : IsSent old.reads new.reads before after answers

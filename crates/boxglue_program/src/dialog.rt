@@ -20,7 +20,7 @@ use std::io::Write;
 use std::marker::Model;
 use std::slice::from_ref;
 
-/// Room for the answers that wait.
+/// Space for the answers that wait.
 pub(crate) const OUTBOX_SIZE: usize = 65_536;
 
 /// Runs a line on a job after so many lines, and appends its answer, if it has one. Returns whether it was not refused. If memory is refused, nothing
@@ -137,8 +137,8 @@ impl Outbox {
         self.waiting.clear();
     }
 
-    /// Writes the answers that wait if the room for another one is not there.
-    fn make_room<W: Write>(&mut self, writer: &mut W)
+    /// Writes the answers that wait if the space for another one is not there.
+    fn make_space<W: Write>(&mut self, writer: &mut W)
         ensures sent { Sends (outbox_of self.old.waiting.items self.old.reads) (outbox_of self.new.waiting.items self.new.reads)
             (W.contents writer.old) (W.contents writer.new) [] }
     {
@@ -148,7 +148,7 @@ impl Outbox {
         self.send(writer);
     }
 
-    /// Runs the lines of a text. Answers are written whenever the room for another one is not there.
+    /// Runs the lines of a text. Answers are written whenever the space for another one is not there.
     fn answer_lines<D: Device, W: Write>(
         &mut self,
         dialog: &mut Dialog<D>,
@@ -169,7 +169,7 @@ impl Outbox {
         let mut rest = text;
         while !rest.is_empty() {
             let (line, after) = first_line(rest);
-            self.make_room(writer);
+            self.make_space(writer);
             dialog.answer(line, &mut self.waiting)?;
             rest = after;
         }

@@ -24,4 +24,4 @@ pub use refusals::{push_number, push_refusal_line, push_text, refusal_row};
 pub use run::{LinesRun, RunFault, WholeRun, run_lines, run_rest, run_script, run_whole};
 pub use session::{Reading, Session, SessionEnd, SessionFault, run_session};
 pub use texts::{push_end_line, push_script_refusal, push_signed, script_refusal_text};
-pub use writing::{Unwritten, refuse_memory, write_text};
+pub use writing::{UnwrittenText, refuse_memory, write_text};

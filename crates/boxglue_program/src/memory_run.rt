@@ -6,8 +6,8 @@ ghost use Rattle.boxglue_program.specs.Reports.{any_bytes, written_bytes};
 ghost use Rattle.boxglue_program.specs.Runs.{IsAnswerInMemory, IsLeftInMemory};
 
 use crate::hexadecimal::push_hexadecimal;
-use crate::run::{Answered, RunFault, answer_script};
-use crate::writing::{Unwritten, write_text};
+use crate::run::{AnsweredScript, RunFault, answer_script};
+use crate::writing::{UnwrittenText, write_text};
 use job_core::{FontFile, Memory};
 use std::alloc::Global;
 use std::io::Write;
@@ -34,7 +34,7 @@ pub fn run_memory<W: Write>(
         Ok(done) => done,
         Err(memory) => return Err(RunFault::Memory(memory)),
     };
-    let Answered {
+    let AnsweredScript {
         text: mut answer,
         accepted,
         device: memory,
@@ -44,6 +44,6 @@ pub fn run_memory<W: Write>(
     }
     match write_text(writer, &answer) {
         Ok(()) => Ok(accepted),
-        Err(Unwritten) => Err(RunFault::Answers(memory)),
+        Err(UnwrittenText) => Err(RunFault::Answers(memory)),
     }
 }

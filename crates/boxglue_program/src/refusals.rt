@@ -1,7 +1,7 @@
 //! The texts of refusals: the number and the name of each, for answers to commands and for DVI files.
 
 ghost use Rattle.std.specs.Prelude.{◌≡◌, ◌≤◌, ◌++◌, decimal, length, take, OnOk, OnErr};
-ghost use Rattle.scaled_core.specs.Rooms.{TakesRoom};
+ghost use Rattle.scaled_core.specs.Spaces.{TakesSpace};
 ghost use Rattle.boxglue_program.specs.Texts.{refusal_row, metric_refusal_name, refusal_text, refusal_line};
 
 use itoa::Buffer;
@@ -52,20 +52,20 @@ pub fn refusal_row(refusal: Refusal) -> (u32, &'static str)
     }
 }
 
-/// Appends a text. If memory is refused, nothing was appended, and there was no room for the text.
+/// Appends a text. If memory is refused, nothing was appended, and there was no space for the text.
 pub fn push_text(text: &str, out: &mut Vec<u8>) -> Result<(), AllocError>
     ensures ok { OnOk result (out.new.items ≡ out.old.items ++ text.now) }
     ensures err { OnErr result (out.new.items ≡ out.old.items) }
-    ensures room { TakesRoom (length text.now) out.old out.new result }
+    ensures space { TakesSpace (length text.now) out.old out.new result }
 {
     out.extend_from_slice(text.as_bytes())
 }
 
-/// Appends a number in decimal. If memory is refused, nothing was appended, and there was no room for a number.
+/// Appends a number in decimal. If memory is refused, nothing was appended, and there was no space for a number.
 pub fn push_number(number: u64, out: &mut Vec<u8>) -> Result<(), AllocError>
     ensures ok { OnOk result (out.new.items ≡ out.old.items ++ decimal number) }
     ensures err { OnErr result (out.new.items ≡ out.old.items) }
-    ensures room { TakesRoom 40 out.old out.new result }
+    ensures space { TakesSpace 40 out.old out.new result }
 {
     let mut buffer = Buffer::new();
     out.extend_from_slice(buffer.format(number).as_bytes())
@@ -76,7 +76,7 @@ pub fn push_number(number: u64, out: &mut Vec<u8>) -> Result<(), AllocError>
 pub(crate) fn push_refusal(refusal: Refusal, out: &mut Vec<u8>) -> Result<(), AllocError>
     ensures ok { OnOk result (out.new.items ≡ out.old.items ++ refusal_text refusal) }
     ensures front { take (length out.old.items) out.new.items ≡ out.old.items }
-    ensures room { TakesRoom 80 out.old out.new result }
+    ensures space { TakesSpace 80 out.old out.new result }
 {
     let (number, name) = refusal_row(refusal);
     push_text("refused ", out)?;

@@ -21,7 +21,7 @@ ghost use Rattle.boxglue_program.specs.Runs.{IsAnsweredOverRest, IsLeftOverRest}
 
 use crate::outcome::Outcome;
 use crate::texts::{push_answer_line, push_end_line, script_refusal_text};
-use crate::writing::{Unwritten, write_text};
+use crate::writing::{UnwrittenText, write_text};
 use boxglue_script::{Line, LineBlocks, ScriptFault, read_blocks};
 use job_core::{Device, FontFile, Job, Refusal, Reply, Rest, Summary};
 use std::alloc::Global;
@@ -42,7 +42,7 @@ pub enum RunFault<D> {
 
 /// The answers to a script, whether nothing was refused, and the device on which it was run.
 #[derive(Debug, Drop)]
-pub struct Answered<D> {
+pub struct AnsweredScript<D> {
     pub text: Vec<u8>,
     pub accepted: bool,
     pub device: D,
@@ -56,7 +56,7 @@ pub fn answer_script<D: Device>(
     text: &[u8],
     files: &[FontFile],
     device: D,
-) -> Result<Answered<D>, D>
+) -> Result<AnsweredScript<D>, D>
     requires countable { D.failed device + 1 < 2 ^ 64 }
     requires fresh { IfSome (D.bytes_written device) (λ bytes. bytes ≡ []) }
     ensures answers { let seen = device_view D.bytes_written D.failed D.past in
@@ -73,7 +73,7 @@ pub fn answer_script<D: Device>(
         Err(ScriptFault::OutOfMemory) => return Err(device),
         Err(ScriptFault::BadScript { line, cause }) => {
             return match script_refusal_text(alloc, line, cause) {
-                Ok(text) => Ok(Answered {
+                Ok(text) => Ok(AnsweredScript {
                     text,
                     accepted: false,
                     device,
@@ -88,7 +88,7 @@ pub fn answer_script<D: Device>(
         device,
     } = run_whole(alloc, lines, files, device)?;
     match answers {
-        Some(text) => Ok(Answered {
+        Some(text) => Ok(AnsweredScript {
             text,
             accepted: outcome.is_accepting(),
             device,
@@ -132,14 +132,14 @@ pub fn run_script<D: Device, W: Write>(
         Ok(done) => done,
         Err(device) => return Err(RunFault::Memory(device)),
     };
-    let Answered {
+    let AnsweredScript {
         text: answers,
         accepted,
         device,
     } = done;
     match write_text(writer, &answers) {
         Ok(()) => Ok((accepted, device)),
-        Err(Unwritten) => Err(RunFault::Answers(device)),
+        Err(UnwrittenText) => Err(RunFault::Answers(device)),
     }
 }
 
@@ -270,13 +270,13 @@ fn run_blocks<D: Device>(job: &mut Job<D>, lines: LineBlocks, answers: &mut Vec<
 /// Runs lines of a script in order on a job of the caller, and appends their answers, one line each, to those that are there.
 ///
 /// Each line is answered at once, so that no command and no reply is kept for its text. Where memory for a text is refused, the lines are run all the
-/// same, and no answer is appended. It is not refused where there is room for 512 bytes a line. A job that is over stays as it was: each line is
+/// same, and no answer is appended. It is not refused where there is space for 512 bytes a line. A job that is over stays as it was: each line is
 /// answered JobOver. What the device has reported stands, and only more bytes follow it.
 pub fn run_lines<D: Device>(job: &mut Job<D>, lines: &[Line], answers: &mut Vec<u8>) -> LinesRun
     ensures ran { (replies : List Reply) × RunsTo job.old (commands_of lines.now) replies job.new × (length replies ≡ length lines.now)
         × (result.kept ≡ true → answers.new.items ≡ answers.old.items ++ answer_lines (line_numbers lines.now) replies)
         × (result.kept ≡ false → answers.new.items ≡ answers.old.items) × (result.outcome ≡ replies_outcome replies) }
-    ensures room { vec_len answers.old + 512 * length lines.now ≤ vec_capacity answers.old → result.kept ≡ true }
+    ensures space { vec_len answers.old + 512 * length lines.now ≤ vec_capacity answers.old → result.kept ≡ true }
     ensures idle { job.old.state.over ≡ true → job.new ≡ job.old }
     ensures goes_on { GoesOn (writing_of job.old) (writing_of job.new) }
 {
@@ -300,7 +300,7 @@ pub fn run_lines<D: Device>(job: &mut Job<D>, lines: &[Line], answers: &mut Vec<
 fn push_next_answer(kept: bool, number: usize, reply: &Reply, answers: &mut Vec<u8>) -> bool
     ensures ok { result ≡ true → (kept ≡ true) × (answers.new.items ≡ answers.old.items ++ answer_line number reply.now) }
     ensures cut { result ≡ false → answers.new.items ≡ answers.old.items }
-    ensures room { kept ≡ true → vec_len answers.old + 512 ≤ vec_capacity answers.old → result ≡ true }
+    ensures space { kept ≡ true → vec_len answers.old + 512 ≤ vec_capacity answers.old → result ≡ true }
     ensures grown { vec_capacity answers.old ≤ vec_capacity answers.new }
     ensures short { vec_len answers.new ≤ vec_len answers.old + 512 }
 {

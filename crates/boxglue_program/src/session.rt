@@ -156,7 +156,7 @@ impl<D: Device> Session<D> {
     ghost use Rattle.dvi_device.specs.Seen.{device_view};
     ghost use Rattle.dvi_write.specs.Writing.{IsDeviceOf, IsMadeOver};
     ghost use Rattle.job_core.specs.Jobs.{writing_of};
-    ghost use Rattle.boxglue_program.specs.Sessions.{DialogView, EndsSession, Exchanges, IsNewSession, IsSent, LacksRoom, StopsIn};
+    ghost use Rattle.boxglue_program.specs.Sessions.{DialogView, EndsSession, Exchanges, IsNewSession, IsSent, LacksMemory, StopsIn};
 
     /// A new session with these font files, which may read `limit` bytes in all. The device must have reported no byte yet. If memory is refused, the
     /// error is the device, unchanged.
@@ -209,7 +209,7 @@ impl<D: Device> Session<D> {
             × IsAtEnd (R.remaining reader.new)
             × Keeps (W.contents writer.old) (W.contents writer.new) }
         ensures memory { result ≡ Err SessionFault.OutOfMemory → (piece : List ℕ) × Consumes (R.remaining reader.old) (R.remaining reader.new) piece
-            × LacksRoom self.old piece self.new (W.contents writer.old) (W.contents writer.new) }
+            × LacksMemory self.old piece self.new (W.contents writer.old) (W.contents writer.new) }
         ensures unread { result ≡ Err SessionFault.Unreadable
             → (self.new ≡ self.old) × (lost : List ℕ) × Consumes (R.remaining reader.old) (R.remaining reader.new) lost
             × (length lost ≤ 65536) × (lost ≢ [] → self.old.left < length lost) × Keeps (W.contents writer.old) (W.contents writer.new) }

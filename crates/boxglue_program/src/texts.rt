@@ -2,7 +2,7 @@
 
 ghost use Rattle.std.specs.Prelude.{◌≡◌, ◌++◌, ◌+◌, ◌*◌, ◌<◌, ◌≤◌, length, codes, decimal, OnOk, OnErr, IfOk};
 ghost use Rattle.std.specs.Fmt.{signed_decimal};
-ghost use Rattle.scaled_core.specs.Rooms.{TakesRoom};
+ghost use Rattle.scaled_core.specs.Spaces.{TakesSpace};
 ghost use Rattle.boxglue_program.specs.Texts.{cause_name, kind_name, points_text, sizes_text, rest_text, lines_text, costs_text, answer_text};
 ghost use Rattle.boxglue_program.specs.Texts.{reply_text, answer_line, summary_text, end_line, line_feed, script_refusal_text};
 
@@ -14,7 +14,7 @@ use node_core::Kind;
 use scaled_core::{Dimen, print_dimen};
 use std::alloc::{AllocError, Global};
 
-/// Room for one line of answers. The longest is that of a split: two numbers, six dimensions, and the words between them.
+/// Space for one line of answers. The longest is that of a split: two numbers, six dimensions, and the words between them.
 pub(crate) const ANSWER_SIZE: usize = 512;
 
 /// How many digits the number of a line has at most.
@@ -51,7 +51,7 @@ fn kind_name(kind: Kind) -> &'static str
 pub fn push_signed(number: i64, out: &mut Vec<u8>) -> Result<(), AllocError>
     ensures ok { OnOk result (out.new.items ≡ out.old.items ++ signed_decimal number) }
     ensures err { OnErr result (out.new.items ≡ out.old.items) }
-    ensures room { TakesRoom 40 out.old out.new result }
+    ensures space { TakesSpace 40 out.old out.new result }
 {
     let mut buffer = Buffer::new();
     out.extend_from_slice(buffer.format(number).as_bytes())
@@ -62,7 +62,7 @@ pub fn push_signed(number: i64, out: &mut Vec<u8>) -> Result<(), AllocError>
 #[tactic(auto, unfolding(crate::specs::Texts::sizes_text, crate::specs::Texts::points_text))]
 fn push_sizes(sizes: &Sizes, out: &mut Vec<u8>) -> Result<(), AllocError>
     ensures ok { OnOk result (out.new.items ≡ out.old.items ++ sizes_text sizes.now) }
-    ensures room { TakesRoom 149 out.old out.new result }
+    ensures space { TakesSpace 149 out.old out.new result }
 {
     print_dimen(sizes.width, out)?;
     push_text("pt ", out)?;
@@ -76,7 +76,7 @@ fn push_sizes(sizes: &Sizes, out: &mut Vec<u8>) -> Result<(), AllocError>
 #[tactic(auto, unfolding(crate::specs::Texts::answer_text))]
 fn push_packed(sizes: &Sizes, badness: u32, out: &mut Vec<u8>) -> Result<(), AllocError>
     ensures ok { OnOk result (out.new.items ≡ out.old.items ++ answer_text (Answer.Packed sizes.now badness)) }
-    ensures room { TakesRoom 205 out.old out.new result }
+    ensures space { TakesSpace 205 out.old out.new result }
 {
     push_text("packed ", out)?;
     push_sizes(sizes, out)?;
@@ -88,7 +88,7 @@ fn push_packed(sizes: &Sizes, badness: u32, out: &mut Vec<u8>) -> Result<(), All
 #[tactic(auto, unfolding(crate::specs::Texts::answer_text))]
 fn push_measured(kind: Kind, sizes: &Sizes, out: &mut Vec<u8>) -> Result<(), AllocError>
     ensures ok { OnOk result (out.new.items ≡ out.old.items ++ answer_text (Answer.Measured kind sizes.now)) }
-    ensures room { TakesRoom 163 out.old out.new result }
+    ensures space { TakesSpace 163 out.old out.new result }
 {
     push_text("measured ", out)?;
     push_text(kind_name(kind), out)?;
@@ -100,7 +100,7 @@ fn push_measured(kind: Kind, sizes: &Sizes, out: &mut Vec<u8>) -> Result<(), All
 #[tactic(auto, unfolding(crate::specs::Texts::answer_text))]
 fn push_shaped(items: usize, missing: usize, out: &mut Vec<u8>) -> Result<(), AllocError>
     ensures ok { OnOk result (out.new.items ≡ out.old.items ++ answer_text (Answer.Shaped items missing)) }
-    ensures room { TakesRoom 95 out.old out.new result }
+    ensures space { TakesSpace 95 out.old out.new result }
 {
     push_text("added ", out)?;
     push_number(items as u64, out)?;
@@ -112,7 +112,7 @@ fn push_shaped(items: usize, missing: usize, out: &mut Vec<u8>) -> Result<(), Al
 #[tactic(auto, unfolding(crate::specs::Texts::answer_text))]
 fn push_added(items: usize, out: &mut Vec<u8>) -> Result<(), AllocError>
     ensures ok { OnOk result (out.new.items ≡ out.old.items ++ answer_text (Answer.Added items)) }
-    ensures room { TakesRoom 46 out.old out.new result }
+    ensures space { TakesSpace 46 out.old out.new result }
 {
     push_text("added ", out)?;
     push_number(items as u64, out)
@@ -121,7 +121,7 @@ fn push_added(items: usize, out: &mut Vec<u8>) -> Result<(), AllocError>
 /// Appends the number of lines of a paragraph.
 fn push_lines(lines: usize, out: &mut Vec<u8>) -> Result<(), AllocError>
     ensures ok { OnOk result (out.new.items ≡ out.old.items ++ lines_text lines) }
-    ensures room { TakesRoom 56 out.old out.new result }
+    ensures space { TakesSpace 56 out.old out.new result }
 {
     push_text("paragraph lines ", out)?;
     push_number(lines as u64, out)
@@ -131,7 +131,7 @@ fn push_lines(lines: usize, out: &mut Vec<u8>) -> Result<(), AllocError>
 #[tactic(auto, unfolding(crate::specs::Texts::costs_text))]
 fn push_costs(overhang: i64, demerits: i64, out: &mut Vec<u8>) -> Result<(), AllocError>
     ensures ok { OnOk result (out.new.items ≡ out.old.items ++ costs_text overhang demerits) }
-    ensures room { TakesRoom 100 out.old out.new result }
+    ensures space { TakesSpace 100 out.old out.new result }
 {
     push_text(" overhang ", out)?;
     push_signed(overhang, out)?;
@@ -149,7 +149,7 @@ fn push_paragraph(
     out: &mut Vec<u8>,
 ) -> Result<(), AllocError>
     ensures ok { OnOk result (out.new.items ≡ out.old.items ++ answer_text (Answer.Paragraph lines pass overhang demerits)) }
-    ensures room { TakesRoom 202 out.old out.new result }
+    ensures space { TakesSpace 202 out.old out.new result }
 {
     push_lines(lines, out)?;
     push_text(" pass ", out)?;
@@ -161,7 +161,7 @@ fn push_paragraph(
 #[tactic(auto, unfolding(crate::specs::Texts::rest_text))]
 fn push_rest(rest: &Option<Sizes>, out: &mut Vec<u8>) -> Result<(), AllocError>
     ensures ok { OnOk result (out.new.items ≡ out.old.items ++ rest_text rest.now) }
-    ensures room { TakesRoom 149 out.old out.new result }
+    ensures space { TakesSpace 149 out.old out.new result }
 {
     match rest {
         None => push_text("void", out),
@@ -178,7 +178,7 @@ fn push_split(
     out: &mut Vec<u8>,
 ) -> Result<(), AllocError>
     ensures ok { OnOk result (out.new.items ≡ out.old.items ++ answer_text (Answer.Split front.now badness rest.now)) }
-    ensures room { TakesRoom 359 out.old out.new result }
+    ensures space { TakesSpace 359 out.old out.new result }
 {
     push_text("split ", out)?;
     push_sizes(front, out)?;
@@ -192,7 +192,7 @@ fn push_split(
 #[tactic(auto, unfolding(crate::specs::Texts::answer_text))]
 fn push_shipped(pages: u32, out: &mut Vec<u8>) -> Result<(), AllocError>
     ensures ok { OnOk result (out.new.items ≡ out.old.items ++ answer_text (Answer.Shipped pages)) }
-    ensures room { TakesRoom 48 out.old out.new result }
+    ensures space { TakesSpace 48 out.old out.new result }
 {
     push_text("shipped ", out)?;
     push_number(u64::from(pages), out)
@@ -202,7 +202,7 @@ fn push_shipped(pages: u32, out: &mut Vec<u8>) -> Result<(), AllocError>
 #[tactic(auto, unfolding(crate::specs::Texts::answer_text))]
 fn push_answer(answer: &Answer, out: &mut Vec<u8>) -> Result<(), AllocError>
     ensures ok { OnOk result (out.new.items ≡ out.old.items ++ answer_text answer.now) }
-    ensures room { TakesRoom 359 out.old out.new result }
+    ensures space { TakesSpace 359 out.old out.new result }
 {
     match answer {
         Answer::Done => push_text("ok", out),
@@ -230,7 +230,7 @@ fn push_answer(answer: &Answer, out: &mut Vec<u8>) -> Result<(), AllocError>
 /// Appends the reply of a job.
 fn push_reply(reply: &Reply, out: &mut Vec<u8>) -> Result<(), AllocError>
     ensures ok { OnOk result (out.new.items ≡ out.old.items ++ reply_text reply.now) }
-    ensures room { TakesRoom 359 out.old out.new result }
+    ensures space { TakesSpace 359 out.old out.new result }
 {
     match reply {
         Ok(answer) => push_answer(answer, out),
@@ -242,7 +242,7 @@ fn push_reply(reply: &Reply, out: &mut Vec<u8>) -> Result<(), AllocError>
 fn push_done(number: u64, out: &mut Vec<u8>) -> Result<(), AllocError>
     ensures ok { OnOk result (out.new.items ≡ out.old.items ++ (decimal number ++ (codes ": ok" ++ line_feed))) }
     ensures err { OnErr result (out.new.items ≡ out.old.items) }
-    ensures room { TakesRoom 25 out.old out.new result }
+    ensures space { TakesSpace 25 out.old out.new result }
 {
     let mut line = *b"00000000000000000000: ok\n";
     let start = write_digits(number, &mut line, DIGITS);
@@ -253,14 +253,14 @@ fn push_done(number: u64, out: &mut Vec<u8>) -> Result<(), AllocError>
 fn push_line_number(number: u64, out: &mut Vec<u8>) -> Result<(), AllocError>
     ensures ok { OnOk result (out.new.items ≡ out.old.items ++ (decimal number ++ codes ": ")) }
     ensures err { OnErr result (out.new.items ≡ out.old.items) }
-    ensures room { TakesRoom 22 out.old out.new result }
+    ensures space { TakesSpace 22 out.old out.new result }
 {
     let mut text = *b"00000000000000000000: ";
     let start = write_digits(number, &mut text, DIGITS);
     out.extend_from_slice(&text[start..])
 }
 
-/// Appends the line that answers the line of a script with this number. If memory is refused, nothing was appended, as room is taken first. Most
+/// Appends the line that answers the line of a script with this number. If memory is refused, nothing was appended, as space is taken first. Most
 /// answers are `ok`, so this one is appended as one piece.
 #[tactic(auto, unfolding(crate::specs::Texts::answer_line, crate::specs::Texts::answer_text))]
 pub(crate) fn push_answer_line(
@@ -270,7 +270,7 @@ pub(crate) fn push_answer_line(
 ) -> Result<(), AllocError>
     ensures ok { OnOk result (out.new.items ≡ out.old.items ++ answer_line number reply.now) }
     ensures cut { OnErr result (out.new.items ≡ out.old.items) }
-    ensures room { TakesRoom 512 out.old out.new result }
+    ensures space { TakesSpace 512 out.old out.new result }
 {
     out.reserve(ANSWER_SIZE)?;
     if let Ok(Answer::Done) = reply {
@@ -284,7 +284,7 @@ pub(crate) fn push_answer_line(
 /// Appends the result of the end of a job.
 fn push_summary(end: &Result<Summary, Refusal>, out: &mut Vec<u8>) -> Result<(), AllocError>
     ensures ok { OnOk result (out.new.items ≡ out.old.items ++ summary_text end.now) }
-    ensures room { TakesRoom 100 out.old out.new result }
+    ensures space { TakesSpace 100 out.old out.new result }
 {
     match end {
         Ok(summary) => {
@@ -302,7 +302,7 @@ fn push_summary(end: &Result<Summary, Refusal>, out: &mut Vec<u8>) -> Result<(),
 pub fn push_end_line(end: &Result<Summary, Refusal>, out: &mut Vec<u8>) -> Result<(), AllocError>
     ensures ok { OnOk result (out.new.items ≡ out.old.items ++ end_line end.now) }
     ensures cut { OnErr result (out.new.items ≡ out.old.items) }
-    ensures room { TakesRoom 512 out.old out.new result }
+    ensures space { TakesSpace 512 out.old out.new result }
 {
     out.reserve(ANSWER_SIZE)?;
     push_text("end: ", out)?;
@@ -338,7 +338,7 @@ pub fn push_script_refusal(line: usize, cause: Cause, out: &mut Vec<u8>) -> Resu
 /// Appends a space, the name of a cause, and the end of the line.
 fn push_cause(cause: Cause, out: &mut Vec<u8>) -> Result<(), AllocError>
     ensures ok { OnOk result (out.new.items ≡ out.old.items ++ (codes " " ++ (cause_name cause ++ line_feed))) }
-    ensures room { TakesRoom 11 out.old out.new result }
+    ensures space { TakesSpace 11 out.old out.new result }
 {
     push_text(" ", out)?;
     push_text(cause_name(cause), out)?;

@@ -11,7 +11,8 @@ use Rattle.boxglue_script.specs.Causes.{IsCause}
 use Rattle.boxglue_script.specs.Script.{SaysLine, SayFrom}
 use Rattle.boxglue_script.specs.LineContents.{Says, SayEach, SayOne, IsWhole, lines_said, has_no_bad}
 use Rattle.boxglue_script.specs.declared.script.ScriptFault.TheVariants.{BadScript}
-use Rattle.boxglue_script.specs.Private.Reading.{command_of_line, content_of, LinesOrFault, lines_then, reading_from, GivesCommand, ReadsOn, StopsAtLine}
+use Rattle.boxglue_script.specs.Private.Reading.{command_of_line, content_of, LinesOrFault, lines_then, reading_from, GivesCommand, ReadsOn}
+use Rattle.boxglue_script.specs.Private.Reading.{HasFaultAtLine}
 use Rattle.boxglue_script.proofs.LineLemmas.{lines_joined}
 use Rattle.boxglue_script.proofs.ScriptLaws.{line_said, line_read, line_fault}
 use Rattle.boxglue_script.proofs.OneCause.{one_line_cause, not_said}
@@ -160,5 +161,6 @@ reads_on number line old command h rest =
     rw (h.counted, line_read line command h) (then_more old record_is (reading_from (number + 1) rest))
 
 -- Reading stops at a bad line.
-pub stops_at : (number : ℕ) (line : List ℕ) (old : List Line) (cause : Cause) → is_passed_over line ≡ false → IsCause cause line → StopsAtLine number line old (BadScript number cause)
+pub stops_at : (number : ℕ) (line : List ℕ) (old : List Line) (cause : Cause) → is_passed_over line ≡ false → IsCause cause line
+    → HasFaultAtLine number line old (BadScript number cause)
 stops_at number line old cause counted holds rest = rw (counted, fault_read line cause counted holds) refl

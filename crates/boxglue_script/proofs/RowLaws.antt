@@ -12,7 +12,8 @@ use Rattle.boxglue_script.specs.Private.Names.{box_name, register_name, item_nam
 use Rattle.boxglue_script.specs.ScriptLines.{fields_of}
 use Rattle.boxglue_script.specs.ParameterNames.{size_name, skip_name, number_name}
 use Rattle.boxglue_script.specs.Private.Reading.{name_first, size_of_font_first, chosen_size_of, font_of, number_of, size_of, penalty_of, before_unit, amount_in, amount_of, opening_with_register, opening_into, opening_with_size, opening_of, last_shrink_of, shrink_of, parts_of, glue_of, parameter_of, rule_of, command_named, command_of, front_field, after_field, command_of_printable, command_of_line, reading_from, last_value, value_first}
-use Rattle.boxglue_script.specs.Rows.{one_rule_lines, OneRuleScript, UnitlessRow, text_lines, TextScript, special_lines, SpecialScript, NoSuchRegisterRow, NoSizeRow, StrokeInNameRow, tall_box_lines, TallBoxScript, NoRegisterRow, LateStretchRow}
+use Rattle.boxglue_script.specs.Rows.{one_rule_lines, OneRuleScript, UnitlessRow, text_lines, TextScript, special_lines, SpecialScript}
+use Rattle.boxglue_script.specs.Rows.{NoSuchRegisterRow, NoSizeRow, SlashInNameRow, tall_box_lines, TallBoxScript, NoRegisterRow, LateStretchRow}
 use Rattle.boxglue_script.proofs.ScriptLaws.{script_read, script_refused}
 
 one_rule_read : reading_from 1 (lines (codes "hbox into 0\nrule 1pt 1pt 0pt\nend\nship 0\n")) ≡ Ok one_rule_lines
@@ -57,12 +58,12 @@ no_size_read = refl
 pub no_size_named : NoSizeRow
 no_size_named = (script_refused (codes "font 0 tiny at 0pt") (BadScript 1 Number) no_size_read).0
 
-stroke_read : reading_from 1 (lines (codes "font 0 a/b at 0pt")) ≡ Err (BadScript 1 causes.Name)
+slash_read : reading_from 1 (lines (codes "font 0 a/b at 0pt")) ≡ Err (BadScript 1 causes.Name)
 unfolding command_of_line command_of_printable front_field after_field fields_of command_of command_named name_of box_name register_name item_name font_of name_first chosen_size_of size_of_font_first value_first number_of last_value read_dimension dimension_value parsed_value written_value unit_named is_negative text_after_sign front_digits text_after_digits point_digits text_after_fraction decimal_fraction nearest of_points
-stroke_read = refl
+slash_read = refl
 
-pub stroke_named : StrokeInNameRow
-stroke_named = (script_refused (codes "font 0 a/b at 0pt") (BadScript 1 causes.Name) stroke_read).0
+pub slash_named : SlashInNameRow
+slash_named = (script_refused (codes "font 0 a/b at 0pt") (BadScript 1 causes.Name) slash_read).0
 
 tall_box_read : reading_from 1 (lines (codes "set boxmaxdepth 1pt\nvbox to 20pt into 0\nglue 0pt plus 1fil\npenalty -10000\nend\n")) ≡ Ok tall_box_lines
 unfolding command_of_line command_of_printable front_field after_field fields_of command_of command_named name_of box_name register_name item_name parameter_of size_name skip_name number_name opening_of opening_with_register opening_into opening_with_size glue_of parts_of shrink_of value_first amount_of amount_in before_unit last_value penalty_of number_of read_dimension dimension_value parsed_value written_value unit_named is_negative text_after_sign front_digits text_after_digits point_digits text_after_fraction decimal_fraction nearest of_points

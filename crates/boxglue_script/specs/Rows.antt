@@ -64,8 +64,8 @@ abbrev pub NoSizeRow : Type 0
 NoSizeRow = IsFirstBad (codes "font 0 tiny at 0pt") 1 Number
 
 -- A name of a font with `/` in it has the cause Name.
-abbrev pub StrokeInNameRow : Type 0
-StrokeInNameRow = IsFirstBad (codes "font 0 a/b at 0pt") 1 causes.Name
+abbrev pub SlashInNameRow : Type 0
+SlashInNameRow = IsFirstBad (codes "font 0 a/b at 0pt") 1 causes.Name
 
 -- The lines of a script of a vertical box of a given size.
 abbrev pub tall_box_lines : List Line

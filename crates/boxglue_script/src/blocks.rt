@@ -44,14 +44,14 @@ impl LineBlocks {
         Ok(self.last.push(line)?)
     }
 
-    /// Begins a block, with room for `most` lines at once. The room is taken before a block moves, so that no line is lost where memory is refused.
+    /// Begins a block, with space for `most` lines at once. The space is taken before a block moves, so that no line is lost where memory is refused.
     #[tactic(auto, using(crate::proofs::BlockLemmas::one_block_more))]
     fn begin_block(&mut self, most: usize) -> Result<(), AllocError>
         ensures { lines_of self.new ≡ lines_of self.old }
     {
         self.full.reserve(1)?;
-        let room = Vec::with_capacity(*self.last.allocator(), most)?;
-        let block = replace(&mut self.last, room);
+        let space = Vec::with_capacity(*self.last.allocator(), most)?;
+        let block = replace(&mut self.last, space);
         Ok(self.full.push(block)?)
     }
 }

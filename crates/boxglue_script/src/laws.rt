@@ -9,7 +9,7 @@ ghost use Rattle.boxglue_script.specs.LineContents.{SayEach, SayOne, IsWhole, li
 ghost use Rattle.boxglue_script.specs.declared.cause.Cause.{Cause};
 ghost use Rattle.boxglue_script.specs.declared.cause.Cause.TheVariants as causes;
 ghost use Rattle.boxglue_script.specs.Causes.{IsFieldCause, IsCause};
-ghost use Rattle.boxglue_script.specs.Rows.{OneRuleScript, UnitlessRow, TextScript, SpecialScript, NoSuchRegisterRow, NoSizeRow, StrokeInNameRow};
+ghost use Rattle.boxglue_script.specs.Rows.{OneRuleScript, UnitlessRow, TextScript, SpecialScript, NoSuchRegisterRow, NoSizeRow, SlashInNameRow};
 ghost use Rattle.boxglue_script.specs.Rows.{TallBoxScript, NoRegisterRow, LateStretchRow};
 
 /// The script of the one-rule page gives its four commands.
@@ -40,7 +40,7 @@ pub fn register_that_is_refused()
 /// A font of size 0 has the cause Number, and a name with a byte that is not allowed the cause Name.
 pub fn fonts_that_are_refused()
     ensures size { NoSizeRow }
-    ensures name { StrokeInNameRow }
+    ensures name { SlashInNameRow }
 {}
 
 /// A script with a vertical box of a given size, with a stretch of order fil, a penalty and a parameter, gives its five commands.

@@ -5,7 +5,7 @@ ghost use Rattle.std.specs.Str.Lines.{lines};
 ghost use Rattle.boxglue_script.specs.Blocks.{lines_of};
 ghost use Rattle.boxglue_script.specs.Causes.{IsPrintable};
 ghost use Rattle.boxglue_script.specs.Script.{IsScript, Explains, IsOneFault, IsRightSoFar};
-ghost use Rattle.boxglue_script.specs.Private.Reading.{GivesCommand, ReadsOn, StopsAtLine, reading_from};
+ghost use Rattle.boxglue_script.specs.Private.Reading.{GivesCommand, ReadsOn, HasFaultAtLine, reading_from};
 ghost use Rattle.boxglue_script.specs.declared.script.ScriptFault.TheVariants.{OutOfMemory};
 
 use crate::blocks::{BLOCK_SIZE, LineBlocks};
@@ -109,7 +109,7 @@ fn take_line(
 ) -> Result<(), ScriptFault>
     requires { plain ≡ true → IsPrintable line.now }
     ensures ok { OnOk result (ReadsOn number line.now (lines_of found.old) (lines_of found.new)) }
-    ensures bad { IfErr result (λ fault. (fault ≡ ScriptFault.OutOfMemory) ⊎ StopsAtLine number line.now (lines_of found.old) fault) }
+    ensures bad { IfErr result (λ fault. (fault ≡ ScriptFault.OutOfMemory) ⊎ HasFaultAtLine number line.now (lines_of found.old) fault) }
     ensures memory { result ≡ Err ScriptFault.OutOfMemory → GivesCommand line.now }
     ensures full { vec_len found.old.last < most → found.new.full.items ≡ found.old.full.items }
     ensures last { vec_len found.old.last < most → OnOk result (vec_len found.new.last ≤ vec_len found.old.last + 1) }

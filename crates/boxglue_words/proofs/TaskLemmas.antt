@@ -21,12 +21,13 @@ use Rattle.boxglue_words.specs.declared.fonts.WordFault.{WordFault}
 use Rattle.boxglue_words.specs.declared.fonts.WordFault.TheVariants.{Line, Memory, NotPair, NameTwice}
 use Rattle.boxglue_words.specs.CommandLine.{boxglue}
 use Rattle.boxglue_words.specs.Pairs.{IsFaulty, IsFirstFault}
-use Rattle.raster_core.specs.Sheets.{Sheet}
+use Rattle.raster_core.specs.PaintOptions.{PaintOptionsView}
 use Rattle.boxglue_words.specs.declared.task.Task.{Task}
 use Rattle.boxglue_words.specs.declared.task.Task.TheVariants.{Version}
 use Rattle.boxglue_words.proofs.VersionLemmas.{alone_fault, has_version, only_version}
 use Rattle.boxglue_words.specs.Private.Steps.{IsFileFault, IsLine}
-use Rattle.boxglue_words.specs.Tasks.{Asks, AsksBy, IsNumber, IsRefused, IsRefusedBy, IsRequest, IsSheet, IsTask, IsTaskOf, Request, fonts_of, font_words, holds_session, lists, names_fonts, nothing, paints, typesets, version}
+use Rattle.boxglue_words.specs.Tasks.{Asks, AsksBy, IsNumber, IsRefused, IsRefusedBy, IsRequest, AreOptions, IsTask, IsTaskOf, Request, fonts_of}
+use Rattle.boxglue_words.specs.Tasks.{font_words, holds_session, lists, names_fonts, nothing, paints, typesets, version}
 
 -- A faulty word NAME=TFM of a subcommand whose file is given.
 pub faulty_fonts : (id : Text) (rows : List Row) (path : Text) (fault : WordFault) → first_of id rows ≡ Some path
@@ -58,7 +59,7 @@ no_typeset rows lacks (typesets out fonts) h = absurd (cc (lacks, h.1))
 no_typeset rows lacks (holds_session out fonts) h = absurd (cc h.0)
 no_typeset rows lacks (lists dvi fonts) h = absurd (cc h.0)
 no_typeset rows lacks (names_fonts dvi) h = absurd (cc h.0)
-no_typeset rows lacks (paints sheet dvi fonts) h = absurd (cc h.0)
+no_typeset rows lacks (paints options dvi fonts) h = absurd (cc h.0)
 
 pub no_session : (rows : List Row) → first_of (codes "OUT") rows ≡ None → (request : Request) → AsksBy (codes "session") rows request → ⊥
 no_session rows lacks version h = h
@@ -67,7 +68,7 @@ no_session rows lacks (typesets out fonts) h = absurd (cc h.0)
 no_session rows lacks (holds_session out fonts) h = absurd (cc (lacks, h.1))
 no_session rows lacks (lists dvi fonts) h = absurd (cc h.0)
 no_session rows lacks (names_fonts dvi) h = absurd (cc h.0)
-no_session rows lacks (paints sheet dvi fonts) h = absurd (cc h.0)
+no_session rows lacks (paints options dvi fonts) h = absurd (cc h.0)
 
 pub no_list : (rows : List Row) → first_of (codes "DVI") rows ≡ None → (request : Request) → AsksBy (codes "list") rows request → ⊥
 no_list rows lacks version h = h
@@ -76,7 +77,7 @@ no_list rows lacks (typesets out fonts) h = absurd (cc h.0)
 no_list rows lacks (holds_session out fonts) h = absurd (cc h.0)
 no_list rows lacks (lists dvi fonts) h = absurd (cc (lacks, h.1))
 no_list rows lacks (names_fonts dvi) h = absurd (cc h.0)
-no_list rows lacks (paints sheet dvi fonts) h = absurd (cc h.0)
+no_list rows lacks (paints options dvi fonts) h = absurd (cc h.0)
 
 pub no_fonts_named : (rows : List Row) → first_of (codes "DVI") rows ≡ None → (request : Request) → AsksBy (codes "fonts") rows request → ⊥
 no_fonts_named rows lacks version h = h
@@ -85,7 +86,7 @@ no_fonts_named rows lacks (typesets out fonts) h = absurd (cc h.0)
 no_fonts_named rows lacks (holds_session out fonts) h = absurd (cc h.0)
 no_fonts_named rows lacks (lists dvi fonts) h = absurd (cc h.0)
 no_fonts_named rows lacks (names_fonts dvi) h = absurd (cc (lacks, h.1))
-no_fonts_named rows lacks (paints sheet dvi fonts) h = absurd (cc h.0)
+no_fonts_named rows lacks (paints options dvi fonts) h = absurd (cc h.0)
 
 pub no_painting : (rows : List Row) → first_of (codes "DVI") rows ≡ None → (request : Request) → AsksBy (codes "paint") rows request → ⊥
 no_painting rows lacks version h = h
@@ -94,7 +95,7 @@ no_painting rows lacks (typesets out fonts) h = absurd (cc h.0)
 no_painting rows lacks (holds_session out fonts) h = absurd (cc h.0)
 no_painting rows lacks (lists dvi fonts) h = absurd (cc h.0)
 no_painting rows lacks (names_fonts dvi) h = absurd (cc h.0)
-no_painting rows lacks (paints sheet dvi fonts) h = absurd (cc (lacks, h.2))
+no_painting rows lacks (paints options dvi fonts) h = absurd (cc (lacks, h.2))
 
 -- A subcommand with a file and words NAME=TFM is refused for just these.
 pub refused_file : (asked : Request → Type 0) (id : Text) (rows : List Row) (to : Text → Request)
@@ -115,14 +116,15 @@ paint_is_not_fonts is = not_both (ap (λ (text : List ℕ). get_or text 0 0 == 1
     not_both same = cc
 
 -- Without its numbers `paint` asks for nothing either.
-pub no_sheet : (rows : List Row) → ((sheet : Sheet) → IsSheet rows sheet → ⊥) → (request : Request) → AsksBy (codes "paint") rows request → ⊥
-no_sheet rows lacks version h = h
-no_sheet rows lacks nothing h = h
-no_sheet rows lacks (typesets out fonts) h = absurd (cc h.0)
-no_sheet rows lacks (holds_session out fonts) h = absurd (cc h.0)
-no_sheet rows lacks (lists dvi fonts) h = absurd (cc h.0)
-no_sheet rows lacks (names_fonts dvi) h = paint_is_not_fonts h.0
-no_sheet rows lacks (paints sheet dvi fonts) h = lacks sheet h.1
+pub no_options : (rows : List Row) → ((options : PaintOptionsView) → AreOptions rows options → ⊥) → (request : Request)
+    → AsksBy (codes "paint") rows request → ⊥
+no_options rows lacks version h = h
+no_options rows lacks nothing h = h
+no_options rows lacks (typesets out fonts) h = absurd (cc h.0)
+no_options rows lacks (holds_session out fonts) h = absurd (cc h.0)
+no_options rows lacks (lists dvi fonts) h = absurd (cc h.0)
+no_options rows lacks (names_fonts dvi) h = paint_is_not_fonts h.0
+no_options rows lacks (paints options dvi fonts) h = lacks options h.1
 
 -- The words NAME=TFM are the values of their argument.
 pub font_words-values : (f : Found) → unwrap_or (option_map raw_values (matched_of f (codes "NAME=TFM"))) [] ≡ font_words (rows_in f)
@@ -203,7 +205,8 @@ words_ask m words accepted same (typesets out fonts) h = record { accepted = acc
 words_ask m words accepted same (holds_session out fonts) h = record { accepted = accepted; asked = subst (λ o. Asks o (holds_session out fonts)) same h }
 words_ask m words accepted same (lists dvi fonts) h = record { accepted = accepted; asked = subst (λ o. Asks o (lists dvi fonts)) same h }
 words_ask m words accepted same (names_fonts dvi) h = record { accepted = accepted; asked = subst (λ o. Asks o (names_fonts dvi)) same h }
-words_ask m words accepted same (paints sheet dvi fonts) h = record { accepted = accepted; asked = subst (λ o. Asks o (paints sheet dvi fonts)) same h }
+words_ask m words accepted same (paints options dvi fonts) h =
+    record { accepted = accepted; asked = subst (λ o. Asks o (paints options dvi fonts)) same h }
 
 matches_ask : (m : ArgMatches) (words : List Text) → fault_of boxglue words ≡ [] → subcommand_rows_of m ≡ subcommand_of boxglue words
     → (request : Request) → IsRequest words request → Asks (subcommand_rows_of m) request
@@ -213,7 +216,7 @@ matches_ask m words accepted same (typesets out fonts) h = subst (λ o. Asks o (
 matches_ask m words accepted same (holds_session out fonts) h = subst (λ o. Asks o (holds_session out fonts)) (sym same) h.asked
 matches_ask m words accepted same (lists dvi fonts) h = subst (λ o. Asks o (lists dvi fonts)) (sym same) h.asked
 matches_ask m words accepted same (names_fonts dvi) h = subst (λ o. Asks o (names_fonts dvi)) (sym same) h.asked
-matches_ask m words accepted same (paints sheet dvi fonts) h = subst (λ o. Asks o (paints sheet dvi fonts)) (sym same) h.asked
+matches_ask m words accepted same (paints options dvi fonts) h = subst (λ o. Asks o (paints options dvi fonts)) (sym same) h.asked
 
 pub task_of : (m : ArgMatches) (words : List Text) (task : Task) → fault_of boxglue words ≡ [] → subcommand_rows_of m ≡ subcommand_of boxglue words
     → ((request : Request) × Asks (subcommand_rows_of m) request × IsTaskOf request task) → IsTask words task
@@ -244,7 +247,7 @@ no_request words e h silent other (typesets out fonts) asked = has_fault (fault_
 no_request words e h silent other (holds_session out fonts) asked = has_fault (fault_of boxglue words) e h silent asked.accepted
 no_request words e h silent other (lists dvi fonts) asked = has_fault (fault_of boxglue words) e h silent asked.accepted
 no_request words e h silent other (names_fonts dvi) asked = has_fault (fault_of boxglue words) e h silent asked.accepted
-no_request words e h silent other (paints sheet dvi fonts) asked = has_fault (fault_of boxglue words) e h silent asked.accepted
+no_request words e h silent other (paints options dvi fonts) asked = has_fault (fault_of boxglue words) e h silent asked.accepted
 
 pub line_refused : (words : List Text) (e : Error) (fault : WordFault) → HasKind (fault_of boxglue words) e → IsLine fault
     → (kind_of e ≡ OutOfMemory → fault ≡ Memory) → (kind_of e ≡ DisplayVersion → ⊥) → IsRefused words fault

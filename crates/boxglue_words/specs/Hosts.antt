@@ -5,8 +5,8 @@ use Rattle.dvi_device.specs.Beginnings.{Beginning}
 use Rattle.tfm_core.specs.NamedBytes.{NamedBytes}
 use Rattle.boxglue_words.specs.declared.fonts.NamedPath.{NamedPath}
 use Rattle.boxglue_words.specs.Readings.{Files, IsFileReading, IsReadableFile, IsUnreadableFile}
-use Rattle.boxglue_words.specs.declared.font_files.Unread.{Unread}
-use Rattle.boxglue_words.specs.declared.font_files.Unread.TheVariants.{OutOfMemory as WantsMemory, File}
+use Rattle.boxglue_words.specs.declared.font_files.FontFileFault.{FontFileFault}
+use Rattle.boxglue_words.specs.declared.font_files.FontFileFault.TheVariants.{OutOfMemory as WantsMemory, File}
 
 -- The bytes of a file that was just created: none, if they are known.
 abbrev pub just_created : Option (List ℕ) → Option (List ℕ)
@@ -50,12 +50,12 @@ AreFilesOf contents (font ∷ fonts) [] = ⊥
 AreFilesOf contents (font ∷ fonts) (file ∷ files) = IsFileOf contents font file × AreFilesOf contents fonts files
 
 -- The file of a font was not read: out of memory, where the file can be read; or it cannot be read, and its path is named.
-abbrev pub IsUnreadOf : Files → NamedPath → Unread → Type 0
+abbrev pub IsUnreadOf : Files → NamedPath → FontFileFault → Type 0
 IsUnreadOf contents font WantsMemory = IsReadableFile (contents font.path.now)
 IsUnreadOf contents font (File path) = (path.now ≡ font.path.now) × IsUnreadableFile (contents font.path.now)
 
 -- The file of a font was not read; those of the fonts before it were.
-pub record IsUnread (contents : Files) (fonts : List NamedPath) (fault : Unread) : Type 0 where
+pub record IsUnread (contents : Files) (fonts : List NamedPath) (fault : FontFileFault) : Type 0 where
   pub before : List NamedPath
   pub files : List NamedBytes
   pub font : NamedPath

@@ -3,7 +3,7 @@ use Rattle.std.specs.Prelude.{◌≡◌, ◌≤◌, ⊤, List, [], ◌∷◌, �
 use Rattle.std.specs.Str.Parse.{IsNumeral, digits_value, without_leading_plus}
 use Rattle.clap.specs.Words.{Row, Text, all_of, fault_of, first_of, one_of, subcommand_of}
 use Rattle.clap.specs.declared.error.kind.ErrorKind.TheVariants.{DisplayVersion}
-use Rattle.raster_core.specs.Sheets.{Sheet}
+use Rattle.raster_core.specs.PaintOptions.{PaintOptionsView}
 use Rattle.boxglue_words.specs.declared.fonts.WordFault.{WordFault}
 use Rattle.boxglue_words.specs.declared.fonts.WordFault.TheVariants.{Line, Memory as WantsMemory}
 use Rattle.boxglue_words.specs.declared.task.Task.{Task}
@@ -19,7 +19,7 @@ pub data Request : Type 0 where
   holds_session : Text → List Text → Request
   lists : Text → List Text → Request
   names_fonts : Text → Request
-  paints : Sheet → Text → List Text → Request
+  paints : PaintOptionsView → Text → List Text → Request
 
 -- The words NAME=TFM of a subcommand.
 abbrev pub font_words : List Row → List Text
@@ -35,11 +35,11 @@ pub record IsNumber (most : ℕ) (rows : List Row) (id : Text) (number : ℕ) : 
   pub most_is : number ≤ most
 
 -- The four numbers of `paint`.
-pub record IsSheet (rows : List Row) (sheet : Sheet) : Type 0 where
-  pub page : IsNumber 4294967295 rows (codes "page") sheet.page
-  pub dpi : IsNumber 10000 rows (codes "dpi") sheet.dpi
-  pub width : IsNumber 10000 rows (codes "width") sheet.width
-  pub height : IsNumber 10000 rows (codes "height") sheet.height
+pub record AreOptions (rows : List Row) (options : PaintOptionsView) : Type 0 where
+  pub page : IsNumber 4294967295 rows (codes "page") options.page
+  pub dpi : IsNumber 10000 rows (codes "dpi") options.dpi
+  pub width : IsNumber 10000 rows (codes "width") options.width
+  pub height : IsNumber 10000 rows (codes "height") options.height
 
 -- The subcommand with this name and these rows asks for this.
 abbrev pub AsksBy : Text → List Row → Request → Type 0
@@ -49,8 +49,8 @@ AsksBy name rows (typesets out fonts) = (name ≡ codes "typeset") × (first_of 
 AsksBy name rows (holds_session out fonts) = (name ≡ codes "session") × (first_of (codes "OUT") rows ≡ Some out) × (font_words rows ≡ fonts)
 AsksBy name rows (lists dvi fonts) = (name ≡ codes "list") × (first_of (codes "DVI") rows ≡ Some dvi) × (font_words rows ≡ fonts)
 AsksBy name rows (names_fonts dvi) = (name ≡ codes "fonts") × (first_of (codes "DVI") rows ≡ Some dvi)
-AsksBy name rows (paints sheet dvi fonts) =
-    (name ≡ codes "paint") × IsSheet rows sheet × (first_of (codes "DVI") rows ≡ Some dvi) × (font_words rows ≡ fonts)
+AsksBy name rows (paints options dvi fonts) =
+    (name ≡ codes "paint") × AreOptions rows options × (first_of (codes "DVI") rows ≡ Some dvi) × (font_words rows ≡ fonts)
 
 -- The subcommand that was found asks for this; without one, nothing is asked for.
 abbrev pub Asks : Option (Text × List Row) → Request → Type 0
@@ -76,7 +76,7 @@ fonts_of (typesets out fonts) = fonts
 fonts_of (holds_session out fonts) = fonts
 fonts_of (lists dvi fonts) = fonts
 fonts_of (names_fonts dvi) = []
-fonts_of (paints sheet dvi fonts) = fonts
+fonts_of (paints options dvi fonts) = fonts
 
 -- The task is what is asked for, with the fonts of its words.
 abbrev pub IsTaskOf : Request → Task → Type 0
@@ -86,7 +86,7 @@ IsTaskOf (typesets path words) (Typeset out fonts) = (out.now ≡ path) × AreFo
 IsTaskOf (holds_session path words) (Session out fonts) = (out.now ≡ path) × AreFonts words fonts.items
 IsTaskOf (lists path words) (Listing dvi fonts) = (dvi.now ≡ path) × AreFonts words fonts.items
 IsTaskOf (names_fonts path) (Fonts dvi) = dvi.now ≡ path
-IsTaskOf (paints numbers path words) (Painting sheet dvi fonts) = (sheet ≡ numbers) × (dvi.now ≡ path) × AreFonts words fonts.items
+IsTaskOf (paints numbers path words) (Painting options dvi fonts) = (options ≡ numbers) × (dvi.now ≡ path) × AreFonts words fonts.items
 IsTaskOf _ _ = ⊥
 
 -- The words are a command line, and this is its task.

@@ -5,7 +5,7 @@ ghost use Rattle.std.specs.Borrow.{ftrue};
 
 use std::marker::Model;
 
-/// How often a host has failed. It takes no bytes, and only contracts read it. A number in the code would need room for one more at each call, and a
+/// How often a host has failed. It takes no bytes, and only contracts read it. A number in the code would need space for one more at each call, and a
 /// truth value would let a device fail by itself once its host had failed.
 #[derive(Debug, Drop)]
 pub struct FailureCount {

@@ -81,7 +81,7 @@ fn open<H: FileHost>(host: &mut H, path: &str, is_open: &mut bool) -> Result<(),
     ensures closed { is_open.new ≡ false → H.written host.new ≡ H.written host.old }
     ensures placed { (before : List (List ℕ)) → H.created host.old ≡ created_after is_open.old path.now before
         → H.created host.new ≡ created_after is_open.new path.now before }
-    ensures stands { OnOk result (H.failures host.new ≡ H.failures host.old) }
+    ensures no_failure { OnOk result (H.failures host.new ≡ H.failures host.old) }
     ensures counted { OnErr result (H.failures host.new ≡ H.failures host.old + 1) }
 {
     if *is_open {
@@ -110,7 +110,7 @@ fn put<H: FileHost>(
     ensures kept_open { is_open.new ≡ false → is_open.old ≡ false }
     ensures placed { (before : List (List ℕ)) → H.created host.old ≡ created_after is_open.old path.now before
         → H.created host.new ≡ created_after is_open.new path.now before }
-    ensures stands { OnOk result (H.failures host.new ≡ H.failures host.old) }
+    ensures no_failure { OnOk result (H.failures host.new ≡ H.failures host.old) }
     ensures counted { OnErr result (H.failures host.new ≡ H.failures host.old + 1) }
 {
     open(host, path, is_open)?;
@@ -138,7 +138,7 @@ impl<H: FileHost> Device for FileDevice<'_, H> {
         ensures count_bounded { IfOk result (λ n. (1 ≤ n) × (n ≤ length piece.now)) }
         ensures taken { IfOk result (λ n. written_to_file self.new.is_open (H.written self.new.host)
             ≡ written_then (written_to_file self.old.is_open (H.written self.old.host)) (take n piece.now)) }
-        ensures stands { OnOk result (self.new.failures ≡ self.old.failures) }
+        ensures no_failure { OnOk result (self.new.failures ≡ self.old.failures) }
         ensures none_taken { OnErr result (written_to_file self.new.is_open (H.written self.new.host)
             ≡ written_to_file self.old.is_open (H.written self.old.host)) }
         ensures counted { OnErr result (self.new.failures ≡ self.old.failures + 1) }

@@ -2,7 +2,7 @@
 
 ghost use Rattle.std.specs.Prelude.{◌≡◌, ◌++◌, ◌∷◌, [], List, IfOk, IfErr, OnOk};
 ghost use Rattle.boxglue_words.specs.Hosts.{AreFilesOf, IsFileOf, IsUnread, IsUnreadOf};
-ghost use Rattle.boxglue_words.specs.declared.font_files.Unread.TheVariants.{OutOfMemory};
+ghost use Rattle.boxglue_words.specs.declared.font_files.FontFileFault.TheVariants.{OutOfMemory};
 
 use crate::NamedPath;
 use crate::host::{FileHost, HostFault};
@@ -11,26 +11,26 @@ use tfm_core::FontFile;
 
 /// Why font files were not read.
 #[derive(Debug, Drop)]
-pub enum Unread<'a> {
+pub enum FontFileFault<'a> {
     /// A growth of memory was refused, for a file that can be read.
     OutOfMemory,
     /// The file at this path could not be read.
     File(&'a str),
 }
 
-impl From<AllocError> for Unread<'_> {
+impl From<AllocError> for FontFileFault<'_> {
     ghost from_gives = { λ _ fault. fault ≡ OutOfMemory };
 
     fn from(_error: AllocError) -> Self {
-        Unread::OutOfMemory
+        FontFileFault::OutOfMemory
     }
 }
 
-impl<T: Drop> From<AllocFailed<T>> for Unread<'_> {
+impl<T: Drop> From<AllocFailed<T>> for FontFileFault<'_> {
     ghost from_gives = { λ _ fault. fault ≡ OutOfMemory };
 
     fn from(_failed: AllocFailed<T>) -> Self {
-        Unread::OutOfMemory
+        FontFileFault::OutOfMemory
     }
 }
 
@@ -39,14 +39,14 @@ fn read_font<'a, H: FileHost>(
     alloc: Global,
     host: &H,
     font: &NamedPath<'a>,
-) -> Result<FontFile, Unread<'a>>
+) -> Result<FontFile, FontFileFault<'a>>
     ensures ok { IfOk result (IsFileOf (H.file host.now) font.now) }
     ensures err { IfErr result (IsUnreadOf (H.file host.now) font.now) }
 {
     let bytes = match host.read_file(alloc, font.path) {
         Ok(bytes) => bytes,
-        Err(HostFault::OutOfMemory) => return Err(Unread::OutOfMemory),
-        Err(HostFault::Failed) => return Err(Unread::File(font.path)),
+        Err(HostFault::OutOfMemory) => return Err(FontFileFault::OutOfMemory),
+        Err(HostFault::Failed) => return Err(FontFileFault::File(font.path)),
     };
     let name = font.name.copy(alloc)?;
     Ok(FontFile::new(name, bytes))
@@ -58,7 +58,7 @@ fn push_font<'a, H: FileHost>(
     host: &H,
     font: &NamedPath<'a>,
     files: &mut Vec<FontFile>,
-) -> Result<(), Unread<'a>>
+) -> Result<(), FontFileFault<'a>>
     ensures ok { (before : List NamedPath) → AreFilesOf (H.file host.now) before files.old.items
         → OnOk result (AreFilesOf (H.file host.now) (before ++ font.now ∷ []) files.new.items) }
     ensures err { IfErr result (IsUnreadOf (H.file host.now) font.now) }
@@ -76,7 +76,7 @@ pub fn read_fonts<'a, H: FileHost>(
     alloc: Global,
     host: &H,
     fonts: &[NamedPath<'a>],
-) -> Result<Vec<FontFile>, Unread<'a>>
+) -> Result<Vec<FontFile>, FontFileFault<'a>>
     ensures ok { IfOk result (λ files. AreFilesOf (H.file host.now) fonts.now files.items) }
     ensures err { IfErr result (IsUnread (H.file host.now) fonts.now) }
 {

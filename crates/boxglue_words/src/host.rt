@@ -111,7 +111,7 @@ pub trait FileHost {
         ensures path_kept { OnErr result (created self.new ≡ created self.old) }
         ensures empty { OnOk result (written self.new ≡ just_created (written self.old)) }
         ensures none { OnErr result (written self.new ≡ written self.old) }
-        ensures stands { OnOk result (failures self.new ≡ failures self.old) }
+        ensures no_failure { OnOk result (failures self.new ≡ failures self.old) }
         ensures counted { OnErr result (failures self.new ≡ failures self.old + 1) };
 
     /// Appends a piece or a beginning of it to the created file, and returns how many bytes it took, at least one. After an error it took none, and
@@ -122,6 +122,6 @@ pub trait FileHost {
         ensures count_bounded { IfOk result (λ n. (1 ≤ n) × (n ≤ length piece.now)) }
         ensures taken { IfOk result (λ n. written self.new ≡ written_then (written self.old) (take n piece.now)) }
         ensures none_taken { OnErr result (written self.new ≡ written self.old) }
-        ensures stands { OnOk result (failures self.new ≡ failures self.old) }
+        ensures no_failure { OnOk result (failures self.new ≡ failures self.old) }
         ensures counted { OnErr result (failures self.new ≡ failures self.old + 1) };
 }

@@ -25,7 +25,7 @@ pub use command::command_line;
 pub use created_paths::CreatedPaths;
 pub use failure_count::FailureCount;
 pub use file_device::FileDevice;
-pub use font_files::{Unread, read_fonts};
+pub use font_files::{FontFileFault, read_fonts};
 pub use fonts::{NamedPath, WordFault};
 pub use host::{
     FileHost, Host, HostFault, HostParts, READ_LIMIT, StandardInput, limit_of_a_reading,

@@ -34,7 +34,7 @@ pub enum Task<'a> {
     },
     /// Paints a page of the DVI file at this path.
     Painting {
-        sheet: PaintOptions,
+        options: PaintOptions,
         dvi: &'a str,
         fonts: Vec<NamedPath<'a>>,
     },

@@ -3,10 +3,10 @@
 ghost use Rattle.std.specs.Prelude.{◌≡◌, ◌≢◌, ℕ, None, Some, IfOk, IfErr, IfSome, codes, map, string_bytes};
 ghost use Rattle.clap.specs.Words.{first_of, found_of, kind_of, rows_of, subcommand_rows_of};
 ghost use Rattle.clap.specs.declared.error.kind.ErrorKind.TheVariants.{DisplayVersion, OutOfMemory};
-ghost use Rattle.raster_core.specs.Sheets.{Sheet};
+ghost use Rattle.raster_core.specs.PaintOptions.{PaintOptionsView};
 ghost use Rattle.boxglue_words.specs.Pairs.{AreFonts, IsFaulty};
 ghost use Rattle.boxglue_words.specs.Private.Steps.{IsFileFault, IsLine, IsTaskBy};
-ghost use Rattle.boxglue_words.specs.Tasks.{Asks, AsksBy, IsNumber, IsRefused, IsRefusedBy, IsSheet, IsTask, IsTaskOf, Request, font_words};
+ghost use Rattle.boxglue_words.specs.Tasks.{Asks, AsksBy, IsNumber, IsRefused, IsRefusedBy, AreOptions, IsTask, IsTaskOf, Request, font_words};
 
 use crate::command::command_line;
 use crate::fonts::{NamedPath, WordFault};
@@ -30,9 +30,9 @@ fn number(matches: &ArgMatches<'_>, id: &str, most: u32) -> Option<u32>
 }
 
 /// The four numbers of `paint`.
-fn sheet(matches: &ArgMatches<'_>) -> Option<PaintOptions>
-    ensures sheet_returned { IfSome result (IsSheet (rows_of (found_of matches.now))) }
-    ensures none { result ≡ None → (sheet : Sheet) → IsSheet (rows_of (found_of matches.now)) sheet → ⊥ }
+fn options(matches: &ArgMatches<'_>) -> Option<PaintOptions>
+    ensures options_returned { IfSome result (AreOptions (rows_of (found_of matches.now))) }
+    ensures none { result ≡ None → (options : PaintOptionsView) → AreOptions (rows_of (found_of matches.now)) options → ⊥ }
 {
     let page = number(matches, "page", u32::MAX)?;
     let dpi = number(matches, "dpi", 10_000)?;
@@ -128,12 +128,12 @@ fn paints<'a>(alloc: Global, matches: &ArgMatches<'a>) -> Result<Task<'a>, WordF
     ensures ok { IfOk result (IsTaskBy (codes "paint") (rows_of (found_of matches.now))) }
     ensures err { IfErr result (IsRefusedBy (AsksBy (codes "paint") (rows_of (found_of matches.now)))) }
 {
-    let Some(sheet) = sheet(matches) else {
+    let Some(options) = options(matches) else {
         return Err(no_line(alloc));
     };
     let file = file_words(alloc, matches, "DVI")?;
     Ok(Task::Painting {
-        sheet,
+        options,
         dvi: file.path,
         fonts: file.fonts,
     })

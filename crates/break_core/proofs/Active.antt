@@ -44,7 +44,7 @@ row_same p table b n m row more passed is =
     met : (k : ℕ) (o : Entry) → k < m → IsOffered p table b k o → (k < n) ⊎ (n ≤ k) → IsMet row o
     met k o below offered (inl before) = is.met k o before offered
     met k o below offered (inr after) =
-        let none = passed k offered.by after below offered.stands in
+        let none = passed k offered.by after below offered.present in
         let some = offered.offers in
         absurd (cc)
 

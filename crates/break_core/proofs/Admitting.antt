@@ -95,8 +95,8 @@ answer_within facts params bound least is k s at =
     let back : slice_get (reverse xs) k ≡ Some s = ap (λ ys. slice_get ys k) (sym is.ends) ∙ at in
     let within : k < length xs = omega (arith, slice_get_within (reverse xs) k s back, length-reverse xs) in
     let there : get_or xs (length xs - 1 - k) s ≡ s = sym (get_or-reverse xs k s within) ∙ get_or_from_slice_get (reverse xs) k s s back in
-    let stands = slice_get-get_or xs (length xs - 1 - k) s (omega (arith, within)) ∙ ap Some there in
-    let places = places_in xs (length xs - 1 - k) s is.chosen.is_list.falls stands in
+    let present = slice_get-get_or xs (length xs - 1 - k) s (omega (arith, within)) ∙ ap Some there in
+    let places = places_in xs (length xs - 1 - k) s is.chosen.is_list.falls present in
     (places.0, omega (arith, places.1, is.chosen.is_list.ends))
 
 -- No pass before the first one, the second one or the last one admits a list.

@@ -49,13 +49,13 @@ pub best_first :
     (table : List Entry) (params : Params) (place : ℕ) (alone : LineCost) (start next : ℕ) (e best : Entry)
     → slice_get table start ≡ Some e → next ≡ start + 1 → best ≡ offer_from params e start place alone
     → IsBestOffer table params place alone start next best
-best_first table params place alone start next e best stands is_next is =
-    record { by = start; low = omega arith; high = omega (arith, is_next); entry = e; stands = stands; is = is; least = least }
+best_first table params place alone start next e best present is_next is =
+    record { by = start; low = omega arith; high = omega (arith, is_next); entry = e; present = present; is = is; least = least }
   where
     least : (k : ℕ) (f : Entry) → start ≤ k → k < next → slice_get table k ≡ Some f → NotAfter (compared_numbers best) (compared_numbers (offer_from params f k place alone))
     least k f low high at =
         let same : start ≡ k = omega (arith, is_next) in
-        let one : e ≡ f = same_Some e f (sym stands ∙ ap (slice_get table) same ∙ at) in
+        let one : e ≡ f = same_Some e f (sym present ∙ ap (slice_get table) same ∙ at) in
         subst (λ x. NotAfter (compared_numbers best) (compared_numbers x))
         (is ∙ ap (λ n. offer_from params e n place alone) same ∙ ap (λ x. offer_from params x k place alone) one)
         (not_after_refl (compared_numbers best))
@@ -65,8 +65,8 @@ best_taken :
     (table : List Entry) (params : Params) (place : ℕ) (alone : LineCost) (from to : ℕ) (e best offered : Entry)
     → IsBestOffer table params place alone from to best → from ≤ to → slice_get table to ≡ Some e → offered ≡ offer_from params e to place alone
     → NotAfter (compared_numbers offered) (compared_numbers best) → IsBestOffer table params place alone from (to + 1) offered
-best_taken table params place alone from to e best offered is rises stands made before =
-    record { by = to; low = rises; high = omega arith; entry = e; stands = stands; is = made; least = least }
+best_taken table params place alone from to e best offered is rises present made before =
+    record { by = to; low = rises; high = omega arith; entry = e; present = present; is = made; least = least }
   where
     least : (k : ℕ) (f : Entry) → from ≤ k → k < to + 1 → slice_get table k ≡ Some f → NotAfter (compared_numbers offered) (compared_numbers (offer_from params f k place alone))
     least k f low high at = which (cases_Bool (nat_lt k to))
@@ -78,7 +78,7 @@ best_taken table params place alone from to e best offered is rises stands made 
         which (inr h) =
             let most : to ≤ k = grind arith in
             let same : to ≡ k = omega (arith, most) in
-            let one : e ≡ f = same_Some e f (sym stands ∙ ap (slice_get table) same ∙ at) in
+            let one : e ≡ f = same_Some e f (sym present ∙ ap (slice_get table) same ∙ at) in
             subst (λ x. NotAfter (compared_numbers offered) (compared_numbers x))
             (made ∙ ap (λ n. offer_from params e n place alone) same ∙ ap (λ x. offer_from params x k place alone) one)
             (not_after_refl (compared_numbers offered))
@@ -87,8 +87,8 @@ best_stays :
     (table : List Entry) (params : Params) (place : ℕ) (alone : LineCost) (from to : ℕ) (e best offered : Entry)
     → IsBestOffer table params place alone from to best → slice_get table to ≡ Some e → offered ≡ offer_from params e to place alone
     → NotAfter (compared_numbers best) (compared_numbers offered) → IsBestOffer table params place alone from (to + 1) best
-best_stays table params place alone from to e best offered is stands made before =
-    record { by = is.by; low = is.low; high = omega (arith, is.high); entry = is.entry; stands = is.stands; is = is.is; least = least }
+best_stays table params place alone from to e best offered is present made before =
+    record { by = is.by; low = is.low; high = omega (arith, is.high); entry = is.entry; present = is.present; is = is.is; least = least }
   where
     least : (k : ℕ) (f : Entry) → from ≤ k → k < to + 1 → slice_get table k ≡ Some f → NotAfter (compared_numbers best) (compared_numbers (offer_from params f k place alone))
     least k f low high at = which (cases_Bool (nat_lt k to))
@@ -98,7 +98,7 @@ best_stays table params place alone from to e best offered is stands made before
         which (inr h) =
             let most : to ≤ k = grind arith in
             let same : to ≡ k = omega (arith, most) in
-            let one : e ≡ f = same_Some e f (sym stands ∙ ap (slice_get table) same ∙ at) in
+            let one : e ≡ f = same_Some e f (sym present ∙ ap (slice_get table) same ∙ at) in
             subst (λ x. NotAfter (compared_numbers best) (compared_numbers x))
             (made ∙ ap (λ n. offer_from params e n place alone) same ∙ ap (λ x. offer_from params x k place alone) one) before
 
@@ -107,15 +107,15 @@ pub best_more :
     (table : List Entry) (params : Params) (place : ℕ) (alone : LineCost) (from to : ℕ) (e best offered kept : Entry)
     → IsBestOffer table params place alone from to best → from ≤ to → slice_get table to ≡ Some e → offered ≡ offer_from params e to place alone
     → IsKept (Some best) offered kept → IsBestOffer table params place alone from (to + 1) kept
-best_more table params place alone from to e best offered kept is rises stands made is_kept = which is_kept.is
+best_more table params place alone from to e best offered kept is rises present made is_kept = which is_kept.is
   where
     which : (kept ≡ offered) ⊎ (Some best ≡ Some kept) → IsBestOffer table params place alone from (to + 1) kept
     which (inl same) =
-        best_taken table params place alone from to e best kept is rises stands (same ∙ made) (is_kept.older best refl)
+        best_taken table params place alone from to e best kept is rises present (same ∙ made) (is_kept.older best refl)
     which (inr same) =
         let one : best ≡ kept = same_Some best kept same in
         subst (λ x. IsBestOffer table params place alone from (to + 1) x) one
-        (best_stays table params place alone from to e best offered is stands made
+        (best_stays table params place alone from to e best offered is present made
         (subst (λ x. NotAfter (compared_numbers x) (compared_numbers offered)) (sym one) is_kept.offered))
 
 -- Putting only the best offer into its slot has the effect of all offers of the group.
@@ -125,23 +125,24 @@ pub best_offered :
     → IsOfferingBest table params group place alone old new
 best_offered table params group place alone best old new of is put p cut late follow before =
     subst (IsRow p table place group.end) (sym put.is)
-    (row_best p table place group.start group.end is.by best put.kept put.held old is.low is.high offered put.stood put.is_kept least before)
+    (row_best p table place group.start group.end is.by best put.kept put.held old is.low is.high offered put.was_present put.is_kept least before)
   where
     offered : IsOffered p table place is.by best
     offered =
         record {
           by = is.entry;
-          stands = is.stands;
-          offers = offers p params group place alone is.entry is.by cut late follow (of is.by is.entry is.low is.high is.stands).0 ∙ ap Some (sym is.is);
+          present = is.present;
+          offers = offers p params group place alone is.entry is.by cut late follow (of is.by is.entry is.low is.high is.present).0
+              ∙ ap Some (sym is.is);
         }
 
     least : (k : ℕ) (f : Entry) → group.start ≤ k → k < group.end → IsOffered p table place k f → (f.end ≡ best.end) × NotAfter (compared_numbers best) (compared_numbers f)
     least k f low high o =
         let made : offer_from params o.by k place alone ≡ f =
         same_Some (offer_from params o.by k place alone) f
-        (sym (offers p params group place alone o.by k cut late follow (of k o.by low high o.stands).0) ∙ o.offers) in (
+        (sym (offers p params group place alone o.by k cut late follow (of k o.by low high o.present).0) ∙ o.offers) in (
           ap (λ x. x.end) (sym made) ∙ one_end params place alone o.by is.entry k is.by ∙ ap (λ x. x.end) (sym is.is),
-          subst (λ x. NotAfter (compared_numbers best) (compared_numbers x)) made (is.least k o.by low high o.stands),
+          subst (λ x. NotAfter (compared_numbers best) (compared_numbers x)) made (is.least k o.by low high o.present),
         )
 
 -- If no lines are counted, the lines to a place are the line that was judged once, with the demerits for the class of the line before it.

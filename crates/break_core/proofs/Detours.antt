@@ -36,9 +36,9 @@ any_is : (params : Params) (penalty : ℤ) (before : Fitness) (line : LineFit) �
 unfolding admitted_line admits
 any_is params penalty before line = refl
 
--- A state is ahead of another one for the same place if the lines that follow it are at least as wide.
-abbrev IsAhead : Params → BreakState → BreakState → Type 0
-IsAhead params s t = (s.place ≡ t.place) × ((more : ℕ) → line_size params (t.lines + more) ≤ℤ line_size params (s.lines + more))
+-- A state is as good as another one for the same place if the lines that follow it are at least as wide.
+abbrev IsAsGoodAs : Params → BreakState → BreakState → Type 0
+IsAsGoodAs params s t = (s.place ≡ t.place) × ((more : ℕ) → line_size params (t.lines + more) ≤ℤ line_size params (s.lines + more))
 
 -- The first place to which a line is overfull.
 pub record IsFirstOver (facts : Facts) (params : Params) (a m b : ℕ) : Type 0 where
@@ -139,13 +139,13 @@ line_is :
     → (problem_of facts params Any).line s b ≡ Some (any_line params (facts.penalty b) s.class (line_fit (facts.sums s.place b) (line_size params s.lines)))
 line_is facts params s b = any_is params (facts.penalty b) s.class (line_fit (facts.sums s.place b) (line_size params s.lines))
 
--- The order of states that are ahead.
-ahead_order : (facts : Facts) (params : Params) → IsOrder (problem_of facts params Any) (IsAhead params)
-ahead_order facts params =
+-- The order of states that are as good.
+as_good_order : (facts : Facts) (params : Params) → IsOrder (problem_of facts params Any) (IsAsGoodAs params)
+as_good_order facts params =
     record {
       same = λ s. (refl, λ more. omega (arith, ints));
       joined = λ s t u left right. (left.0 ∙ right.0, λ more. let a = left.1 more in let b = right.1 more in omega (arith, ints, a, b));
-      place = λ s t ahead. ahead.0;
+      place = λ s t as_good. as_good.0;
       line = line;
     }
   where
@@ -161,24 +161,24 @@ ahead_order facts params =
         omega (arith, ints, a, b, w, ap (line_size params) n, ap (line_size params) m)
 
     line :
-        (s t : BreakState) (b : ℕ) (l : LineCost) → IsAhead params s t → (problem_of facts params Any).line t b ≡ Some l
-        → IsNoWorse (problem_of facts params Any) (IsAhead params) s t b l
-    line s t b l ahead is =
+        (s t : BreakState) (b : ℕ) (l : LineCost) → IsAsGoodAs params s t → (problem_of facts params Any).line t b ≡ Some l
+        → IsNoWorse (problem_of facts params Any) (IsAsGoodAs params) s t b l
+    line s t b l as_good is =
         let old : any_line params (facts.penalty b) t.class (line_fit (facts.sums t.place b) (line_size params t.lines)) ≡ l =
         same_Some _ l (sym (line_is facts params t b) ∙ is) in
         let hangs : l.overhang ≡ (line_fit (facts.sums t.place b) (line_size params t.lines)).overhang = ap (λ x. x.overhang) (sym old) in
         let n : t.lines ≡ t.lines + 0 = omega arith in
         let m : s.lines ≡ s.lines + 0 = omega arith in
-        let wide = ahead.1 0 in
+        let wide = as_good.1 0 in
         let less = overhang_less (facts.sums t.place b) (line_size params s.lines) (line_size params t.lines)
         (omega (arith, ints, wide, ap (line_size params) n, ap (line_size params) m)) in
         let same : (line_fit (facts.sums s.place b) (line_size params s.lines)).overhang ≡ (line_fit (facts.sums t.place b) (line_size params s.lines)).overhang =
-        ap (λ a. (line_fit (facts.sums a b) (line_size params s.lines)).overhang) ahead.0 in
+        ap (λ a. (line_fit (facts.sums a b) (line_size params s.lines)).overhang) as_good.0 in
         record {
           line = any_line params (facts.penalty b) s.class (line_fit (facts.sums s.place b) (line_size params s.lines));
           is = line_is facts params s b;
           less = omega (arith, ints, hangs, less, same);
-          ahead = (refl, λ more. counted s t ahead.1 more);
+          as_good = (refl, λ more. counted s t as_good.1 more);
         }
 
 -- Two lines have less overhang together than a long one.
@@ -208,7 +208,7 @@ detour_over :
     (facts : Facts) (params : Params) → MayLeaveOut facts params → (s : BreakState) (b : ℕ) (l : LineCost)
     → b ≤ facts.places → (problem_of facts params Any).line s b ≡ Some l
     → (m : ℕ) → IsFirstOver facts params s.place m b → least_width (facts.sums s.place m) <ℤ least_width (facts.sums s.place b)
-    → IsDetour (problem_of facts params Any) (λ t c. is_long facts params t.place c) (IsAhead params) s b l
+    → IsDetour (problem_of facts params Any) (λ t c. is_long facts params t.place c) (IsAsGoodAs params) s b l
 detour_over facts params may s b l within is m first more =
     record {
       by = m;
@@ -221,7 +221,7 @@ detour_over facts params may s b l within is m first more =
       second_is = line_is facts params (end_after params.first_lines s m (any_line params (facts.penalty m) s.class one)) b;
       less = two_less facts params s.place m b size next l.overhang one.overhang may.divided first.later first.before within wide hangs
           (overhang_is (facts.sums s.place m) size over_m) more;
-      ahead = (refl, ahead);
+      as_good = (refl, as_good);
     }
   where
     size : ℤ
@@ -255,11 +255,11 @@ detour_over facts params may s b l within is m first more =
         let old : any_line params (facts.penalty b) s.class (line_fit (facts.sums s.place b) size) ≡ l = same_Some _ l (sym (line_is facts params s b) ∙ is) in
         ap (λ x. x.overhang) (sym old) ∙ overhang_is (facts.sums s.place b) size over_b
 
-    ahead :
+    as_good :
         (more : ℕ)
         → line_size params (min (s.lines + 1) params.first_lines + more)
         ≤ℤ line_size params (min (min (s.lines + 1) params.first_lines + 1) params.first_lines + more)
-    ahead more =
+    as_good more =
         let x = size_counted params (min (s.lines + 1) params.first_lines) more in
         let n : (min (s.lines + 1) params.first_lines + 1) + more ≡ min (s.lines + 1) params.first_lines + (1 + more) = omega arith in
         let y = size_counted params s.lines (1 + more) in
@@ -272,7 +272,7 @@ detour_over facts params may s b l within is m first more =
 -- The lines that are left out have detours.
 detours :
     (facts : Facts) (params : Params) → MayLeaveOut facts params
-    → HasDetours (problem_of facts params Any) (λ s b. is_long facts params s.place b) (IsAhead params)
+    → HasDetours (problem_of facts params Any) (λ s b. is_long facts params s.place b) (IsAsGoodAs params)
 detours facts params may s b l later since_b within is long =
     let means = long_means facts params s.place b long in
     detour_over facts params may s b l within is means.0 (first_is facts params s.place b means.0 means.1) means.2
@@ -282,11 +282,11 @@ pub answer_without :
     (facts : Facts) (params : Params) (answer : ChosenBreaks) → MayLeaveOut facts params
     → IsAnswer (problem_without_long facts params) answer → IsAnswer (problem_of facts params Any) answer
 answer_without facts params answer may is =
-    answer_of_part (problem_of facts params Any) (λ s b. is_long facts params s.place b) (IsAhead params) answer (ahead_order facts params)
+    answer_of_part (problem_of facts params Any) (λ s b. is_long facts params s.place b) (IsAsGoodAs params) answer (as_good_order facts params)
     (detours facts params may) is
 
 pub none_without :
     (facts : Facts) (params : Params) → MayLeaveOut facts params → AdmitsNone (problem_without_long facts params) → AdmitsNone (problem_of facts params Any)
 none_without facts params may none =
-    none_of_part (problem_of facts params Any) (λ s b. is_long facts params s.place b) (IsAhead params) (ahead_order facts params)
+    none_of_part (problem_of facts params Any) (λ s b. is_long facts params s.place b) (IsAsGoodAs params) (as_good_order facts params)
     (detours facts params may) none

@@ -20,7 +20,7 @@ use std::alloc::{AllocError, Global};
 
 /// The table up to a place, and the groups of its entries from which lines to later places are tried.
 #[derive(Drop)]
-struct Reached {
+struct FilledTable {
     table: Vec<Entry>,
     live: Vec<Live>,
 }
@@ -89,7 +89,7 @@ fn try_lines<M: Meter>(
 fn add_place<M: Meter>(
     meter: &mut M,
     rules: &Rules,
-    reached: &mut Reached,
+    reached: &mut FilledTable,
     row: &mut Vec<Option<Entry>>,
     place: usize,
 ) -> Result<(), AllocError>
@@ -150,7 +150,7 @@ pub(crate) fn fill<M: Meter>(
 {
     // Most places have at least one entry.
     let table = Vec::with_capacity(alloc, meter.places() + 1)?;
-    let mut reached = Reached {
+    let mut reached = FilledTable {
         table,
         live: Vec::new(alloc),
     };

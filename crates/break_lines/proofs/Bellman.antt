@@ -44,7 +44,7 @@ first_table p =
     whole _ (goes q b l way later since_b is) below = absurd (omega arith)
 
 linked_left : (table more : List Entry) (e : Entry) → IsLinked table e → IsLinked (table ++ more) e
-linked_left table more e is = record { before = is.before; stands = get_left table more e.index is.before is.stands; same = is.same }
+linked_left table more e is = record { before = is.before; present = get_left table more e.index is.before is.present; same = is.same }
 
 best_left : (p : Problem) (table more : List Entry) (k : ℕ) (e : Entry) → IsBest p table k e → IsBest p (table ++ more) k e
 best_left p table more k e is =
@@ -61,7 +61,7 @@ row_best p b table row k s e is full some at following =
       least = best_is_least p b table e reached is some (offered_at p table b h.k e h.offered).0 best;
       linked = record {
         before = h.offered.by;
-        stands = get_left table (row_entries row) e.index h.offered.by (ap (slice_get table) index ∙ h.offered.stands);
+        present = get_left table (row_entries row) e.index h.offered.by (ap (slice_get table) index ∙ h.offered.present);
         same = sym (ap (λ x. x.from) ext.is);
       };
       earlier = omega (arith, index, h.below);
@@ -81,9 +81,9 @@ row_best p b table row k s e is full some at following =
 
     best : (j : ℕ) (f : Entry) → IsOffered p table b j f → f.end ≡ e.end → NotAfter (compared_numbers e) (compared_numbers f)
     best j f offered ends =
-        let m = full.met j f (slice_get_within table j offered.by offered.stands) offered in
+        let m = full.met j f (slice_get_within table j offered.by offered.present) offered in
         let here : slot f.end ≡ s = ap slot ends ∙ (full.held s e at).here in
-        let there : slice_get row s ≡ Some (Some m.held) = ap (slice_get row) (sym here) ∙ m.stands in
+        let there : slice_get row s ≡ Some (Some m.held) = ap (slice_get row) (sym here) ∙ m.present in
         let one : m.held ≡ e = cc (at, there) in
         subst (λ x. NotAfter (compared_numbers x) (compared_numbers f)) one m.before
 
@@ -127,8 +127,8 @@ next_table p b table row some is full =
         let same : b ≡ w.last.place = omega arith in
         let m = matches p table w way (subst (λ x. IsTable p x table) same is) (omega (arith, same)) in
         let offered = subst (λ x. IsOffered p table x m.k m.o) (sym same) m.offered in
-        let met = full.met m.k m.o (slice_get_within table m.k offered.by offered.stands) offered in
-        let found = held_has row (slot m.o.end) met.held met.stands in
+        let met = full.met m.k m.o (slice_get_within table m.k offered.by offered.present) offered in
+        let found = held_has row (slot m.o.end) met.held met.present in
         (length table + found.0, met.held, get_right table (row_entries row) found.0 met.held found.1, met.same ∙ m.ends)
 
 -- The best entry for the last place is the chosen list.
@@ -137,7 +137,7 @@ pub chosen :
     → p.places ≡ places → 0 < places → IsTable p (places + 1) table → (best : IsBestEnd table places (length table) k) → (w : Path)
     → IsLeast p best.entry.end w → IsChosen p (places_of (ends_of w)) w
 chosen p places table zero same_places some is best w least =
-    let same : first_entry ≡ best.entry = same_Some first_entry best.entry (sym is.first ∙ best.stands) in
+    let same : first_entry ≡ best.entry = same_Some first_entry best.entry (sym is.first ∙ best.present) in
     absurd (omega (arith, ap (λ e. e.end.place) same, best.at))
 chosen p places table (suc k) same_places some is best w least =
     let at : w.last.place ≡ p.places = ap (λ s. s.place) least.ends ∙ best.at ∙ sym same_places in
@@ -151,13 +151,13 @@ chosen p places table (suc k) same_places some is best w least =
         at_entry r way.0 (way.1 ∙ same_places) found.0 found.1 found.2 found.3
       where
         at_entry : (u : Path) → Way p u → u.last.place ≡ places → (j : ℕ) (f : Entry) → slice_get table j ≡ Some f → f.end ≡ u.last → NotAfter (key w) (key u)
-        at_entry u way place zero f stands ends =
-            let same : first_entry ≡ f = same_Some first_entry f (sym is.first ∙ stands) in
+        at_entry u way place zero f present ends =
+            let same : first_entry ≡ f = same_Some first_entry f (sym is.first ∙ present) in
             absurd (omega (arith, ap (λ e. e.end.place) same, ap (λ s. s.place) ends))
-        at_entry u way place (suc j) f stands ends =
-            let mine = is.best (suc k) best.entry (omega arith) best.stands in
-            let other = is.best (suc j) f (omega arith) stands in
-            let h = best.best (suc j) f (slice_get_within table (suc j) f stands) stands (ap (λ s. s.place) ends ∙ place) in
+        at_entry u way place (suc j) f present ends =
+            let mine = is.best (suc k) best.entry (omega arith) best.present in
+            let other = is.best (suc j) f (omega arith) present in
+            let h = best.best (suc j) f (slice_get_within table (suc j) f present) present (ap (λ s. s.place) ends ∙ place) in
             let one = least_once p best.entry.end best.entry.end w (way_to p best.entry mine.reached) refl least mine.least in
             let first = short_decides p best.entry f mine.reached other.reached h in
             let all = not_after_trans (key (way_to p best.entry mine.reached)) (key (way_to p f other.reached)) (key u) first
@@ -169,10 +169,10 @@ pub answered :
     (p : Problem) (places : ℕ) (table : List Entry) (k : ℕ) (e : Entry) (answer : ChosenBreaks)
     → p.places ≡ places → 0 < places → IsTable p (places + 1) table → IsBestEnd table places (length table) k → slice_get table k ≡ Some e
     → AreEndsOf table k (reverse answer.ends.items) → answer.overhang ≡ e.overhang → answer.demerits ≡ e.demerits → IsAnswer p answer
-answered p places table k e answer same_places some is best stands read overhang demerits =
-    let one : e ≡ best.entry = same_Some e best.entry (sym stands ∙ best.stands) in
-    let r = right p (places + 1) table k best.entry is best.stands in
-    let ends : reverse answer.ends.items ≡ ends_of r.path = read p (places + 1) is best.entry best.stands r.path r.least in
+answered p places table k e answer same_places some is best present read overhang demerits =
+    let one : e ≡ best.entry = same_Some e best.entry (sym present ∙ best.present) in
+    let r = right p (places + 1) table k best.entry is best.present in
+    let ends : reverse answer.ends.items ≡ ends_of r.path = read p (places + 1) is best.entry best.present r.path r.least in
     record {
       path = r.path;
       chosen = chosen p places table k same_places some is best r.path r.least;
@@ -198,13 +198,13 @@ read_none table whole p b is e f at there w v least_w least_v =
 pub read_more :
     (table : List Entry) (whole k : ℕ) (e : Entry) (read : List BreakState)
     → 0 < k → slice_get table k ≡ Some e → AreEndsUpTo table whole k read → AreEndsUpTo table whole e.index (read ++ e.end ∷ [])
-read_more table whole k e read after stands is p b table_is top before at there w v least_w least_v =
-    let best = table_is.best k e after stands in
+read_more table whole k e read after present is p b table_is top before at there w v least_w least_v =
+    let best = table_is.best k e after present in
     let way = way_to p e best.reached in
-    let one : before ≡ best.linked.before = same_Some before best.linked.before (sym there ∙ best.linked.stands) in
+    let one : before ≡ best.linked.before = same_Some before best.linked.before (sym there ∙ best.linked.present) in
     let from : before.end ≡ e.from = ap (λ x. x.end) one ∙ best.linked.same in
     let following : v ≡ best.reached.before = least_once p before.end e.from v best.reached.before from least_v best.reached.least in
-    let so_far : ends_of w ≡ read ++ ends_of way = is p b table_is top e at stands w way least_w best.least in
+    let so_far : ends_of w ≡ read ++ ends_of way = is p b table_is top e at present w way least_w best.least in
     let last : ends_of way ≡ e.end ∷ ends_of best.reached.before =
     ap (λ s. s ∷ ends_of best.reached.before) (way_ends p e best.reached) in
     let same : ends_of w ≡ read ++ (e.end ∷ ends_of v) =

@@ -134,7 +134,7 @@ reached_by p e k b o is later ext =
 pub offered_reached :
     (p : Problem) (b : ℕ) (table : List Entry) (k : ℕ) (o : Entry) → IsTable p b table → IsOffered p table b k o → ExtendsLeastWay p o
 offered_reached p b table k o is offered =
-    reached_by p offered.by k b o (right p b table k offered.by is offered.stands) (is.below k offered.by offered.stands).0
+    reached_by p offered.by k b o (right p b table k offered.by is offered.present) (is.below k offered.by offered.present).0
     (extended_is p offered.by k b o offered.offers)
 
 -- Each way to a place has an offer with the same end that is as good or better.
@@ -160,7 +160,7 @@ matches p table _ (goes q b l way later since_b at) is some =
     record {
       k = k;
       o = extended_entry p.cut e k b l;
-      offered = record { by = e; stands = found.2; offers = offer_is p e k b (Some l) late line };
+      offered = record { by = e; present = found.2; offers = offer_is p e k b (Some l) late line };
       reached = record {
         before = r.path;
         line = l;

@@ -56,7 +56,7 @@ row_silent p table b n m row more silent is =
     met : (k : ℕ) (o : Entry) → k < m → IsOffered p table b k o → (k < n) ⊎ (n ≤ k) → IsMet row o
     met k o below offered (inl before) = is.met k o before offered
     met k o below offered (inr after) =
-        let none = silent k offered.by after below offered.stands b (omega arith) in
+        let none = silent k offered.by after below offered.present b (omega arith) in
         let some = offered.offers in
         absurd (cc)
 
@@ -64,7 +64,7 @@ row_silent p table b n m row more silent is =
 pub row_none :
     (p : Problem) (table : List Entry) (b n : ℕ) (e : Entry) (row : List (Option Entry))
     → slice_get table n ≡ Some e → offer p e n b ≡ None → IsRow p table b n row → IsRow p table b (n + 1) row
-row_none p table b n e row stands none is =
+row_none p table b n e row present none is =
     record {
       wide = is.wide;
       held = λ s o at. held_more p table b n (n + 1) s o (omega arith) (is.held s o at);
@@ -75,8 +75,8 @@ row_none p table b n e row stands none is =
     met k o below offered (inl before) = is.met k o before offered
     met k o below offered (inr after) =
         let same : k ≡ n = omega arith in
-        let there : slice_get table n ≡ Some offered.by = ap (slice_get table) (sym same) ∙ offered.stands in
-        let one : offered.by ≡ e = same_Some offered.by e (sym there ∙ stands) in
+        let there : slice_get table n ≡ Some offered.by = ap (slice_get table) (sym same) ∙ offered.present in
+        let one : offered.by ≡ e = same_Some offered.by e (sym there ∙ present) in
         let some : offer p e n b ≡ Some o = ap (λ x. offer p x n b) (sym one) ∙ ap (λ x. offer p offered.by x b) (sym same) ∙ offered.offers in
         absurd (cc)
 
@@ -122,20 +122,20 @@ row_best p table b n m by o r old row low high offered_o was kept least is =
     -- An offer for another slot is matched by the old content of that slot, and one for this slot by the new content.
     spread : (f : Entry) → f.end.place ≡ b → IsMet row f → (slot f.end ≡ slot o.end) ⊎ (slot f.end ≡ slot o.end → ⊥) → IsMet (set row (slot o.end) (Some r)) f
     spread f at m_f (inl same) =
-        let there : slice_get row (slot o.end) ≡ Some (Some m_f.held) = ap (slice_get row) (sym same) ∙ m_f.stands in
+        let there : slice_get row (slot o.end) ≡ Some (Some m_f.held) = ap (slice_get row) (sym same) ∙ m_f.present in
         let was_held : old ≡ Some m_f.held = cc (was, there) in
         let place_o : o.end.place ≡ b = (offered_at p table b by o offered_o).0 in
         let one : f.end ≡ o.end = slot_apart f.end o.end (at ∙ sym place_o) same in
         record {
           held = r;
-          stands = ap (slice_get (set row (slot o.end) (Some r))) same ∙ written;
+          present = ap (slice_get (set row (slot o.end) (Some r))) same ∙ written;
           same = end_of_r ∙ sym one;
           before = not_after_trans (compared_numbers r) (compared_numbers m_f.held) (compared_numbers f) (kept.older m_f.held was_held) m_f.before;
         }
     spread f at m_f (inr other) =
         record {
           held = m_f.held;
-          stands = get-set_other row (slot o.end) (slot f.end) (Some r) other ∙ m_f.stands;
+          present = get-set_other row (slot o.end) (slot f.end) (Some r) other ∙ m_f.present;
           same = m_f.same;
           before = m_f.before;
         }
@@ -147,7 +147,7 @@ row_best p table b n m by o r old row low high offered_o was kept least is =
         let no_less = least k f after below offered in
         record {
           held = r;
-          stands = ap (λ s. slice_get (set row (slot o.end) (Some r)) (slot s)) no_less.0 ∙ written;
+          present = ap (λ s. slice_get (set row (slot o.end) (Some r)) (slot s)) no_less.0 ∙ written;
           same = end_of_r ∙ sym no_less.0;
           before = not_after_trans (compared_numbers r) (compared_numbers o) (compared_numbers f) kept.offered no_less.1;
         }
@@ -157,14 +157,14 @@ pub row_step :
     (p : Problem) (table : List Entry) (b n : ℕ) (e o r : Entry) (old : Option Entry) (row : List (Option Entry))
     → slice_get table n ≡ Some e → offer p e n b ≡ Some o → slice_get row (slot o.end) ≡ Some old → IsKept old o r
     → IsRow p table b n row → IsRow p table b (n + 1) (set row (slot o.end) (Some r))
-row_step p table b n e o r old row stands offers was kept is =
-    row_best p table b n (n + 1) n o r old row (omega arith) (omega arith) (record { by = e; stands = stands; offers = offers }) was kept alone is
+row_step p table b n e o r old row present offers was kept is =
+    row_best p table b n (n + 1) n o r old row (omega arith) (omega arith) (record { by = e; present = present; offers = offers }) was kept alone is
   where
     alone : (k : ℕ) (f : Entry) → n ≤ k → k < n + 1 → IsOffered p table b k f → (f.end ≡ o.end) × NotAfter (compared_numbers o) (compared_numbers f)
     alone k f low high offered =
         let same : k ≡ n = omega arith in
-        let there : slice_get table n ≡ Some offered.by = ap (slice_get table) (sym same) ∙ offered.stands in
-        let one : offered.by ≡ e = same_Some offered.by e (sym there ∙ stands) in
+        let there : slice_get table n ≡ Some offered.by = ap (slice_get table) (sym same) ∙ offered.present in
+        let one : offered.by ≡ e = same_Some offered.by e (sym there ∙ present) in
         let some : offer p e n b ≡ Some f = ap (λ x. offer p x n b) (sym one) ∙ ap (λ x. offer p offered.by x b) (sym same) ∙ offered.offers in
         let is_o : o ≡ f = same_Some o f (sym offers ∙ some) in
         (ap (λ x. x.end) (sym is_o), subst (λ x. NotAfter (compared_numbers o) (compared_numbers x)) is_o (not_after_refl (compared_numbers o)))
@@ -225,5 +225,5 @@ pub emptied_none :
     → (table ≡ first ++ row_entries (take (n + 1) row)) × (cur ≡ replicate (n + 1) None ++ drop (n + 1) row)
 emptied_none table first row cur n d within here before is none =
     let more = emptied_more table first table row cur n None d within before is none (sym (append-nil table)) in
-    let stands : slice_get cur n ≡ Some None = slice_get-get_or cur n d here ∙ ap Some none in
-    (more.0, sym (set-get_same cur n None stands) ∙ more.1)
+    let present : slice_get cur n ≡ Some None = slice_get-get_or cur n d here ∙ ap Some none in
+    (more.0, sym (set-get_same cur n None present) ∙ more.1)

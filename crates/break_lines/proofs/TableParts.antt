@@ -38,36 +38,37 @@ way_in p left_out _ starts = starts
 way_in p left_out _ (goes q b l way later since_b is) =
     goes q b l (way_in p left_out q way) later (subst (λ n. n ≤ q.last.place) (since_part p left_out b) since_b) (line_kept p left_out q.last b l is)
 
--- A way of the smaller problem that leads to a state that is ahead, and is this path or has less overhang.
-pub record IsShifted (p : Problem) (left_out : BreakState → ℕ → Bool) (Ahead : BreakState → BreakState → Type 0) (w : Path) : Type 0 where
+-- A way of the smaller problem that leads to a state that is as good, and is this path or has less overhang.
+pub record IsShifted (p : Problem) (left_out : BreakState → ℕ → Bool) (IsAsGood : BreakState → BreakState → Type 0) (w : Path) : Type 0 where
   pub by : Path
   pub way : Way (problem_without p left_out) by
-  pub ahead : Ahead by.last w.last
+  pub as_good : IsAsGood by.last w.last
   pub better : (by ≡ w) ⊎ (by.overhang <ℤ w.overhang)
 
 -- A line after a way of the smaller problem, or its detours.
 line_shifted :
-    (p : Problem) (left_out : BreakState → ℕ → Bool) (Ahead : BreakState → BreakState → Type 0) (n : ℕ) (q : Path) (b : ℕ) (l : LineCost)
-    → IsOrder p Ahead → HasDetours p left_out Ahead → b ≤ q.last.place + n → Way (problem_without p left_out) q
-    → q.last.place < b → last_forced_below p b ≤ q.last.place → b ≤ p.places → p.line q.last b ≡ Some l → IsShifted p left_out Ahead (with_line p q b l)
-line_shifted p left_out Ahead zero q b l order detours near way later since_b within is = absurd (omega arith)
-line_shifted p left_out Ahead (suc n) q b l order detours near way later since_b within is =
-    cases (λ r m k. line_shifted p left_out Ahead n r m k order detours) (cases_Bool (left_out q.last b))
+    (p : Problem) (left_out : BreakState → ℕ → Bool) (IsAsGood : BreakState → BreakState → Type 0) (n : ℕ) (q : Path) (b : ℕ) (l : LineCost)
+    → IsOrder p IsAsGood → HasDetours p left_out IsAsGood → b ≤ q.last.place + n → Way (problem_without p left_out) q
+    → q.last.place < b → last_forced_below p b ≤ q.last.place → b ≤ p.places → p.line q.last b ≡ Some l
+    → IsShifted p left_out IsAsGood (with_line p q b l)
+line_shifted p left_out IsAsGood zero q b l order detours near way later since_b within is = absurd (omega arith)
+line_shifted p left_out IsAsGood (suc n) q b l order detours near way later since_b within is =
+    cases (λ r m k. line_shifted p left_out IsAsGood n r m k order detours) (cases_Bool (left_out q.last b))
   where
     cases :
         ((r : Path) (m : ℕ) (k : LineCost) → m ≤ r.last.place + n → Way (problem_without p left_out) r → r.last.place < m → last_forced_below p m ≤ r.last.place → m ≤ p.places
-        → p.line r.last m ≡ Some k → IsShifted p left_out Ahead (with_line p r m k))
-        → (left_out q.last b ≡ true) ⊎ (left_out q.last b ≡ false) → IsShifted p left_out Ahead (with_line p q b l)
+        → p.line r.last m ≡ Some k → IsShifted p left_out IsAsGood (with_line p r m k))
+        → (left_out q.last b ≡ true) ⊎ (left_out q.last b ≡ false) → IsShifted p left_out IsAsGood (with_line p q b l)
     cases shorter (inr kept) =
         record {
           by = with_line p q b l;
           way = goes q b l way later (subst (λ n. n ≤ q.last.place) (sym (since_part p left_out b)) since_b) (kept_line p left_out q.last b l kept is);
-          ahead = order.same (end_after p.cut q.last b l);
+          as_good = order.same (end_after p.cut q.last b l);
           better = inl refl;
         }
     cases shorter (inl is_out) = round (detours q.last b l later since_b within is is_out)
       where
-        round : IsDetour p left_out Ahead q.last b l → IsShifted p left_out Ahead (with_line p q b l)
+        round : IsDetour p left_out IsAsGood q.last b l → IsShifted p left_out IsAsGood (with_line p q b l)
         round d =
             let grows = since_grows p d.by b (omega (arith, d.before)) in
             let middle : Way (problem_without p left_out) (with_line p q d.by d.first) =
@@ -78,13 +79,13 @@ line_shifted p left_out Ahead (suc n) q b l order detours near way later since_b
             record {
               by = rest.by;
               way = rest.way;
-              ahead = order.joined rest.by.last (end_after p.cut (end_after p.cut q.last d.by d.first) b d.second) (end_after p.cut q.last b l)
-                  rest.ahead d.ahead;
+              as_good = order.joined rest.by.last (end_after p.cut (end_after p.cut q.last d.by d.first) b d.second) (end_after p.cut q.last b l)
+                  rest.as_good d.as_good;
               better = inr (less d rest.by rest.better);
             }
           where
             less :
-                (d : IsDetour p left_out Ahead q.last b l) (v : Path)
+                (d : IsDetour p left_out IsAsGood q.last b l) (v : Path)
                 → (v ≡ with_line p (with_line p q d.by d.first) b d.second) ⊎ (v.overhang <ℤ ((q.overhang +ℤ d.first.overhang) +ℤ d.second.overhang))
                 → v.overhang <ℤ (q.overhang +ℤ l.overhang)
             less d v (inl same) =
@@ -94,23 +95,25 @@ line_shifted p left_out Ahead (suc n) q b l order detours near way later since_b
 
 -- For each way the smaller problem has one that is as good or better.
 pub way_shifted :
-    (p : Problem) (left_out : BreakState → ℕ → Bool) (Ahead : BreakState → BreakState → Type 0) (w : Path)
-    → IsOrder p Ahead → HasDetours p left_out Ahead → Way p w → w.last.place ≤ p.places → IsShifted p left_out Ahead w
-way_shifted p left_out Ahead _ order detours starts within = record { by = first_path; way = starts; ahead = order.same _; better = inl refl }
-way_shifted p left_out Ahead _ order detours (goes q b l way later since_b is) within =
-    more (way_shifted p left_out Ahead q order detours way (omega arith))
+    (p : Problem) (left_out : BreakState → ℕ → Bool) (IsAsGood : BreakState → BreakState → Type 0) (w : Path)
+    → IsOrder p IsAsGood → HasDetours p left_out IsAsGood → Way p w → w.last.place ≤ p.places → IsShifted p left_out IsAsGood w
+way_shifted p left_out IsAsGood _ order detours starts within = record { by = first_path; way = starts; as_good = order.same _; better = inl refl }
+way_shifted p left_out IsAsGood _ order detours (goes q b l way later since_b is) within =
+    more (way_shifted p left_out IsAsGood q order detours way (omega arith))
   where
-    more : IsShifted p left_out Ahead q → IsShifted p left_out Ahead (with_line p q b l)
-    more before = after before (order.line before.by.last q.last b l before.ahead is)
+    more : IsShifted p left_out IsAsGood q → IsShifted p left_out IsAsGood (with_line p q b l)
+    more before = after before (order.line before.by.last q.last b l before.as_good is)
       where
-        after : (before : IsShifted p left_out Ahead q) → IsNoWorse p Ahead before.by.last q.last b l → IsShifted p left_out Ahead (with_line p q b l)
+        after : (before : IsShifted p left_out IsAsGood q) → IsNoWorse p IsAsGood before.by.last q.last b l
+            → IsShifted p left_out IsAsGood (with_line p q b l)
         after before k =
-            let place : before.by.last.place ≡ q.last.place = order.place before.by.last q.last before.ahead in
-            let rest = line_shifted p left_out Ahead b before.by b k.line order detours (omega arith) before.way (omega (arith, place)) (omega (arith, place)) within k.is in
+            let place : before.by.last.place ≡ q.last.place = order.place before.by.last q.last before.as_good in
+            let rest = line_shifted p left_out IsAsGood b before.by b k.line order detours (omega arith) before.way (omega (arith, place))
+            (omega (arith, place)) within k.is in
             record {
               by = rest.by;
               way = rest.way;
-              ahead = order.joined rest.by.last (end_after p.cut before.by.last b k.line) (end_after p.cut q.last b l) rest.ahead k.ahead;
+              as_good = order.joined rest.by.last (end_after p.cut before.by.last b k.line) (end_after p.cut q.last b l) rest.as_good k.as_good;
               better = better before.by k.line k.is k.less rest.by before.better rest.better;
             }
           where
@@ -136,9 +139,9 @@ first_less q v r (inr same) less = inl (omega (arith, ints, same.0, less))
 
 -- The answer of the smaller problem is the answer.
 pub answer_of_part :
-    (p : Problem) (left_out : BreakState → ℕ → Bool) (Ahead : BreakState → BreakState → Type 0) (answer : ChosenBreaks)
-    → IsOrder p Ahead → HasDetours p left_out Ahead → IsAnswer (problem_without p left_out) answer → IsAnswer p answer
-answer_of_part p left_out Ahead answer order detours is =
+    (p : Problem) (left_out : BreakState → ℕ → Bool) (IsAsGood : BreakState → BreakState → Type 0) (answer : ChosenBreaks)
+    → IsOrder p IsAsGood → HasDetours p left_out IsAsGood → IsAnswer (problem_without p left_out) answer → IsAnswer p answer
+answer_of_part p left_out IsAsGood answer order detours is =
     record {
       path = is.path;
       chosen = record { is_list = list.0; admitted = list.1; least = least };
@@ -159,8 +162,8 @@ answer_of_part p left_out Ahead answer order detours is =
     least : (others : List ℕ) (r : Path) → IsBreakList p others → path_of p others ≡ Some r → NotAfter (key q) (key r)
     least others r is_list admitted =
         let other = way_of_break_list p others r is_list admitted in
-        let shifted = way_shifted p left_out Ahead r order detours other.0 (omega (arith, other.1)) in
-        let ends : shifted.by.last.place ≡ p.places = order.place shifted.by.last r.last shifted.ahead ∙ other.1 in
+        let shifted = way_shifted p left_out IsAsGood r order detours other.0 (omega (arith, other.1)) in
+        let ends : shifted.by.last.place ≡ p.places = order.place shifted.by.last r.last shifted.as_good ∙ other.1 in
         let list = break_list_of_way (problem_without p left_out) shifted.by shifted.way ends in
         let first = is.chosen.least (places_of (ends_of shifted.by)) shifted.by list.0 list.1 in
         cases shifted.by first shifted.better
@@ -171,11 +174,11 @@ answer_of_part p left_out Ahead answer order detours is =
 
 -- If the smaller problem has no list, there is none.
 pub none_of_part :
-    (p : Problem) (left_out : BreakState → ℕ → Bool) (Ahead : BreakState → BreakState → Type 0)
-    → IsOrder p Ahead → HasDetours p left_out Ahead → AdmitsNone (problem_without p left_out) → AdmitsNone p
-none_of_part p left_out Ahead order detours none places r is_list admitted =
+    (p : Problem) (left_out : BreakState → ℕ → Bool) (IsAsGood : BreakState → BreakState → Type 0)
+    → IsOrder p IsAsGood → HasDetours p left_out IsAsGood → AdmitsNone (problem_without p left_out) → AdmitsNone p
+none_of_part p left_out IsAsGood order detours none places r is_list admitted =
     let other = way_of_break_list p places r is_list admitted in
-    let shifted = way_shifted p left_out Ahead r order detours other.0 (omega (arith, other.1)) in
-    let ends : shifted.by.last.place ≡ p.places = order.place shifted.by.last r.last shifted.ahead ∙ other.1 in
+    let shifted = way_shifted p left_out IsAsGood r order detours other.0 (omega (arith, other.1)) in
+    let ends : shifted.by.last.place ≡ p.places = order.place shifted.by.last r.last shifted.as_good ∙ other.1 in
     let list = break_list_of_way (problem_without p left_out) shifted.by shifted.way ends in
     none (places_of (ends_of shifted.by)) shifted.by list.0 list.1

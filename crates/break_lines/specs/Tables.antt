@@ -81,7 +81,7 @@ way_to p e r = with_line p r.before e.end.place r.line
 -- The entry before this one is in the table.
 pub record IsLinked (table : List Entry) (e : Entry) : Type 0 where
   pub before : Entry
-  pub stands : slice_get table e.index ≡ Some before
+  pub present : slice_get table e.index ≡ Some before
   pub same : before.end ≡ e.from
 
 -- Entry k is the entry of the best way to its state.
@@ -110,7 +110,7 @@ offer p e k b = if nat_le (last_forced_below p b) e.end.place then offer_of p.cu
 -- Entry k offers this entry for a place.
 pub record IsOffered (p : Problem) (table : List Entry) (b k : ℕ) (o : Entry) : Type 0 where
   pub by : Entry
-  pub stands : slice_get table k ≡ Some by
+  pub present : slice_get table k ≡ Some by
   pub offers : offer p by k b ≡ Some o
 
 -- The content of slot s: an offer for a state of this slot, from an entry below number n.
@@ -123,7 +123,7 @@ pub record IsHeld (p : Problem) (table : List Entry) (b n s : ℕ) (o : Entry) :
 -- The row has an entry for the same state that is as good as this offer or better.
 pub record IsMet (row : List (Option Entry)) (o : Entry) : Type 0 where
   pub held : Entry
-  pub stands : slice_get row (slot o.end) ≡ Some (Some held)
+  pub present : slice_get row (slot o.end) ≡ Some (Some held)
   pub same : held.end ≡ o.end
   pub before : NotAfter (compared_numbers held) (compared_numbers o)
 
@@ -142,7 +142,7 @@ pub record IsKept (old : Option Entry) (o r : Entry) : Type 0 where
 -- The step from one row to another: an offer is put into its slot, unless the slot holds one that is as good or better.
 pub record IsPut (o : Entry) (old new : List (Option Entry)) : Type 0 where
   pub held : Option Entry
-  pub stood : slice_get old (slot o.end) ≡ Some held
+  pub was_present : slice_get old (slot o.end) ≡ Some held
   pub kept : Entry
   pub is_kept : IsKept held o kept
   pub is : new ≡ set old (slot o.end) (Some kept)

@@ -59,7 +59,7 @@ pub fn offer(
     put(row, entry.with_line(index, place, line, cut), cut);
 }
 
-/// Moves the offers of a row to the end of a table that has room for a whole row.
+/// Moves the offers of a row to the end of a table that has space for a whole row.
 #[inline]
 fn move_offers(table: &mut Vec<Entry>, row: &mut Vec<Option<Entry>>)
     requires { vec_len table.old + vec_len row.old ≤ vec_capacity table.old }
@@ -74,7 +74,7 @@ fn move_offers(table: &mut Vec<Entry>, row: &mut Vec<Option<Entry>>)
     }
 }
 
-/// Appends the offers of a row to a table, and empties the row. If memory is refused, both are as they were before the call: room for a whole row is
+/// Appends the offers of a row to a table, and empties the row. If memory is refused, both are as they were before the call: space for a whole row is
 /// taken before anything moves.
 #[inline]
 pub fn flush_row(table: &mut Vec<Entry>, row: &mut Vec<Option<Entry>>) -> Result<(), AllocError>

@@ -22,11 +22,11 @@ struct BreakWalk {
     from_begin: Sums,
 }
 
-/// Makes room for one more mark. There nearly always is some, and then this is one test.
+/// Makes space for one more mark. There nearly always is some, and then this is one test.
 #[inline(always)]
-fn make_room(marks: &mut Vec<MeasuredBreak>) -> Result<(), AllocError>
+fn make_space(marks: &mut Vec<MeasuredBreak>) -> Result<(), AllocError>
     ensures items { marks.new.items ≡ marks.old.items }
-    ensures room { OnOk result (vec_len marks.new < vec_capacity marks.new) }
+    ensures space { OnOk result (vec_len marks.new < vec_capacity marks.new) }
 {
     if marks.len() < marks.capacity() {
         return Ok(());
@@ -115,7 +115,7 @@ impl BreakWalk {
         if self.marks.len() >= MAX_PLACES {
             return Ok(false);
         }
-        make_room(&mut self.marks)?;
+        make_space(&mut self.marks)?;
         self.marks.push_reserved(MeasuredBreak {
             position: index,
             begin: self.begin,

@@ -73,8 +73,8 @@ passed_written (Err e) before now next sent piece met taken h = tt
 
 -- One more failure can be counted.
 pub still_countable : {E : Type 0} (result : Result ℕ E) (failed next own : ℕ) → OnOk result (next ≡ failed) → OnErr result (next ≡ failed + 1) → failed + own + 1 < 2 ^ 64 → next + own < 2 ^ 64
-still_countable (Ok n) failed next own stands counted room = omega (arith, stands, room)
-still_countable (Err e) failed next own stands counted room = omega (arith, counted, room)
+still_countable (Ok n) failed next own no_failure counted space = omega (arith, no_failure, space)
+still_countable (Err e) failed next own no_failure counted space = omega (arith, counted, space)
 
 -- Whether all of `sent` was met, from what is left of it.
 pub all_met : (sent : List ℕ) (met : ℕ) → met ≤ length sent → true ≡ (length (drop met sent) == 0) → met ≡ length sent

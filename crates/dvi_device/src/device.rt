@@ -40,7 +40,7 @@ pub trait Device {
         requires countable { failed self.old + 1 < 2 ^ 64 }
         ensures count_bounded { IfOk result (λ n. (1 ≤ n) × (n ≤ length piece.now)) }
         ensures taken { IfOk result (λ n. bytes_written self.new ≡ written_then (bytes_written self.old) (take n piece.now)) }
-        ensures stands { OnOk result (failed self.new ≡ failed self.old) }
+        ensures no_failure { OnOk result (failed self.new ≡ failed self.old) }
         ensures none_taken { OnErr result (bytes_written self.new ≡ bytes_written self.old) }
         ensures counted { OnErr result (failed self.new ≡ failed self.old + 1) }
         ensures past { Compares (past self.old).left piece.now result (past self.old) (past self.new) }
@@ -99,7 +99,7 @@ impl Device for Memory {
         requires countable { self.old.failures + 1 < 2 ^ 64 }
         ensures all { IfOk result (λ n. n ≡ length piece.now) }
         ensures kept { OnOk result (self.new.bytes ≡ self.old.bytes ++ piece.now) }
-        ensures stands { OnOk result (self.new.failures ≡ self.old.failures) }
+        ensures no_failure { OnOk result (self.new.failures ≡ self.old.failures) }
         ensures none_taken { OnErr result (self.new.bytes ≡ self.old.bytes) }
         ensures counted { OnErr result (self.new.failures ≡ self.old.failures + 1) }
         ensures full { OnErr result (self.old.capacity < length self.old.bytes + length piece.now) }
@@ -123,7 +123,7 @@ impl Device for Memory {
 pub fn write_all<D: Device>(device: &mut D, bytes: &[u8]) -> Result<(), DeviceFault>
     requires { D.failed device.old + 1 < 2 ^ 64 }
     ensures taken { OnOk result (D.bytes_written device.new ≡ written_then (D.bytes_written device.old) bytes.now) }
-    ensures stands { OnOk result (D.failed device.new ≡ D.failed device.old) }
+    ensures no_failure { OnOk result (D.failed device.new ≡ D.failed device.old) }
     ensures front { OnErr result (GrowsByFront (D.bytes_written device.old) (D.bytes_written device.new) bytes.now) }
     ensures counted { OnErr result (D.failed device.new ≡ D.failed device.old + 1) }
     ensures past { Passes result (D.past device.old) bytes.now (D.past device.new) }

@@ -66,7 +66,7 @@ impl Device for Fuse {
         ensures count_bounded { IfOk result (λ n. (1 ≤ n) × (n ≤ length piece.now)) }
         ensures most { IfOk result (λ n. n ≡ min self.old.most (length piece.now)) }
         ensures taken { IfOk result (λ n. self.new.bytes ≡ self.old.bytes ++ take n piece.now) }
-        ensures stands { OnOk result (self.new.failures ≡ self.old.failures) }
+        ensures no_failure { OnOk result (self.new.failures ≡ self.old.failures) }
         ensures none_taken { OnErr result (self.new.bytes ≡ self.old.bytes) }
         ensures counted { OnErr result (self.new.failures ≡ self.old.failures + 1) }
         ensures fails { OnOk result (self.old.left ≢ 1) }

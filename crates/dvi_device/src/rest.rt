@@ -107,7 +107,7 @@ impl<D: Device> Device for Rest<D> {
         ensures count_bounded { IfOk result (λ n. (1 ≤ n) × (n ≤ length piece.now)) }
         ensures taken { IfOk result (λ n. written_by D.bytes_written self.new
             ≡ written_then (written_by D.bytes_written self.old) (take n piece.now)) }
-        ensures stands { OnOk result (D.failed self.new.device + self.new.failures ≡ D.failed self.old.device + self.old.failures) }
+        ensures no_failure { OnOk result (D.failed self.new.device + self.new.failures ≡ D.failed self.old.device + self.old.failures) }
         ensures none_taken { OnErr result (written_by D.bytes_written self.new ≡ written_by D.bytes_written self.old) }
         ensures counted { OnErr result (D.failed self.new.device + self.new.failures ≡ D.failed self.old.device + self.old.failures + 1) }
 

@@ -3,31 +3,31 @@ use Rattle.std.proofs.Common.{◌≡◌, ◌++◌, [], ◌∷◌, List, Some, No
 use Rattle.dvi_ops.specs.Instruction.{BodyLeaf, Instruction, Do, Push, Pop, Eop}
 use Rattle.dvi_ops.specs.Body.{Position, DviState, Meaning, Acts, state_without_mark}
 use Rattle.scaled_core.specs.Mark.{Mark}
-use Rattle.dvi_ops.specs.Forest.{Forest, Empty, Then, Group, flat, marks_ahead, and_then, restored_meaning, meaning, nests, joined_bodies}
+use Rattle.dvi_ops.specs.Forest.{Forest, Empty, Then, Group, flat, marks_before, and_then, restored_meaning, meaning, nests, joined_bodies}
 use Rattle.dvi_ops.specs.Walk.{walk}
 
 -- A meaning with no marks added before it is the same.
-ahead-nil : (m : Meaning) → marks_ahead [] m ≡ m
-ahead-nil None = refl
-ahead-nil (Some (marks, s)) = refl
+before-nil : (m : Meaning) → marks_before [] m ≡ m
+before-nil None = refl
+before-nil (Some (marks, s)) = refl
 
-ahead-ahead : (a b : List Mark) (m : Meaning) → marks_ahead a (marks_ahead b m) ≡ marks_ahead (a ++ b) m
-ahead-ahead a b None = refl
-ahead-ahead a b (Some (marks, s)) = ap (λ (marks : List Mark). Some (marks, s)) (sym (append_assoc a b marks))
+before-before : (a b : List Mark) (m : Meaning) → marks_before a (marks_before b m) ≡ marks_before (a ++ b) m
+before-before a b None = refl
+before-before a b (Some (marks, s)) = ap (λ (marks : List Mark). Some (marks, s)) (sym (append_assoc a b marks))
 
-ahead-and_then : (a : List Mark) (m : Meaning) (k : DviState → Meaning) → and_then (marks_ahead a m) k ≡ marks_ahead a (and_then m k)
-ahead-and_then a None k = refl
-ahead-and_then a (Some (marks, s)) k = sym (ahead-ahead a marks (k s))
+before-and_then : (a : List Mark) (m : Meaning) (k : DviState → Meaning) → and_then (marks_before a m) k ≡ marks_before a (and_then m k)
+before-and_then a None k = refl
+before-and_then a (Some (marks, s)) k = sym (before-before a marks (k s))
 
 -- Two steps one after the other, grouped either way.
 pub and_then-and_then : (m : Meaning) (j k : DviState → Meaning) → and_then (and_then m j) k ≡ and_then m (λ t. and_then (j t) k)
 and_then-and_then None j k = refl
-and_then-and_then (Some (marks, s)) j k = ahead-and_then marks (j s) k
+and_then-and_then (Some (marks, s)) j k = before-and_then marks (j s) k
 
 -- The continuation may be replaced by an equal one.
 pub and_then-same : (m : Meaning) (j k : DviState → Meaning) → ((t : DviState) → j t ≡ k t) → and_then m j ≡ and_then m k
 and_then-same None j k same = refl
-and_then-same (Some (marks, s)) j k same = ap (marks_ahead marks) (same s)
+and_then-same (Some (marks, s)) j k same = ap (marks_before marks) (same s)
 
 and_then-only : (m : Meaning) → and_then m state_without_mark ≡ m
 and_then-only None = refl
@@ -41,7 +41,7 @@ and_then-restored p (Some (marks, s)) k = refl
 -- The pass over a forest's list and the rest is the meaning of the forest, and then the pass over the rest.
 pub walk-flat : (does : Acts) (f : Forest) (rest : List Instruction) (stack : List Position) (s : DviState) →
     walk does (flat f ++ rest) stack s ≡ and_then (meaning does f s) (λ t. walk does rest stack t)
-walk-flat does Empty rest stack s = sym (ahead-nil (walk does rest stack s))
+walk-flat does Empty rest stack s = sym (before-nil (walk does rest stack s))
 walk-flat does (Then i f) rest stack s =
     and_then-same (does i s) (λ t. walk does (flat f ++ rest) stack t) (λ t. and_then (meaning does f t) (λ u. walk does rest stack u)) (λ t. walk-flat does f rest stack t)
     ∙ sym (and_then-and_then (does i s) (λ t. meaning does f t) (λ u. walk does rest stack u))
@@ -78,11 +78,12 @@ group_opens p is (q ∷ stack) (inner, rest, e, (f, rest', whole, more)) =
 pub and_then-some : (m : Meaning) (k : DviState → Meaning) (out : List Mark × DviState) → and_then m k ≡ Some out →
     (t : DviState) × (last : List Mark × DviState) × (k t ≡ Some last)
 and_then-some None k out e = absurd cc
-and_then-some (Some (marks, s)) k out e = (s, (ahead_some marks (k s) out e).0, (ahead_some marks (k s) out e).1)
+and_then-some (Some (marks, s)) k out e = (s, (before_some marks (k s) out e).0, (before_some marks (k s) out e).1)
   where
-    ahead_some : (marks : List Mark) (m : Meaning) (out : List Mark × DviState) → marks_ahead marks m ≡ Some out → (last : List Mark × DviState) × (m ≡ Some last)
-    ahead_some marks None out e = cc
-    ahead_some marks (Some last) out e = (last, refl)
+    before_some : (marks : List Mark) (m : Meaning) (out : List Mark × DviState) → marks_before marks m ≡ Some out → (last : List Mark × DviState)
+        × (m ≡ Some last)
+    before_some marks None out e = cc
+    before_some marks (Some last) out e = (last, refl)
 
 walk_opens : (does : Acts) (is : List Instruction) (stack : List Position) (s : DviState) (out : List Mark × DviState) → walk does is stack s ≡ Some out → Opens is stack
 unfolding Opens
@@ -148,7 +149,7 @@ flat-beside (Group inner f) g =
     ap (λ (is : List Instruction). Push ∷ (flat inner ++ Pop ∷ is)) (flat-beside f g) ∙ ap (λ (is : List Instruction). Push ∷ is) (sym (append_assoc (flat inner) (Pop ∷ flat f) (flat g)))
 
 pub meaning-beside : (does : Acts) (f g : Forest) (s : DviState) → meaning does (joined_bodies f g) s ≡ and_then (meaning does f s) (λ t. meaning does g t)
-meaning-beside does Empty g s = sym (ahead-nil (meaning does g s))
+meaning-beside does Empty g s = sym (before-nil (meaning does g s))
 meaning-beside does (Then i f) g s =
     and_then-same (does i s) (λ t. meaning does (joined_bodies f g) t) (λ t. and_then (meaning does f t) (λ u. meaning does g u)) (λ t. meaning-beside does f g t)
     ∙ sym (and_then-and_then (does i s) (λ t. meaning does f t) (λ u. meaning does g u))

@@ -122,7 +122,7 @@ cut_of bytes f =
 pub record SameFrame (bytes : List ℕ) (f g : Frame bytes) : Type 0 where
   pub front : f.front ≡ g.front
   pub post : f.post ≡ g.post
-  pub stop : f.stop ≡ g.stop
+  pub postamble : f.postamble ≡ g.postamble
   pub tail : f.tail ≡ g.tail
   pub ending : f.ending ≡ g.ending
   pub padding : f.padding ≡ g.padding
@@ -140,14 +140,15 @@ one_frame bytes f g =
     let place : pos (length (token_bytes f.front)) ≡ pos (length (token_bytes g.front)) = sym c.says_place.1 ∙ (ap (signed 4) operands.1 ∙ d.says_place.1) in
     let lengths : length (token_bytes f.front) ≡ length (token_bytes g.front) = cc in
     let fronts = one_cut (token_bytes f.front) (token_bytes g.front) (f.post ++ (token_bytes f.tail ++ 249 ∷ [])) (g.post ++ (token_bytes g.tail ++ 249 ∷ [])) operands.0 lengths in
-    let posts = one_reading (Post f.stop) (Post g.stop) f.post g.post (token_bytes f.tail ++ 249 ∷ []) (token_bytes g.tail ++ 249 ∷ []) f.post_spelled g.post_spelled fronts.1 in
+    let posts = one_reading (Post f.postamble) (Post g.postamble) f.post g.post (token_bytes f.tail ++ 249 ∷ []) (token_bytes g.tail ++ 249 ∷ [])
+    f.post_spelled g.post_spelled fronts.1 in
     let same_post : f.post ≡ g.post = posts.1 in
-    let same_stop : Post f.stop ≡ Post g.stop = posts.0 in
+    let same_postamble : Post f.postamble ≡ Post g.postamble = posts.0 in
     let after : token_bytes f.tail ++ 249 ∷ [] ≡ token_bytes g.tail ++ 249 ∷ [] = append_cancel_left f.post _ _ (fronts.1 ∙ ap (λ (p : List ℕ). p ++ (token_bytes g.tail ++ 249 ∷ [])) (sym same_post)) in
     record {
       front = one_list f.front g.front f.front_spelled g.front_spelled fronts.0;
       post = same_post;
-      stop = cc;
+      postamble = cc;
       tail = one_list f.tail g.tail f.tail_spelled g.tail_spelled (same_from_push (token_bytes f.tail) (token_bytes g.tail) 249 249 after).0;
       ending = c.ending ∙ (ap (λ (o : List ℕ). 249 ∷ (o ++ 2 ∷ [])) operands.1 ∙ sym d.ending);
       padding = trailer.1;
@@ -186,7 +187,8 @@ one_parts (Shows counts pointer body ∷ ps) (Shows counts' pointer' body' ∷ q
 pub one_list_of_pages : (metrics : WidthsByName) (bytes : List ℕ) (pages others : List MarkedPage) → IsFile metrics bytes pages → IsFile metrics bytes others → pages ≡ others
 one_list_of_pages metrics bytes pages others f g =
     let same = one_frame bytes f.frame g.frame in
-    let fronts : Pre 2 f.frame.stop.units f.comment ∷ flat_map instructions f.parts ≡ Pre 2 g.frame.stop.units g.comment ∷ flat_map instructions g.parts =
+    let fronts : Pre 2 f.frame.postamble.units f.comment ∷ flat_map instructions f.parts ≡ Pre 2 g.frame.postamble.units g.comment ∷ flat_map
+    instructions g.parts =
     sym f.front_is ∙ (ap token_instructions same.front ∙ g.front_is) in
     let bodies : flat_map instructions f.parts ≡ flat_map instructions g.parts = cc in
     let parts = one_parts f.parts g.parts bodies in
@@ -196,20 +198,21 @@ one_list_of_pages metrics bytes pages others f g =
     cc
 
 -- The facts about the instructions of a frame that make a file of these pages.
-pub record Facts (metrics : WidthsByName) (front : List Token) (stop : Postamble) (tail : List Token) (pages : List MarkedPage) : Type 0 where
+pub record Facts (metrics : WidthsByName) (front : List Token) (postamble : Postamble) (tail : List Token) (pages : List MarkedPage) : Type 0 where
   pub comment : List ℕ
   pub parts : List FilePart
-  pub front_is : token_instructions front ≡ Pre 2 stop.units comment ∷ flat_map instructions parts
+  pub front_is : token_instructions front ≡ Pre 2 postamble.units comment ∷ flat_map instructions parts
   pub tail_is : AllByRecursion IsIdle (token_instructions tail)
-  pub units : AreUnits stop.units
-  pub chain : pointers (token_instructions front) ++ stop.last_bop ∷ [] ≡ negsuc 0 ∷ map pos (places 0 front)
-  pub count : stop.pages ≡ length pages % 65536
+  pub units : AreUnits postamble.units
+  pub chain : pointers (token_instructions front) ++ postamble.last_bop ∷ [] ≡ negsuc 0 ∷ map pos (places 0 front)
+  pub count : postamble.pages ≡ length pages % 65536
   pub fonts : FontsAreRight [] (token_instructions front ++ token_instructions tail)
   pub closing : AllByRecursion (λ f. IsSome (font metrics (definitions (token_instructions tail)) f)) (selections (token_instructions front))
-  pub depth : AllByRecursion (λ part. push_depth_of part ≤ min max_pushes stop.stack_depth) parts
+  pub depth : AllByRecursion (λ part. push_depth_of part ≤ min max_pushes postamble.stack_depth) parts
   pub shows : pages_of (bounded_acts (instruction_acts (widths_of metrics (definitions (token_instructions tail))))) parts ≡ Some pages
 
-pub facts_of : (metrics : WidthsByName) (bytes : List ℕ) (pages : List MarkedPage) (f : IsFile metrics bytes pages) → Facts metrics f.frame.front f.frame.stop f.frame.tail pages
+pub facts_of : (metrics : WidthsByName) (bytes : List ℕ) (pages : List MarkedPage) (f : IsFile metrics bytes pages)
+    → Facts metrics f.frame.front f.frame.postamble f.frame.tail pages
 facts_of metrics bytes pages f =
     record {
       comment = f.comment;
@@ -226,15 +229,17 @@ facts_of metrics bytes pages f =
     }
 
 -- Where bytes are a file, these facts hold of every frame of the bytes.
-pub facts_at : (metrics : WidthsByName) (bytes : List ℕ) (pages : List MarkedPage) → IsFile metrics bytes pages → (g : Frame bytes) → Facts metrics g.front g.stop g.tail pages
+pub facts_at : (metrics : WidthsByName) (bytes : List ℕ) (pages : List MarkedPage) → IsFile metrics bytes pages → (g : Frame bytes)
+    → Facts metrics g.front g.postamble g.tail pages
 facts_at metrics bytes pages f g =
     let same = one_frame bytes f.frame g in
-    subst (λ (front : List Token). Facts metrics front g.stop g.tail pages) same.front
-    (subst (λ (stop : Postamble). Facts metrics f.frame.front stop g.tail pages) same.stop
-    (subst (λ (tail : List Token). Facts metrics f.frame.front f.frame.stop tail pages) same.tail (facts_of metrics bytes pages f)))
+    subst (λ (front : List Token). Facts metrics front g.postamble g.tail pages) same.front
+    (subst (λ (postamble : Postamble). Facts metrics f.frame.front postamble g.tail pages) same.postamble
+    (subst (λ (tail : List Token). Facts metrics f.frame.front f.frame.postamble tail pages) same.tail (facts_of metrics bytes pages f)))
 
 -- Where the facts hold of one frame, the bytes are a file.
-pub file_at : (metrics : WidthsByName) (bytes : List ℕ) (pages : List MarkedPage) (g : Frame bytes) → Facts metrics g.front g.stop g.tail pages → IsFile metrics bytes pages
+pub file_at : (metrics : WidthsByName) (bytes : List ℕ) (pages : List MarkedPage) (g : Frame bytes) → Facts metrics g.front g.postamble g.tail pages
+    → IsFile metrics bytes pages
 file_at metrics bytes pages g f =
     record {
       frame = g;

@@ -23,7 +23,7 @@ padding_grows metrics bytes pages f =
     (record {
       front = g.front;
       post = g.post;
-      stop = g.stop;
+      postamble = g.postamble;
       tail = g.tail;
       ending = g.ending;
       padding = g.padding + 1;
@@ -41,11 +41,19 @@ padding_grows metrics bytes pages f =
     more front post tail ending n = simp append_assoc (ap (λ (bytes : List ℕ). token_bytes front ++ (post ++ (token_bytes tail ++ (ending ++ bytes)))) (replicate_more n 223))
 
 -- The operands of post in a file of one rule.
-abbrev one_rule_stop : ℕ → Postamble
-one_rule_stop count = record { last_bop = pos 15; units = scaled_points; height_plus_depth = pos 65536; width = pos 65536; stack_depth = 0; pages = count }
+abbrev one_rule_postamble : ℕ → Postamble
+one_rule_postamble count =
+    record { last_bop = pos 15; units = scaled_points; height_plus_depth = pos 65536; width = pos 65536; stack_depth = 0; pages = count }
 
-stop_fits : (count : ℕ) → count < 65536 → NumbersFit (Post (one_rule_stop count))
-stop_fits count below = (record { sfits = lit< tt }, (record { sfits = lit< tt }, record { sfits = lit< tt }, record { sfits = lit< tt }), record { sfits = lit< tt }, record { sfits = lit< tt }, lit< tt, below)
+postamble_fits : (count : ℕ) → count < 65536 → NumbersFit (Post (one_rule_postamble count))
+postamble_fits count below = (
+  record { sfits = lit< tt },
+  (record { sfits = lit< tt }, record { sfits = lit< tt }, record { sfits = lit< tt }),
+  record { sfits = lit< tt },
+  record { sfits = lit< tt },
+  lit< tt,
+  below,
+)
 
 preamble_fits : IsWritable preamble
 preamble_fits = (lit< tt, (record { sfits = lit< tt }, record { sfits = lit< tt }, record { sfits = lit< tt }))
@@ -61,7 +69,8 @@ self_naming_fits =
 pub self_naming_is_none : (metrics : WidthsByName) (pages : List MarkedPage) → IsFile metrics self_naming_file pages → ⊥
 unfolding spelling leaf_spelling operand signed_size
 self_naming_is_none metrics pages f =
-    let found = facts_of_written self_naming (one_rule_stop 1) [] 74 7 metrics pages self_naming_fits (stop_fits 1 (lit< tt)) tt refl (lit< tt) (lit≤ tt) f in
+    let found = facts_of_written self_naming (one_rule_postamble 1) [] 74 7 metrics pages self_naming_fits (postamble_fits 1 (lit< tt)) tt refl
+    (lit< tt) (lit≤ tt) f in
     differ found.chain
   where
     differ : pos 15 ∷ pos 15 ∷ [] ≡ negsuc 0 ∷ pos 15 ∷ [] → ⊥
@@ -89,7 +98,8 @@ no_pop_first counts pointer rest (Shows counts' pointer' (Group inner body) ∷ 
 pub stray_pop_is_none : (metrics : WidthsByName) (pages : List MarkedPage) → IsFile metrics stray_pop_file pages → ⊥
 unfolding spelling leaf_spelling operand signed_size
 stray_pop_is_none metrics pages f =
-    let found = facts_of_written stray_pop (one_rule_stop 1) [] 74 7 metrics pages stray_pop_fits (stop_fits 1 (lit< tt)) tt refl (lit< tt) (lit≤ tt) f in
+    let found = facts_of_written stray_pop (one_rule_postamble 1) [] 74 7 metrics pages stray_pop_fits (postamble_fits 1 (lit< tt)) tt refl (lit< tt)
+    (lit≤ tt) f in
     let body : Bop zeros (negsuc 0) ∷ Pop ∷ Do Nop ∷ Do Nop ∷ Do Nop ∷ Do (SetRule (pos 65536) (pos 65536)) ∷ Eop ∷ [] ≡ flat_map instructions found.parts = tails found.front_is in
     no_pop_first zeros (negsuc 0) _ found.parts body
 
@@ -112,7 +122,8 @@ one_rule_fits =
 pub miscounted_is_none : (metrics : WidthsByName) (pages : List MarkedPage) → IsFile metrics miscounted_file pages → ⊥
 unfolding spelling leaf_spelling operand signed_size
 miscounted_is_none metrics pages f =
-    let found = facts_of_written one_rule (one_rule_stop 2) [] 74 7 metrics pages one_rule_fits (stop_fits 2 (lit< tt)) tt refl (lit< tt) (lit≤ tt) f in
+    let found = facts_of_written one_rule (one_rule_postamble 2) [] 74 7 metrics pages one_rule_fits (postamble_fits 2 (lit< tt)) tt refl (lit< tt)
+    (lit≤ tt) f in
     let bops = length-pages _ found.parts pages found.shows in
     let one : 1 ≡ length pages = ap (λ (is : List Instruction). length (pointers is)) found.front_is ∙ bops in
     let two : 2 ≡ length pages % 65536 = found.count in
@@ -124,15 +135,23 @@ nested second =
     preamble ∷ Do (FontDef small) ∷ Do (FontDef large) ∷ Bop zeros (negsuc 0) ∷ Do (Move Downward (By (pos 655360))) ∷ Do (FontNum (pos 0)) ∷ Do (SetChar (pos 99)) ∷ Push ∷
     Do (FontNum second) ∷ Do (SetChar (pos 98)) ∷ Pop ∷ Do (Move Across (By (pos 655360))) ∷ Do (SetChar (pos 99)) ∷ Eop ∷ []
 
-abbrev nested_stop : ℕ → Postamble
-nested_stop depth = record { last_bop = pos 55; units = scaled_points; height_plus_depth = pos 983040; width = pos 1638400; stack_depth = depth; pages = 1 }
+abbrev nested_postamble : ℕ → Postamble
+nested_postamble depth = record
+    { last_bop = pos 55; units = scaled_points; height_plus_depth = pos 983040; width = pos 1638400; stack_depth = depth; pages = 1 }
 
 nested_fits : (second : ℕ) → second < 2 ^ 31 → AllByRecursion IsWritable (nested (pos second))
 nested_fits second below =
     (preamble_fits, (small_tabled.writable, (large_tabled.writable, ((tt, (refl, all_fit 10, record { sfits = lit< tt })), ((tt, record { sfits = lit< tt }), ((tt, record { sfits = lit< tt }), ((tt, record { sfits = lit< tt }), ((tt, tt), ((tt, record { sfits = below }), ((tt, record { sfits = lit< tt }), ((tt, tt), ((tt, record { sfits = lit< tt }), ((tt, record { sfits = lit< tt }), ((tt, tt), tt))))))))))))))
 
-nested_stop_fits : (depth : ℕ) → depth < 65536 → NumbersFit (Post (nested_stop depth))
-nested_stop_fits depth below = (record { sfits = lit< tt }, (record { sfits = lit< tt }, record { sfits = lit< tt }, record { sfits = lit< tt }), record { sfits = lit< tt }, record { sfits = lit< tt }, below, lit< tt)
+nested_postamble_fits : (depth : ℕ) → depth < 65536 → NumbersFit (Post (nested_postamble depth))
+nested_postamble_fits depth below = (
+  record { sfits = lit< tt },
+  (record { sfits = lit< tt }, record { sfits = lit< tt }, record { sfits = lit< tt }),
+  record { sfits = lit< tt },
+  record { sfits = lit< tt },
+  below,
+  lit< tt,
+)
 
 abbrev nested_tail : List Instruction
 nested_tail = Do (FontDef small) ∷ Do (FontDef large) ∷ []
@@ -144,7 +163,8 @@ nested_tail_fits = (small_tabled.writable, (large_tabled.writable, tt))
 pub undefined_font_is_none : (metrics : WidthsByName) (pages : List MarkedPage) → IsFile metrics undefined_font_file pages → ⊥
 unfolding spelling leaf_spelling operand signed_size code_size char_spelling font_spelling
 undefined_font_is_none metrics pages f =
-    let found = facts_of_written (nested (pos 2)) (nested_stop 1) nested_tail 116 5 metrics pages (nested_fits 2 (lit< tt)) (nested_stop_fits 1 (lit< tt)) nested_tail_fits refl (lit< tt) (lit≤ tt) f in
+    let found = facts_of_written (nested (pos 2)) (nested_postamble 1) nested_tail 116 5 metrics pages (nested_fits 2 (lit< tt))
+    (nested_postamble_fits 1 (lit< tt)) nested_tail_fits refl (lit< tt) (lit≤ tt) f in
     differ found.fonts.1.1.1.1.1.1.1.1.0
   where
     differ : false ≡ true → ⊥
@@ -154,7 +174,8 @@ undefined_font_is_none metrics pages f =
 pub shallow_is_none : (metrics : WidthsByName) (pages : List MarkedPage) → IsFile metrics shallow_file pages → ⊥
 unfolding spelling leaf_spelling operand signed_size code_size char_spelling font_spelling
 shallow_is_none metrics pages f =
-    let found = facts_of_written (nested (pos 1)) (nested_stop 0) nested_tail 116 5 metrics pages (nested_fits 1 (lit< tt)) (nested_stop_fits 0 (lit< tt)) nested_tail_fits refl (lit< tt) (lit≤ tt) f in
+    let found = facts_of_written (nested (pos 1)) (nested_postamble 0) nested_tail 116 5 metrics pages (nested_fits 1 (lit< tt))
+    (nested_postamble_fits 0 (lit< tt)) nested_tail_fits refl (lit< tt) (lit≤ tt) f in
     let parts : List FilePart = Defines small ∷ Defines large ∷ Shows zeros (negsuc 0) nested_body ∷ [] in
     let same : parts ≡ found.parts = one_parts parts found.parts (tails found.front_is) in
     let depth = subst (AllByRecursion (λ part. push_depth_of part ≤ min max_pushes 0)) (sym same) found.depth in

@@ -3,7 +3,7 @@ use Rattle.std.proofs.Common.{◌≡◌, ◌++◌, ◌&&◌, if◌then◌else◌
 use Rattle.std.specs.List.{AllByRecursion}
 use Rattle.dvi_ops.specs.Body.{DviState, Meaning, Acts, in_range, kept_in, bounded_acts}
 use Rattle.scaled_core.specs.Mark.{Mark}
-use Rattle.dvi_ops.specs.Forest.{Forest, Empty, Then, Group, marks_ahead, and_then, restored_meaning, meaning, points_then, points, IsPoint}
+use Rattle.dvi_ops.specs.Forest.{Forest, Empty, Then, Group, marks_before, and_then, restored_meaning, meaning, points_then, points, IsPoint}
 use Rattle.scaled_core.proofs.EachOf.{all_append, all_front, all_back}
 
 kept_at_point : (marks : List Mark) (s : DviState) → IsPoint (s.place.h, s.place.v) → kept_in (Some (marks, s)) ≡ Some (marks, s)
@@ -11,7 +11,7 @@ kept_at_point marks s (h, v) = rw (h, v) refl
 
 then_same : (m : Meaning) (j k : DviState → Meaning) (next : DviState → List (ℤ × ℤ)) → AllByRecursion IsPoint (points_then m next) → ((t : DviState) → AllByRecursion IsPoint (next t) → j t ≡ k t) → and_then m j ≡ and_then m k
 then_same None j k next all same = refl
-then_same (Some (marks, t)) j k next (here, all) same = ap (marks_ahead marks) (same t all)
+then_same (Some (marks, t)) j k next (here, all) same = ap (marks_before marks) (same t all)
 
 kept_same : (m : Meaning) (next : DviState → List (ℤ × ℤ)) → AllByRecursion IsPoint (points_then m next) → kept_in m ≡ m
 kept_same None next all = refl
@@ -30,19 +30,22 @@ meaning-kept does (Group inner f) s all =
     ∙ then_same m (λ t. meaning (bounded_acts does) f t) (λ t. meaning does f t) next (all_back IsPoint (points does inner s) (points_then m next) all) (λ t later. meaning-kept does f t later)
 
 -- A meaning with marks added before it comes from a meaning.
-from_ahead : (marks : List Mark) (m : Meaning) (out : List Mark × DviState) → marks_ahead marks m ≡ Some out → (last : List Mark × DviState) × (m ≡ Some last)
-from_ahead marks None out e = absurd cc
-from_ahead marks (Some last) out e = (last, refl)
+from_before : (marks : List Mark) (m : Meaning) (out : List Mark × DviState) → marks_before marks m ≡ Some out → (last : List Mark × DviState)
+    × (m ≡ Some last)
+from_before marks None out e = absurd cc
+from_before marks (Some last) out e = (last, refl)
 
 -- The facts that a meaning within the range gives: without the range it is the same, and all its places are in the range.
 Follows : (m : Meaning) (k : DviState → Meaning) (next : DviState → List (ℤ × ℤ)) (out : List Mark × DviState) → Type 0
 Follows m k next out = (and_then m k ≡ Some out) × AllByRecursion IsPoint (points_then m next)
 
-then_follows : (marks : List Mark) (t : DviState) (j k : DviState → Meaning) (next : DviState → List (ℤ × ℤ)) (out : List Mark × DviState) → IsPoint (t.place.h, t.place.v) → marks_ahead marks (j t) ≡ Some out →
+then_follows : (marks : List Mark) (t : DviState) (j k : DviState → Meaning) (next : DviState → List (ℤ × ℤ)) (out : List Mark × DviState)
+    → IsPoint (t.place.h, t.place.v) → marks_before marks (j t) ≡ Some out →
     ((last : List Mark × DviState) → j t ≡ Some last → (k t ≡ Some last) × AllByRecursion IsPoint (next t)) → Follows (Some (marks, t)) k next out
 unfolding Follows
 then_follows marks t j k next out here e later =
-    let found = from_ahead marks (j t) out e in let more = later found.0 found.1 in (ap (marks_ahead marks) (more.0 ∙ sym found.1) ∙ e, (here, more.1))
+    let found = from_before marks (j t) out e in let more = later found.0 found.1 in
+    (ap (marks_before marks) (more.0 ∙ sym found.1) ∙ e, (here, more.1))
 
 kept_follows : (m : Meaning) (j k : DviState → Meaning) (next : DviState → List (ℤ × ℤ)) (out : List Mark × DviState) → and_then (kept_in m) j ≡ Some out →
     ((t : DviState) (last : List Mark × DviState) → IsPoint (t.place.h, t.place.v) → j t ≡ Some last → (k t ≡ Some last) × AllByRecursion IsPoint (next t)) → Follows m k next out

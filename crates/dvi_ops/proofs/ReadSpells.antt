@@ -7,13 +7,14 @@ use Rattle.dvi_ops.specs.Table.{signed, code, IsCoded, IsRule, SaysUnits, SaysDe
 use Rattle.dvi_ops.proofs.Fronts.{got, split, same_first, same_rest, made_is, followed_is, cut_is, byte_is, number_is, word_is, two_is, three_is, halves_is, words_stand}
 
 -- The bytes begin with a spelling of the instruction, and the rest follows.
-pub record Stands (i : Instruction) (bytes rest : List ℕ) : Type 0 where
+pub record BeginsWith (i : Instruction) (bytes rest : List ℕ) : Type 0 where
   pub front : List ℕ
   pub whole : bytes ≡ front ++ rest
   pub spells : Spells i front
 
 -- An instruction with no operand.
-fixed_is : (operation : ℕ) (j i : Instruction) (bytes rest : List ℕ) → Spells j (operation ∷ []) → got j bytes ≡ got i rest → Stands i (operation ∷ bytes) rest
+fixed_is : (operation : ℕ) (j i : Instruction) (bytes rest : List ℕ) → Spells j (operation ∷ []) → got j bytes ≡ got i rest
+    → BeginsWith i (operation ∷ bytes) rest
 fixed_is operation j i bytes rest says e = record {
   front = operation ∷ [];
   whole = ap (λ (r : List ℕ). operation ∷ r) (same_rest j i bytes rest e);
@@ -23,7 +24,7 @@ fixed_is operation j i bytes rest says e = record {
 -- An instruction with an operand of one to four bytes.
 coded_is : (says : ℕ → List ℕ → ℤ) (make : ℤ → Instruction) (base m operation : ℕ) (bytes rest : List ℕ) (i : Instruction)
     → 1 ≤ m → m ≤ 4 → operation ≡ base + m → ((z : ℤ) (a : List ℕ) → IsCoded says base z a → Spells (make z) a)
-    → front_image make (front_image (says m) (first_bytes m bytes)) ≡ got i rest → Stands i (operation ∷ bytes) rest
+    → front_image make (front_image (says m) (first_bytes m bytes)) ≡ got i rest → BeginsWith i (operation ∷ bytes) rest
 coded_is says make base m operation bytes rest i low high op spells e =
     let (z, f, same) = made_is make (front_image (says m) (first_bytes m bytes)) i rest e in
     let (a, whole, len, value) = number_is says m z bytes rest f in
@@ -33,7 +34,8 @@ coded_is says make base m operation bytes rest i low high op spells e =
       spells = subst (λ (k : Instruction). Spells k ((base + m) ∷ a)) same (spells z ((base + m) ∷ a) (m, a, low, high, refl, len, value));
     }
 
-char_is : (operation : ℕ) (bytes rest : List ℕ) (i : Instruction) → operation < 132 → char_at operation bytes ≡ got i rest → Stands i (operation ∷ bytes) rest
+char_is : (operation : ℕ) (bytes rest : List ℕ) (i : Instruction) → operation < 132 → char_at operation bytes ≡ got i rest
+    → BeginsWith i (operation ∷ bytes) rest
 unfolding char_at code_at
 char_is operation bytes rest i bound e =
     split operation 128 (got (Do (SetChar (pos operation))) bytes) (front_image (λ c. Do (SetChar c)) (code_at (operation - 127) bytes)) (got i rest) e
@@ -43,7 +45,7 @@ char_is operation bytes rest i bound e =
 -- A rule.
 rule_is : (make : ℤ × ℤ → Instruction) (operation : ℕ) (bytes rest : List ℕ) (i : Instruction)
     → ((height width : ℤ) (a : List ℕ) → IsRule operation height width a → Spells (make (height, width)) a)
-    → front_image make (two_at bytes) ≡ got i rest → Stands i (operation ∷ bytes) rest
+    → front_image make (two_at bytes) ≡ got i rest → BeginsWith i (operation ∷ bytes) rest
 rule_is make operation bytes rest i spells e =
     let (r, f, same) = made_is make (two_at bytes) i rest e in
     let (a, b, whole, tall, wide) = two_is r bytes rest f in
@@ -53,7 +55,7 @@ rule_is make operation bytes rest i spells e =
       spells = subst (λ (k : Instruction). Spells k (operation ∷ (a ++ b))) same (spells r.0 r.1 (operation ∷ (a ++ b)) (a, b, refl, tall, wide));
     }
 
-bop_is : (bytes rest : List ℕ) (i : Instruction) → bop_at bytes ≡ got i rest → Stands i (139 ∷ bytes) rest
+bop_is : (bytes rest : List ℕ) (i : Instruction) → bop_at bytes ≡ got i rest → BeginsWith i (139 ∷ bytes) rest
 unfolding bop_at
 bop_is bytes rest i e =
     let (a, r, f, g) = followed_is (first_bytes 40 bytes) (λ counts rest. front_image (λ pointer. Bop (words 10 counts) pointer) (signed_at 4 rest)) i rest e in
@@ -69,10 +71,12 @@ bop_is bytes rest i e =
     }
 
 -- A code that is known.
-by_code : (operation code : ℕ) (bytes rest : List ℕ) (i : Instruction) → operation ≡ code → Stands i (code ∷ bytes) rest → Stands i (operation ∷ bytes) rest
-by_code operation code bytes rest i e stands = subst (λ (n : ℕ). Stands i (n ∷ bytes) rest) (sym e) stands
+by_code : (operation code : ℕ) (bytes rest : List ℕ) (i : Instruction) → operation ≡ code → BeginsWith i (code ∷ bytes) rest
+    → BeginsWith i (operation ∷ bytes) rest
+by_code operation code bytes rest i e begins = subst (λ (n : ℕ). BeginsWith i (n ∷ bytes) rest) (sym e) begins
 
-plain_is : (operation : ℕ) (bytes rest : List ℕ) (i : Instruction) → 132 ≤ operation → operation ≤ 142 → plain_at operation bytes ≡ got i rest → Stands i (operation ∷ bytes) rest
+plain_is : (operation : ℕ) (bytes rest : List ℕ) (i : Instruction) → 132 ≤ operation → operation ≤ 142 → plain_at operation bytes ≡ got i rest
+    → BeginsWith i (operation ∷ bytes) rest
 unfolding plain_at code_at
 plain_is operation bytes rest i low high e =
     split operation 133 _ _ (got i rest) e
@@ -101,7 +105,7 @@ second_code Across = refl
 second_code Downward = refl
 
 movement_is : (axis : Axis) (offset operation : ℕ) (bytes rest : List ℕ) (i : Instruction) → 1 ≤ offset → offset ≤ 14 → operation ≡ plain_code axis + offset
-    → movement_at axis offset bytes ≡ got i rest → Stands i (operation ∷ bytes) rest
+    → movement_at axis offset bytes ≡ got i rest → BeginsWith i (operation ∷ bytes) rest
 unfolding movement_at signed_at
 movement_is axis offset operation bytes rest i low high op e =
     let one = first_code axis in
@@ -116,7 +120,8 @@ movement_is axis offset operation bytes rest i low high op e =
     (λ h f. by_code operation (register_code axis Second) bytes rest i (omega arith) (fixed_is (register_code axis Second) (Do (Move axis (Again Second))) i bytes rest refl f))
     (λ a4 f. coded_is signed (λ z. Do (Move axis (Set Second z))) (register_code axis Second) (offset - 10) operation bytes rest i (omega arith) (omega arith) (omega arith) (λ z a says. says) f))))
 
-font_is : (operation : ℕ) (bytes rest : List ℕ) (i : Instruction) → 171 ≤ operation → operation ≤ 238 → font_at operation bytes ≡ got i rest → Stands i (operation ∷ bytes) rest
+font_is : (operation : ℕ) (bytes rest : List ℕ) (i : Instruction) → 171 ≤ operation → operation ≤ 238 → font_at operation bytes ≡ got i rest
+    → BeginsWith i (operation ∷ bytes) rest
 unfolding font_at code_at
 font_is operation bytes rest i low high e =
     split operation 235 _ _ (got i rest) e
@@ -126,7 +131,7 @@ font_is operation bytes rest i low high e =
     fixed_is operation (Do (FontNum (pos (operation - 171)))) i bytes rest spells f)
     (λ above f. coded_is code (λ f. Do (FontNum f)) 234 (operation - 234) operation bytes rest i (omega arith) (omega arith) (omega arith) (λ z a says. inr says) f)
 
-text_is : (n : ℕ) (bytes rest : List ℕ) (i : Instruction) → 1 ≤ n → n ≤ 4 → text_at n bytes ≡ got i rest → Stands i ((238 + n) ∷ bytes) rest
+text_is : (n : ℕ) (bytes rest : List ℕ) (i : Instruction) → 1 ≤ n → n ≤ 4 → text_at n bytes ≡ got i rest → BeginsWith i ((238 + n) ∷ bytes) rest
 unfolding text_at
 text_is n bytes rest i low high e =
     let (count, r, f, g) = followed_is (first_bytes n bytes) (λ count rest. front_image (λ text. Do (Xxx text)) (first_bytes (big_number n count) rest)) i rest e in
@@ -186,7 +191,8 @@ definition_is n d bytes rest e =
     let says : SaysDefinition (defined z sizes names) body = (a, b, c, refl, one, two, three) in
     (number, body, whole, len, value ∙ ap (λ (d : Definition). d.number) same, subst (λ (d : Definition). SaysDefinition d body) same says)
 
-long_is : (operation : ℕ) (bytes rest : List ℕ) (i : Instruction) → 239 ≤ operation → operation ≤ 246 → long_at operation bytes ≡ got i rest → Stands i (operation ∷ bytes) rest
+long_is : (operation : ℕ) (bytes rest : List ℕ) (i : Instruction) → 239 ≤ operation → operation ≤ 246 → long_at operation bytes ≡ got i rest
+    → BeginsWith i (operation ∷ bytes) rest
 unfolding long_at
 long_is operation bytes rest i low high e =
     split operation 243 _ _ (got i rest) e
@@ -213,7 +219,7 @@ comment_is comment bytes rest e =
     let (whole, len) = cut_is k r comment rest g in
     byte_is k bytes r f ∙ ap (λ (x : List ℕ). k ∷ x) whole ∙ ap (λ (n : ℕ). n ∷ (comment ++ rest)) (sym len)
 
-pre_is : (bytes rest : List ℕ) (i : Instruction) → pre_at bytes ≡ got i rest → Stands i (247 ∷ bytes) rest
+pre_is : (bytes rest : List ℕ) (i : Instruction) → pre_at bytes ≡ got i rest → BeginsWith i (247 ∷ bytes) rest
 unfolding pre_at
 pre_is bytes rest i e =
     let (id, r, f, g) = followed_is (byte_at bytes) (λ id rest. front_then (three_at rest) (λ u rest. front_image (λ comment. Pre id (measured u) comment) (comment_at rest))) i rest e in
@@ -244,7 +250,7 @@ closed last u sizes counts = record {
   pages = counts.1;
 }
 
-post_is : (bytes rest : List ℕ) (i : Instruction) → post_at bytes ≡ got i rest → Stands i (248 ∷ bytes) rest
+post_is : (bytes rest : List ℕ) (i : Instruction) → post_at bytes ≡ got i rest → BeginsWith i (248 ∷ bytes) rest
 unfolding post_at
 post_is bytes rest i e =
     let (last, r, f, g) = followed_is (signed_at 4 bytes) (λ last rest. front_then (three_at rest) (λ u rest. front_then (two_at rest) (λ sizes rest. front_image (λ counts. Post (closed last u sizes counts)) (halves_at rest)))) i rest e in
@@ -269,7 +275,7 @@ post_is bytes rest i e =
       spells = subst (λ (k : Instruction). Spells k (248 ∷ body)) same spells;
     }
 
-post_post_is : (bytes rest : List ℕ) (i : Instruction) → post_post_at bytes ≡ got i rest → Stands i (249 ∷ bytes) rest
+post_post_is : (bytes rest : List ℕ) (i : Instruction) → post_post_at bytes ≡ got i rest → BeginsWith i (249 ∷ bytes) rest
 unfolding post_post_at
 post_post_is bytes rest i e =
     let (place, r, f, g) = followed_is (signed_at 4 bytes) (λ place rest. front_image (λ id. PostPost place id) (byte_at rest)) i rest e in
@@ -283,7 +289,8 @@ post_post_is bytes rest i e =
       spells = subst (λ (k : Instruction). Spells k (249 ∷ (a ++ id ∷ []))) same spells;
     }
 
-frame_is : (operation : ℕ) (bytes rest : List ℕ) (i : Instruction) → 247 ≤ operation → frame_at operation bytes ≡ got i rest → Stands i (operation ∷ bytes) rest
+frame_is : (operation : ℕ) (bytes rest : List ℕ) (i : Instruction) → 247 ≤ operation → frame_at operation bytes ≡ got i rest
+    → BeginsWith i (operation ∷ bytes) rest
 unfolding frame_at
 frame_is operation bytes rest i low e =
     split operation 248 _ _ (got i rest) e
@@ -294,7 +301,7 @@ frame_is operation bytes rest i low e =
     (λ h f. by_code operation 249 bytes rest i (omega arith) (post_post_is bytes rest i f))
     (λ a3 f. absurd (cc))))
 
-pub read_spells : (bytes rest : List ℕ) (i : Instruction) → read bytes ≡ got i rest → Stands i bytes rest
+pub read_spells : (bytes rest : List ℕ) (i : Instruction) → read bytes ≡ got i rest → BeginsWith i bytes rest
 unfolding read
 read_spells [] rest i e = absurd (let none : ◌≡◌ {A = Front Instruction} None (got i rest) = e in cc)
 read_spells (operation ∷ bytes) rest i e =

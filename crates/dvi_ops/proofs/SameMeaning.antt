@@ -4,7 +4,7 @@ use Rattle.std.specs.List.{flat_map, AllByRecursion}
 use Rattle.dvi_ops.specs.Instruction.{SetChar, PutChar, FontNum, BodyLeaf, Do, Pop, Eop}
 use Rattle.dvi_ops.specs.Body.{Position, DviState, Widths, Meaning, start, glyph, glyph_of, put_glyph, set_glyph, right, instruction_acts, in_range, kept_in, bounded_acts}
 use Rattle.scaled_core.specs.Mark.{Mark}
-use Rattle.dvi_ops.specs.Forest.{Forest, Empty, Then, Group, flat, marks_ahead, and_then, restored_meaning, meaning}
+use Rattle.dvi_ops.specs.Forest.{Forest, Empty, Then, Group, flat, marks_before, and_then, restored_meaning, meaning}
 use Rattle.dvi_ops.specs.Fonts.{selection_of, selections}
 use Rattle.dvi_ops.specs.File.{FilePart, Idle, Defines, Shows, instructions, page_then, pages_of}
 use Rattle.scaled_core.proofs.EachOf.{all_front, all_back}
@@ -32,11 +32,11 @@ Alike v w m n = (m ≡ n) × Ends (λ s. SameNow v w s.font) m
 then_alike : (v w : Widths) (m : Meaning) (j k : DviState → Meaning) → Ends (λ s. SameNow v w s.font) m → ((s : DviState) → SameNow v w s.font → Alike v w (j s) (k s)) → Alike v w (and_then m j) (and_then m k)
 unfolding Alike Ends
 then_alike v w None j k p next = (refl, tt)
-then_alike v w (Some (marks, s)) j k p next = ahead_alike (j s) (k s) (next s p)
+then_alike v w (Some (marks, s)) j k p next = before_alike (j s) (k s) (next s p)
   where
-    ahead_alike : (m n : Meaning) → Alike v w m n → Alike v w (marks_ahead marks m) (marks_ahead marks n)
-    ahead_alike None n (e, q) = (ap (marks_ahead marks) e, tt)
-    ahead_alike (Some (more, t)) n (e, q) = (ap (marks_ahead marks) e, q)
+    before_alike : (m n : Meaning) → Alike v w m n → Alike v w (marks_before marks m) (marks_before marks n)
+    before_alike None n (e, q) = (ap (marks_before marks) e, tt)
+    before_alike (Some (more, t)) n (e, q) = (ap (marks_before marks) e, q)
 
 -- Two steps that are alike, and two continuations that are alike after them.
 alike_then : (v w : Widths) (m n : Meaning) (j k : DviState → Meaning) → Alike v w m n → ((s : DviState) → SameNow v w s.font → Alike v w (j s) (k s)) → Alike v w (and_then m j) (and_then n k)

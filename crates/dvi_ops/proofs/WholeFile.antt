@@ -10,7 +10,9 @@ use Rattle.dvi_ops.specs.Spelling.{operand, spelling, NumberFits, NumbersFit}
 use Rattle.dvi_ops.specs.Tokens.{IsSpelled, token_instructions, pointers}
 use Rattle.dvi_ops.specs.Fonts.{WidthsByName, definitions, selections, first_definition_of, FontsAreRight, known_after, font, widths_in, width_in, widths_of}
 use Rattle.dvi_ops.specs.File.{FilePart, instructions, MarkedPage, max_pushes, push_depth_of, IsIdle, Frame, IsFile}
-use Rattle.dvi_ops.specs.Layout.{bytes_of, preamble, define, FilePage, WriterKnowledge, after_preamble, file_page_from, knowledge_after, file_pages_from, after_all, front_of, whole_of, stop_of, ending_of, padding_after, Table, table_widths, IsWritable, IsTabled, IsGood, known_in, AreGood, IsClosing}
+use Rattle.dvi_ops.specs.Layout.{bytes_of, preamble, define, FilePage, WriterKnowledge, after_preamble, file_page_from, knowledge_after}
+use Rattle.dvi_ops.specs.Layout.{file_pages_from, after_all, front_of, whole_of, postamble_of, ending_of, padding_after, Table, table_widths}
+use Rattle.dvi_ops.specs.Layout.{IsWritable, IsTabled, IsGood, known_in, AreGood, IsClosing}
 use Rattle.scaled_core.proofs.EachOf.{all_weaker, all_both, all_map}
 use Rattle.dvi_ops.proofs.Appends.{fonts_append}
 use Rattle.dvi_ops.proofs.Layouts.{wrote, says-wrote, written-wrote, bytes_of-append, length-bytes_of-append, definitions-define, defined_right, place_fits, Knows, knows_first, knows_next, page_with}
@@ -60,16 +62,17 @@ pub regroup : (a p t e bytes : List ℕ) → a ++ ((p ++ (t ++ (e ++ []))) ++ by
 regroup a p t e bytes = simp (append_assoc, append-nil)
 
 -- The frame of what is written: instructions before post, post, instructions after it, and post_post.
-unfoldable pub frame_of : (is : List Instruction) (stop : Postamble) (tail : List Instruction) (place padding : ℕ) →
-    AllByRecursion IsWritable is → NumbersFit (Post stop) → AllByRecursion IsWritable tail → place ≡ length (bytes_of is) → place < 2 ^ 31 → 4 ≤ padding →
-    Frame (bytes_of is ++ (bytes_of (Post stop ∷ (tail ++ PostPost (pos place) 2 ∷ [])) ++ replicate padding 223))
-frame_of is stop tail place padding front_fits stop_fits tail_fits at small padded =
-    let post = spelling (Post stop) in
+unfoldable pub frame_of : (is : List Instruction) (postamble : Postamble) (tail : List Instruction) (place padding : ℕ) →
+    AllByRecursion IsWritable is → NumbersFit (Post postamble) → AllByRecursion IsWritable tail → place ≡ length (bytes_of is) → place < 2 ^ 31
+    → 4 ≤ padding →
+    Frame (bytes_of is ++ (bytes_of (Post postamble ∷ (tail ++ PostPost (pos place) 2 ∷ [])) ++ replicate padding 223))
+frame_of is postamble tail place padding front_fits postamble_fits tail_fits at small padded =
+    let post = spelling (Post postamble) in
     let ending = spelling (PostPost (pos place) 2) in
     record {
       front = map wrote is;
       post = post;
-      stop = stop;
+      postamble = postamble;
       tail = map wrote tail;
       ending = ending;
       padding = padding;
@@ -79,31 +82,34 @@ frame_of is stop tail place padding front_fits stop_fits tail_fits at small padd
           ∙ ap₂ (λ (a b : List ℕ). a ++ (post ++ (b ++ (ending ++ replicate padding 223)))) (sym (written-wrote is)) (sym (written-wrote tail)));
       padded = padded;
       front_spelled = all_spelled is front_fits;
-      post_spelled = written_is_spelled (Post stop) tt stop_fits;
+      post_spelled = written_is_spelled (Post postamble) tt postamble_fits;
       tail_spelled = all_spelled tail tail_fits;
       ending_spelled = subst (λ n. Spells (PostPost (pos n) 2) ending) (at ∙ ap length (sym (written-wrote is))) (written_is_spelled (PostPost (pos place) 2) tt (record { sfits = small }));
     }
 
 -- The facts about such bytes where they are a file.
-pub facts_of_written : (is : List Instruction) (stop : Postamble) (tail : List Instruction) (place padding : ℕ) (metrics : WidthsByName) (pages : List MarkedPage) →
-    AllByRecursion IsWritable is → NumbersFit (Post stop) → AllByRecursion IsWritable tail → place ≡ length (bytes_of is) → place < 2 ^ 31 → 4 ≤ padding →
-    IsFile metrics (bytes_of is ++ (bytes_of (Post stop ∷ (tail ++ PostPost (pos place) 2 ∷ [])) ++ replicate padding 223)) pages → Facts metrics (map wrote is) stop (map wrote tail) pages
+pub facts_of_written : (is : List Instruction) (postamble : Postamble) (tail : List Instruction) (place padding : ℕ) (metrics : WidthsByName)
+    (pages : List MarkedPage) →
+    AllByRecursion IsWritable is → NumbersFit (Post postamble) → AllByRecursion IsWritable tail → place ≡ length (bytes_of is) → place < 2 ^ 31
+    → 4 ≤ padding →
+    IsFile metrics (bytes_of is ++ (bytes_of (Post postamble ∷ (tail ++ PostPost (pos place) 2 ∷ [])) ++ replicate padding 223)) pages
+    → Facts metrics (map wrote is) postamble (map wrote tail) pages
 unfolding frame_of
-facts_of_written is stop tail place padding metrics pages front_fits stop_fits tail_fits at small padded f =
-    facts_at metrics _ pages f (frame_of is stop tail place padding front_fits stop_fits tail_fits at small padded)
+facts_of_written is postamble tail place padding metrics pages front_fits postamble_fits tail_fits at small padded f =
+    facts_at metrics _ pages f (frame_of is postamble tail place padding front_fits postamble_fits tail_fits at small padded)
 
 module _ (metrics : WidthsByName) (table : Table) (s : WriterKnowledge) (known : List Definition) (is : List Instruction) (parts : List FilePart) (pages : List MarkedPage)
     (tall wide : ℤ) (closing : List Definition) (padding : ℕ)
     (t : Knows metrics table s known is parts pages) (c : IsClosing table known closing) (tall_fits : NumberFits tall) (wide_fits : NumberFits wide) (small : s.size < 2 ^ 31) (padded : 4 ≤ padding) where
-  stop : Postamble
-  stop = stop_of s tall wide (length pages)
+  postamble : Postamble
+  postamble = postamble_of s tall wide (length pages)
 
   whole_bytes : List ℕ
-  whole_bytes = bytes_of is ++ ending_of s stop closing padding
+  whole_bytes = bytes_of is ++ ending_of s postamble closing padding
 
-  stop_fits : NumbersFit (Post stop)
-  unfolding stop
-  stop_fits =
+  postamble_fits : NumbersFit (Post postamble)
+  unfolding postamble
+  postamble_fits =
       let shallow = t.shallow in
       (place_fits s.size s.last t.last small, (record { sfits = lit< tt }, record { sfits = lit< tt }, record { sfits = lit< tt }), tall_fits, wide_fits, omega arith, omega arith)
 
@@ -113,7 +119,7 @@ module _ (metrics : WidthsByName) (table : Table) (s : WriterKnowledge) (known :
 
   frame : Frame whole_bytes
   unfolding whole_bytes
-  frame = frame_of is stop (define closing) s.size padding t.writable stop_fits closing_fits t.size small padded
+  frame = frame_of is postamble (define closing) s.size padding t.writable postamble_fits closing_fits t.size small padded
 
   definitions_tail : definitions (token_instructions (map wrote (define closing))) ≡ closing
   definitions_tail = ap definitions (says-wrote (define closing)) ∙ definitions-define closing
@@ -131,7 +137,7 @@ module _ (metrics : WidthsByName) (table : Table) (s : WriterKnowledge) (known :
       subst (λ (d : Option Definition). IsSome (widths_in metrics d)) (sym (ap (first_definition_of f) definitions_tail ∙ closes f some)) widths
 
   file : IsFile metrics whole_bytes pages
-  unfolding frame stop frame_of
+  unfolding frame postamble frame_of
   file =
       record {
         frame = frame;
@@ -168,10 +174,12 @@ same_length metrics table known (p ∷ ps) (page ∷ pages) (counts, here, good)
 pub whole_file : (metrics : WidthsByName) (table : Table) (ps : List FilePage) (pages : List MarkedPage) (tall wide : ℤ) (closing : List Definition) (padding : ℕ) →
     AreGood metrics table [] ps pages → IsClosing table (known_in [] ps) closing → NumberFits tall → NumberFits wide → (after_all after_preamble ps).size < 2 ^ 31 → 4 ≤ padding →
     IsFile metrics (whole_of ps tall wide closing padding) pages
-unfolding whole_bytes stop
+unfolding whole_bytes postamble
 whole_file metrics table ps pages tall wide closing padding good closed tall_fits wide_fits small padded =
     let all = knows_all metrics table after_preamble [] (preamble ∷ []) [] [] ps pages (knows_first metrics table) good small in
-    subst (λ count. IsFile metrics (front_of ps ++ ending_of (after_all after_preamble ps) (stop_of (after_all after_preamble ps) tall wide count) closing padding) pages) (same_length metrics table [] ps pages good)
+    subst (λ count. IsFile metrics
+    (front_of ps ++ ending_of (after_all after_preamble ps) (postamble_of (after_all after_preamble ps) tall wide count) closing padding) pages)
+    (same_length metrics table [] ps pages good)
     (file metrics table (after_all after_preamble ps) (known_in [] ps) (preamble ∷ file_pages_from after_preamble ps) all.0 pages tall wide closing padding all.1 closed tall_fits wide_fits small padded)
 
 -- One more page: the writer's numbers, its bytes, and that the pages are good.

@@ -59,14 +59,14 @@ AreUnits u = (pos 0 <ℤ u.num) × (pos 0 <ℤ u.den) × (pos 0 <ℤ u.mag)
 pub record Frame (bytes : List ℕ) : Type 0 where
   pub front : List Token
   pub post : List ℕ
-  pub stop : Postamble
+  pub postamble : Postamble
   pub tail : List Token
   pub ending : List ℕ
   pub padding : ℕ
   pub whole : bytes ≡ token_bytes front ++ (post ++ (token_bytes tail ++ (ending ++ replicate padding 223)))
   pub padded : 4 ≤ padding
   pub front_spelled : AllByRecursion IsSpelled front
-  pub post_spelled : Spells (Post stop) post
+  pub post_spelled : Spells (Post postamble) post
   pub tail_spelled : AllByRecursion IsSpelled tail
   pub ending_spelled : Spells (PostPost (pos (length (token_bytes front))) 2) ending
 
@@ -77,21 +77,21 @@ pub record IsFile (metrics : WidthsByName) (bytes : List ℕ) (pages : List Mark
   -- 14, 17 and 19).
   pub comment : List ℕ
   pub parts : List FilePart
-  pub front_is : token_instructions frame.front ≡ Pre 2 frame.stop.units comment ∷ flat_map instructions parts
+  pub front_is : token_instructions frame.front ≡ Pre 2 frame.postamble.units comment ∷ flat_map instructions parts
   pub tail_is : AllByRecursion IsIdle (token_instructions frame.tail)
   -- The values num, den and mag are positive, and the same in preamble and postamble (DVItype, 17 and 19).
-  pub units : AreUnits frame.stop.units
+  pub units : AreUnits frame.postamble.units
   -- The first bop names -1, each other bop the one before it, and post the last one (DVItype, 15 and 19).
-  pub chain : pointers (token_instructions frame.front) ++ frame.stop.last_bop ∷ [] ≡ negsuc 0 ∷ map pos (places 0 frame.front)
+  pub chain : pointers (token_instructions frame.front) ++ frame.postamble.last_bop ∷ [] ≡ negsuc 0 ∷ map pos (places 0 frame.front)
   -- The operand of post is the number of pages modulo 65536 (DVItype, 19).
-  pub count : frame.stop.pages ≡ length pages % 65536
+  pub count : frame.postamble.pages ≡ length pages % 65536
   -- Each definition has a size and agrees with earlier ones, and each font is defined before it is selected (DVItype, 18).
   pub fonts : FontsAreRight [] (token_instructions frame.front ++ token_instructions frame.tail)
   -- A selected font is defined in the postamble too (DVItype, 19), and its metric file is known.
   pub closing : AllByRecursion (λ f. IsSome (font metrics (definitions (token_instructions frame.tail)) f))
       (selections (token_instructions frame.front))
   -- No more pushes are open than post allows (DVItype, 19), and no more than `max_pushes`.
-  pub depth : AllByRecursion (λ part. push_depth_of part ≤ min max_pushes frame.stop.stack_depth) parts
+  pub depth : AllByRecursion (λ part. push_depth_of part ≤ min max_pushes frame.postamble.stack_depth) parts
   -- The pages, with h and v in signed 32 bits.
   pub shows : pages_of (bounded_acts (instruction_acts (widths_of metrics (definitions (token_instructions frame.tail))))) parts ≡ Some pages
 

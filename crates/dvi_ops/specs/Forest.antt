@@ -17,14 +17,14 @@ flat (Then i rest) = Do i ∷ flat rest
 flat (Group inner rest) = Push ∷ (flat inner ++ Pop ∷ flat rest)
 
 -- A meaning with more marks before its own marks.
-abbrev pub marks_ahead : List Mark → Meaning → Meaning
-marks_ahead marks None = None
-marks_ahead marks (Some (more, s)) = Some (marks ++ more, s)
+abbrev pub marks_before : List Mark → Meaning → Meaning
+marks_before marks None = None
+marks_before marks (Some (more, s)) = Some (marks ++ more, s)
 
 -- A meaning, and then a second one from its last state.
 abbrev pub and_then : Meaning → (DviState → Meaning) → Meaning
 and_then None next = None
-and_then (Some (marks, s)) next = marks_ahead marks (next s)
+and_then (Some (marks, s)) next = marks_before marks (next s)
 
 -- The state after a group: the place from before it, and the font from its end (DVItype, 15: pop).
 abbrev pub restored_meaning : Position → Meaning → Meaning

@@ -70,23 +70,23 @@ abbrev pub front_of : List FilePage → List ℕ
 front_of file_pages = bytes_of (preamble ∷ file_pages_from after_preamble file_pages)
 
 -- The operands of post, with the greatest sizes of the pages and their number.
-abbrev pub stop_of : WriterKnowledge → (tall wide : ℤ) → (count : ℕ) → Postamble
-stop_of s tall wide count =
+abbrev pub postamble_of : WriterKnowledge → (tall wide : ℤ) → (count : ℕ) → Postamble
+postamble_of s tall wide count =
     record { last_bop = s.last; units = scaled_points; height_plus_depth = tall; width = wide; stack_depth = s.depth; pages = count % 65536 }
 
 -- The instructions of the postamble: post, definitions of fonts, and post_post, which names the place of post.
 abbrev pub closing_of : WriterKnowledge → Postamble → List Definition → List Instruction
-closing_of s stop closing = Post stop ∷ (define closing ++ PostPost (pos s.size) 2 ∷ [])
+closing_of s postamble closing = Post postamble ∷ (define closing ++ PostPost (pos s.size) 2 ∷ [])
 
 -- The bytes from post to the end of a file.
 abbrev pub ending_of : WriterKnowledge → Postamble → List Definition → (padding : ℕ) → List ℕ
-ending_of s stop closing padding = bytes_of (closing_of s stop closing) ++ replicate padding 223
+ending_of s postamble closing padding = bytes_of (closing_of s postamble closing) ++ replicate padding 223
 
 -- The whole file, with these greatest sizes, and these definitions in the postamble.
 abbrev pub whole_of : List FilePage → (tall wide : ℤ) → List Definition → (padding : ℕ) → List ℕ
 whole_of file_pages tall wide closing padding =
     front_of file_pages ++ ending_of (after_all after_preamble file_pages)
-    (stop_of (after_all after_preamble file_pages) tall wide (length file_pages)) closing padding
+    (postamble_of (after_all after_preamble file_pages) tall wide (length file_pages)) closing padding
 
 -- How many bytes 223 follow `size` bytes: 4 to 7, so that the length is a multiple of 4 (TeX: The Program, part 32, §642).
 abbrev pub padding_after : ℕ → ℕ

@@ -25,8 +25,8 @@ abbrev pub units : Measures → Units
 units u = record { num = u.num; den = u.den; mag = u.mag }
 
 -- The operands of post that a value of the code represents.
-abbrev pub postamble : Closing → Postamble
-postamble p = record {
+abbrev pub view_postamble : Closing → Postamble
+view_postamble p = record {
   last_bop = p.last_bop;
   units = units p.units;
   height_plus_depth = p.height_plus_depth;
@@ -64,5 +64,5 @@ view (ops.FontDef d) = Do (FontDef (definition d))
 view (ops.Bop counts pointer) = Bop counts pointer
 view ops.Eop = Eop
 view (ops.Pre id u comment) = Pre id (units u) comment.now
-view (ops.Post p) = Post (postamble p)
+view (ops.Post p) = Post (view_postamble p)
 view (ops.PostPost place id) = PostPost place id

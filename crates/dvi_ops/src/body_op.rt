@@ -1,4 +1,4 @@
-//! The instructions of the bodies of pages. A body that is drawn is a list of these: an `Op` has room for every instruction of a file, and is larger.
+//! The instructions of the bodies of pages. A body that is drawn is a list of these: an `Op` holds every instruction of a file, and is larger.
 
 /// An instruction of a page body that defines no font, without the length of its operand (DVItype, 15 and 16).
 #[derive(Clone, Copy, Debug, PartialEq)]

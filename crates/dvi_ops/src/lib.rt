@@ -3,13 +3,13 @@
 
 pub mod body_op;
 mod body_spelling;
-pub mod dvi_file;
+pub mod dvi_file_laws;
 mod fault;
 pub mod laws;
 pub mod op;
 pub mod opcodes;
 mod operand;
-pub mod page_body;
+pub mod page_body_laws;
 mod page_runs;
 mod reading;
 mod run_spelling;

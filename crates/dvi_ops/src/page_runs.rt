@@ -18,20 +18,20 @@ pub struct PageRuns<'a> {
     ghost rising: { IsRising 0 places.items (length codes.items) } by { IsRising-prop 0 places.items (length codes.items) },
 }
 
-/// Makes room for one more item where there is none. This is rare, and apart it does not fill the loops that append.
+/// Makes space for one more item where there is none. This is rare, and apart it does not fill the loops that append.
 #[inline(never)]
 fn grow<T>(list: &mut Vec<T>) -> Result<(), AllocError>
     ensures items { list.new.items ≡ list.old.items }
-    ensures room { OnOk result (vec_len list.new < vec_capacity list.new) }
+    ensures space { OnOk result (vec_len list.new < vec_capacity list.new) }
 {
     list.reserve(1)
 }
 
-/// Makes room for one more item. Mostly it is there.
+/// Makes space for one more item. Mostly it is there.
 #[inline(always)]
-fn make_room<T>(list: &mut Vec<T>) -> Result<(), AllocError>
+fn make_space<T>(list: &mut Vec<T>) -> Result<(), AllocError>
     ensures items { list.new.items ≡ list.old.items }
-    ensures room { OnOk result (vec_len list.new < vec_capacity list.new) }
+    ensures space { OnOk result (vec_len list.new < vec_capacity list.new) }
 {
     if list.len() < list.capacity() {
         return Ok(());
@@ -44,15 +44,15 @@ impl<'a> PageRuns<'a> {
     ghost use Rattle.dvi_ops.specs.Runs.{instructions_of};
     ghost use Rattle.dvi_ops.specs.View.{body_view};
 
-    /// A body without instructions, with capacity for `room` characters and a quarter of that of other instructions.
+    /// A body without instructions, with capacity for `capacity` characters and a quarter of that of other instructions.
     #[tactic(auto, unfolding(crate::specs::Runs::instructions_of))]
-    pub fn new(alloc: Global, room: usize) -> Result<PageRuns<'a>, AllocError>
+    pub fn new(alloc: Global, capacity: usize) -> Result<PageRuns<'a>, AllocError>
         ensures { IfOk result (λ runs. instructions_of runs ≡ []) }
     {
         Ok(PageRuns {
-            codes: Vec::with_capacity(alloc, room)?,
-            places: Vec::with_capacity(alloc, room / 4)?,
-            ops: Vec::with_capacity(alloc, room / 4)?,
+            codes: Vec::with_capacity(alloc, capacity)?,
+            places: Vec::with_capacity(alloc, capacity / 4)?,
+            ops: Vec::with_capacity(alloc, capacity / 4)?,
         })
     }
 
@@ -89,13 +89,13 @@ impl<'a> PageRuns<'a> {
         Ok(())
     }
 
-    /// Appends a character where there is room for it, and returns whether it did. It takes no memory.
+    /// Appends a character where there is space for it, and returns whether it did. It takes no memory.
     #[tactic(auto, unfolding(crate::specs::Runs::instructions_of))]
     #[inline(always)]
-    pub fn push_in_room(&mut self, code: u8) -> bool
+    pub fn push_in_space(&mut self, code: u8) -> bool
         ensures pushed { result ≡ true → instructions_of self.new ≡ instructions_of self.old ++ Do (SetChar (pos code)) ∷ [] }
         ensures full { result ≡ false → self.new ≡ self.old }
-        ensures room { vec_len self.old.codes < vec_capacity self.old.codes → result ≡ true }
+        ensures space { vec_len self.old.codes < vec_capacity self.old.codes → result ≡ true }
     {
         if self.codes.len() >= self.codes.capacity() {
             return false;
@@ -112,8 +112,8 @@ impl<'a> PageRuns<'a> {
         ensures ok { OnOk result (instructions_of self.new ≡ instructions_of self.old ++ body_view op.entry ∷ []) }
         ensures err { OnErr result (instructions_of self.new ≡ instructions_of self.old) }
     {
-        make_room(&mut self.places)?;
-        make_room(&mut self.ops)?;
+        make_space(&mut self.places)?;
+        make_space(&mut self.ops)?;
         self.places.push_reserved(self.codes.len());
         self.ops.push_reserved(op);
         Ok(())

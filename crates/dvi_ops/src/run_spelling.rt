@@ -26,11 +26,11 @@ fn split_codes(codes: &[u8], count: usize) -> (&[u8], &[u8])
     }
 }
 
-/// Appends a character whose code is its spelling, where there is room.
+/// Appends a character whose code is its spelling, where there is space.
 #[tactic(auto, unfolding(crate::specs::Spelling::spelling, crate::specs::Spelling::leaf_spelling, crate::specs::Spelling::char_spelling))]
 #[inline(always)]
 fn append_plain_character(out: &mut Vec<u8>, code: u8)
-    requires room { vec_len out.old < vec_capacity out.old }
+    requires space { vec_len out.old < vec_capacity out.old }
     requires plain { code < 128 }
     ensures items { out.new.items ≡ out.old.items ++ spelling (Do (SetChar (pos code))) }
     ensures len { vec_len out.new ≡ vec_len out.old + 1 }
@@ -39,7 +39,7 @@ fn append_plain_character(out: &mut Vec<u8>, code: u8)
     out.push_reserved(code);
 }
 
-/// Appends the spellings of the first characters, as far as their codes are their spellings, where there is room for as many bytes as there are
+/// Appends the spellings of the first characters, as far as their codes are their spellings, where there is space for as many bytes as there are
 /// characters; and returns the number of these. Nearly all characters are such, and each is a store without another test.
 #[inline(always)]
 fn append_plain(out: &mut Vec<u8>, codes: &[u8]) -> usize

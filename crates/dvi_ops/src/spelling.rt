@@ -8,7 +8,7 @@ ghost use Rattle.dvi_ops.specs.Spelling.{coded_signed};
 ghost use Rattle.dvi_ops.specs.Spelling.{definition_spelling, font_spelling, leaf_spelling, operand, post_bytes, signed_size, spelling};
 ghost use Rattle.dvi_ops.specs.Spelling.{text_spelling, units_bytes};
 ghost use Rattle.dvi_ops.specs.Table.{Spells};
-ghost use Rattle.dvi_ops.specs.View.{definition, postamble, units as view_units, view};
+ghost use Rattle.dvi_ops.specs.View.{definition, view_postamble, units as view_units, view};
 
 use crate::body_spelling::spell_body;
 use crate::op::{FontDefinition, Op, Postamble, Units};
@@ -86,14 +86,14 @@ pub fn size_of_code(value: i32) -> usize
     }
 }
 
-/// Appends the code for an operand of `size` bytes, and the `size` lowest bytes of a number. `first` is the code for an operand of one byte. Room is
+/// Appends the code for an operand of `size` bytes, and the `size` lowest bytes of a number. `first` is the code for an operand of one byte. Space is
 /// made first, so each byte is a store without a call.
 #[tactic(auto, using(crate::proofs::Operands::operands))]
 pub fn append_coded(out: &mut Vec<u8>, first: u8, size: usize, value: i32) -> Result<(), AllocError>
     requires low { 1 ≤ size }
     requires high { size ≤ 4 }
     requires code { 1 ≤ first }
-    requires room { first + 3 < 256 }
+    requires space { first + 3 < 256 }
     ensures ok { OnOk result (out.new.items ≡ out.old.items ++ code_and_number (first - 1) size value) }
     ensures err { OnErr result (out.new.items ≡ out.old.items) }
 {
@@ -135,7 +135,7 @@ pub fn append_font(out: &mut Vec<u8>, font: i32) -> Result<(), AllocError>
 /// Appends a movement with an amount, in its shortest form. `first` is the code of the form with one byte.
 pub fn append_signed(out: &mut Vec<u8>, first: u8, amount: i32) -> Result<(), AllocError>
     requires code { 1 ≤ first }
-    requires room { first + 3 < 256 }
+    requires space { first + 3 < 256 }
     ensures ok { OnOk result (out.new.items ≡ out.old.items ++ coded_signed (first - 1) amount) }
     ensures err { OnErr result (out.new.items ≡ out.old.items) }
 {
@@ -268,8 +268,8 @@ fn two_halves(first: u16, second: u16) -> [u8; 4]
 
 /// Appends the beginning of the postamble.
 fn append_post(out: &mut Vec<u8>, post: &Postamble) -> Result<(), AllocError>
-    ensures ok { OnOk result (out.new.items ≡ out.old.items ++ 248 ∷ post_bytes (postamble post.now)) }
-    ensures fits { NumbersFit (Post (postamble post.now)) }
+    ensures ok { OnOk result (out.new.items ≡ out.old.items ++ 248 ∷ post_bytes (view_postamble post.now)) }
+    ensures fits { NumbersFit (Post (view_postamble post.now)) }
     ensures err { OnErr result (out.new.items ≡ out.old.items) }
 {
     append(

@@ -9,14 +9,14 @@ use Rattle.dvi_ops.specs.Table.{Spells}
 use Rattle.dvi_scan.specs.Drawing.{reached_position}
 use Rattle.dvi_scan.specs.Execution.{inside_of, pass_at}
 use Rattle.dvi_scan.specs.Pass.{PassStateView, Between, Inside, execute, with_marks}
-use Rattle.dvi_scan.specs.View.{mark_of, marked_page, spot_position, standing_state}
+use Rattle.dvi_scan.specs.View.{mark_of, marked_page, spot_position, dvi_state}
 use Rattle.dvi_scan.specs.declared.executing.OpenPage.{OpenPage}
 use Rattle.dvi_scan.specs.declared.executing.PassState.{PassState}
-use Rattle.dvi_scan.specs.declared.executing.PassState.TheVariants as stands
+use Rattle.dvi_scan.specs.declared.executing.PassState.TheVariants as states
 use Rattle.dvi_scan.specs.declared.page.Position.{Position as Spot}
 use Rattle.dvi_scan.proofs.PlaceLemmas.{one_byte}
 use Rattle.dvi_read.specs.ReadFonts.{asked_width, selected_in}
-use Rattle.dvi_read.specs.Steps.{FontsAreRead, known_of, stand_of}
+use Rattle.dvi_read.specs.Steps.{FontsAreRead, known_of, pass_state_of}
 use Rattle.dvi_read.specs.Walks.{IsWalked, bare}
 use Rattle.dvi_read.specs.declared.check.walk.Walk.{Walk}
 use Rattle.dvi_read.proofs.HeldLemmas.{walked_turn}
@@ -82,31 +82,38 @@ placed_at s (Between pages) = Between pages
 placed_at s (Inside pages counts marks stack old) = Inside pages counts marks stack s
 
 -- A walk passes over a character of one byte.
-module _ (metrics : WidthsByName) (ahead : List ℤ) (bytes : List ℕ) (stop : Postamble) (chain : List ℕ) (at : ℕ) (old : Walk) (page : OpenPage) (inside : old.stand ≡ stands.Inside page) where
+module _ (metrics : WidthsByName) (after_post : List ℤ) (bytes : List ℕ) (postamble : Postamble) (chain : List ℕ) (at : ℕ) (old : Walk)
+    (page : OpenPage) (inside : old.pass_state ≡ states.Inside page) where
   pub character_passed : (place : Spot) (n : ℕ) (f w : ℤ) → at < length bytes → get_or bytes at 0 ≡ n → n < 128 → page.state.font ≡ Some f → asked_width old.fonts (Some (pos n)) ≡ Some w
-      → Some (spot_position place) ≡ reached_position (moved_by w (spot_position page.state.place)) → IsWalked metrics ahead bytes stop chain at old
-      → IsWalked metrics ahead bytes stop chain (at + 1) (record old { stand = stands.Inside (record page { state = record page.state { place = place } }) })
+      → Some (spot_position place) ≡ reached_position (moved_by w (spot_position page.state.place))
+      → IsWalked metrics after_post bytes postamble chain at old
+      → IsWalked metrics after_post bytes postamble chain (at + 1)
+      (record old { pass_state = states.Inside (record page { state = record page.state { place = place } }) })
   character_passed place n f w within byte small font width there walked =
       let pages = map marked_page old.done.items in
       let marks = map mark_of page.marks.items in
       let stack = reverse (map spot_position page.stack.items) in
       let s : DviState = record { place = spot_position place; font = page.state.font } in
       let i : Instruction = Do (SetChar (pos n)) in
-      let most : ℕ = min 1024 stop.stack_depth in
-      let new : Walk = record old { stand = stands.Inside (record page { state = record page.state { place = place } }) } in
-      let open_page : stand_of old ≡ inside_of pages page = ap (λ (stand : PassState). pass_at pages stand) inside in
-      let chosen : selected_in old.stand ≡ Some f = ap selected_in inside ∙ font in
+      let most : ℕ = min 1024 postamble.stack_depth in
+      let new : Walk = record old { pass_state = states.Inside (record page { state = record page.state { place = place } }) } in
+      let open_page : pass_state_of old ≡ inside_of pages page = ap (λ (pass_state : PassState). pass_at pages pass_state) inside in
+      let chosen : selected_in old.pass_state ≡ Some f = ap selected_in inside ∙ font in
       let known_width : widths_of metrics (known_of old) f (pos n) ≡ Some w = sym (width_of_read metrics (known_of old) old.fonts (pos n) f walked.sound (walked.current f chosen)) ∙ width in
       let after : PassStateView = Inside pages page.counts (marks ++ Glyph f (pos n) page.state.place.h page.state.place.v ∷ []) stack s in
       let turns : execute (bounded_acts (instruction_acts (widths_of metrics (known_of old)))) most i (inside_of pages page) ≡ Some after =
-      set_turn (widths_of metrics (known_of old)) most (pos n) pages page.counts marks stack (standing_state page.state) f w place font known_width there in
+      set_turn (widths_of metrics (known_of old)) most (pos n) pages page.counts marks stack (dvi_state page.state) f w place font
+      known_width there in
       let goes : execute (bounded_acts (instruction_acts (widths_of metrics (known_of old)))) most i (bare walked.pass) ≡ Some after =
-      subst (λ (p : PassStateView). execute (bounded_acts (instruction_acts (widths_of metrics (known_of old)))) most i p ≡ Some after) (sym open_page ∙ walked.stand) turns in
-      let alone : inside_of pages page ≡ Inside [] page.counts [] stack (standing_state page.state) = bare_twice (inside_of pages page) walked.pass (sym open_page ∙ walked.stand) in
+      subst (λ (p : PassStateView). execute (bounded_acts (instruction_acts (widths_of metrics (known_of old)))) most i p ≡ Some after)
+      (sym open_page ∙ walked.pass_state) turns in
+      let alone : inside_of pages page ≡ Inside [] page.counts [] stack (dvi_state page.state) =
+      bare_twice (inside_of pages page) walked.pass (sym open_page ∙ walked.pass_state) in
       let one : at + 1 - at ≡ 1 = omega arith in
       let spelled : Spells i (take (at + 1 - at) (drop at bytes)) =
       inl (n, small, refl, one_byte bytes at within ∙ ap (λ (k : ℕ). k ∷ []) byte) in
-      walked_turn metrics ahead bytes stop chain at (at + 1) old new i after (omega arith) (omega arith) walked spelled goes (ap (placed_at s) alone) refl tt (sym (append-nil (known_of old))) tt tt
+      walked_turn metrics after_post bytes postamble chain at (at + 1) old new i after (omega arith) (omega arith) walked spelled goes
+      (ap (placed_at s) alone) refl tt (sym (append-nil (known_of old))) tt tt
       (subst (λ (fs : List ℤ). FontsAreRead old.fonts fs) (sym (append-nil walked.selected)) walked.read) walked.sound (λ g e. walked.current g (ap selected_in inside ∙ e))
 
 -- Two states that are some.

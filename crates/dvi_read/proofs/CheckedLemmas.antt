@@ -21,11 +21,11 @@ use Rattle.dvi_scan.specs.Preamble.{HasPreamble}
 use Rattle.dvi_scan.specs.Reached.{IsReached, PlacesLeft, ReadSoFar, all_left}
 use Rattle.dvi_read.specs.Opening.{IsDviFault}
 use Rattle.dvi_read.specs.Private.OpeningParts.{HasPassed, IsFinishFault}
-use Rattle.dvi_read.specs.PageMarks.{HasGlyphWidths, HasRoomFor, IsGlyphWidth, marks_of, read_width}
+use Rattle.dvi_read.specs.PageMarks.{HasGlyphWidths, HasSpaceFor, IsGlyphWidth, marks_of, read_width}
 use Rattle.dvi_read.specs.ReadFonts.{AreSound, FontIsRead, font_place, read_font_at, width_in}
-use Rattle.dvi_read.specs.SeenAhead.{HasRest}
-use Rattle.dvi_read.specs.Steps.{FontsAreRead, known_of, places_left, stand_of}
-use Rattle.dvi_read.specs.Stops.{PagesHaveEnded}
+use Rattle.dvi_read.specs.ItemsLeft.{HasRest}
+use Rattle.dvi_read.specs.Steps.{FontsAreRead, known_of, places_left, pass_state_of}
+use Rattle.dvi_read.specs.WalkFaults.{PagesHaveEnded}
 use Rattle.dvi_read.specs.Walks.{bare, read_in}
 use Rattle.dvi_read.specs.declared.fault.DviFault.{DviFault}
 use Rattle.dvi_read.specs.declared.fault.DviFault.TheVariants as faults
@@ -48,19 +48,23 @@ same_read metrics table fonts f sound is_read c =
     ap (λ (o : Option (ℤ → Option ℤ)). width_of_font o c) widths ∙ sym (ap (λ (o : Option SizedFont). width_in o c) found)
 
 -- The instructions after the preamble make the pages of the file.
-pub checked_rest : (metrics : WidthsByName) (ahead : List ℤ) (bytes : List ℕ) (stop : Postamble) (chain : List ℕ) (from post : ℕ) (s : ReadSoFar) (fonts : ReadFonts) (pages : List MarkedPage)
-    → ((k : ℕ) → slice_index bytes k < 256) → post ≤ length bytes → HasPreamble bytes post stop from → IsReached metrics ahead bytes stop chain post s → s.pass ≡ Between pages → s.left ≡ all_left []
-    → FontsAreRead fonts s.selected → AreSound metrics s.known fonts → (rest : HasRest bytes from post (min 1024 stop.stack_depth) fonts [] (Between []) pages) × (places from rest.rest ≡ reverse chain)
-checked_rest metrics ahead bytes stop chain from post s fonts pages small high preamble r between none read sound =
+pub checked_rest : (metrics : WidthsByName) (after_post : List ℤ) (bytes : List ℕ) (postamble : Postamble) (chain : List ℕ) (from post : ℕ)
+    (s : ReadSoFar) (fonts : ReadFonts) (pages : List MarkedPage)
+    → ((k : ℕ) → slice_index bytes k < 256) → post ≤ length bytes → HasPreamble bytes post postamble from
+    → IsReached metrics after_post bytes postamble chain post s → s.pass ≡ Between pages → s.left ≡ all_left []
+    → FontsAreRead fonts s.selected → AreSound metrics s.known fonts
+    → (rest : HasRest bytes from post (min 1024 postamble.stack_depth) fonts [] (Between []) pages) × (places from rest.rest ≡ reverse chain)
+checked_rest metrics after_post bytes postamble chain from post s fonts pages small high preamble r between none read sound =
     let within = preamble.within in
-    let most : ℕ = min 1024 stop.stack_depth in
+    let most : ℕ = min 1024 postamble.stack_depth in
     let front : List ℕ = take from bytes in
     let left : List ℕ = take (post - from) (drop from bytes) in
-    let one = token (Pre 2 stop.units preamble.comment) front in
+    let one = token (Pre 2 postamble.units preamble.comment) front in
     let whole : token_bytes (one ∷ []) ++ left ≡ token_bytes r.before =
     ap (λ (x : List ℕ). x ++ left) (append-nil front) ∙ (sym (take_next bytes from post within high) ∙ sym r.whole) in
     let (more, same, spelled, more_whole) = begins (one ∷ []) r.before left (preamble.spelled, tt) r.spelled whole in
-    let all : Pre 2 stop.units preamble.comment ∷ token_instructions more ≡ Pre 2 stop.units r.comment ∷ r.body = sym (ap token_instructions same) ∙ r.front_is in
+    let all : Pre 2 postamble.units preamble.comment ∷ token_instructions more ≡ Pre 2 postamble.units r.comment ∷ r.body =
+    sym (ap token_instructions same) ∙ r.front_is in
     let body : r.body ≡ token_instructions more = cc in
     let chosen : selections r.body ≡ s.selected = sym (ap (λ (is : List Instruction). selections is) r.front_is) ∙ r.selected_is in
     let all_read : AllByRecursion (λ f. FontIsRead f fonts) (selections r.body) = subst (λ (fs : List ℤ). AllByRecursion (λ f. FontIsRead f fonts) fs) (sym chosen) read in
@@ -99,9 +103,10 @@ rest_widths metrics table bytes from post most fonts pages sound r =
           (λ f is_read c some. read_glyph metrics table fonts f c sound is_read some) (λ f at. absurd cc) r.read tt r.passed;
     }
 
--- The marks and the pages of the rest have room in the file.
-pub rest_room : (bytes : List ℕ) (from post most : ℕ) (fonts : ReadFonts) (pages : List MarkedPage) → HasRest bytes from post most fonts [] (Between []) pages → HasRoomFor bytes pages
-rest_room bytes from post most fonts pages r =
+-- The marks and the pages of the rest have space in the file.
+pub rest_space : (bytes : List ℕ) (from post most : ℕ) (fonts : ReadFonts) (pages : List MarkedPage)
+    → HasRest bytes from post most fonts [] (Between []) pages → HasSpaceFor bytes pages
+rest_space bytes from post most fonts pages r =
     let takes = pass_bytes (read_width fonts) most (token_instructions r.rest) (Between []) (Between pages) r.passed in
     let low = r.low in
     let high = r.high in
@@ -130,34 +135,40 @@ finish_bare bytes post after last p left known (faults.Bad bad) (inr (pages, end
 finish_bare bytes post after last p left known fault broken = absurd broken
 
 -- A walk that has passed over a file, and has ended.
-module _ (files : List NamedBytes) (bytes : List ℕ) (post after last : ℕ) (stop : Postamble) (chain : List ℕ) (from : ℕ) (walk : Walk) (passed : HasPassed files bytes (file_framing post after last stop chain) from walk) where
-  pub checked_fault : (fault : DviFault) → IsFinishFault bytes post after last (stand_of walk) (places_left walk) (known_of walk) fault → IsDviFault files bytes fault
+module _ (files : List NamedBytes) (bytes : List ℕ) (post after last : ℕ) (postamble : Postamble) (chain : List ℕ) (from : ℕ) (walk : Walk)
+    (passed : HasPassed files bytes (file_framing post after last postamble chain) from walk) where
+  pub checked_fault : (fault : DviFault) → IsFinishFault bytes post after last (pass_state_of walk) (places_left walk) (known_of walk) fault
+      → IsDviFault files bytes fault
   checked_fault fault b =
-      finish_refused files bytes post after last stop chain from passed.ahead (read_in passed.pass passed.selected walk) fault passed.has
+      finish_refused files bytes post after last postamble chain from passed.after_post (read_in passed.pass passed.selected walk) fault passed.has
       (finish_bare bytes post after last passed.pass (places_left walk) (known_of walk) fault
-      (subst (λ (p : PassStateView). IsFinishFault bytes post after last p (places_left walk) (known_of walk) fault) passed.stand b))
+      (subst (λ (p : PassStateView). IsFinishFault bytes post after last p (places_left walk) (known_of walk) fault) passed.pass_state b))
 
   -- The widths of the glyphs.
   pub checked_widths : (new : List Definition) (most : ℕ) (pages : List MarkedPage) → ClosesTo bytes after (last - 5) (known_of walk) new → HasRest bytes from post most walk.fonts [] (Between []) pages → (f : Frame bytes)
       → HasGlyphWidths (file_widths files) (definitions (token_instructions f.front ++ token_instructions f.tail)) walk.fonts (marks_of pages)
   checked_widths new most pages closes rest f =
       let (tail, tail_is, new_is) = closes in
-      let all = fonts_read (file_widths files) passed.ahead bytes post after last stop chain (read_in passed.pass passed.selected walk) new passed.has.starts.chained.framed passed.has.reached closes f in
+      let all = fonts_read (file_widths files) passed.after_post bytes post after last postamble chain (read_in passed.pass passed.selected walk) new
+      passed.has.starts.chained.framed passed.has.reached closes f in
       subst (λ (ds : List Definition). HasGlyphWidths (file_widths files) ds walk.fonts (marks_of pages)) (sym new_is ∙ all)
       (more_widths (file_widths files) (known_of walk) (definitions (token_instructions tail)) walk.fonts (marks_of pages)
       (rest_widths (file_widths files) (known_of walk) bytes from post most walk.fonts pages passed.sound rest))
 
-  pub checked_pages : (pages : List MarkedPage) (new : List Definition) → ((k : ℕ) → slice_index bytes k < 256) → PagesHaveEnded (stand_of walk) (places_left walk) pages → ClosesTo bytes after (last - 5) (known_of walk) new
+  pub checked_pages : (pages : List MarkedPage) (new : List Definition) → ((k : ℕ) → slice_index bytes k < 256)
+      → PagesHaveEnded (pass_state_of walk) (places_left walk) pages → ClosesTo bytes after (last - 5) (known_of walk) new
       → (all : List MarkedPage) × IsFile (file_widths files) bytes all
-      × (rest : HasRest bytes from post (min 1024 stop.stack_depth) walk.fonts [] (Between []) all) × (places from rest.rest ≡ reverse chain)
+      × (rest : HasRest bytes from post (min 1024 postamble.stack_depth) walk.fonts [] (Between []) all) × (places from rest.rest ≡ reverse chain)
   checked_pages pages new small ended closes =
-      let (all, done) = bare_ended passed.pass (places_left walk) pages (subst (λ (p : PassStateView). PagesHaveEnded p (places_left walk) pages) passed.stand ended) in
+      let (all, done) = bare_ended passed.pass (places_left walk) pages
+      (subst (λ (p : PassStateView). PagesHaveEnded p (places_left walk) pages) passed.pass_state ended) in
       let has = passed.has in
-      let high = post_within files bytes post after last stop chain has.starts.chained.framed in
+      let high = post_within files bytes post after last postamble chain has.starts.chained.framed in
       let (rest, placed) =
-      checked_rest (file_widths files) passed.ahead bytes stop chain from post (read_in passed.pass passed.selected walk) walk.fonts all small high has.starts.preamble has.reached done.between done.none passed.read passed.sound in (
+      checked_rest (file_widths files) passed.after_post bytes postamble chain from post (read_in passed.pass passed.selected walk) walk.fonts all
+      small high has.starts.preamble has.reached done.between done.none passed.read passed.sound in (
         all,
-        opened files bytes post after last stop chain from passed.ahead (read_in passed.pass passed.selected walk) all new has done closes,
+        opened files bytes post after last postamble chain from passed.after_post (read_in passed.pass passed.selected walk) all new has done closes,
         rest,
         placed,
       )

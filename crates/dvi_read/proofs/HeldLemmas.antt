@@ -11,7 +11,7 @@ use Rattle.dvi_ops.specs.Table.{Spells}
 use Rattle.dvi_ops.specs.Tokens.{bop_place}
 use Rattle.scaled_core.specs.Mark.{Mark}
 use Rattle.scaled_core.proofs.EachOf.{all_append, all_weaker}
-use Rattle.dvi_scan.specs.Execution.{BreaksTurn, IsAllowed, TakesRoom}
+use Rattle.dvi_scan.specs.Execution.{BreaksTurn, IsAllowed, TakesMemory}
 use Rattle.dvi_scan.specs.Pass.{PassStateView, Between, Inside, execute, with_marks}
 use Rattle.dvi_scan.specs.Reached.{HasWidths, IsRightAt, PlacesLeft, after_bops, has_number}
 use Rattle.dvi_scan.specs.declared.fault.DviCause.{DviCause}
@@ -20,8 +20,9 @@ use Rattle.dvi_scan.specs.declared.widths.FontRefusal.{FontRefusal}
 use Rattle.dvi_scan.specs.declared.widths.FontRefusal.TheVariants as refusals
 use Rattle.dvi_scan.proofs.ReachedLemmas.{reached_next}
 use Rattle.dvi_read.specs.ReadFonts.{AreSound, FontIsRead, HasCurrent, IsCurrent, selected_in}
-use Rattle.dvi_read.specs.Steps.{FontsAreRead, known_of, places_left, so_far, stand_of}
-use Rattle.dvi_read.specs.Stops.{PageBytes, page_bytes, BreaksAt, BreaksPages, BreaksRule, InstructionAllocates, IsPagesFault, LacksRoom, LacksWidths}
+use Rattle.dvi_read.specs.Steps.{FontsAreRead, known_of, places_left, so_far, pass_state_of}
+use Rattle.dvi_read.specs.WalkFaults.{PageBytes, page_bytes, BreaksAt, BreaksPages, BreaksRule, InstructionAllocates, IsPagesFault, LacksMemory}
+use Rattle.dvi_read.specs.WalkFaults.{LacksWidths}
 use Rattle.dvi_read.specs.Walks.{IsWalked, bare, read_in}
 use Rattle.dvi_read.specs.Private.Walks.{Reads}
 use Rattle.dvi_read.specs.declared.fault.DviFault.{DviFault}
@@ -105,15 +106,15 @@ bare_breaks does most (Do leaf) (Between pages) cause b = absurd b
 bare_breaks does most i (Inside pages counts marks stack s) cause b = absurd b
 bare_breaks does most i (Between pages) cause b = absurd b
 
-bare_room : (does : Acts) (most : ℕ) (i : Instruction) (p : PassStateView) → TakesRoom does most i (bare p) → TakesRoom does most i p
-bare_room does most Push (Inside pages counts marks stack s) b = b
-bare_room does most Push (Between pages) b = absurd b
-bare_room does most Eop (Inside pages counts marks stack s) b = b
-bare_room does most Eop (Between pages) b = absurd b
-bare_room does most (Do leaf) (Inside pages counts marks stack s) b = b
-bare_room does most (Do leaf) (Between pages) b = absurd b
-bare_room does most i (Inside pages counts marks stack s) b = absurd b
-bare_room does most i (Between pages) b = absurd b
+bare_space : (does : Acts) (most : ℕ) (i : Instruction) (p : PassStateView) → TakesMemory does most i (bare p) → TakesMemory does most i p
+bare_space does most Push (Inside pages counts marks stack s) b = b
+bare_space does most Push (Between pages) b = absurd b
+bare_space does most Eop (Inside pages counts marks stack s) b = b
+bare_space does most Eop (Between pages) b = absurd b
+bare_space does most (Do leaf) (Inside pages counts marks stack s) b = b
+bare_space does most (Do leaf) (Between pages) b = absurd b
+bare_space does most i (Inside pages counts marks stack s) b = absurd b
+bare_space does most i (Between pages) b = absurd b
 
 held_goes : (does : Acts) (most : ℕ) (i : Instruction) (p : PassStateView) → IsSome (execute does most i (bare p)) → IsSome (execute does most i p)
 held_goes does most i p some = by_turn (execute does most i (bare p)) refl some
@@ -124,18 +125,20 @@ held_goes does most i p some = by_turn (execute does most i (bare p)) refl some
 
 -- The same for a fault of the pages.
 module _ (files : List NamedBytes) (part : PageBytes) (at : ℕ) (pass : PassStateView) (selected : List ℤ) (walk : Walk) where
-  lacks_held : (i : Instruction) → LacksRoom files part.ahead (read_in (bare pass) selected walk) i → LacksRoom files part.ahead (read_in pass selected walk) i
+  lacks_held : (i : Instruction) → LacksMemory files part.after_post (read_in (bare pass) selected walk) i
+      → LacksMemory files part.after_post (read_in pass selected walk) i
   lacks_held (Do (FontDef d)) b = b
   lacks_held (Do (FontNum f)) b = record { named = b.named; new = b.new; font = b.font; found = b.found; file = b.file }
   lacks_held i b = absurd b
 
-  rule_held : (i : Instruction) (cause : DviCause) → BreaksRule (file_widths files) part.ahead part.most at (read_in (bare pass) selected walk) i cause
-      → BreaksRule (file_widths files) part.ahead part.most at (read_in pass selected walk) i cause
+  rule_held : (i : Instruction) (cause : DviCause)
+      → BreaksRule (file_widths files) part.after_post part.most at (read_in (bare pass) selected walk) i cause
+      → BreaksRule (file_widths files) part.after_post part.most at (read_in pass selected walk) i cause
   rule_held i cause (inl b) = inl (bare_breaks (instruction_acts (widths_of (file_widths files) (known_of walk))) part.most i pass cause b)
   rule_held i cause (inr (on, b)) = inr (held_goes (bounded_acts (instruction_acts (widths_of (file_widths files) (known_of walk)))) part.most i pass on, b)
 
   at_held : (cause : DviCause) → BreaksAt (file_widths files) part at (read_in (bare pass) selected walk) cause → BreaksAt (file_widths files) part at (read_in pass selected walk) cause
-  at_held cause (i, stands, b) = (i, stands, rule_held i cause b)
+  at_held cause (i, spelled_at, b) = (i, spelled_at, rule_held i cause b)
 
   pages_held : (cause : DviCause) → BreaksPages (file_widths files) part at (read_in (bare pass) selected walk) cause → BreaksPages (file_widths files) part at (read_in pass selected walk) cause
   pages_held Truncated b = b
@@ -144,57 +147,80 @@ module _ (files : List NamedBytes) (part : PageBytes) (at : ℕ) (pass : PassSta
   pages_held cause b = at_held cause b
 
   widths_held : (refusal : FontRefusal) → LacksWidths files part at (read_in (bare pass) selected walk) refusal → LacksWidths files part at (read_in pass selected walk) refusal
-  widths_held refusal (f, stands, selects) =
-      (f, stands, record { goes_on = held_goes (bounded_acts (instruction_acts (widths_of (file_widths files) (known_of walk)))) part.most (Do (FontNum f)) pass selects.goes_on; unread = selects.unread })
+  widths_held refusal (f, spelled_at, selects) = (
+    f,
+    spelled_at,
+    record {
+      goes_on =
+          held_goes (bounded_acts (instruction_acts (widths_of (file_widths files) (known_of walk)))) part.most (Do (FontNum f)) pass selects.goes_on;
+      unread = selects.unread;
+    },
+  )
 
-  allocates_held : (i : Instruction) → InstructionAllocates files part.ahead part.most (read_in (bare pass) selected walk) i → InstructionAllocates files part.ahead part.most (read_in pass selected walk) i
-  allocates_held i (inl b) = inl (bare_room (instruction_acts (widths_of (file_widths files) (known_of walk))) part.most i pass b)
+  allocates_held : (i : Instruction) → InstructionAllocates files part.after_post part.most (read_in (bare pass) selected walk) i
+      → InstructionAllocates files part.after_post part.most (read_in pass selected walk) i
+  allocates_held i (inl b) = inl (bare_space (instruction_acts (widths_of (file_widths files) (known_of walk))) part.most i pass b)
   allocates_held i (inr (on, b)) = inr (held_goes (bounded_acts (instruction_acts (widths_of (file_widths files) (known_of walk)))) part.most i pass on, lacks_held i b)
 
   by_fault : (fault : DviFault) → IsPagesFault files part at (read_in (bare pass) selected walk) fault → IsPagesFault files part at (read_in pass selected walk) fault
-  by_fault faults.OutOfMemory (i, stands, b) = (i, stands, allocates_held i b)
+  by_fault faults.OutOfMemory (i, spelled_at, b) = (i, spelled_at, allocates_held i b)
   by_fault (faults.Bad bad) (place, b) = (place, pages_held bad.cause b)
   by_fault (faults.NoFont name) b = widths_held (refusals.NoFont name) b
   by_fault (faults.BadTfm cause) b = widths_held (refusals.BadTfm cause) b
   by_fault faults.DimensionTooLarge b = widths_held refusals.DimensionTooLarge b
 
-  pub fault_held : (fault : DviFault) → stand_of walk ≡ bare pass → IsPagesFault files part at (so_far selected walk) fault → IsPagesFault files part at (read_in pass selected walk) fault
-  fault_held fault stand b = by_fault fault (subst (λ (p : PassStateView). IsPagesFault files part at (read_in p selected walk) fault) stand b)
+  pub fault_held : (fault : DviFault) → pass_state_of walk ≡ bare pass → IsPagesFault files part at (so_far selected walk) fault
+      → IsPagesFault files part at (read_in pass selected walk) fault
+  fault_held fault pass_state b =
+      by_fault fault (subst (λ (p : PassStateView). IsPagesFault files part at (read_in p selected walk) fault) pass_state b)
 
 -- One more instruction of a walk.
-pub walked_turn : (metrics : WidthsByName) (ahead : List ℤ) (bytes : List ℕ) (stop : Postamble) (chain : List ℕ) (at next : ℕ) (old new : Walk) (i : Instruction) (q : PassStateView)
-    → at ≤ next → next ≤ length bytes → (walked : IsWalked metrics ahead bytes stop chain at old) → Spells i (take (next - at) (drop at bytes))
-    → execute (bounded_acts (instruction_acts (widths_of metrics (known_of old)))) (min 1024 stop.stack_depth) i (bare walked.pass) ≡ Some q → stand_of new ≡ bare q
+pub walked_turn : (metrics : WidthsByName) (after_post : List ℤ) (bytes : List ℕ) (postamble : Postamble) (chain : List ℕ) (at next : ℕ)
+    (old new : Walk) (i : Instruction) (q : PassStateView)
+    → at ≤ next → next ≤ length bytes → (walked : IsWalked metrics after_post bytes postamble chain at old)
+    → Spells i (take (next - at) (drop at bytes))
+    → execute (bounded_acts (instruction_acts (widths_of metrics (known_of old)))) (min 1024 postamble.stack_depth) i (bare walked.pass) ≡ Some q
+    → pass_state_of new ≡ bare q
     → after_bops (bop_place at i) (places_left old) ≡ Some (places_left new) → IsRightAfter (known_of old) i → known_of new ≡ known_of old ++ definitions_in i
-    → AllByRecursion (HasWidths metrics (known_of old)) (selection_of i) → AllByRecursion (λ f. has_number ahead f ≡ true) (selection_of i) → FontsAreRead new.fonts (walked.selected ++ selection_of i)
-    → AreSound metrics (known_of new) new.fonts → IsCurrent new.fonts new.stand → IsWalked metrics ahead bytes stop chain next new
-walked_turn metrics ahead bytes stop chain at next old new i q forward high walked spelled goes stand bop fonts known closing named read sound current =
-    let (pass, turned, same) = held_turn (bounded_acts (instruction_acts (widths_of metrics (known_of old)))) (min 1024 stop.stack_depth) i walked.pass q goes in
+    → AllByRecursion (HasWidths metrics (known_of old)) (selection_of i) → AllByRecursion (λ f. has_number after_post f ≡ true) (selection_of i)
+    → FontsAreRead new.fonts (walked.selected ++ selection_of i)
+    → AreSound metrics (known_of new) new.fonts → IsCurrent new.fonts new.pass_state → IsWalked metrics after_post bytes postamble chain next new
+walked_turn metrics after_post bytes postamble chain at next old new i q forward high walked spelled goes pass_state bop fonts known closing named
+    read sound current =
+    let (pass, turned, same) =
+    held_turn (bounded_acts (instruction_acts (widths_of metrics (known_of old)))) (min 1024 postamble.stack_depth) i walked.pass q goes in
     let selected : List ℤ = walked.selected ++ selection_of i in
-    let right : IsRightAt metrics ahead stop at (read_in walked.pass walked.selected old) i (read_in pass selected new) =
+    let right : IsRightAt metrics after_post postamble at (read_in walked.pass walked.selected old) i (read_in pass selected new) =
     record { goes_on = turned; bop = bop; fonts = fonts; known_is = known; selected_is = refl; closing = closing; named = named } in
     record {
       selected = selected;
       pass = pass;
-      reached = reached_next metrics ahead bytes stop chain at next (read_in walked.pass walked.selected old) (read_in pass selected new) i forward high walked.reached spelled right;
-      stand = stand ∙ sym same;
+      reached = reached_next metrics after_post bytes postamble chain at next (read_in walked.pass walked.selected old) (read_in pass selected new) i
+          forward high walked.reached spelled right;
+      pass_state = pass_state ∙ sym same;
       read = read;
       sound = sound;
       current = current;
     }
 
 -- The same for what the walk has read of it.
-pub walked_next : (metrics : WidthsByName) (ahead : List ℤ) (bytes : List ℕ) (stop : Postamble) (chain : List ℕ) (at post next : ℕ) (old mid new : Walk) → post ≤ length bytes
-    → IsWalked metrics ahead bytes stop chain at old → Reads metrics (page_bytes ahead bytes (min 1024 stop.stack_depth) post) at old mid next → stand_of new ≡ bare (stand_of mid)
-    → selected_in new.stand ≡ selected_in mid.stand → new.fonts ≡ mid.fonts → known_of new ≡ known_of mid → places_left new ≡ places_left mid → IsWalked metrics ahead bytes stop chain next new
-walked_next metrics ahead bytes stop chain at post next old mid new high walked reads stand chosen fonts known left =
+pub walked_next : (metrics : WidthsByName) (after_post : List ℤ) (bytes : List ℕ) (postamble : Postamble) (chain : List ℕ) (at post next : ℕ)
+    (old mid new : Walk) → post ≤ length bytes
+    → IsWalked metrics after_post bytes postamble chain at old
+    → Reads metrics (page_bytes after_post bytes (min 1024 postamble.stack_depth) post) at old mid next
+    → pass_state_of new ≡ bare (pass_state_of mid)
+    → selected_in new.pass_state ≡ selected_in mid.pass_state → new.fonts ≡ mid.fonts → known_of new ≡ known_of mid
+    → places_left new ≡ places_left mid → IsWalked metrics after_post bytes postamble chain next new
+walked_next metrics after_post bytes postamble chain at post next old mid new high walked reads pass_state chosen fonts known left =
     let steps = reads.steps in
     let forward = reads.forward in
     let within = reads.within in
     let does : Acts = bounded_acts (instruction_acts (widths_of metrics (known_of old))) in
-    let goes : execute does (min 1024 stop.stack_depth) reads.here (bare walked.pass) ≡ Some (stand_of mid) =
-    subst (λ (p : PassStateView). execute does (min 1024 stop.stack_depth) reads.here p ≡ Some (stand_of mid)) walked.stand steps.goes_on in
-    walked_turn metrics ahead bytes stop chain at next old new reads.here (stand_of mid) (omega arith) (omega arith) walked reads.spelled goes stand
+    let goes : execute does (min 1024 postamble.stack_depth) reads.here (bare walked.pass) ≡ Some (pass_state_of mid) =
+    subst (λ (p : PassStateView). execute does (min 1024 postamble.stack_depth) reads.here p ≡ Some (pass_state_of mid)) walked.pass_state
+    steps.goes_on in
+    walked_turn metrics after_post bytes postamble chain at next old new reads.here (pass_state_of mid) (omega arith) (omega arith) walked
+    reads.spelled goes pass_state
     (steps.bop ∙ ap (λ (l : PlacesLeft). Some l) (sym left)) steps.right (known ∙ steps.known_is) steps.widths steps.named
     (subst (λ (fonts : ReadFonts). FontsAreRead fonts (walked.selected ++ selection_of reads.here)) (sym fonts)
     (all_append (λ f. FontIsRead f mid.fonts) walked.selected (selection_of reads.here)
@@ -203,6 +229,8 @@ walked_next metrics ahead bytes stop chain at post next old mid new high walked 
     (λ f e. subst (λ (fonts : ReadFonts). HasCurrent f fonts) (sym fonts) (steps.current f (sym chosen ∙ e)))
 
 -- The same walk.
-pub walked_same : (metrics : WidthsByName) (ahead : List ℤ) (bytes : List ℕ) (stop : Postamble) (chain : List ℕ) (at : ℕ) (old new : Walk) → new ≡ old
-    → IsWalked metrics ahead bytes stop chain at old → IsWalked metrics ahead bytes stop chain at new
-walked_same metrics ahead bytes stop chain at old new same walked = subst (λ (walk : Walk). IsWalked metrics ahead bytes stop chain at walk) (sym same) walked
+pub walked_same : (metrics : WidthsByName) (after_post : List ℤ) (bytes : List ℕ) (postamble : Postamble) (chain : List ℕ) (at : ℕ)
+    (old new : Walk) → new ≡ old
+    → IsWalked metrics after_post bytes postamble chain at old → IsWalked metrics after_post bytes postamble chain at new
+walked_same metrics after_post bytes postamble chain at old new same walked =
+    subst (λ (walk : Walk). IsWalked metrics after_post bytes postamble chain at walk) (sym same) walked

@@ -4,7 +4,7 @@ pub mod PointerLemmas
 pub mod WalkLemmas
 mod HeldLemmas
 pub mod SeenLemmas
-mod SightLemmas
+mod SeenItemLemmas
 pub mod TextLemmas
 pub mod AgainLemmas
 mod CheckedLemmas

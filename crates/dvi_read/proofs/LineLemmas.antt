@@ -6,64 +6,76 @@ use Rattle.std.specs.Borrow.{Bor}
 use Rattle.std.proofs.lemmas.List.{append_cancel_left}
 use Rattle.dvi_scan.specs.View.{mark_of}
 use Rattle.dvi_scan.specs.declared.page.Mark.{Mark as PassMark}
-use Rattle.dvi_read.specs.Listing.{line, mark_line, text_ahead, text_line}
-use Rattle.dvi_read.specs.Seen.{SeenItem, seen_lines}
-use Rattle.dvi_read.specs.SeenAhead.{AreLinesAhead, GivesFirst, ShowsNext, lines_left, text_left}
+use Rattle.dvi_read.specs.Listing.{line, mark_line, rest_of_line, text_line}
+use Rattle.dvi_read.specs.Seen.{SeenItemView, seen_lines}
+use Rattle.dvi_read.specs.ItemsLeft.{AreLinesLeft, GivesFirst, ShowsNext, lines_left, text_left}
 use Rattle.dvi_read.specs.declared.check.checked_file.CheckedFile.{CheckedFile}
 use Rattle.dvi_read.specs.declared.listings.lines.Lines.{Lines}
-use Rattle.dvi_read.specs.declared.sights.Sight.{Sight}
-use Rattle.dvi_read.specs.declared.sights.Sight.TheVariants as sights
-use Rattle.dvi_read.specs.declared.sights.Sights.{Sights}
+use Rattle.dvi_read.specs.declared.seen_items.SeenItem.{SeenItem}
+use Rattle.dvi_read.specs.declared.seen_items.SeenItem.TheVariants as seen_items
+use Rattle.dvi_read.specs.declared.seen_items.SeenItems.{SeenItems}
 
 -- The next byte of a special, or the end of its line.
-pub text_next : (l : Lines) (text : Bor (List ℕ)) (part lines : List ℕ) (left : Option (Bor (List ℕ))) → l.text ≡ Some text → text_line text.now ≡ part ++ text_ahead left → AreLinesAhead l lines
+pub text_next : (l : Lines) (text : Bor (List ℕ)) (part lines : List ℕ) (left : Option (Bor (List ℕ))) → l.text ≡ Some text
+    → text_line text.now ≡ part ++ rest_of_line left → AreLinesLeft l lines
     → GivesFirst lines part (record l { text = left })
 text_next l text part lines left is whole a =
     let rest = seen_lines (l.before + 1) a.seen in (
-      text_ahead left ++ rest,
-      a.text_is ∙ (ap (λ (t : Option (Bor (List ℕ))). text_ahead t ++ rest) is ∙ (ap (λ (bs : List ℕ). bs ++ rest) whole ∙ append_assoc part (text_ahead left) rest)),
-      record { seen = a.seen; ahead = a.ahead; text_is = refl; counted = a.counted },
+      rest_of_line left ++ rest,
+      a.text_is ∙ (ap (λ (t : Option (Bor (List ℕ))). rest_of_line t ++ rest) is
+          ∙ (ap (λ (bs : List ℕ). bs ++ rest) whole ∙ append_assoc part (rest_of_line left) rest)),
+      record { seen = a.seen; remaining = a.remaining; text_is = refl; counted = a.counted },
     )
 
-module _ (l : Lines) (lines : List ℕ) (new : Sights) (none : l.text ≡ None) (a : AreLinesAhead l lines) where
+module _ (l : Lines) (lines : List ℕ) (new : SeenItems) (none : l.text ≡ None) (a : AreLinesLeft l lines) where
   seen_alone : lines ≡ seen_lines (l.before + 1) a.seen
-  seen_alone = a.text_is ∙ ap (λ (t : Option (Bor (List ℕ))). text_ahead t ++ seen_lines (l.before + 1) a.seen) none
+  seen_alone = a.text_is ∙ ap (λ (t : Option (Bor (List ℕ))). rest_of_line t ++ seen_lines (l.before + 1) a.seen) none
 
   -- A page.
-  pub page_next : (counts : List ℤ) (part : List ℕ) (found : Sight) → found ≡ sights.Page counts → ShowsNext a.seen new (Some found) → l.sights.at < new.at
-      → part ≡ line (codes "page " ++ (decimal (l.before + 1) ++ codes " counts")) counts → GivesFirst lines part (record l { sights = new; before = l.before + 1 })
-  page_next counts part found is shows forward part_is = by_page (subst (λ (s : Sight). ShowsNext a.seen new (Some s)) is shows)
+  pub page_next : (counts : List ℤ) (part : List ℕ) (found : SeenItem) → found ≡ seen_items.Page counts → ShowsNext a.seen new (Some found)
+      → l.seen_items.at < new.at
+      → part ≡ line (codes "page " ++ (decimal (l.before + 1) ++ codes " counts")) counts
+      → GivesFirst lines part (record l { seen_items = new; before = l.before + 1 })
+  page_next counts part found is shows forward part_is = by_page (subst (λ (s : SeenItem). ShowsNext a.seen new (Some s)) is shows)
     where
-      by_page : ShowsNext a.seen new (Some (sights.Page counts)) → GivesFirst lines part (record l { sights = new; before = l.before + 1 })
-      by_page (rest, seen_is, ahead) =
+      by_page : ShowsNext a.seen new (Some (seen_items.Page counts)) → GivesFirst lines part (record l { seen_items = new; before = l.before + 1 })
+      by_page (rest, seen_is, remaining) =
           let counted = a.counted in
           let later = seen_lines (l.before + 1 + 1) rest in (
             later,
-            seen_alone ∙ (ap (λ (ss : List SeenItem). seen_lines (l.before + 1) ss) seen_is ∙ ap (λ (bs : List ℕ). bs ++ later) (sym part_is)),
-            record { seen = rest; ahead = ahead; text_is = sym (ap (λ (t : Option (Bor (List ℕ))). text_ahead t ++ later) none); counted = omega arith },
+            seen_alone ∙ (ap (λ (ss : List SeenItemView). seen_lines (l.before + 1) ss) seen_is ∙ ap (λ (bs : List ℕ). bs ++ later) (sym part_is)),
+            record {
+              seen = rest;
+              remaining = remaining;
+              text_is = sym (ap (λ (t : Option (Bor (List ℕ))). rest_of_line t ++ later) none);
+              counted =
+                  omega arith;
+            },
           )
 
   -- A mark.
-  pub mark_next : (mark : PassMark) (part : List ℕ) (left : Option (Bor (List ℕ))) (found : Sight) → found ≡ sights.Mark mark → ShowsNext a.seen new (Some found) → l.sights.at < new.at
-      → mark_line (mark_of mark) ≡ part ++ text_ahead left → GivesFirst lines part (record l { sights = new; text = left })
-  mark_next mark part left found is shows forward whole = by_mark (subst (λ (s : Sight). ShowsNext a.seen new (Some s)) is shows)
+  pub mark_next : (mark : PassMark) (part : List ℕ) (left : Option (Bor (List ℕ))) (found : SeenItem) → found ≡ seen_items.Mark mark
+      → ShowsNext a.seen new (Some found) → l.seen_items.at < new.at
+      → mark_line (mark_of mark) ≡ part ++ rest_of_line left → GivesFirst lines part (record l { seen_items = new; text = left })
+  mark_next mark part left found is shows forward whole = by_mark (subst (λ (s : SeenItem). ShowsNext a.seen new (Some s)) is shows)
     where
-      by_mark : ShowsNext a.seen new (Some (sights.Mark mark)) → GivesFirst lines part (record l { sights = new; text = left })
-      by_mark (rest, seen_is, ahead) =
+      by_mark : ShowsNext a.seen new (Some (seen_items.Mark mark)) → GivesFirst lines part (record l { seen_items = new; text = left })
+      by_mark (rest, seen_is, remaining) =
           let counted = a.counted in
           let later = seen_lines (l.before + 1) rest in (
-            text_ahead left ++ later,
-            seen_alone ∙ (ap (λ (ss : List SeenItem). seen_lines (l.before + 1) ss) seen_is ∙ (ap (λ (bs : List ℕ). bs ++ later) whole ∙ append_assoc part (text_ahead left) later)),
-            record { seen = rest; ahead = ahead; text_is = refl; counted = omega arith },
+            rest_of_line left ++ later,
+            seen_alone ∙ (ap (λ (ss : List SeenItemView). seen_lines (l.before + 1) ss) seen_is
+                ∙ (ap (λ (bs : List ℕ). bs ++ later) whole ∙ append_assoc part (rest_of_line left) later)),
+            record { seen = rest; remaining = remaining; text_is = refl; counted = omega arith },
           )
 
   -- Nothing is left.
-  pub none_next : ShowsNext a.seen new None → l.sights.at ≤ new.at → (lines ≡ []) × AreLinesAhead (record l { sights = new }) []
-  none_next (nothing, ahead) forward =
+  pub none_next : ShowsNext a.seen new None → l.seen_items.at ≤ new.at → (lines ≡ []) × AreLinesLeft (record l { seen_items = new }) []
+  none_next (nothing, remaining) forward =
       let counted = a.counted in
-      let empty : text_ahead l.text ≡ [] = ap text_ahead none in (
-        seen_alone ∙ ap (λ (ss : List SeenItem). seen_lines (l.before + 1) ss) nothing,
-        record { seen = []; ahead = ahead; text_is = sym (append-nil (text_ahead l.text) ∙ empty); counted = omega arith },
+      let empty : rest_of_line l.text ≡ [] = ap rest_of_line none in (
+        seen_alone ∙ ap (λ (ss : List SeenItemView). seen_lines (l.before + 1) ss) nothing,
+        record { seen = []; remaining = remaining; text_is = sym (append-nil (rest_of_line l.text) ∙ empty); counted = omega arith },
       )
 
 -- Each line makes the number smaller.
@@ -93,17 +105,21 @@ none_text None not = refl
 none_text (Some text) not = absurd (not text refl)
 
 -- The number after a page and after a mark.
-pub page_fewer : (l : Lines) (new : Sights) → new.file ≡ l.sights.file → l.sights.at < new.at → new.at ≤ new.file.now.post → lines_left (record l { sights = new; before = l.before + 1 }) < lines_left l
+pub page_fewer : (l : Lines) (new : SeenItems) → new.file ≡ l.seen_items.file → l.seen_items.at < new.at → new.at ≤ new.file.now.post
+    → lines_left (record l { seen_items = new; before = l.before + 1 }) < lines_left l
 page_fewer l new file forward within =
-    same_more l.sights.file.now.post l.sights.at new.file.now.post new.at (text_left l.text) (ap (λ (f : Bor CheckedFile). f.now.post) file) forward within
+    same_more l.seen_items.file.now.post l.seen_items.at new.file.now.post new.at (text_left l.text) (ap (λ (f : Bor CheckedFile). f.now.post) file)
+    forward within
   where
     same_more : (post old later at more : ℕ) → later ≡ post → old < at → at ≤ later → (later - at) * 2 ^ 65 + more < (post - old) * 2 ^ 65 + more
     same_more post old later at more same forward within = omega arith
 
-pub mark_fewer : (l : Lines) (new : Sights) (left : Option (Bor (List ℕ))) → new.file ≡ l.sights.file → l.sights.at < new.at → new.at ≤ new.file.now.post
-    → lines_left (record l { sights = new; text = left }) < lines_left l
+pub mark_fewer : (l : Lines) (new : SeenItems) (left : Option (Bor (List ℕ))) → new.file ≡ l.seen_items.file → l.seen_items.at < new.at
+    → new.at ≤ new.file.now.post
+    → lines_left (record l { seen_items = new; text = left }) < lines_left l
 mark_fewer l new left file forward within =
-    by_numbers l.sights.file.now.post l.sights.at new.file.now.post new.at (text_left l.text) (text_left left) (ap (λ (f : Bor CheckedFile). f.now.post) file) forward within (short_left left)
+    by_numbers l.seen_items.file.now.post l.seen_items.at new.file.now.post new.at (text_left l.text) (text_left left)
+    (ap (λ (f : Bor CheckedFile). f.now.post) file) forward within (short_left left)
   where
     by_numbers : (post old later at held more : ℕ) → later ≡ post → old < at → at ≤ later → more ≤ 2 ^ 64 → (later - at) * 2 ^ 65 + more < (post - old) * 2 ^ 65 + held
     by_numbers post old later at held more same forward within few = omega arith
@@ -113,14 +129,14 @@ pub whole_next : (old text new part rest later lines : List ℕ) → new ≡ tex
 whole_next old text new part rest later lines more split same =
     ap (λ (bs : List ℕ). bs ++ later) more ∙ (append_assoc text part later ∙ (ap (λ (bs : List ℕ). text ++ bs) (sym split) ∙ same))
 
--- Some line was appended, where there is one and it has room.
+-- Some line was appended, where there is one and it has space.
 pub nothing_filled : (old lines : List ℕ) → old ++ [] ≡ old ++ lines → 0 < length lines → ⊥
 nothing_filled old lines same some =
     let none : [] ≡ lines = append_cancel_left old [] lines same in let size : 0 ≡ length lines = ap (λ (bs : List ℕ). length bs) none in omega arith
 
 -- The place after what is shown is before post.
-pub shown_within : (seen : List SeenItem) (new : Sights) (found : Sight) → ShowsNext seen new (Some found) → new.at ≤ new.file.now.post
-shown_within seen new found (rest, seen_is, ahead) = ahead.rest.low
+pub shown_within : (seen : List SeenItemView) (new : SeenItems) (found : SeenItem) → ShowsNext seen new (Some found) → new.at ≤ new.file.now.post
+shown_within seen new found (rest, seen_is, remaining) = remaining.rest.low
 
 -- Numbers, facts and lists in short.
 pub below : (a b c : ℕ) → a < b → b ≤ c → a < c

@@ -19,7 +19,7 @@ use Rattle.scaled_core.specs.Mark.{Mark, Glyph, Rule, Special}
 use Rattle.scaled_core.proofs.EachOf.{all_append, all_back, all_front, all_weaker}
 use Rattle.dvi_scan.proofs.FontLemmas.{current_of, has_definition, same_more_widths, turn_font}
 use Rattle.dvi_scan.specs.Pass.{PassStateView, Between, Inside, execute, passes, then_pass, with_marks}
-use Rattle.dvi_read.specs.PageMarks.{HasGlyphWidths, IsGlyphWidth, OfGlyph, TextStandsAt, marks_of, text_in}
+use Rattle.dvi_read.specs.PageMarks.{HasGlyphWidths, IsGlyphWidth, OfGlyph, TextIsAt, marks_of, text_in}
 use Rattle.dvi_read.specs.Private.PageMarks.{marks_so_far, text_put, texts_in}
 use Rattle.dvi_read.specs.declared.fonts.ReadFonts.{ReadFonts}
 
@@ -258,8 +258,9 @@ count_below (suc (suc (suc (suc (suc n))))) bytes high small = absurd (omega ari
 count_below n bytes high small = let h = short_below n bytes (omega arith) small in omega arith
 
 -- The text of a special is the end of the instruction.
-pub text_stands : (bytes : List ℕ) (at next : ℕ) (text : List ℕ) → ((k : ℕ) → slice_index bytes k < 256) → at < next → next ≤ length bytes → Spells (Do (Xxx text)) (take (next - at) (drop at bytes)) → TextStandsAt bytes (next - length text) text
-text_stands bytes at next text small forward within (n, count, low, high, is, len, big) =
+pub text_spelled : (bytes : List ℕ) (at next : ℕ) (text : List ℕ) → ((k : ℕ) → slice_index bytes k < 256) → at < next → next ≤ length bytes
+    → Spells (Do (Xxx text)) (take (next - at) (drop at bytes)) → TextIsAt bytes (next - length text) text
+text_spelled bytes at next text small forward within (n, count, low, high, is, len, big) =
     let front : List ℕ = (238 + n) ∷ count in
     let rest = length-drop at bytes in
     let taken = length-take-le (next - at) (drop at bytes) (omega arith) in
@@ -342,7 +343,7 @@ least_some : (i : Instruction) → 1 ≤ least i
 least_some (Bop counts pointer) = omega arith
 least_some i = omega arith
 
--- The room that the marks and the pages of a pass take.
+-- The space that the marks and the pages of a pass take.
 pub record TakesBytes (p : PassStateView) (bytes : ℕ) (q : PassStateView) : Type 0 where
   pub marks : length (marks_so_far q) ≤ length (marks_so_far p) + bytes
   pub pages : pages_bytes q ≤ pages_bytes p + bytes

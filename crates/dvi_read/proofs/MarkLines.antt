@@ -24,6 +24,9 @@ pub written_line : (word : List ℕ) (a b c d : ℤ) (one two three four whole :
 unfolding line
 written_line word a b c d one two three four whole fa fb fc fd ends third second first all =
     let end = ends ∙ ap decimal_line_end (to_z-of_z fd) in
-    let ahead = one_more b two three fb second ∙ ap (λ (l : List ℕ). (codes " " ++ signed_decimal b) ++ l) (one_more c one two fc third ∙ ap (λ (l : List ℕ). (codes " " ++ signed_decimal c) ++ l) end) in
+    let remaining = one_more b two three fb second
+    ∙ ap (λ (l : List ℕ). (codes " " ++ signed_decimal b) ++ l)
+    (one_more c one two fc third ∙ ap (λ (l : List ℕ). (codes " " ++ signed_decimal c) ++ l) end) in
     ap (λ (l : List ℕ). word ++ l) (four_texts (codes " " ++ signed_decimal a) (codes " " ++ signed_decimal b) (codes " " ++ signed_decimal c) (codes " " ++ signed_decimal d) (10 ∷ []))
-    ∙ sym (append-nil whole ∙ (all ∙ ap (λ (l : List ℕ). word ++ l) (one_more a three four fa first ∙ ap (λ (l : List ℕ). (codes " " ++ signed_decimal a) ++ l) ahead)))
+    ∙ sym (append-nil whole ∙ (all
+    ∙ ap (λ (l : List ℕ). word ++ l) (one_more a three four fa first ∙ ap (λ (l : List ℕ). (codes " " ++ signed_decimal a) ++ l) remaining)))

@@ -10,13 +10,13 @@ use Rattle.dvi_ops.specs.Instruction.{Nop, FontDef, Instruction, Do, Push, Pop, 
 use Rattle.dvi_ops.specs.Table.{Spells}
 use Rattle.dvi_ops.specs.Tokens.{Token, token_instructions}
 use Rattle.dvi_scan.proofs.ReachedLemmas.{token}
-use Rattle.dvi_scan.specs.Ends.{StandsAt}
+use Rattle.dvi_scan.specs.Ends.{IsSpelledAt}
 use Rattle.dvi_scan.proofs.TurnLemmas.{broken_turn}
 use Rattle.dvi_scan.proofs.WidthLemmas.{one_width}
 use Rattle.dvi_scan.specs.Drawing.{constant_width}
 use Rattle.dvi_scan.specs.Execution.{BreaksTurn, inside_of}
 use Rattle.dvi_scan.specs.Pass.{PassStateView, Between, Inside, execute, passes, then_pass, with_marks}
-use Rattle.dvi_scan.specs.View.{mark_of, spot_position, standing_state}
+use Rattle.dvi_scan.specs.View.{mark_of, spot_position, dvi_state}
 use Rattle.dvi_scan.specs.declared.executing.OpenPage.{OpenPage}
 use Rattle.dvi_scan.specs.declared.fault.DviCause.{DviCause}
 use Rattle.dvi_scan.specs.declared.page.Mark.{Mark as PassMark}
@@ -24,12 +24,12 @@ use Rattle.dvi_scan.specs.declared.page.Position.{Position as Spot}
 use Rattle.dvi_read.specs.PageMarks.{read_width}
 use Rattle.dvi_read.specs.ReadFonts.{FontIsRead, HasCurrent, asked_width, code_in}
 use Rattle.dvi_read.specs.Private.OnePage.{EndsPage, HasRestAt}
-use Rattle.dvi_read.specs.SeenAhead.{HasRest}
+use Rattle.dvi_read.specs.ItemsLeft.{HasRest}
 use Rattle.dvi_read.specs.Steps.{FontsAreRead}
 use Rattle.dvi_read.specs.declared.check.checked_file.CheckedFile.{CheckedFile}
 use Rattle.dvi_read.specs.declared.fonts.ReadFonts.{ReadFonts}
 use Rattle.dvi_read.proofs.SeenLemmas.{Continues, end_turn}
-use Rattle.dvi_read.proofs.SightLemmas.{asked_now, first_read, first_split, goes_on, no_tokens, none_left, rest_after, some_there}
+use Rattle.dvi_read.proofs.SeenItemLemmas.{asked_now, first_read, first_split, goes_on, no_tokens, none_left, rest_after, some_there}
 
 -- The pages that have ended.
 abbrev pub pages_ended : PassStateView → List MarkedPage
@@ -111,7 +111,7 @@ bop_turn : (does : Acts) (most : ℕ) (counts : List ℤ) (pointer : ℤ) (p q :
 bop_turn does most counts pointer (Between pages) q e = (pages, refl, cc)
 bop_turn does most counts pointer (Inside pages found marks stack s) q e = absurd cc
 
--- A bop stands at a place, where a page with this index begins.
+-- A bop is at a place, where a page with this index begins.
 pub record IsAtBop (file : CheckedFile) (pages : List MarkedPage) (index place : ℕ) : Type 0 where
   pub here : PassStateView
   pub count : pages_begun here ≡ index
@@ -124,7 +124,7 @@ pub record IsAtBop (file : CheckedFile) (pages : List MarkedPage) (index place :
 
 module _ (file : CheckedFile) (pages : List MarkedPage) (index place : ℕ) (bop : IsAtBop file pages index place) where
   -- An instruction is there.
-  pub bop_there : ((i : Instruction) → StandsAt file.bytes.now place file.post i → ⊥) → ⊥
+  pub bop_there : ((i : Instruction) → IsSpelledAt file.bytes.now place file.post i → ⊥) → ⊥
   bop_there none = by_size (nat_lt place file.post) refl
     where
       by_size : (b : Bool) → nat_lt place file.post ≡ b → ⊥
@@ -181,18 +181,19 @@ page_after [] later page = refl
 page_after (first ∷ before) later page = page_after before later page
 
 -- The rest of an open page.
-module _ (bytes : List ℕ) (at post most : ℕ) (fonts : ReadFonts) (before : List MarkedPage) (page : OpenPage) (pages : List MarkedPage) (ahead : HasRest bytes at post most fonts [] (inside_of before page) pages) where
+module _ (bytes : List ℕ) (at post most : ℕ) (fonts : ReadFonts) (before : List MarkedPage) (page : OpenPage) (pages : List MarkedPage)
+    (after_post : HasRest bytes at post most fonts [] (inside_of before page) pages) where
   -- It does not end at the place of post.
   pub some_left : at < post
   some_left = by_size (nat_lt at post) refl
     where
       by_size : (b : Bool) → nat_lt at post ≡ b → at < post
       by_size true is = ltb-true at post is
-      by_size false is = (let here = none_left bytes at post most fonts (inside_of before page) pages (ltb-false at post is) ahead in absurd cc)
+      by_size false is = (let here = none_left bytes at post most fonts (inside_of before page) pages (ltb-false at post is) after_post in absurd cc)
 
   module _ (i : Instruction) (next : ℕ) (forward : at < next) (within : next ≤ post) (spelled : Spells i (take (next - at) (drop at bytes))) where
     pub read_here : HasRest bytes next post most fonts (i ∷ []) (inside_of before page) pages
-    read_here = first_read bytes at post most fonts (inside_of before page) pages i next forward within spelled ahead
+    read_here = first_read bytes at post most fonts (inside_of before page) pages i next forward within spelled after_post
 
     pub turned_here : Continues (bounded_acts (instruction_acts (read_width fonts))) most i (token_instructions read_here.rest) (inside_of before page) (Between pages)
     turned_here = goes_on bytes next post most fonts (inside_of before page) pages i read_here
@@ -216,7 +217,9 @@ module _ (bytes : List ℕ) (at post most : ℕ) (fonts : ReadFonts) (before : L
         let marks = map mark_of page.marks.items in
         let whole : MarkedPage = record { counts = page.counts; marks = marks } in
         let turns = subst (λ (i : Instruction). execute (bounded_acts (instruction_acts (read_width fonts))) most i (inside_of before page) ≡ Some turned_here.after) is turned_here.turns in
-        let after : turned_here.after ≡ Between (before ++ whole ∷ []) = end_turn does most before page.counts marks (reverse (map spot_position page.stack.items)) (standing_state page.state) turned_here.after turns in
+        let after : turned_here.after ≡ Between (before ++ whole ∷ []) =
+        end_turn does most before page.counts marks (reverse (map spot_position page.stack.items)) (dvi_state page.state)
+        turned_here.after turns in
         let (more, stay) = ended_pass does most (token_instructions read_here.rest) turned_here.after (Between pages) turned_here.later in
         let all : pages ≡ (before ++ whole ∷ []) ++ more = stay ∙ ap (λ (p : PassStateView). pages_ended p ++ more) after in
         ap (λ (ps : List MarkedPage). slice_get ps (length before)) (all ∙ append_assoc before (whole ∷ []) more) ∙ page_after before more whole

@@ -3,9 +3,9 @@ use Rattle.std.proofs.Common.{◌≡◌, ◌≢◌, ◌-◌, ◌++◌, List, len
 use Rattle.std.specs.Prelude.{IfOk, IfErr, IsErrAnd}
 use Rattle.std.proofs.lemmas.Grind.{flat_map-append}
 use Rattle.dvi_scan.specs.Closing.{ClosesTo, IsClosingFault}
-use Rattle.dvi_scan.proofs.AheadLemmas.{looked}
+use Rattle.dvi_scan.proofs.AfterPostLemmas.{looked}
 use Rattle.dvi_scan.proofs.ErrLemmas.{handed_on}
-use Rattle.dvi_scan.specs.Ahead.{IsLookedAhead}
+use Rattle.dvi_scan.specs.AfterPost.{AreAfterPost}
 use Rattle.dvi_scan.specs.Chain.{IsChainRefusal}
 use Rattle.dvi_scan.specs.Ends.{HasPostamble}
 use Rattle.dvi_scan.specs.declared.fault.FrameFault.{FrameFault}
@@ -26,7 +26,7 @@ use Rattle.dvi_read.specs.Opening.{HasPages, IsDviFault, IsFrontFault, IsStray, 
 use Rattle.dvi_read.specs.Private.OpeningParts.{IsFinishFault}
 use Rattle.dvi_read.proofs.FaultLemmas.{after_within, no_fault, post_within}
 use Rattle.dvi_read.specs.Faults.{of_frame}
-use Rattle.dvi_read.specs.Stops.{PagesHaveEnded, IsWalkFault}
+use Rattle.dvi_read.specs.WalkFaults.{PagesHaveEnded, IsWalkFault}
 use Rattle.dvi_read.specs.declared.fault.DviFault.{DviFault}
 use Rattle.dvi_read.specs.declared.fault.DviFault.TheVariants as faults
 use Rattle.dvi_read.proofs.PointerLemmas.{stray_bop, stray_pointer, unmet_pointer}
@@ -34,61 +34,76 @@ use Rattle.tfm_core.specs.FileWidths.{file_widths}
 use Rattle.tfm_core.specs.NamedBytes.{NamedBytes}
 
 -- A refusal of the chain.
-pub chain_refused : (bytes : List ℕ) (post e : ℕ) (stop : Postamble) (fault : FrameFault) → HasPostamble bytes post e stop → IsChainRefusal bytes post stop fault
+pub chain_refused : (bytes : List ℕ) (post e : ℕ) (postamble : Postamble) (fault : FrameFault) → HasPostamble bytes post e postamble
+    → IsChainRefusal bytes post postamble fault
     → IsFrontFault bytes (of_frame fault)
-chain_refused bytes post e stop frames.OutOfMemory ends named = ForPlaces post e stop refl ends named
-chain_refused bytes post e stop (frames.Bad fault) ends broken = InTheChain fault post e stop refl ends broken
+chain_refused bytes post e postamble frames.OutOfMemory ends named = ForPlaces post e postamble refl ends named
+chain_refused bytes post e postamble (frames.Bad fault) ends broken = InTheChain fault post e postamble refl ends broken
 
 -- The place after the preamble begins the walk.
-pub starts_reached : (files : List NamedBytes) (bytes : List ℕ) (post after last : ℕ) (stop : Postamble) (chain : List ℕ) (from : ℕ) (ahead : List ℤ) → StartsAt bytes post after last stop chain from
-    → IsReached (file_widths files) ahead bytes stop chain from (before_pages chain)
-starts_reached files bytes post after last stop chain from ahead starts =
-    let high = post_within files bytes post after last stop chain starts.chained.framed in
+pub starts_reached : (files : List NamedBytes) (bytes : List ℕ) (post after last : ℕ) (postamble : Postamble) (chain : List ℕ) (from : ℕ)
+    (after_post : List ℤ) → StartsAt bytes post after last postamble chain from
+    → IsReached (file_widths files) after_post bytes postamble chain from (before_pages chain)
+starts_reached files bytes post after last postamble chain from after_post starts =
+    let high = post_within files bytes post after last postamble chain starts.chained.framed in
     let within = starts.preamble.within in
-    reached_first (file_widths files) ahead bytes stop chain from starts.preamble.comment (omega arith) starts.preamble.spelled
+    reached_first (file_widths files) after_post bytes postamble chain from starts.preamble.comment (omega arith) starts.preamble.spelled
 
 -- A fault of the pages that is Pointer is at a bop that is not in the chain.
-pub strays : (files : List NamedBytes) (ahead : List ℤ) (bytes : List ℕ) (post after last : ℕ) (stop : Postamble) (chain : List ℕ) (fault : DviFault) → IsFramed bytes post after last stop chain
-    → IsWalkFault files ahead bytes stop chain post fault → IsStray bytes post chain fault
-strays files ahead bytes post after last stop chain fault framed broken = λ bad is cause.
-    let walk = subst (λ (fault : DviFault). IsWalkFault files ahead bytes stop chain post fault) is broken in
-    let high = post_within files bytes post after last stop chain framed in
-    (stray_bop files ahead bytes stop chain post bad cause walk, stray_pointer files ahead bytes stop chain post post stop.last_bop bad high framed.links cause walk)
+pub strays : (files : List NamedBytes) (after_post : List ℤ) (bytes : List ℕ) (post after last : ℕ) (postamble : Postamble) (chain : List ℕ)
+    (fault : DviFault) → IsFramed bytes post after last postamble chain
+    → IsWalkFault files after_post bytes postamble chain post fault → IsStray bytes post chain fault
+strays files after_post bytes post after last postamble chain fault framed broken = λ bad is cause.
+    let walk = subst (λ (fault : DviFault). IsWalkFault files after_post bytes postamble chain post fault) is broken in
+    let high = post_within files bytes post after last postamble chain framed in (
+      stray_bop files after_post bytes postamble chain post bad cause walk,
+      stray_pointer files after_post bytes postamble chain post post postamble.last_bop bad high framed.links cause walk,
+    )
 
 -- The parts make a file of the pages.
-pub opened : (files : List NamedBytes) (bytes : List ℕ) (post after last : ℕ) (stop : Postamble) (chain : List ℕ) (from : ℕ) (ahead : List ℤ) (seen : ReadSoFar) (pages : List MarkedPage) (new : List Definition)
-    → HasPages files bytes (file_framing post after last stop chain) from ahead seen → PagesHaveEnded seen.pass seen.left pages → ClosesTo bytes after (last - 5) seen.known new → IsFile (file_widths files) bytes pages
-opened files bytes post after last stop chain from ahead seen pages new has ended (tail, closes, new_is) =
+pub opened : (files : List NamedBytes) (bytes : List ℕ) (post after last : ℕ) (postamble : Postamble) (chain : List ℕ) (from : ℕ)
+    (after_post : List ℤ) (seen : ReadSoFar) (pages : List MarkedPage) (new : List Definition)
+    → HasPages files bytes (file_framing post after last postamble chain) from after_post seen → PagesHaveEnded seen.pass seen.left pages
+    → ClosesTo bytes after (last - 5) seen.known new → IsFile (file_widths files) bytes pages
+opened files bytes post after last postamble chain from after_post seen pages new has ended (tail, closes, new_is) =
     let framed = has.starts.chained.framed in
-    let numbers = looked bytes after (last - 5) ahead seen.known tail (after_within files bytes post after last stop chain framed) has.looked closes in
+    let numbers = looked bytes after (last - 5) after_post seen.known tail (after_within files bytes post after last postamble chain framed)
+    has.looked closes in
     let is_tail : IsTail bytes after last seen.known tail = record { spelled = closes.spelled; whole = closes.whole; idle = closes.idle; fonts = closes.fonts } in
-    passed_file bytes post after last stop chain framed (file_widths files) pages has.starts.chained.count
-    (reached_end (file_widths files) bytes post after last stop chain pages ahead seen tail has.starts.preamble.units numbers has.reached ended.between ended.none is_tail)
+    passed_file bytes post after last postamble chain framed (file_widths files) pages has.starts.chained.count
+    (reached_end (file_widths files) bytes post after last postamble chain pages after_post seen tail has.starts.preamble.units numbers has.reached
+    ended.between ended.none is_tail)
 
 -- The units are those of post.
-pub units_of_post : (bytes : List ℕ) (post e : ℕ) (stop : Postamble) → HasPostamble bytes post e stop → (f : Frame bytes) → stop.units ≡ f.stop.units
-units_of_post bytes post e stop ends f =
+pub units_of_post : (bytes : List ℕ) (post e : ℕ) (postamble : Postamble) → HasPostamble bytes post e postamble → (f : Frame bytes)
+    → postamble.units ≡ f.postamble.units
+units_of_post bytes post e postamble ends f =
     let found = frame_ends bytes f in
-    let (lasts, posts, stops) = one_end bytes post e (length (token_bytes f.front)) found.0 stop f.stop ends found.1 in
-    ap (λ (s : Postamble). s.units) stops
+    let (lasts, posts, fault_is) = one_end bytes post e (length (token_bytes f.front)) found.0 postamble f.postamble ends found.1 in
+    ap (λ (s : Postamble). s.units) fault_is
 
 -- A refusal at the place of post or after it.
-pub finish_refused : (files : List NamedBytes) (bytes : List ℕ) (post after last : ℕ) (stop : Postamble) (chain : List ℕ) (from : ℕ) (ahead : List ℤ) (seen : ReadSoFar) (fault : DviFault)
-    → HasPages files bytes (file_framing post after last stop chain) from ahead seen → IsFinishFault bytes post after last seen.pass seen.left seen.known fault → IsDviFault files bytes fault
-finish_refused files bytes post after last stop chain from ahead seen faults.OutOfMemory has (pages, ended, new, wants) =
-    ForDefinitions post after last stop chain from ahead seen pages new refl has ended wants
-finish_refused files bytes post after last stop chain from ahead seen (faults.Bad bad) has (inl unended) =
-    AtPost bad post after last stop chain from ahead seen refl has unended (λ cause. unmet_pointer (file_widths files) ahead bytes stop chain post seen bad has.reached cause unended)
-finish_refused files bytes post after last stop chain from ahead seen (faults.Bad bad) has (inr (pages, ended, new, broken)) =
-    AfterPost bad post after last stop chain from ahead seen pages new refl has ended broken
-finish_refused files bytes post after last stop chain from ahead seen fault has broken = absurd broken
+pub finish_refused : (files : List NamedBytes) (bytes : List ℕ) (post after last : ℕ) (postamble : Postamble) (chain : List ℕ) (from : ℕ)
+    (after_post : List ℤ) (seen : ReadSoFar) (fault : DviFault)
+    → HasPages files bytes (file_framing post after last postamble chain) from after_post seen
+    → IsFinishFault bytes post after last seen.pass seen.left seen.known fault → IsDviFault files bytes fault
+finish_refused files bytes post after last postamble chain from after_post seen faults.OutOfMemory has (pages, ended, new, wants) =
+    ForDefinitions post after last postamble chain from after_post seen pages new refl has ended wants
+finish_refused files bytes post after last postamble chain from after_post seen (faults.Bad bad) has (inl unended) =
+    AtPost bad post after last postamble chain from after_post seen refl has unended
+    (λ cause. unmet_pointer (file_widths files) after_post bytes postamble chain post seen bad has.reached cause unended)
+finish_refused files bytes post after last postamble chain from after_post seen (faults.Bad bad) has (inr (pages, ended, new, broken)) =
+    AfterPost bad post after last postamble chain from after_post seen pages new refl has ended broken
+finish_refused files bytes post after last postamble chain from after_post seen fault has broken = absurd broken
 
 -- The definitions that were read before post and after it are those of the whole file.
-pub fonts_read : (metrics : WidthsByName) (ahead : List ℤ) (bytes : List ℕ) (post after last : ℕ) (stop : Postamble) (chain : List ℕ) (seen : ReadSoFar) (new : List Definition)
-    → IsFramed bytes post after last stop chain → IsReached metrics ahead bytes stop chain post seen → ClosesTo bytes after (last - 5) seen.known new
+pub fonts_read : (metrics : WidthsByName) (after_post : List ℤ) (bytes : List ℕ) (post after last : ℕ) (postamble : Postamble) (chain : List ℕ)
+    (seen : ReadSoFar) (new : List Definition)
+    → IsFramed bytes post after last postamble chain → IsReached metrics after_post bytes postamble chain post seen
+    → ClosesTo bytes after (last - 5) seen.known new
     → (f : Frame bytes) → new ≡ definitions (token_instructions f.front ++ token_instructions f.tail)
-fonts_read metrics ahead bytes post after last stop chain seen new framed r (tail, closes, new_is) f =
-    let parts = frame_parts bytes post after last stop chain framed f in
+fonts_read metrics after_post bytes post after last postamble chain seen new framed r (tail, closes, new_is) f =
+    let parts = frame_parts bytes post after last postamble chain framed f in
     let front : r.before ≡ f.front = one_list r.before f.front r.spelled f.front_spelled (r.whole ∙ sym parts.0) in
     let after_it : tail ≡ f.tail = one_list tail f.tail closes.spelled f.tail_spelled (closes.whole ∙ sym parts.1) in
     new_is
@@ -127,10 +142,13 @@ exact_refused files bytes result fault is bad =
     exact_open files bytes result (not_opened result fault (HasFilePages files bytes) is) (handed_on (IsDviFault files bytes) result fault is bad)
 
 -- A fault of the pages.
-pub walk_refused : (files : List NamedBytes) (ahead : List ℤ) (bytes : List ℕ) (post after last : ℕ) (stop : Postamble) (chain : List ℕ) (from : ℕ) → StartsAt bytes post after last stop chain from
-    → IsLookedAhead bytes after (last - 5) ahead → (fault : DviFault) → IsWalkFault files ahead bytes stop chain post fault → IsDviFault files bytes fault
-walk_refused files ahead bytes post after last stop chain from starts numbers fault broken =
-    InThePages post after last stop chain from ahead starts numbers broken (strays files ahead bytes post after last stop chain fault starts.chained.framed broken)
+pub walk_refused : (files : List NamedBytes) (after_post : List ℤ) (bytes : List ℕ) (post after last : ℕ) (postamble : Postamble) (chain : List ℕ)
+    (from : ℕ) → StartsAt bytes post after last postamble chain from
+    → AreAfterPost bytes after (last - 5) after_post → (fault : DviFault) → IsWalkFault files after_post bytes postamble chain post fault
+    → IsDviFault files bytes fault
+walk_refused files after_post bytes post after last postamble chain from starts numbers fault broken =
+    InThePages post after last postamble chain from after_post starts numbers broken
+    (strays files after_post bytes post after last postamble chain fault starts.chained.framed broken)
 
 -- A fault after post.
 pub tail_refused : (bytes : List ℕ) (post after last : ℕ) (p : PassStateView) (left : PlacesLeft) (pages : List MarkedPage) (known new : List Definition) (fault : FrameFault) → PagesHaveEnded p left pages

@@ -28,19 +28,19 @@ pub after_digits : (new digits rest : List ℕ) (at begin : ℕ) → at + length
 after_digits new digits rest at begin is written =
     ap (λ (n : ℕ). drop n new) (sym is) ∙ (sym (drop-drop (length digits) at new) ∙ (ap (drop (length digits)) written ∙ drop-append_seam digits rest))
 
--- Of the bytes that were written into the room before a part, the last ones are now before its own.
-pub last_written : (xs ys : List ℕ) (begin room size : ℕ) → room ≤ begin → begin ≤ length xs → length ys ≡ room → size ≤ room
-    → drop (begin - size) (put_mid (begin - room) (begin - (begin - room)) xs ys) ≡ drop (room - size) ys ++ drop begin xs
-last_written xs ys begin room size below within long short =
-    let at : ℕ = begin - room in
+-- Of the bytes that were written into the space before a part, the last ones are now before its own.
+pub last_written : (xs ys : List ℕ) (begin space size : ℕ) → space ≤ begin → begin ≤ length xs → length ys ≡ space → size ≤ space
+    → drop (begin - size) (put_mid (begin - space) (begin - (begin - space)) xs ys) ≡ drop (space - size) ys ++ drop begin xs
+last_written xs ys begin space size below within long short =
+    let at : ℕ = begin - space in
     let k : ℕ = begin - at in
     let rest : List ℕ = drop k (drop at xs) in
     let whole : List ℕ = put_mid at k xs ys in
-    let steps : begin - size ≡ at + (room - size) = omega arith in
+    let steps : begin - size ≡ at + (space - size) = omega arith in
     let sum : at + k ≡ begin = omega arith in
     let written : drop at whole ≡ ys ++ rest = drop_at (take at xs) (ys ++ rest) at (length-take-le at xs (omega arith)) in
     ap (λ (n : ℕ). drop n whole) steps
-    ∙ (sym (drop-drop (room - size) at whole)
-    ∙ (ap (drop (room - size)) written
-    ∙ (drop-append-le (room - size) ys rest (omega arith)
-    ∙ ap (λ (l : List ℕ). drop (room - size) ys ++ l) (drop-drop k at xs ∙ ap (λ (n : ℕ). drop n xs) sum))))
+    ∙ (sym (drop-drop (space - size) at whole)
+    ∙ (ap (drop (space - size)) written
+    ∙ (drop-append-le (space - size) ys rest (omega arith)
+    ∙ ap (λ (l : List ℕ). drop (space - size) ys ++ l) (drop-drop k at xs ∙ ap (λ (n : ℕ). drop n xs) sum))))

@@ -9,11 +9,11 @@ use Rattle.dvi_ops.specs.File.{MarkedPage}
 use Rattle.dvi_ops.specs.Instruction.{Nop, FontDef, Instruction, Do, Push, Pop, Bop, Eop}
 use Rattle.dvi_scan.specs.Pass.{PassStateView, Between, Inside, execute, passes, then_pass, with_marks}
 use Rattle.dvi_read.specs.Listing.{line, mark_line, page_lines, pages_lines}
-use Rattle.dvi_read.specs.Seen.{SeenItem, Counts, Marked, seen_lines, seen_of, seen_on, seen_so_far}
+use Rattle.dvi_read.specs.Seen.{SeenItemView, Counts, Marked, seen_lines, seen_of, seen_on, seen_so_far}
 
 -- What is seen of an instruction comes after what was seen so far.
 abbrev pub Grows : PassStateView → PassStateView → Type 0
-Grows p q = (more : List SeenItem) × (seen_so_far q ≡ seen_so_far p ++ more)
+Grows p q = (more : List SeenItemView) × (seen_so_far q ≡ seen_so_far p ++ more)
 
 stays : (p q : PassStateView) → p ≡ q → Grows p q
 stays p q same = ([], sym (ap seen_so_far same) ∙ sym (append-nil (seen_so_far p)))
@@ -22,11 +22,12 @@ stays p q same = ([], sym (ap seen_so_far same) ∙ sym (append-nil (seen_so_far
 pub more_marks : (pages : List MarkedPage) (counts : List ℤ) (marks more : List Mark)
     → seen_of pages ++ (Counts counts ∷ map Marked (marks ++ more)) ≡ (seen_of pages ++ (Counts counts ∷ map Marked marks)) ++ map Marked more
 more_marks pages counts marks more =
-    ap (λ (ms : List SeenItem). seen_of pages ++ (Counts counts ∷ ms)) (map-append Marked marks more) ∙ sym (append_assoc (seen_of pages) (Counts counts ∷ map Marked marks) (map Marked more))
+    ap (λ (ms : List SeenItemView). seen_of pages ++ (Counts counts ∷ ms)) (map-append Marked marks more)
+    ∙ sym (append_assoc (seen_of pages) (Counts counts ∷ map Marked marks) (map Marked more))
 
 -- A page that has ended was seen.
 pub page_seen : (pages : List MarkedPage) (page : MarkedPage) → seen_of (pages ++ page ∷ []) ≡ seen_of pages ++ seen_on page
-page_seen pages page = flat_map-append seen_on pages (page ∷ []) ∙ ap (λ (ss : List SeenItem). seen_of pages ++ ss) (append-nil (seen_on page))
+page_seen pages page = flat_map-append seen_on pages (page ∷ []) ∙ ap (λ (ss : List SeenItemView). seen_of pages ++ ss) (append-nil (seen_on page))
 
 push_grows : (b : Bool) (pages : List MarkedPage) (counts : List ℤ) (marks : List Mark) (stack more : List Position) (s : DviState) (q : PassStateView)
     → (if b then Some (Inside pages counts marks more s) else None) ≡ Some q → Grows (Inside pages counts marks stack s) q
@@ -69,7 +70,7 @@ pass_grows does most (i ∷ is) p q e = by_turn (execute does most i p) refl (λ
     by_turn (Some r) turn later e =
         let (first, one) = turn_grows does most i p r turn in
         let (more, rest) = later r e in
-        (first ++ more, rest ∙ (ap (λ (ss : List SeenItem). ss ++ more) one ∙ append_assoc (seen_so_far p) first more))
+        (first ++ more, rest ∙ (ap (λ (ss : List SeenItemView). ss ++ more) one ∙ append_assoc (seen_so_far p) first more))
 
 -- The first instruction of a pass that goes on.
 pub record Continues (does : Acts) (most : ℕ) (i : Instruction) (is : List Instruction) (p q : PassStateView) : Type 0 where
@@ -85,12 +86,14 @@ first_turn does most i is p q e = by_turn (execute does most i p) refl e
     by_turn (Some r) turn e = record { after = r; turns = turn; later = e }
 
 -- The rest of what is seen, where some of it was seen at an instruction.
-pub rest_seen : (does : Acts) (most : ℕ) (is : List Instruction) (p after : PassStateView) (all : List MarkedPage) (new seen : List SeenItem) → passes does most is after ≡ Some (Between all)
-    → seen_of all ≡ seen_so_far p ++ seen → seen_so_far after ≡ seen_so_far p ++ new → (rest : List SeenItem) × (seen ≡ new ++ rest) × (seen_of all ≡ seen_so_far after ++ rest)
+pub rest_seen : (does : Acts) (most : ℕ) (is : List Instruction) (p after : PassStateView) (all : List MarkedPage) (new seen : List SeenItemView)
+    → passes does most is after ≡ Some (Between all)
+    → seen_of all ≡ seen_so_far p ++ seen → seen_so_far after ≡ seen_so_far p ++ new → (rest : List SeenItemView) × (seen ≡ new ++ rest)
+    × (seen_of all ≡ seen_so_far after ++ rest)
 rest_seen does most is p after all new seen later seen_is new_is =
     let (rest, rest_is) = pass_grows does most is after (Between all) later in
     let whole : seen_so_far p ++ seen ≡ seen_so_far p ++ (new ++ rest) =
-    sym seen_is ∙ (rest_is ∙ (ap (λ (ss : List SeenItem). ss ++ rest) new_is ∙ append_assoc (seen_so_far p) new rest)) in
+    sym seen_is ∙ (rest_is ∙ (ap (λ (ss : List SeenItemView). ss ++ rest) new_is ∙ append_assoc (seen_so_far p) new rest)) in
     (rest, append_cancel_left (seen_so_far p) seen (new ++ rest) whole, rest_is)
 
 -- Between pages an instruction that is accepted changes nothing, if it begins no page.
@@ -136,7 +139,8 @@ counts_stay does most Eop pages counts marks (p ∷ stack) s q e = absurd cc
 counts_stay does most i pages counts marks stack s q e = absurd cc
 
 -- The lines of what is seen of all pages are those of the listing.
-marks_lines : (number : ℕ) (marks : List Mark) (rest : List SeenItem) → seen_lines number (map Marked marks ++ rest) ≡ flat_map mark_line marks ++ seen_lines number rest
+marks_lines : (number : ℕ) (marks : List Mark) (rest : List SeenItemView)
+    → seen_lines number (map Marked marks ++ rest) ≡ flat_map mark_line marks ++ seen_lines number rest
 marks_lines number [] rest = refl
 marks_lines number (mark ∷ marks) rest =
     ap (λ (bs : List ℕ). mark_line mark ++ bs) (marks_lines number marks rest) ∙ sym (append_assoc (mark_line mark) (flat_map mark_line marks) (seen_lines number rest))

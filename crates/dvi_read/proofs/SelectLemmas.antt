@@ -52,18 +52,19 @@ item_back (z ∷ xs) x y zero e = inl e
 item_back (z ∷ xs) x y (suc k) e = item_back xs x y k e
 
 -- The font was read before.
-pub selects_read : (metrics : WidthsByName) (ahead : List ℤ) (known : List Definition) (f : ℤ) (place : ℕ) (fonts new : ReadFonts) → AreSound metrics known fonts → has_number ahead f ≡ true
-    → font_place f fonts ≡ Some place → new ≡ record fonts { current = place } → Selects metrics ahead known f fonts new
-selects_read metrics ahead known f place fonts new sound named there is =
+pub selects_read : (metrics : WidthsByName) (after_post : List ℤ) (known : List Definition) (f : ℤ) (place : ℕ) (fonts new : ReadFonts)
+    → AreSound metrics known fonts → has_number after_post f ≡ true
+    → font_place f fonts ≡ Some place → new ≡ record fonts { current = place } → Selects metrics after_post known f fonts new
+selects_read metrics after_post known f place fonts new sound named there is =
     let (read, e, widths) = sound.widths f place there in
-    let chosen : Selects metrics ahead known f fonts (record fonts { current = place }) = record {
+    let chosen : Selects metrics after_post known f fonts (record fonts { current = place }) = record {
       named = named;
       widths = is_some (font metrics known f) (width_at read) widths;
       current = there;
       sound = record { widths = sound.widths; codes = sound.codes };
       kept = λ g some. some;
     } in
-    subst (λ (now : ReadFonts). Selects metrics ahead known f fonts now) (sym is) chosen
+    subst (λ (now : ReadFonts). Selects metrics after_post known f fonts now) (sym is) chosen
 
 -- A number has the place that was set for it, and each other number has its old place.
 by_number : (P : ℤ → ℕ → Type 0) (b : Bool) (f g : ℤ) (mine place : ℕ) (rest : Option ℕ) → int_eq f g ≡ b → P f mine → (rest ≡ Some place → P g place) → cond b (Some mine) rest ≡ Some place
@@ -76,7 +77,8 @@ number_kept true mine rest some = refl
 number_kept false mine rest some = some
 
 -- The font is read now.
-module _ (files : List NamedBytes) (ahead : List ℤ) (known : List Definition) (d : Definition) (f : ℤ) (old new : ReadFonts) (read : SizedFont) (sound : AreSound (file_widths files) known old)
+module _ (files : List NamedBytes) (after_post : List ℤ) (known : List Definition) (d : Definition) (f : ℤ) (old new : ReadFonts) (read : SizedFont)
+    (sound : AreSound (file_widths files) known old)
     (updates : Updates int_cmp old.places new.places f (Some (length old.all.items))) (all : new.all.items ≡ old.all.items ++ read ∷ []) where
   before_it : (g : ℤ) (place : ℕ) → font_place g old ≡ Some place → HasWidthsAt (file_widths files) known new g place
   before_it g place later =
@@ -87,8 +89,9 @@ module _ (files : List NamedBytes) (ahead : List ℤ) (known : List Definition) 
   by_item place other codes (inl e) = sound.codes place other e
   by_item place other codes (inr same) = subst HasBytes same codes
 
-  pub selects_new : has_number ahead f ≡ true → first_definition_of f known ≡ Some d → new.current ≡ length old.all.items → file_widths files d.name d.size ≡ Some (width_at read) → HasBytes read
-      → Selects (file_widths files) ahead known f old new
+  pub selects_new : has_number after_post f ≡ true → first_definition_of f known ≡ Some d → new.current ≡ length old.all.items
+      → file_widths files d.name d.size ≡ Some (width_at read) → HasBytes read
+      → Selects (file_widths files) after_post known f old new
   selects_new named there current given codes =
       let metrics : WidthsByName = file_widths files in
       let mine : ℕ = length old.all.items in
@@ -124,19 +127,19 @@ pub given_by : {bytes : List ℕ} (files : List NamedBytes) (d : Definition) (fi
     → file_widths files d.name d.size ≡ Some (width_at read)
 given_by files d file read is same widths = rw is (rw (sym same) widths)
 
-module _ (files : List NamedBytes) (ahead : List ℤ) (known : List Definition) (fonts : ReadFonts) (f : ℤ) (d : Definition)
-    (named : has_number ahead f ≡ true) (found : first_definition_of f known ≡ Some d) where
+module _ (files : List NamedBytes) (after_post : List ℤ) (known : List Definition) (fonts : ReadFonts) (f : ℤ) (d : Definition)
+    (named : has_number after_post f ≡ true) (found : first_definition_of f known ≡ Some d) where
   -- The font is refused.
-  pub refused_font : (refusal : FontRefusal) → IsFontRefusal files d refusal → IsSelectFault files ahead known fonts f (Refused refusal)
+  pub refused_font : (refusal : FontRefusal) → IsFontRefusal files d refusal → IsSelectFault files after_post known fonts f (Refused refusal)
   refused_font refusal refused = record { named = named; font = d; found = found; refused = refused }
 
   -- Memory is refused for the font.
-  pub lacks_memory : font_place f fonts ≡ None → MayAllocate files d → IsSelectFault files ahead known fonts f OutOfMemory
+  pub lacks_memory : font_place f fonts ≡ None → MayAllocate files d → IsSelectFault files after_post known fonts f OutOfMemory
   lacks_memory new file = record { named = named; new = new; font = d; found = found; file = file }
 
   -- The first file with the name gives no font at the size.
   pub not_read_from : (file : NamedBytes) (fault : FontReadFault) → font_place f fonts ≡ None → file_named d.name files ≡ Some file
-      → IsReadRefusal file.bytes (Some d.size) fault → IsSelectFault files ahead known fonts f (of_read fault)
+      → IsReadRefusal file.bytes (Some d.size) fault → IsSelectFault files after_post known fonts f (of_read fault)
   not_read_from file reads.OutOfMemory new is refused = lacks_memory new (file, is, refused)
   not_read_from file (reads.BadTfm cause) new is refused = refused_font (refusals.BadTfm cause) (file, is, refused)
   not_read_from file reads.DimensionTooLarge new is refused =

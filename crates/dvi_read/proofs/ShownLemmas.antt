@@ -1,4 +1,4 @@
--- The pages that a checked file shows: there is one list of them, and each stands at its place.
+-- The pages that a checked file shows: there is one list of them, and each is at its place.
 use Rattle.std.proofs.Common.{◌≡◌, ◌≤◌, ◌<◌, ◌+◌, ◌-◌, ◌++◌, [], ◌∷◌, List, drop, get_or, length, reverse, slice_get, slice_index_or, slice_index, take, vec_len, zero, suc, ℕ, ℤ, Option, Some, arith, length-append, refl, sym, ◌∙◌, ap, subst, subst₂, inl, inr, min}
 use Rattle.std.specs.Prelude.{◌⊎◌}
 use Rattle.std.specs.List.{AllByRecursion}
@@ -18,11 +18,11 @@ use Rattle.dvi_scan.specs.Pass.{PassStateView, Between, passes}
 use Rattle.dvi_scan.specs.Passed.{file_framing}
 use Rattle.dvi_read.specs.PageMarks.{read_width}
 use Rattle.dvi_read.specs.ReadFonts.{FontIsRead}
-use Rattle.dvi_read.specs.SeenAhead.{HasCheckedPages, HasRest}
+use Rattle.dvi_read.specs.ItemsLeft.{HasCheckedPages, HasRest}
 use Rattle.dvi_read.specs.Private.OpeningParts.{HasPassed}
 use Rattle.dvi_read.specs.Private.ShownPages.{ShowsPages}
-use Rattle.dvi_read.specs.Steps.{known_of, places_left, stand_of}
-use Rattle.dvi_read.specs.Stops.{PagesHaveEnded}
+use Rattle.dvi_read.specs.Steps.{known_of, places_left, pass_state_of}
+use Rattle.dvi_read.specs.WalkFaults.{PagesHaveEnded}
 use Rattle.dvi_read.specs.declared.check.checked_file.CheckedFile.{CheckedFile}
 use Rattle.dvi_read.specs.declared.check.walk.Walk.{Walk}
 use Rattle.dvi_read.specs.declared.fonts.ReadFonts.{ReadFonts}
@@ -219,13 +219,16 @@ begins_here file pages index place n shows below n_is place_is =
     subst (λ (k : ℕ). IsAtBop file pages index k) (sym here) (begins_at file pages index shows (omega (arith, below, size)))
 
 -- A file that was checked shows the pages of the file that its bytes are.
-pub opened_shows : (files : List NamedBytes) (file : CheckedFile) (after last : ℕ) (stop : Postamble) (walk : Walk) → HasPassed files file.bytes.now (file_framing file.post after last stop file.places.items) file.from walk
-    → (pages : List MarkedPage) (new : List Definition) → ((k : ℕ) → slice_index file.bytes.now k < 256) → PagesHaveEnded (stand_of walk) (places_left walk) pages → ClosesTo file.bytes.now after (last - 5) (known_of walk) new
-    → file.fonts ≡ walk.fonts → file.most ≡ min 1024 stop.stack_depth → (all : List MarkedPage) × IsFile (file_widths files) file.bytes.now all × ShowsPages file all
-opened_shows files file after last stop walk passed pages new small ended closed fonts most =
+pub opened_shows : (files : List NamedBytes) (file : CheckedFile) (after last : ℕ) (postamble : Postamble) (walk : Walk)
+    → HasPassed files file.bytes.now (file_framing file.post after last postamble file.places.items) file.from walk
+    → (pages : List MarkedPage) (new : List Definition) → ((k : ℕ) → slice_index file.bytes.now k < 256)
+    → PagesHaveEnded (pass_state_of walk) (places_left walk) pages → ClosesTo file.bytes.now after (last - 5) (known_of walk) new
+    → file.fonts ≡ walk.fonts → file.most ≡ min 1024 postamble.stack_depth → (all : List MarkedPage) × IsFile (file_widths files) file.bytes.now all
+    × ShowsPages file all
+opened_shows files file after last postamble walk passed pages new small ended closed fonts most =
     let bytes = file.bytes.now in
     let chain = file.places.items in
-    let (all, is, rest, placed) = checked_pages files bytes file.post after last stop chain file.from walk passed pages new small ended closed in
+    let (all, is, rest, placed) = checked_pages files bytes file.post after last postamble chain file.from walk passed pages new small ended closed in
     let both =
     subst₂ (λ (fonts : ReadFonts) (most : ℕ). (rest : HasRest bytes file.from file.post most fonts [] (Between []) all) × (places file.from rest.rest ≡ reverse chain)) (sym fonts) (sym most) (rest, placed) in
     (all, is, record { has = both.0; placed = both.1 })

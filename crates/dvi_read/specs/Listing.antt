@@ -50,6 +50,6 @@ abbrev pub listing : List MarkedPage → List ℕ
 listing pages = pages_lines 1 pages
 
 -- The rest of the line of a special that was begun.
-abbrev pub text_ahead : Option (Bor (List ℕ)) → List ℕ
-text_ahead None = []
-text_ahead (Some text) = text_line text.now
+abbrev pub rest_of_line : Option (Bor (List ℕ)) → List ℕ
+rest_of_line None = []
+rest_of_line (Some text) = text_line text.now

@@ -16,7 +16,7 @@ pub record OpenedFile : Type 0 where
 
 -- The units are those of the postamble, and so those of the preamble.
 abbrev pub HasUnitsOf : List ℕ → OpenedFile → Type 0
-HasUnitsOf bytes dvi = (f : Frame bytes) → dvi.units ≡ f.stop.units
+HasUnitsOf bytes dvi = (f : Frame bytes) → dvi.units ≡ f.postamble.units
 
 -- A call gives exactly these pages, or memory was refused.
 abbrev pub GivesPages : List MarkedPage → Result OpenedFile DviFault → Type 0

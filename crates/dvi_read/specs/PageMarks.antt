@@ -31,8 +31,8 @@ abbrev pub text_places : (at : ℕ) → List Token → List ℕ
 text_places at [] = []
 text_places at (t ∷ rest) = text_place (at + length t.bytes) t.says ++ text_places (at + length t.bytes) rest
 
--- A text stands in the bytes from a place on. Its length fits the four bytes of xxx4, the longest form (DVItype, 15).
-pub record TextStandsAt (bytes : List ℕ) (place : ℕ) (text : List ℕ) : Type 0 where
+-- A text is in the bytes from a place on. Its length fits the four bytes of xxx4, the longest form (DVItype, 15).
+pub record TextIsAt (bytes : List ℕ) (place : ℕ) (text : List ℕ) : Type 0 where
   pub within : place + length text ≤ length bytes
   pub short : length text < 2 ^ 32
   pub text_is : take (length text) (drop place bytes) ≡ text
@@ -57,6 +57,6 @@ pub record HasGlyphWidths (metrics : WidthsByName) (table : List Definition) (fo
   pub widths : AllByRecursion (OfGlyph (IsGlyphWidth metrics table fonts)) marks
 
 -- A mark takes a byte of the file or more, and a page 46 or more.
-pub record HasRoomFor (bytes : List ℕ) (pages : List MarkedPage) : Type 0 where
+pub record HasSpaceFor (bytes : List ℕ) (pages : List MarkedPage) : Type 0 where
   pub marks_fit : length (marks_of pages) ≤ length bytes
   pub pages_fit : 46 * length pages ≤ length bytes

@@ -62,7 +62,7 @@ selected_in (Inside page) = page.state.font
 
 -- The selected font was read, and no other was selected since.
 abbrev pub IsCurrent : ReadFonts → PassState → Type 0
-IsCurrent fonts stand = (f : ℤ) → selected_in stand ≡ Some f → HasCurrent f fonts
+IsCurrent fonts pass_state = (f : ℤ) → selected_in pass_state ≡ Some f → HasCurrent f fonts
 
 -- The character that an instruction sets or puts, if it does one of both.
 abbrev pub code_in : Instruction → Option ℤ

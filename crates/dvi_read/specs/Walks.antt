@@ -6,7 +6,7 @@ use Rattle.dvi_ops.specs.Instruction.{Postamble}
 use Rattle.dvi_scan.specs.Pass.{PassStateView, Between, Inside}
 use Rattle.dvi_scan.specs.Reached.{IsReached, ReadSoFar}
 use Rattle.dvi_read.specs.ReadFonts.{AreSound, IsCurrent}
-use Rattle.dvi_read.specs.Steps.{FontsAreRead, known_of, places_left, stand_of}
+use Rattle.dvi_read.specs.Steps.{FontsAreRead, known_of, places_left, pass_state_of}
 use Rattle.dvi_read.specs.declared.check.walk.Walk.{Walk}
 
 -- The state of the pass without the pages that have ended and without the marks of the open one.
@@ -20,12 +20,12 @@ read_in pass selected walk = record { pass = pass; known = known_of walk; select
 
 -- A walk has come to a place: the instructions before it are right, the walk has their fonts and the state of the pass without pages and marks, and
 -- each selected font was read.
-pub record IsWalked (metrics : WidthsByName) (ahead : List ℤ) (bytes : List ℕ) (stop : Postamble) (chain : List ℕ) (at : ℕ)
+pub record IsWalked (metrics : WidthsByName) (after_post : List ℤ) (bytes : List ℕ) (postamble : Postamble) (chain : List ℕ) (at : ℕ)
     (walk : Walk) : Type 0 where
   pub selected : List ℤ
   pub pass : PassStateView
-  pub reached : IsReached metrics ahead bytes stop chain at (read_in pass selected walk)
-  pub stand : stand_of walk ≡ bare pass
+  pub reached : IsReached metrics after_post bytes postamble chain at (read_in pass selected walk)
+  pub pass_state : pass_state_of walk ≡ bare pass
   pub read : FontsAreRead walk.fonts selected
   pub sound : AreSound metrics (known_of walk) walk.fonts
-  pub current : IsCurrent walk.fonts walk.stand
+  pub current : IsCurrent walk.fonts walk.pass_state

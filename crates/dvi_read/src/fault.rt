@@ -6,7 +6,7 @@ ghost use Rattle.dvi_read.specs.Faults.{fault_in, of_font, of_frame, of_pass, of
 pub(crate) mod laws;
 
 use dvi_scan::{BadDvi, DviCause, FontRefusal, FrameFault, PassFault};
-pub use laws::{no_fault_is_in_a_file, no_walk_stops_in_a_file, pointers_are_wrong};
+pub use laws::{no_fault_is_in_a_file, no_walk_fault_is_in_a_file, pointers_are_wrong};
 use std::alloc::AllocError;
 use tfm_core::{FontReadFault, TfmCause};
 use thiserror::Error;

@@ -18,7 +18,9 @@ ghost use Rattle.dvi_read.specs.Steps.{IsSelectFault, Selects};
 use crate::check::walk::Source;
 use crate::fault::StepFault;
 use dvi_ops::{BodyOp, FontDefinition, Op};
-use dvi_scan::{DviCause, FontNumber, FontRefusal, KnownFonts, NumbersAhead, is_ahead, read_font};
+use dvi_scan::{
+    DviCause, FontNumber, FontRefusal, KnownFonts, NumbersAfterPost, is_after_post, read_font,
+};
 use std::alloc::{AllocError, Global};
 use std::collections::BTreeMap;
 use tfm_core::{Font, FontFile, file_named};
@@ -145,15 +147,15 @@ pub fn width_asked(fonts: &ReadFonts, current: usize, op: &Op<'_>) -> Option<i32
 
 /// The first definition of a number, where the number is also defined after post.
 fn definition_in<'f, 'a>(
-    ahead: &NumbersAhead,
+    after_post: &NumbersAfterPost,
     known: &'f KnownFonts<'a>,
     number: FontNumber,
 ) -> Option<&'f FontDefinition<'a>>
-    ensures font_defined { IfSome result (λ font. (has_number ahead.now.keys number.value ≡ true)
+    ensures font_defined { IfSome result (λ font. (has_number after_post.now.keys number.value ≡ true)
         × (first_definition_of number.value known.now ≡ Some (definition font.now))) }
-    ensures none { result ≡ None → (first_definition_of number.value known.now ≡ None) ⊎ (has_number ahead.now.keys number.value ≡ false) }
+    ensures none { result ≡ None → (first_definition_of number.value known.now ≡ None) ⊎ (has_number after_post.now.keys number.value ≡ false) }
 {
-    if !is_ahead(ahead, number) {
+    if !is_after_post(after_post, number) {
         return None;
     }
     known.get(number)
@@ -182,12 +184,12 @@ pub fn select<'a>(
 ) -> Result<(), StepFault<'a>>
     requires sizes { AllByRecursion (λ d. IsFontSize d.size) known.now }
     requires sound { AreSound (file_widths source.now.files.now) known.now fonts.old }
-    ensures ok { OnOk result (Selects (file_widths source.now.files.now) source.now.ahead.now.keys known.now number.value fonts.old fonts.new) }
+    ensures ok { OnOk result (Selects (file_widths source.now.files.now) source.now.after_post.now.keys known.now number.value fonts.old fonts.new) }
     // Memory is refused only for a font that was not read before and whose file exists and breaks no rule that needs no table.
-    ensures bad { IfErr result (IsSelectFault source.now.files.now source.now.ahead.now.keys known.now fonts.old number.value) }
+    ensures bad { IfErr result (IsSelectFault source.now.files.now source.now.after_post.now.keys known.now fonts.old number.value) }
     ensures unchanged { OnErr result (AreUnchanged fonts.old fonts.new) }
 {
-    let Some(font) = definition_in(source.ahead, known, number) else {
+    let Some(font) = definition_in(source.after_post, known, number) else {
         return Err(StepFault::Broken(DviCause::Font));
     };
     if fonts.choose(number) {

@@ -10,13 +10,13 @@ use Rattle.dvi_ops.specs.Tokens.{Token, IsSpelled, token_instructions, token_byt
 use Rattle.scaled_core.proofs.EachOf.{all_append, all_back}
 use Rattle.dvi_ops.proofs.Appends.{says-append, written-append, definitions-append, fonts_append, fonts_back}
 use Rattle.dvi_ops.proofs.Frames.{begins}
-use Rattle.dvi_scan.specs.Ends.{StandsAt}
+use Rattle.dvi_scan.specs.Ends.{IsSpelledAt}
 use Rattle.dvi_scan.specs.declared.fault.BadDvi.{BadDvi}
 use Rattle.dvi_scan.specs.declared.fault.DviCause.{DviCause}
 use Rattle.dvi_scan.specs.declared.fault.DviCause.TheVariants.{Opcode, Truncated, Font}
 use Rattle.dvi_scan.specs.declared.fault.FrameFault.{FrameFault}
 use Rattle.dvi_scan.specs.declared.fault.FrameFault.TheVariants.{OutOfMemory, Bad}
-use Rattle.dvi_scan.proofs.PlaceLemmas.{one_stands}
+use Rattle.dvi_scan.proofs.PlaceLemmas.{one_spelled_at}
 use Rattle.dvi_scan.specs.Known.{HasSame}
 use Rattle.dvi_scan.specs.Execution.{fault_at}
 use Rattle.dvi_scan.specs.declared.executing.PassFault.{PassFault}
@@ -27,7 +27,8 @@ use Rattle.dvi_scan.proofs.KnownLemmas.{same_after, same_right, same_self, same_
 use Rattle.dvi_scan.proofs.ReachedLemmas.{take_next}
 
 -- The instruction that was read is there.
-pub read_found : (bytes : List ℕ) (place next bound : ℕ) (i j : Instruction) → place < next → next ≤ bound → Spells i (take (next - place) (drop place bytes)) → i ≡ j → StandsAt bytes place bound j
+pub read_found : (bytes : List ℕ) (place next bound : ℕ) (i j : Instruction) → place < next → next ≤ bound
+    → Spells i (take (next - place) (drop place bytes)) → i ≡ j → IsSpelledAt bytes place bound j
 read_found bytes place next bound i j forward within spelled same =
     (next - place, omega arith, subst (λ (i : Instruction). Spells i (take (next - place) (drop place bytes))) same spelled)
 
@@ -75,9 +76,16 @@ closes_more bytes from at to next old mid new low high (tail, closes, mid_is) on
 -- A fault on the way.
 pub fault_on_the_way : (bytes : List ℕ) (from at to : ℕ) (old mid new : List Definition) (fault : FrameFault) → from ≤ at → at < to → ClosesTo bytes from at old mid → IsFaultAt bytes at to mid new fault
     → IsClosingFault bytes from to old new fault
-fault_on_the_way bytes from at to old mid new OutOfMemory low high closes (same, d, stands, right) =
-    let mids : mid ≡ new = sym same in
-    (at, low, high, subst (λ (ds : List Definition). ClosesTo bytes from at old ds) mids closes, d, stands, subst (λ (ds : List Definition). IsRightAfter ds (Do (FontDef d))) mids right)
+fault_on_the_way bytes from at to old mid new OutOfMemory low high closes (same, d, spelled_at, right) =
+    let mids : mid ≡ new = sym same in (
+      at,
+      low,
+      high,
+      subst (λ (ds : List Definition). ClosesTo bytes from at old ds) mids closes,
+      d,
+      spelled_at,
+      subst (λ (ds : List Definition). IsRightAfter ds (Do (FontDef d))) mids right,
+    )
 fault_on_the_way bytes from at to old mid new (Bad fault) low high closes (place, same, broken) =
     let mids : mid ≡ new = sym same in
     let places : at ≡ fault.place = sym place in
@@ -86,18 +94,21 @@ fault_on_the_way bytes from at to old mid new (Bad fault) low high closes (place
     (omega arith, omega arith, both, breaks)
 
 -- A broken rule contradicts an instruction that is right there.
-broken_here : (bytes : List ℕ) (place to : ℕ) (known : List Definition) (cause : DviCause) (i : Instruction) → BreaksClosing bytes place to known cause → StandsAt bytes place to i → IsIdle i → IsRightAfter known i → ⊥
-broken_here bytes place to known Truncated i (begins, none) stands idle right = none i stands
-broken_here bytes place to known Opcode i (inl (code, none)) stands idle right = none i stands
-broken_here bytes place to known Opcode i (inr (j, other, wrong)) stands idle right = wrong (subst (λ (i : Instruction). IsIdle i) (one_stands bytes place to to i j stands other) idle)
-broken_here bytes place to known Font i (d, other, wrong) stands idle right =
-    wrong (subst (λ (i : Instruction). IsRightAfter known i) (one_stands bytes place to to i (Do (FontDef d)) stands other) right)
-broken_here bytes place to known cause i broken stands idle right = absurd broken
+broken_here : (bytes : List ℕ) (place to : ℕ) (known : List Definition) (cause : DviCause) (i : Instruction)
+    → BreaksClosing bytes place to known cause → IsSpelledAt bytes place to i → IsIdle i → IsRightAfter known i → ⊥
+broken_here bytes place to known Truncated i (begins, none) spelled_at idle right = none i spelled_at
+broken_here bytes place to known Opcode i (inl (code, none)) spelled_at idle right = none i spelled_at
+broken_here bytes place to known Opcode i (inr (j, other, wrong)) spelled_at idle right =
+    wrong (subst (λ (i : Instruction). IsIdle i) (one_spelled_at bytes place to to i j spelled_at other) idle)
+broken_here bytes place to known Font i (d, other, wrong) spelled_at idle right =
+    wrong (subst (λ (i : Instruction). IsRightAfter known i) (one_spelled_at bytes place to to i (Do (FontDef d)) spelled_at other) right)
+broken_here bytes place to known cause i broken spelled_at idle right = absurd broken
 
 -- The instruction that begins spelled bytes is there.
-pub first_stands : (bytes : List ℕ) (place to : ℕ) (t : Token) (more : List Token) → place ≤ to → to ≤ length bytes → IsSpelled t → t.bytes ++ token_bytes more ≡ take (to - place) (drop place bytes) → StandsAt bytes place to t.says
-first_stands bytes place to t more low high spelled whole =
-    let room = length-drop place bytes in
+pub first_spelled : (bytes : List ℕ) (place to : ℕ) (t : Token) (more : List Token) → place ≤ to → to ≤ length bytes → IsSpelled t
+    → t.bytes ++ token_bytes more ≡ take (to - place) (drop place bytes) → IsSpelledAt bytes place to t.says
+first_spelled bytes place to t more low high spelled whole =
+    let space = length-drop place bytes in
     let size : length t.bytes + length (token_bytes more) ≡ to - place =
     sym (length-append t.bytes (token_bytes more)) ∙ (ap (λ (x : List ℕ). length x) whole ∙ length-take-le (to - place) (drop place bytes) (omega arith)) in
     let cut : take (length t.bytes) (drop place bytes) ≡ t.bytes =
@@ -124,7 +135,8 @@ broken_closing bytes from to old new known fault tail high same (low, below, (fr
         let some = length-take-le (to - fault.place) (drop fault.place bytes) (omega (arith, length-drop fault.place bytes)) in
         absurd (omega arith)
     by_first (t ∷ more) (here, spelled) rest (first, idle) ds (right, fonts) ones =
-        broken_here bytes fault.place to new fault.cause t.says broken (first_stands bytes fault.place to t more (omega arith) high here rest) first (same_right ds new t.says ones right)
+        broken_here bytes fault.place to new fault.cause t.says broken (first_spelled bytes fault.place to t more (omega arith) high here rest) first
+        (same_right ds new t.says ones right)
 
 -- Definitions that are right have a size.
 sized_one : (known : List Definition) (i : Instruction) → IsRightAfter known i → AllByRecursion (λ d. IsFontSize d.size) (definitions_in i)
@@ -136,8 +148,9 @@ sized_all known [] right = tt
 sized_all known (i ∷ is) (here, right) = all_append (λ d. IsFontSize d.size) (definitions_in i) (definitions is) (sized_one known i here) (sized_all (definitions_in i ++ known) is right)
 
 -- A definition that is there is refused.
-pub definition_fault : (bytes : List ℕ) (at to : ℕ) (old new : List Definition) (d : Definition) (fault : PassFault) → new ≡ old → StandsAt bytes at to (Do (FontDef d)) → IsDefinitionFault old d fault
+pub definition_fault : (bytes : List ℕ) (at to : ℕ) (old new : List Definition) (d : Definition) (fault : PassFault) → new ≡ old
+    → IsSpelledAt bytes at to (Do (FontDef d)) → IsDefinitionFault old d fault
     → IsFaultAt bytes at to old new (fault_at at fault)
-definition_fault bytes at to old new d faults.OutOfMemory same stands right = (same, d, stands, right)
-definition_fault bytes at to old new d (faults.Broken cause) same stands (is, wrong) =
-    (refl, same, subst (λ (cause : DviCause). BreaksClosing bytes at to old cause) (sym is) (d, stands, wrong))
+definition_fault bytes at to old new d faults.OutOfMemory same spelled_at right = (same, d, spelled_at, right)
+definition_fault bytes at to old new d (faults.Broken cause) same spelled_at (is, wrong) =
+    (refl, same, subst (λ (cause : DviCause). BreaksClosing bytes at to old cause) (sym is) (d, spelled_at, wrong))

@@ -7,9 +7,9 @@ use Rattle.dvi_ops.specs.Instruction.{Postamble, Post}
 use Rattle.dvi_ops.specs.Table.{Spells, SpellsSigned, signed}
 use Rattle.dvi_ops.specs.Tokens.{token_bytes}
 use Rattle.dvi_ops.specs.File.{Frame}
-use Rattle.dvi_scan.specs.Ends.{StandsAt, IsTrailed, HasPostamble}
+use Rattle.dvi_scan.specs.Ends.{IsSpelledAt, IsTrailed, HasPostamble}
 use Rattle.dvi_scan.proofs.ChainLemmas.{says_front}
-use Rattle.dvi_scan.proofs.PlaceLemmas.{one_stands}
+use Rattle.dvi_scan.proofs.PlaceLemmas.{one_spelled_at}
 
 -- The last byte before the bytes 223 is at one place.
 pub one_trail : (bytes : List ℕ) (e f : ℕ) → IsTrailed bytes e → IsTrailed bytes f → e ≡ f
@@ -22,18 +22,20 @@ one_trail bytes e f s t = elim (cases_lt e f) [
 ]
 
 -- So the end is unique, and it names one post.
-pub one_end : (bytes : List ℕ) (post e post' e' : ℕ) (stop stop' : Postamble) → HasPostamble bytes post e stop → HasPostamble bytes post' e' stop' → (e ≡ e') × (post ≡ post') × (stop ≡ stop')
-one_end bytes post e post' e' stop stop' s t =
+pub one_end : (bytes : List ℕ) (post e post' e' : ℕ) (postamble postamble' : Postamble) → HasPostamble bytes post e postamble
+    → HasPostamble bytes post' e' postamble' → (e ≡ e') × (post ≡ post') × (postamble ≡ postamble')
+one_end bytes post e post' e' postamble postamble' s t =
     let last : e ≡ e' = one_trail bytes e e' s.closed.trailed t.closed.trailed in
     let named : pos post ≡ pos post' = sym s.named ∙ (ap (λ (n : ℕ). signed 4 (drop (n - 4) bytes)) last ∙ t.named) in
     let places : post ≡ post' = cc in
-    let stands = subst (λ (place : ℕ). StandsAt bytes place (e' - 5) (Post stop')) (sym places) t.stands in
-    let same : Post stop ≡ Post stop' = one_stands bytes post (e - 5) (e' - 5) (Post stop) (Post stop') s.stands stands in
+    let spelled_at = subst (λ (place : ℕ). IsSpelledAt bytes place (e' - 5) (Post postamble')) (sym places) t.spelled_at in
+    let same : Post postamble ≡ Post postamble' =
+    one_spelled_at bytes post (e - 5) (e' - 5) (Post postamble) (Post postamble') s.spelled_at spelled_at in
     (last, places, cc)
 
 -- The end of bytes with these parts.
-module _ (front post tail operand : List ℕ) (padding : ℕ) (stop : Postamble)
-    (padded : 4 ≤ padding) (spelled : Spells (Post stop) post) (says : SpellsSigned (pos (length front)) operand) where
+module _ (front post tail operand : List ℕ) (padding : ℕ) (postamble : Postamble)
+    (padded : 4 ≤ padding) (spelled : Spells (Post postamble) post) (says : SpellsSigned (pos (length front)) operand) where
   pub bytes : List ℕ
   bytes = front ++ (post ++ (tail ++ (249 ∷ (operand ++ (2 ∷ replicate padding 223)))))
 
@@ -67,7 +69,7 @@ module _ (front post tail operand : List ℕ) (padding : ℕ) (stop : Postamble)
   unfolding e
   trailed =
       record {
-        room = (let five : e ≡ length before + 5 = size_e in omega arith);
+        space = (let five : e ≡ length before + 5 = size_e in omega arith);
         padded = (let size = whole in omega arith);
         after = λ k above below. is_223 k above (let size = whole in omega arith);
         last = λ same. (let two = version in differ _ _ two same refl);
@@ -86,13 +88,13 @@ module _ (front post tail operand : List ℕ) (padding : ℕ) (stop : Postamble)
           ∙ (get_or-append_right ((before ++ (249 ∷ operand)) ++ 2 ∷ []) (replicate padding 223) k 0 (omega arith)
           ∙ get_or-replicate padding (k - length ((before ++ (249 ∷ operand)) ++ 2 ∷ [])) 223 0 (omega arith))
 
-  pub ends : HasPostamble bytes (length front) e stop
+  pub ends : HasPostamble bytes (length front) e postamble
   unfolding e bytes before
   ends =
       record {
         closed = record { trailed = trailed; version = version; opcode = opcode };
         named = ap (λ (x : List ℕ). signed 4 x) operand_there ∙ says_front (pos (length front)) operand (2 ∷ replicate padding 223) says;
-        stands = (length post, room, subst (λ (x : List ℕ). Spells (Post stop) x) (sym post_there) spelled);
+        spelled_at = (length post, space, subst (λ (x : List ℕ). Spells (Post postamble) x) (sym post_there) spelled);
       }
     where
       size_e : e - 5 ≡ length before
@@ -111,20 +113,20 @@ module _ (front post tail operand : List ℕ) (padding : ℕ) (stop : Postamble)
       post_there = ap (λ (x : List ℕ). take (length post) x) (drop_at front (post ++ (tail ++ (249 ∷ (operand ++ (2 ∷ replicate padding 223))))) (length front) refl)
           ∙ take_at post (tail ++ (249 ∷ (operand ++ (2 ∷ replicate padding 223)))) (length post) refl
 
-      room : length front + length post ≤ e - 5
-      room = let size = size_e in omega (arith, length-append front (post ++ tail), length-append post tail)
+      space : length front + length post ≤ e - 5
+      space = let size = size_e in omega (arith, length-append front (post ++ tail), length-append post tail)
 
 -- The end of a frame.
-pub frame_ends : (bytes : List ℕ) (f : Frame bytes) → (last : ℕ) × HasPostamble bytes (length (token_bytes f.front)) last f.stop
+pub frame_ends : (bytes : List ℕ) (f : Frame bytes) → (last : ℕ) × HasPostamble bytes (length (token_bytes f.front)) last f.postamble
 unfolding bytes
 frame_ends all f =
     let (operand, spelled, says) = f.ending_spelled in
-    let same : all ≡ bytes (token_bytes f.front) f.post (token_bytes f.tail) operand f.padding f.stop f.padded f.post_spelled says =
+    let same : all ≡ bytes (token_bytes f.front) f.post (token_bytes f.tail) operand f.padding f.postamble f.padded f.post_spelled says =
     f.whole ∙ ap (λ (x : List ℕ). token_bytes f.front ++ (f.post ++ (token_bytes f.tail ++ x))) (ap (λ (x : List ℕ). x ++ replicate f.padding 223) spelled ∙ ap (λ (x : List ℕ). 249 ∷ x) (append_assoc operand (2 ∷ []) (replicate f.padding 223))) in
-    let last = e (token_bytes f.front) f.post (token_bytes f.tail) operand f.padding f.stop f.padded f.post_spelled says in (
+    let last = e (token_bytes f.front) f.post (token_bytes f.tail) operand f.padding f.postamble f.padded f.post_spelled says in (
       last,
-      subst (λ (x : List ℕ). HasPostamble x (length (token_bytes f.front)) last f.stop) (sym same)
-          (ends (token_bytes f.front) f.post (token_bytes f.tail) operand f.padding f.stop f.padded f.post_spelled says),
+      subst (λ (x : List ℕ). HasPostamble x (length (token_bytes f.front)) last f.postamble) (sym same)
+          (ends (token_bytes f.front) f.post (token_bytes f.tail) operand f.padding f.postamble f.padded f.post_spelled says),
     )
 
 -- The place of the version of a frame.

@@ -11,31 +11,33 @@ use Rattle.dvi_ops.specs.Fonts.{WidthsByName, definitions, widths_of}
 use Rattle.dvi_ops.proofs.Appends.{length-places, length-pages}
 use Rattle.dvi_scan.specs.declared.fault.DviCause.{DviCause}
 use Rattle.dvi_scan.specs.declared.fault.DviCause.TheVariants.{Trailer, Version, Opcode, Pointer, Count}
-use Rattle.dvi_scan.specs.Ends.{StandsAt, HasPostamble, BreaksEnd}
+use Rattle.dvi_scan.specs.Ends.{IsSpelledAt, HasPostamble, BreaksEnd}
 use Rattle.dvi_scan.specs.Chain.{Links, BreaksChain}
 use Rattle.dvi_scan.proofs.EndLemmas.{one_trail, one_end, frame_ends}
 use Rattle.dvi_scan.proofs.LinkLemmas.{linked_from, chained_from, one_chain, broken_chain}
 
 -- A broken rule of the end.
-pub breaks_end : (bytes : List ℕ) (place : ℕ) (cause : DviCause) (post e : ℕ) (stop : Postamble) → HasPostamble bytes post e stop → BreaksEnd bytes place cause → ⊥
-breaks_end bytes place Trailer post e stop ends (at, none) = none e ends.closed.trailed
-breaks_end bytes place Version post e stop ends (trailed, other) =
+pub breaks_end : (bytes : List ℕ) (place : ℕ) (cause : DviCause) (post e : ℕ) (postamble : Postamble) → HasPostamble bytes post e postamble
+    → BreaksEnd bytes place cause → ⊥
+breaks_end bytes place Trailer post e postamble ends (at, none) = none e ends.closed.trailed
+breaks_end bytes place Version post e postamble ends (trailed, other) =
     let same : place ≡ e = one_trail bytes place e trailed ends.closed.trailed in
     other (subst (λ (n : ℕ). slice_index bytes n ≡ 2) (sym same) ends.closed.version)
-breaks_end bytes place Opcode post e stop ends (trailed, version, other) =
+breaks_end bytes place Opcode post e postamble ends (trailed, version, other) =
     let same : place + 5 ≡ e = one_trail bytes (place + 5) e trailed ends.closed.trailed in
     let back : e - 5 ≡ place = omega arith in
     other (subst (λ (n : ℕ). slice_index bytes n ≡ 249) back ends.closed.opcode)
-breaks_end bytes place Pointer post e stop ends (closed, none) =
+breaks_end bytes place Pointer post e postamble ends (closed, none) =
     let same : place + 4 ≡ e = one_trail bytes (place + 4) e closed.trailed ends.closed.trailed in
     let back : e - 4 ≡ place = omega arith in
     let before : e - 5 ≡ place - 1 = omega arith in
-    none post stop (subst (λ (n : ℕ). signed 4 (drop n bytes) ≡ pos post) back ends.named) (subst (λ (n : ℕ). StandsAt bytes post n (Post stop)) before ends.stands)
-breaks_end bytes place cause post e stop ends broken = absurd broken
+    none post postamble (subst (λ (n : ℕ). signed 4 (drop n bytes) ≡ pos post) back ends.named)
+    (subst (λ (n : ℕ). IsSpelledAt bytes post n (Post postamble)) before ends.spelled_at)
+breaks_end bytes place cause post e postamble ends broken = absurd broken
 
 pub end_fault : (bytes : List ℕ) (place : ℕ) (cause : DviCause) → BreaksEnd bytes place cause → Frame bytes → ⊥
 end_fault bytes place cause broken f =
-    let found = frame_ends bytes f in breaks_end bytes place cause (length (token_bytes f.front)) found.0 f.stop found.1 broken
+    let found = frame_ends bytes f in breaks_end bytes place cause (length (token_bytes f.front)) found.0 f.postamble found.1 broken
 
 -- The chain from the first bop to the last.
 pub linked : (bytes : List ℕ) (front : List Token) (rest : List ℕ) (last : ℤ) → bytes ≡ token_bytes front ++ rest → AllByRecursion IsSpelled front
@@ -54,33 +56,37 @@ chained bytes front rest bound last whole spelled links =
 
 -- The chain of a file.
 pub file_chain : (metrics : WidthsByName) (bytes : List ℕ) (pages : List MarkedPage) (f : IsFile metrics bytes pages)
-    → Links bytes (length (token_bytes f.frame.front)) f.frame.stop.last_bop (reverse (places 0 f.frame.front))
-file_chain metrics bytes pages f = linked bytes f.frame.front _ f.frame.stop.last_bop f.frame.whole f.frame.front_spelled f.chain
+    → Links bytes (length (token_bytes f.frame.front)) f.frame.postamble.last_bop (reverse (places 0 f.frame.front))
+file_chain metrics bytes pages f = linked bytes f.frame.front _ f.frame.postamble.last_bop f.frame.whole f.frame.front_spelled f.chain
 
 pub file_count : (metrics : WidthsByName) (bytes : List ℕ) (pages : List MarkedPage) (f : IsFile metrics bytes pages)
-    → f.frame.stop.pages ≡ length (places 0 f.frame.front) % 65536
+    → f.frame.postamble.pages ≡ length (places 0 f.frame.front) % 65536
 file_count metrics bytes pages f =
     let bops = length-pages (bounded_acts (instruction_acts (widths_of metrics (definitions (token_instructions f.frame.tail))))) f.parts pages f.shows in
     let same : length (places 0 f.frame.front) ≡ length pages = length-places 0 f.frame.front ∙ (ap (λ is. length (pointers is)) f.front_is ∙ bops) in
     f.count ∙ ap (λ n. n % 65536) (sym same)
 
 -- A broken rule of the chain.
-pub breaks_chain : (bytes : List ℕ) (post place : ℕ) (stop : Postamble) (cause : DviCause) (chain : List ℕ) → BreaksChain bytes post stop place cause → Links bytes post stop.last_bop chain
-    → stop.pages ≡ length chain % 65536 → ⊥
-breaks_chain bytes post place stop Pointer chain broken links count = broken_chain bytes (post + 1) post stop.last_bop place chain broken links
-breaks_chain bytes post place stop Count chain (at, other_chain, links', other) links count =
-    let same : other_chain ≡ chain = one_chain bytes post post stop.last_bop other_chain chain links' links in
+pub breaks_chain : (bytes : List ℕ) (post place : ℕ) (postamble : Postamble) (cause : DviCause) (chain : List ℕ)
+    → BreaksChain bytes post postamble place cause → Links bytes post postamble.last_bop chain
+    → postamble.pages ≡ length chain % 65536 → ⊥
+breaks_chain bytes post place postamble Pointer chain broken links count =
+    broken_chain bytes (post + 1) post postamble.last_bop place chain broken links
+breaks_chain bytes post place postamble Count chain (at, other_chain, links', other) links count =
+    let same : other_chain ≡ chain = one_chain bytes post post postamble.last_bop other_chain chain links' links in
     other (count ∙ ap (λ (c : List ℕ). length c % 65536) (sym same))
-breaks_chain bytes post place stop cause chain broken links count = absurd broken
+breaks_chain bytes post place postamble cause chain broken links count = absurd broken
 
 -- The same in a file.
-pub chain_fault : (metrics : WidthsByName) (bytes : List ℕ) (pages : List MarkedPage) (post e place : ℕ) (stop : Postamble) (cause : DviCause)
-    → HasPostamble bytes post e stop → BreaksChain bytes post stop place cause → IsFile metrics bytes pages → ⊥
-chain_fault metrics bytes pages post e place stop cause ends broken f =
+pub chain_fault : (metrics : WidthsByName) (bytes : List ℕ) (pages : List MarkedPage) (post e place : ℕ) (postamble : Postamble) (cause : DviCause)
+    → HasPostamble bytes post e postamble → BreaksChain bytes post postamble place cause → IsFile metrics bytes pages → ⊥
+chain_fault metrics bytes pages post e place postamble cause ends broken f =
     let found = frame_ends bytes f.frame in
-    let (last, posts, stops) = one_end bytes post e (length (token_bytes f.frame.front)) found.0 stop f.frame.stop ends found.1 in
-    let links : Links bytes post stop.last_bop (reverse (places 0 f.frame.front)) =
-    subst₂ (λ (n : ℕ) (s : Postamble). Links bytes n s.last_bop (reverse (places 0 f.frame.front))) (sym posts) (sym stops) (file_chain metrics bytes pages f) in
-    let count : stop.pages ≡ length (reverse (places 0 f.frame.front)) % 65536 =
-    ap (λ (s : Postamble). s.pages) stops ∙ (file_count metrics bytes pages f ∙ ap (λ n. n % 65536) (sym (length-reverse (places 0 f.frame.front)))) in
-    breaks_chain bytes post place stop cause (reverse (places 0 f.frame.front)) broken links count
+    let (last, posts, nothing_idle) = one_end bytes post e (length (token_bytes f.frame.front)) found.0 postamble f.frame.postamble ends found.1 in
+    let links : Links bytes post postamble.last_bop (reverse (places 0 f.frame.front)) =
+    subst₂ (λ (n : ℕ) (s : Postamble). Links bytes n s.last_bop (reverse (places 0 f.frame.front))) (sym posts) (sym nothing_idle)
+    (file_chain metrics bytes pages f) in
+    let count : postamble.pages ≡ length (reverse (places 0 f.frame.front)) % 65536 =
+    ap (λ (s : Postamble). s.pages) nothing_idle
+    ∙ (file_count metrics bytes pages f ∙ ap (λ n. n % 65536) (sym (length-reverse (places 0 f.frame.front)))) in
+    breaks_chain bytes post place postamble cause (reverse (places 0 f.frame.front)) broken links count

@@ -18,4 +18,4 @@ pub mod MetricFileLemmas
 pub mod FirstDefinitionLemmas
 pub mod RefusalLemmas
 pub mod ClosingLemmas
-pub mod AheadLemmas
+pub mod AfterPostLemmas

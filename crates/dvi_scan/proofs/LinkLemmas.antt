@@ -5,9 +5,9 @@ use Rattle.std.specs.List.{AllByRecursion}
 use Rattle.dvi_ops.specs.Instruction.{Instruction, Bop}
 use Rattle.dvi_ops.specs.Table.{Spells}
 use Rattle.dvi_ops.specs.Tokens.{Token, IsSpelled, token_instructions, token_bytes, bop_place, places, pointer_of, pointers}
-use Rattle.dvi_scan.specs.Ends.{StandsAt}
+use Rattle.dvi_scan.specs.Ends.{IsSpelledAt}
 use Rattle.dvi_scan.specs.Chain.{Links, IsBrokenAt}
-use Rattle.dvi_scan.proofs.PlaceLemmas.{one_stands, stands_wider}
+use Rattle.dvi_scan.proofs.PlaceLemmas.{one_spelled_at, spelled_wider}
 
 -- An instruction is a bop, or it has no place of a bop and no pointer.
 data BopOrNot (i : Instruction) : Type 0 where
@@ -21,12 +21,12 @@ bop_or_not i = no_bop (λ at. refl) refl
 -- A larger bound.
 links_wider : (bytes : List ℕ) (bound wider : ℕ) (pointer : ℤ) (chain : List ℕ) → bound ≤ wider → Links bytes bound pointer chain → Links bytes wider pointer chain
 links_wider bytes bound wider pointer [] more links = links
-links_wider bytes bound wider pointer (place ∷ earlier) more (e, counts, before, stands, links) =
-    (e, counts, before, stands_wider bytes place bound wider (Bop counts before) more stands, links)
+links_wider bytes bound wider pointer (place ∷ earlier) more (e, counts, before, spelled_at, links) =
+    (e, counts, before, spelled_wider bytes place bound wider (Bop counts before) more spelled_at, links)
 
 -- The instruction after some bytes.
-stands_after : (a : List ℕ) (t : Token) (x : List ℕ) → IsSpelled t → StandsAt (a ++ (t.bytes ++ x)) (length a) (length a + length t.bytes) t.says
-stands_after a t x spelled = (
+spelled_after : (a : List ℕ) (t : Token) (x : List ℕ) → IsSpelled t → IsSpelledAt (a ++ (t.bytes ++ x)) (length a) (length a + length t.bytes) t.says
+spelled_after a t x spelled = (
   length t.bytes,
   omega arith,
   subst (λ (y : List ℕ). Spells t.says y) (sym (ap (λ (y : List ℕ). take (length t.bytes) y) (drop_at a (t.bytes ++ x) (length a) refl) ∙ take_at t.bytes x (length t.bytes) refl)) spelled,
@@ -46,15 +46,18 @@ linked_from bytes a [] rest z last earlier whole spelled e links =
 linked_from bytes a (t ∷ more) rest z last earlier whole (here, spelled) e links =
     let regroup : a ++ (token_bytes (t ∷ more) ++ rest) ≡ (a ++ t.bytes) ++ (token_bytes more ++ rest) = simp append_assoc in
     let size : length (a ++ t.bytes) ≡ length a + length t.bytes = length-append a t.bytes in
-    let stands : StandsAt bytes (length a) (length a + length t.bytes) t.says =
-    subst (λ (x : List ℕ). StandsAt x (length a) (length a + length t.bytes) t.says) (sym (whole ∙ ap (λ (x : List ℕ). a ++ x) (append_assoc t.bytes (token_bytes more) rest))) (stands_after a t (token_bytes more ++ rest) here) in
+    let spelled_at : IsSpelledAt bytes (length a) (length a + length t.bytes) t.says =
+    subst (λ (x : List ℕ). IsSpelledAt x (length a) (length a + length t.bytes) t.says)
+    (sym (whole ∙ ap (λ (x : List ℕ). a ++ x) (append_assoc t.bytes (token_bytes more) rest)))
+    (spelled_after a t (token_bytes more ++ rest) here) in
     let ends : (length a + length t.bytes) + length (token_bytes more) ≡ length a + length (token_bytes (t ∷ more)) = omega (arith, length-append t.bytes (token_bytes more)) in
     elim (bop_or_not t.says) [
       | is_bop counts pointer is ↦
           (let there : pointer ∷ (pointers (token_instructions more) ++ last ∷ []) ≡ z ∷ (pos (length a) ∷ map (λ (n : ℕ). pos n) (places (length a + length t.bytes) more)) = rw is at e in
           let same : pointer ≡ z = cc in
           let later : pointers (token_instructions more) ++ last ∷ [] ≡ pos (length a) ∷ map (λ (n : ℕ). pos n) (places (length a + length t.bytes) more) = cc in
-          let bop : StandsAt bytes (length a) (length a + length t.bytes) (Bop counts pointer) = subst (λ (i : Instruction). StandsAt bytes (length a) (length a + length t.bytes) i) is stands in
+          let bop : IsSpelledAt bytes (length a) (length a + length t.bytes) (Bop counts pointer) =
+          subst (λ (i : Instruction). IsSpelledAt bytes (length a) (length a + length t.bytes) i) is spelled_at in
           let now : Links bytes (length a + length t.bytes) (pos (length a)) (length a ∷ earlier) = (refl, counts, pointer, bop, subst (λ (y : ℤ). Links bytes (length a) y earlier) (sym same) links) in
           let all = linked_from bytes (a ++ t.bytes) more rest (pos (length a)) last (length a ∷ earlier) (whole ∙ regroup) spelled (rw size later) (rw size now) in
           let next : Links bytes ((length a + length t.bytes) + length (token_bytes more)) last (reverse (places (length a + length t.bytes) more) ++ (length a ∷ earlier)) =
@@ -87,16 +90,20 @@ chained_from bytes a [] rest bound last earlier whole spelled links = record { p
 chained_from bytes a (t ∷ more) rest bound last earlier whole (here, spelled) links =
     let regroup : a ++ (token_bytes (t ∷ more) ++ rest) ≡ (a ++ t.bytes) ++ (token_bytes more ++ rest) = simp append_assoc in
     let size : length (a ++ t.bytes) ≡ length a + length t.bytes = length-append a t.bytes in
-    let stands : StandsAt bytes (length a) (length a + length t.bytes) t.says =
-    subst (λ (x : List ℕ). StandsAt x (length a) (length a + length t.bytes) t.says) (sym (whole ∙ ap (λ (x : List ℕ). a ++ x) (append_assoc t.bytes (token_bytes more) rest))) (stands_after a t (token_bytes more ++ rest) here) in
+    let spelled_at : IsSpelledAt bytes (length a) (length a + length t.bytes) t.says =
+    subst (λ (x : List ℕ). IsSpelledAt x (length a) (length a + length t.bytes) t.says)
+    (sym (whole ∙ ap (λ (x : List ℕ). a ++ x) (append_assoc t.bytes (token_bytes more) rest)))
+    (spelled_after a t (token_bytes more ++ rest) here) in
     elim (bop_or_not t.says) [
       | is_bop counts pointer is ↦
-          (let bop : StandsAt bytes (length a) (length a + length t.bytes) (Bop counts pointer) = subst (λ (i : Instruction). StandsAt bytes (length a) (length a + length t.bytes) i) is stands in
+          (let bop : IsSpelledAt bytes (length a) (length a + length t.bytes) (Bop counts pointer) =
+          subst (λ (i : Instruction). IsSpelledAt bytes (length a) (length a + length t.bytes) i) is spelled_at in
           let list : reverse (places (length a) (t ∷ more)) ++ earlier ≡ reverse (places (length a + length t.bytes) more) ++ (length a ∷ earlier) = rw is (onto (length a) (places (length a + length t.bytes) more) earlier) in
           let now : Links bytes bound last (reverse (places (length a + length t.bytes) more) ++ (length a ∷ earlier)) = subst (λ (c : List ℕ). Links bytes bound last c) list links in
           let found = chained_from bytes (a ++ t.bytes) more rest bound last (length a ∷ earlier) (whole ∙ regroup) spelled (rw size now) in
           let (named, others, other, there, further) = found.links in
-          let same : Bop others other ≡ Bop counts pointer = one_stands bytes (length a) found.bound (length a + length t.bytes) (Bop others other) (Bop counts pointer) there bop in
+          let same : Bop others other ≡ Bop counts pointer =
+          one_spelled_at bytes (length a) found.bound (length a + length t.bytes) (Bop others other) (Bop counts pointer) there bop in
           let pointers_same : other ≡ pointer = cc in
           let later : pointers (token_instructions more) ++ last ∷ [] ≡ found.pointer ∷ map (λ (n : ℕ). pos n) (places (length a + length t.bytes) more) = subst (λ (n : ℕ). pointers (token_instructions more) ++ last ∷ [] ≡ found.pointer ∷ map (λ (n : ℕ). pos n) (places n more)) size found.equation in
           let whole_equation : pointers (token_instructions (t ∷ more)) ++ last ∷ [] ≡ pointer ∷ map (λ (n : ℕ). pos n) (places (length a) (t ∷ more)) =
@@ -121,10 +128,11 @@ pub one_chain : (bytes : List ℕ) (bound other : ℕ) (pointer : ℤ) (c d : Li
 one_chain bytes bound other pointer [] [] l m = refl
 one_chain bytes bound other pointer [] (q ∷ d) l m = let start : pointer ≡ negsuc 0 = l in let e : pointer ≡ pos q = m.0 in absurd cc
 one_chain bytes bound other pointer (p ∷ c) [] l m = let start : pointer ≡ negsuc 0 = m in let e : pointer ≡ pos p = l.0 in absurd cc
-one_chain bytes bound other pointer (p ∷ c) (q ∷ d) (e, counts, before, stands, links) (e', counts', before', stands', links') =
+one_chain bytes bound other pointer (p ∷ c) (q ∷ d) (e, counts, before, spelled_at, links) (e', counts', before', spelled_at', links') =
     let place : q ≡ p = cc in
-    let there = subst (λ (n : ℕ). StandsAt bytes n other (Bop counts' before')) place stands' in
-    let same : Bop counts before ≡ Bop counts' before' = one_stands bytes p bound other (Bop counts before) (Bop counts' before') stands there in
+    let there = subst (λ (n : ℕ). IsSpelledAt bytes n other (Bop counts' before')) place spelled_at' in
+    let same : Bop counts before ≡ Bop counts' before' =
+    one_spelled_at bytes p bound other (Bop counts before) (Bop counts' before') spelled_at there in
     let pointers_same : before' ≡ before = cc in
     let rest = one_chain bytes p q before c d links (subst (λ (y : ℤ). Links bytes q y d) pointers_same links') in
     cc
@@ -132,11 +140,14 @@ one_chain bytes bound other pointer (p ∷ c) (q ∷ d) (e, counts, before, stan
 -- A broken chain leads to no list of places.
 pub broken_chain : (bytes : List ℕ) (at bound : ℕ) (pointer : ℤ) (p : ℕ) (c : List ℕ) → IsBrokenAt bytes at bound pointer p → Links bytes bound pointer c → ⊥
 broken_chain bytes at bound pointer p [] (IsBrokenAt.here lost) links = lost.other links
-broken_chain bytes at bound pointer p (place ∷ c) (IsBrokenAt.here lost) (e, counts, before, stands, links) = lost.no_bop place counts before e stands
-broken_chain bytes at bound pointer p [] (IsBrokenAt.before counts stands b) links = absurd cc
-broken_chain bytes at bound pointer p (place ∷ c) (IsBrokenAt.before {place = here} {earlier = earlier} counts stands b) (e, counts', before, stands', links) =
+broken_chain bytes at bound pointer p (place ∷ c) (IsBrokenAt.here lost) (e, counts, before, spelled_at, links) =
+    lost.no_bop place counts before e spelled_at
+broken_chain bytes at bound pointer p [] (IsBrokenAt.before counts spelled_at b) links = absurd cc
+broken_chain bytes at bound pointer p (place ∷ c) (IsBrokenAt.before {place = here} {earlier = earlier} counts spelled_at b)
+    (e, counts', before, spelled_at', links) =
     let same_place : place ≡ here = cc in
-    let there = subst (λ (n : ℕ). StandsAt bytes n bound (Bop counts' before)) same_place stands' in
-    let same : Bop counts earlier ≡ Bop counts' before = one_stands bytes here bound bound (Bop counts earlier) (Bop counts' before) stands there in
+    let there = subst (λ (n : ℕ). IsSpelledAt bytes n bound (Bop counts' before)) same_place spelled_at' in
+    let same : Bop counts earlier ≡ Bop counts' before =
+    one_spelled_at bytes here bound bound (Bop counts earlier) (Bop counts' before) spelled_at there in
     let pointers_same : before ≡ earlier = cc in
     broken_chain bytes (here + 41) here earlier p c b (subst₂ (λ (n : ℕ) (y : ℤ). Links bytes n y c) same_place pointers_same links)

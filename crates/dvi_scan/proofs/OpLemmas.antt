@@ -20,8 +20,8 @@ in_body bodies.Nop = tt
 in_body op = tt
 
 -- An op other than post represents no post.
-pub no_post : (op : Op) → ((stop : _) → op ≡ ops.Post stop → ⊥) → (p : Postamble) → view op ≡ Post p → ⊥
-no_post (ops.Post stop) not p e = not stop refl
+pub no_post : (op : Op) → ((postamble : _) → op ≡ ops.Post postamble → ⊥) → (p : Postamble) → view op ≡ Post p → ⊥
+no_post (ops.Post postamble) not p e = not postamble refl
 no_post (ops.Body op) not p e = subst IsInBody e (in_body op)
 no_post op not p e = absurd cc
 

@@ -5,7 +5,7 @@ use Rattle.std.specs.List.{AllByRecursion, flat_map}
 use Rattle.dvi_ops.specs.Instruction.{BodyLeaf, Nop, FontDef, Instruction, Do, Push, Pop, Bop, Eop}
 use Rattle.dvi_ops.specs.Body.{Position, DviState, Meaning, Acts, start}
 use Rattle.scaled_core.specs.Mark.{Mark}
-use Rattle.dvi_ops.specs.Forest.{Forest, Empty, Then, Group, flat, meaning, nests, and_then, marks_ahead, restored_meaning}
+use Rattle.dvi_ops.specs.Forest.{Forest, Empty, Then, Group, flat, meaning, nests, and_then, marks_before, restored_meaning}
 use Rattle.dvi_ops.specs.File.{FilePart, Idle, Defines, Shows, instructions, MarkedPage, page_then, pages_of, push_depth_of}
 use Rattle.dvi_scan.specs.Pass.{PassStateView, Between, Inside, with_marks, execute, then_pass, passes}
 
@@ -47,7 +47,7 @@ passes-flat does most (Then i f) rest pages counts marks more stack s t e deep =
     step next None e = absurd cc
     step next (Some (here, u)) e = after (meaning does f u) refl e
       where
-        after : (m : Meaning) → meaning does f u ≡ m → marks_ahead here m ≡ Some (more, t)
+        after : (m : Meaning) → meaning does f u ≡ m → marks_before here m ≡ Some (more, t)
             → passes does most (flat f ++ rest) (Inside pages counts (marks ++ here) stack u) ≡ passes does most rest (Inside pages counts (marks ++ more) stack t)
         after None is e = absurd cc
         after (Some (later, w)) is e =
@@ -55,8 +55,8 @@ passes-flat does most (Then i f) rest pages counts marks more stack s t e deep =
             next (marks ++ here) later u w is
             ∙ ap₂ (λ (m : List Mark) (u : DviState). passes does most rest (Inside pages counts m stack u)) (append_assoc marks here later ∙ ap (λ (m : List Mark). marks ++ m) all) same
 passes-flat does most (Group inner f) rest pages counts marks more stack s t e deep =
-    let room : length stack < most = omega arith in
-    let wide : nat_lt (length stack) most ≡ true = lt-ltb (length stack) most room in
+    let space : length stack < most = omega arith in
+    let wide : nat_lt (length stack) most ≡ true = lt-ltb (length stack) most space in
     rw wide
     (ap (λ is. passes does most is (Inside pages counts marks (s.place ∷ stack) s)) (append_assoc (flat inner) (Pop ∷ flat f) rest)
     ∙ within (λ here u is. passes-flat does most inner (Pop ∷ (flat f ++ rest)) pages counts marks here (s.place ∷ stack) s u is (omega arith))
@@ -72,7 +72,7 @@ passes-flat does most (Group inner f) rest pages counts marks more stack s t e d
         first here u is
         ∙ after (meaning does f (record { place = s.place; font = u.font })) refl e
       where
-        after : (m : Meaning) → meaning does f (record { place = s.place; font = u.font }) ≡ m → marks_ahead here m ≡ Some (more, t)
+        after : (m : Meaning) → meaning does f (record { place = s.place; font = u.font }) ≡ m → marks_before here m ≡ Some (more, t)
             → passes does most (flat f ++ rest) (Inside pages counts (marks ++ here) stack (record { place = s.place; font = u.font })) ≡ passes does most rest (Inside pages counts (marks ++ more) stack t)
         after None is e = absurd cc
         after (Some (later, w)) is e =
@@ -222,14 +222,14 @@ rests does most (Do leaf ∷ is) (Inside before counts marks stack s) all shallo
     step next None act e = absurd cc
     step next (Some (here, u)) act e = then_closes does most leaf is before all counts marks here stack s u act (next here u e)
 rests does most (Push ∷ is) (Inside before counts marks stack s) all shallow e =
-    step (λ room e. rests does most is (Inside before counts marks (s.place ∷ stack) s) all room e) (nat_lt (length stack) most) refl e
+    step (λ space e. rests does most is (Inside before counts marks (s.place ∷ stack) s) all space e) (nat_lt (length stack) most) refl e
   where
     step : (length (s.place ∷ stack) ≤ most → passes does most is (Inside before counts marks (s.place ∷ stack) s) ≡ Some (Between all) → Closes does most is before all counts marks (s.place ∷ stack) s)
         → (b : Bool) → nat_lt (length stack) most ≡ b → then_pass (passes does most is) (cond b (Some (Inside before counts marks (s.place ∷ stack) s)) None) ≡ Some (Between all)
         → Closes does most (Push ∷ is) before all counts marks stack s
     step next false test e = absurd cc
     step next true test e =
-        let room = ltb-true (length stack) most test in
+        let space = ltb-true (length stack) most test in
         group_closes does most is before all counts marks stack s (next (omega arith) e)
 rests does most (Pop ∷ is) (Inside before counts marks [] s) all shallow e = absurd cc
 rests does most (Pop ∷ is) (Inside before counts marks (p ∷ stack) s) all shallow e =

@@ -54,17 +54,18 @@ closed_before metrics front tail right closing =
     (front_tail front tail right (all_weaker (HasWidths metrics (definitions tail)) (IsDefined (definitions tail)) (selections front) (has_definition metrics (definitions tail)) closing)))
 
 -- The places of the parts of each frame.
-pub frame_parts : (bytes : List ℕ) (post after last : ℕ) (stop : Postamble) (chain : List ℕ) → IsFramed bytes post after last stop chain → (g : Frame bytes)
+pub frame_parts : (bytes : List ℕ) (post after last : ℕ) (postamble : Postamble) (chain : List ℕ) → IsFramed bytes post after last postamble chain
+    → (g : Frame bytes)
     → (token_bytes g.front ≡ take post bytes) × (token_bytes g.tail ≡ take (last - 5 - after) (drop after bytes))
-frame_parts bytes post after last stop chain framed g =
+frame_parts bytes post after last postamble chain framed g =
     let found = frame_ends bytes g in
-    let (lasts, posts, stops) = one_end bytes post last (length (token_bytes g.front)) found.0 stop g.stop framed.ends found.1 in
+    let (lasts, posts, nothing_idle) = one_end bytes post last (length (token_bytes g.front)) found.0 postamble g.postamble framed.ends found.1 in
     let where_last = frame_last bytes g in
     let front_whole : take post bytes ≡ token_bytes g.front = ap₂ (λ (n : ℕ) (x : List ℕ). take n x) posts g.whole ∙ take_at (token_bytes g.front) _ (length (token_bytes g.front)) refl in
     let from_post : drop post bytes ≡ g.post ++ (token_bytes g.tail ++ (g.ending ++ replicate g.padding 223)) = ap₂ (λ (n : ℕ) (x : List ℕ). drop n x) posts g.whole ∙ drop_at (token_bytes g.front) _ (length (token_bytes g.front)) refl in
     let there : take (length g.post) (drop post bytes) ≡ g.post = ap (λ (x : List ℕ). take (length g.post) x) from_post ∙ take_at g.post _ (length g.post) refl in
-    let spelled = subst (λ (x : List ℕ). Spells (Post g.stop) x) (sym there) g.post_spelled in
-    let same = same_front (Post stop) (Post g.stop) (after - post) (length g.post) (drop post bytes) framed.spelled spelled in
+    let spelled = subst (λ (x : List ℕ). Spells (Post g.postamble) x) (sym there) g.post_spelled in
+    let same = same_front (Post postamble) (Post g.postamble) (after - post) (length g.post) (drop post bytes) framed.spelled spelled in
     let place_after_is : after ≡ post + length g.post = sizes same.1 front_whole from_post in
     let from_after : drop after bytes ≡ token_bytes g.tail ++ (g.ending ++ replicate g.padding 223) =
     ap (λ (n : ℕ). drop n bytes) place_after_is ∙ (sym (drop-drop (length g.post) post bytes) ∙ (ap (λ (x : List ℕ). drop (length g.post) x) from_post ∙ drop_at g.post _ (length g.post) refl)) in
@@ -97,7 +98,8 @@ cut_after : (bytes : List ℕ) (at n next : ℕ) → at + n ≡ next → drop at
 cut_after bytes at n next e =
     sym (take-append-drop n (drop at bytes)) ∙ ap (λ (x : List ℕ). take n (drop at bytes) ++ x) (drop-drop n at bytes ∙ ap (λ (k : ℕ). drop k bytes) e)
 
-module _ (bytes : List ℕ) (post after last : ℕ) (stop : Postamble) (chain : List ℕ) (framed : IsFramed bytes post after last stop chain) where
+module _ (bytes : List ℕ) (post after last : ℕ) (postamble : Postamble) (chain : List ℕ)
+    (framed : IsFramed bytes post after last postamble chain) where
   padding : ℕ
   padding = length bytes - (last + 1)
 
@@ -105,7 +107,7 @@ module _ (bytes : List ℕ) (post after last : ℕ) (stop : Postamble) (chain : 
   unfolding padding
   padded =
       let trailed = framed.ends.closed.trailed in
-      let room = trailed.padded in
+      let space = trailed.padded in
       same_number_lists (drop (last + 1) bytes) (replicate (length bytes - (last + 1)) 223)
       (length-drop (last + 1) bytes ∙ sym (length-replicate {A = ℕ} (length bytes - (last + 1)) 223))
       (λ k below. (let size = length-drop (last + 1) bytes in
@@ -121,17 +123,17 @@ module _ (bytes : List ℕ) (post after last : ℕ) (stop : Postamble) (chain : 
   unfolding ending operand
   ending_is =
       let trailed = framed.ends.closed.trailed in
-      let room = trailed.padded in
-      let five = trailed.room in
+      let space = trailed.padded in
+      let five = trailed.space in
       let size = length-drop (last - 5) bytes in
       let back : last - 5 + 5 ≡ last = omega arith in
       let there : slice_index (drop (last - 5) bytes) 5 ≡ 2 = get_or-drop (last - 5) bytes 5 0 ∙ (ap (λ (k : ℕ). slice_index bytes k) back ∙ framed.ends.closed.version) in
-      let first : drop (last - 5) bytes ≡ 249 ∷ drop (last - 4) bytes = first_is five room in
+      let first : drop (last - 5) bytes ≡ 249 ∷ drop (last - 4) bytes = first_is five space in
       take_more (drop (last - 5) bytes) 5 0 (omega arith)
       ∙ ap₂ (λ (x : List ℕ) (y : ℕ). take 5 x ++ y ∷ []) first there
     where
       first_is : 5 ≤ last → last + 5 ≤ length bytes → drop (last - 5) bytes ≡ 249 ∷ drop (last - 4) bytes
-      first_is five room =
+      first_is five space =
           let next : suc (last - 5) ≡ last - 4 = omega arith in
           drop-cons bytes (last - 5) 0 (omega arith)
           ∙ ap₂ (λ (x : ℕ) (k : ℕ). x ∷ drop k bytes) framed.ends.closed.opcode next
@@ -140,15 +142,15 @@ module _ (bytes : List ℕ) (post after last : ℕ) (stop : Postamble) (chain : 
   unfolding ending operand padding
   frame_of front tail front_spelled tail_spelled front_whole tail_whole =
       let trailed = framed.ends.closed.trailed in
-      let room = trailed.padded in
-      let five = trailed.room in
+      let space = trailed.padded in
+      let five = trailed.space in
       let low = framed.low in
       let high = framed.high in
       let size : length (token_bytes front) ≡ post = ap (λ (x : List ℕ). length x) front_whole ∙ length-take-le post bytes (omega arith) in
       record {
         front = front;
         post = take (after - post) (drop post bytes);
-        stop = stop;
+        postamble = postamble;
         tail = tail;
         ending = ending;
         padding = padding;
@@ -175,14 +177,17 @@ module _ (bytes : List ℕ) (post after last : ℕ) (stop : Postamble) (chain : 
       }
 
   -- Bytes that were accepted are a file.
-  pub passed_file : (metrics : WidthsByName) (pages : List MarkedPage) → stop.pages ≡ length chain % 65536 → IsPassed metrics bytes (file_framing post after last stop chain) pages → IsFile metrics bytes pages
+  pub passed_file : (metrics : WidthsByName) (pages : List MarkedPage) → postamble.pages ≡ length chain % 65536
+      → IsPassed metrics bytes (file_framing post after last postamble chain) pages → IsFile metrics bytes pages
   unfolding frame_of
   passed_file metrics pages count p =
-      let (parts, whole, shows, deep) = passed_parts (drawing_by metrics p.front) (min max_pushes stop.stack_depth) p.body pages p.passed in
+      let (parts, whole, shows, deep) = passed_parts (drawing_by metrics p.front) (min max_pushes postamble.stack_depth) p.body pages p.passed in
       let frame = frame_of p.front p.tail p.front_spelled p.tail_spelled p.front_whole p.tail_whole in
-      let front_is : token_instructions p.front ≡ Pre 2 stop.units p.comment ∷ flat_map instructions parts = p.front_is ∙ ap (λ is. Pre 2 stop.units p.comment ∷ is) whole in
+      let front_is : token_instructions p.front ≡ Pre 2 postamble.units p.comment ∷ flat_map instructions parts = p.front_is
+      ∙ ap (λ is. Pre 2 postamble.units p.comment ∷ is) whole in
       let bops : reverse (places 0 p.front) ≡ chain = ap (λ (ns : List ℕ). reverse ns) p.bops ∙ reverse-reverse chain in
-      let linked = chained bytes p.front _ post stop.last_bop (frame.whole) p.front_spelled (subst (λ (c : List ℕ). Links bytes post stop.last_bop c) (sym bops) framed.links) in
+      let linked = chained bytes p.front _ post postamble.last_bop (frame.whole) p.front_spelled
+      (subst (λ (c : List ℕ). Links bytes post postamble.last_bop c) (sym bops) framed.links) in
       let as_many : length chain ≡ length pages =
       sym (length-reverse chain) ∙ (ap (λ (ns : List ℕ). length ns) (sym p.bops) ∙ (length-places 0 p.front ∙ (ap (λ is. length (pointers is)) front_is ∙ length-pages (drawing_by metrics p.front) parts pages shows))) in
       record {
@@ -205,20 +210,23 @@ module _ (bytes : List ℕ) (post after last : ℕ) (stop : Postamble) (chain : 
       }
 
   -- A file is accepted.
-  pub file_passed : (metrics : WidthsByName) (pages : List MarkedPage) → IsFile metrics bytes pages → IsPassed metrics bytes (file_framing post after last stop chain) pages
+  pub file_passed : (metrics : WidthsByName) (pages : List MarkedPage) → IsFile metrics bytes pages
+      → IsPassed metrics bytes (file_framing post after last postamble chain) pages
   file_passed metrics pages f =
       let g = f.frame in
       let found = frame_ends bytes g in
-      let (lasts, posts, stops) = one_end bytes post last (length (token_bytes g.front)) found.0 stop g.stop framed.ends found.1 in
-      let parts = frame_parts bytes post after last stop chain framed g in
-      let links : Links bytes post stop.last_bop (reverse (places 0 g.front)) =
-      subst₂ (λ (n : ℕ) (s : Postamble). Links bytes n s.last_bop (reverse (places 0 g.front))) (sym posts) (sym stops) (file_chain metrics bytes pages f) in
-      let chains : chain ≡ reverse (places 0 g.front) = one_chain bytes post post stop.last_bop chain (reverse (places 0 g.front)) framed.links links in
+      let (lasts, posts, nothing_idle) = one_end bytes post last (length (token_bytes g.front)) found.0 postamble g.postamble framed.ends found.1 in
+      let parts = frame_parts bytes post after last postamble chain framed g in
+      let links : Links bytes post postamble.last_bop (reverse (places 0 g.front)) =
+      subst₂ (λ (n : ℕ) (s : Postamble). Links bytes n s.last_bop (reverse (places 0 g.front))) (sym posts) (sym nothing_idle)
+      (file_chain metrics bytes pages f) in
+      let chains : chain ≡ reverse (places 0 g.front) =
+      one_chain bytes post post postamble.last_bop chain (reverse (places 0 g.front)) framed.links links in
       let named = all_weaker (HasWidths metrics (definitions (token_instructions g.tail))) (IsDefined (definitions (token_instructions g.tail))) (selections (token_instructions g.front)) (has_definition metrics (definitions (token_instructions g.tail))) f.closing in
       let shows = same_pages (widths_of metrics (definitions (token_instructions g.front))) (widths_of metrics (definitions (token_instructions g.tail))) f.parts
       (subst (λ (is : List Instruction). AllByRecursion (SameWidths (widths_of metrics (definitions (token_instructions g.front))) (widths_of metrics (definitions (token_instructions g.tail)))) (selections is)) f.front_is
       (front_and_tail metrics (token_instructions g.front) (token_instructions g.tail) f.fonts named)) ∙ f.shows in
-      let passed = passes-parts (drawing_by metrics g.front) (min max_pushes g.stop.stack_depth) f.parts [] pages shows f.depth in
+      let passed = passes-parts (drawing_by metrics g.front) (min max_pushes g.postamble.stack_depth) f.parts [] pages shows f.depth in
       record {
         front = g.front;
         tail = g.tail;
@@ -228,9 +236,10 @@ module _ (bytes : List ℕ) (post after last : ℕ) (stop : Postamble) (chain : 
         tail_whole = parts.1;
         comment = f.comment;
         body = flat_map instructions f.parts;
-        front_is = f.front_is ∙ ap (λ (s : Postamble). Pre 2 s.units f.comment ∷ flat_map instructions f.parts) (sym stops);
-        units = subst (λ (s : Postamble). AreUnits s.units) (sym stops) f.units;
-        passed = subst (λ (s : Postamble). passes (drawing_by metrics g.front) (min max_pushes s.stack_depth) (flat_map instructions f.parts) (Between []) ≡ Some (Between pages)) (sym stops) passed;
+        front_is = f.front_is ∙ ap (λ (s : Postamble). Pre 2 s.units f.comment ∷ flat_map instructions f.parts) (sym nothing_idle);
+        units = subst (λ (s : Postamble). AreUnits s.units) (sym nothing_idle) f.units;
+        passed = subst (λ (s : Postamble). passes (drawing_by metrics g.front) (min max_pushes s.stack_depth) (flat_map instructions f.parts)
+            (Between []) ≡ Some (Between pages)) (sym nothing_idle) passed;
         bops = sym (ap (λ (ns : List ℕ). reverse ns) chains ∙ reverse-reverse (places 0 g.front));
         tail_is = f.tail_is;
         fonts = f.fonts;

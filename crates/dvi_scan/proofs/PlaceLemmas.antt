@@ -5,7 +5,7 @@ use Rattle.dvi_ops.specs.Instruction.{Instruction}
 use Rattle.dvi_ops.specs.Table.{Spells}
 use Rattle.dvi_ops.proofs.FrontLaws.{one_reading}
 use Rattle.dvi_ops.proofs.Frames.{not_empty}
-use Rattle.dvi_scan.specs.Ends.{StandsAt}
+use Rattle.dvi_scan.specs.Ends.{IsSpelledAt}
 
 -- The bytes from a place up to a bound.
 abbrev pub between : List ℕ → (place bound : ℕ) → List ℕ
@@ -31,28 +31,34 @@ same_front i j n m bytes one other =
     one_reading i j (take n bytes) (take m bytes) (drop n bytes) (drop m bytes) one other (take-append-drop n bytes ∙ sym (take-append-drop m bytes))
 
 -- The instruction at a place is spelled at the start of the bytes from there on.
-pub stands_front : (bytes : List ℕ) (place bound : ℕ) (i : Instruction) → StandsAt bytes place bound i → (size : ℕ) × Spells i (take size (between bytes place bound))
-stands_front bytes place bound i (size, room, spelled) =
+pub spelled_front : (bytes : List ℕ) (place bound : ℕ) (i : Instruction) → IsSpelledAt bytes place bound i → (size : ℕ)
+    × Spells i (take size (between bytes place bound))
+spelled_front bytes place bound i (size, space, spelled) =
     (size, subst (λ (x : List ℕ). Spells i x) (sym (take-take size (bound - place) (drop place bytes) (omega arith))) spelled)
 
 -- What is spelled at the start of the bytes from a place on is at the place.
-pub front_stands : (bytes : List ℕ) (place bound : ℕ) (i : Instruction) (size : ℕ) → place ≤ bound → bound ≤ length bytes → size ≤ length (between bytes place bound)
+pub front_spelled : (bytes : List ℕ) (place bound : ℕ) (i : Instruction) (size : ℕ) → place ≤ bound → bound ≤ length bytes
+    → size ≤ length (between bytes place bound)
     → Spells i (take size (between bytes place bound)) → (place + size ≤ bound) × Spells i (take size (drop place bytes))
-front_stands bytes place bound i size low high fits spelled =
+front_spelled bytes place bound i size low high fits spelled =
     let whole : length (between bytes place bound) ≡ bound - place = length-take-le (bound - place) (drop place bytes) (omega (arith, length-drop place bytes)) in
     (omega arith, subst (λ (x : List ℕ). Spells i x) (take-take size (bound - place) (drop place bytes) (omega arith)) spelled)
 
 -- One instruction of one size is at a place.
-pub one_stands : (bytes : List ℕ) (place bound bound' : ℕ) (i j : Instruction) → StandsAt bytes place bound i → StandsAt bytes place bound' j → i ≡ j
-one_stands bytes place bound bound' i j (n, room, one) (m, room', other) = (same_front i j n m (drop place bytes) one other).0
+pub one_spelled_at : (bytes : List ℕ) (place bound bound' : ℕ) (i j : Instruction) → IsSpelledAt bytes place bound i
+    → IsSpelledAt bytes place bound' j → i ≡ j
+one_spelled_at bytes place bound bound' i j (n, space, one) (m, space', other) = (same_front i j n m (drop place bytes) one other).0
 
 -- No instruction is there where none is read.
-pub nothing_stands : (bytes : List ℕ) (place bound : ℕ) → ((i : Instruction) (size : ℕ) → Spells i (take size (between bytes place bound)) → ⊥) → (i : Instruction) → StandsAt bytes place bound i → ⊥
-nothing_stands bytes place bound none i stands = let front = stands_front bytes place bound i stands in none i front.0 front.1
+pub nothing_spelled : (bytes : List ℕ) (place bound : ℕ) → ((i : Instruction) (size : ℕ) → Spells i (take size (between bytes place bound)) → ⊥)
+    → (i : Instruction) → IsSpelledAt bytes place bound i → ⊥
+nothing_spelled bytes place bound none i spelled_at = let front = spelled_front bytes place bound i spelled_at in none i front.0 front.1
 
 -- Only the instruction that was read is there.
-pub read_stands : (bytes : List ℕ) (place bound : ℕ) (i j : Instruction) (size : ℕ) → Spells i (take size (between bytes place bound)) → StandsAt bytes place bound j → i ≡ j
-read_stands bytes place bound i j size read stands = let front = stands_front bytes place bound j stands in (same_front i j size front.0 (between bytes place bound) read front.1).0
+pub read_spelled : (bytes : List ℕ) (place bound : ℕ) (i j : Instruction) (size : ℕ) → Spells i (take size (between bytes place bound))
+    → IsSpelledAt bytes place bound j → i ≡ j
+read_spelled bytes place bound i j size read spelled_at = let front = spelled_front bytes place bound j spelled_at in
+    (same_front i j size front.0 (between bytes place bound) read front.1).0
 
 -- What was read is not empty.
 pub some_size : (i : Instruction) (size : ℕ) (bytes : List ℕ) → Spells i (take size bytes) → 0 < size
@@ -60,12 +66,14 @@ some_size i zero bytes spelled = absurd (not_empty i spelled)
 some_size i (suc size) bytes spelled = omega arith
 
 -- Only the instruction that is spelled at a place is there.
-pub one_spelled : (bytes : List ℕ) (place bound : ℕ) (i j : Instruction) (size : ℕ) → Spells i (take size (drop place bytes)) → StandsAt bytes place bound j → i ≡ j
-one_spelled bytes place bound i j size read (n, room, spelled) = (same_front i j size n (drop place bytes) read spelled).0
+pub one_spelled : (bytes : List ℕ) (place bound : ℕ) (i j : Instruction) (size : ℕ) → Spells i (take size (drop place bytes))
+    → IsSpelledAt bytes place bound j → i ≡ j
+one_spelled bytes place bound i j size read (n, space, spelled) = (same_front i j size n (drop place bytes) read spelled).0
 
 -- An instruction that ends before a bound ends before a larger one.
-pub stands_wider : (bytes : List ℕ) (place bound wider : ℕ) (i : Instruction) → bound ≤ wider → StandsAt bytes place bound i → StandsAt bytes place wider i
-stands_wider bytes place bound wider i more (size, room, spelled) = (size, omega arith, spelled)
+pub spelled_wider : (bytes : List ℕ) (place bound wider : ℕ) (i : Instruction) → bound ≤ wider → IsSpelledAt bytes place bound i
+    → IsSpelledAt bytes place wider i
+spelled_wider bytes place bound wider i more (size, space, spelled) = (size, omega arith, spelled)
 
 -- The first byte from a place on.
 pub one_byte : (bytes : List ℕ) (place : ℕ) → place < length bytes → take (place + 1 - place) (drop place bytes) ≡ get_or bytes place 0 ∷ []

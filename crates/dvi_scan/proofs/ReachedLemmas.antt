@@ -49,18 +49,22 @@ same_order is known e = subst (λ (ds : List Definition). HasSame ds (known_afte
 none_now : (v w : List Definition) (metrics : WidthsByName) → SameNow (widths_of metrics v) (widths_of metrics w) (Between [])
 none_now v w metrics f e = absurd cc
 
-module _ (metrics : WidthsByName) (ahead : List ℤ) (bytes : List ℕ) (stop : Postamble) (chain : List ℕ) where
+module _ (metrics : WidthsByName) (after_post : List ℤ) (bytes : List ℕ) (postamble : Postamble) (chain : List ℕ) where
   -- More definitions do not change what was passed.
-  pub passed_more : (at : ℕ) (s : ReadSoFar) (r : IsReached metrics ahead bytes stop chain at s) (ds : List Definition)
-      → (passes (bounded_acts (instruction_acts (widths_of metrics (s.known ++ ds)))) (min max_pushes stop.stack_depth) r.body (Between []) ≡ Some s.pass) × SameNow (widths_of metrics s.known) (widths_of metrics (s.known ++ ds)) s.pass
+  pub passed_more : (at : ℕ) (s : ReadSoFar) (r : IsReached metrics after_post bytes postamble chain at s) (ds : List Definition)
+      → (passes (bounded_acts (instruction_acts (widths_of metrics (s.known ++ ds)))) (min max_pushes postamble.stack_depth) r.body (Between [])
+      ≡ Some s.pass) × SameNow (widths_of metrics s.known) (widths_of metrics (s.known ++ ds)) s.pass
   passed_more at s r ds =
       let body : selections r.body ≡ s.selected = sym (ap (λ (is : List Instruction). selections is) r.front_is) ∙ r.selected_is in
-      same_passes (widths_of metrics s.known) (widths_of metrics (s.known ++ ds)) (min max_pushes stop.stack_depth) r.body (Between []) s.pass (none_now s.known (s.known ++ ds) metrics)
+      same_passes (widths_of metrics s.known) (widths_of metrics (s.known ++ ds)) (min max_pushes postamble.stack_depth) r.body (Between []) s.pass
+      (none_now s.known (s.known ++ ds) metrics)
       (all_same_widths metrics s.known ds (selections r.body) (subst (AllByRecursion (HasWidths metrics s.known)) (sym body) r.closing)) r.passed
 
   -- One more instruction.
-  pub reached_next : (at next : ℕ) (s t : ReadSoFar) (i : Instruction) → at ≤ next → next ≤ length bytes → IsReached metrics ahead bytes stop chain at s
-      → Spells i (take (next - at) (drop at bytes)) → IsRightAt metrics ahead stop at s i t → IsReached metrics ahead bytes stop chain next t
+  pub reached_next : (at next : ℕ) (s t : ReadSoFar) (i : Instruction) → at ≤ next → next ≤ length bytes
+      → IsReached metrics after_post bytes postamble chain at s
+      → Spells i (take (next - at) (drop at bytes)) → IsRightAt metrics after_post postamble at s i t
+      → IsReached metrics after_post bytes postamble chain next t
   reached_next at next s t i low high r spelled right =
       let one = token i (take (next - at) (drop at bytes)) in
       let says_more : token_instructions (r.before ++ one ∷ []) ≡ token_instructions r.before ++ i ∷ [] = says-append r.before (one ∷ []) in
@@ -72,10 +76,14 @@ module _ (metrics : WidthsByName) (ahead : List ℤ) (bytes : List ℕ) (stop : 
       let (before, now) = passed_more at s r (definitions_in i) in
       let known : s.known ++ definitions_in i ≡ t.known = sym right.known_is in
       let selected : s.selected ++ selection_of i ≡ t.selected = sym right.selected_is in
-      let turned : execute (bounded_acts (instruction_acts (widths_of metrics (s.known ++ definitions_in i)))) (min max_pushes stop.stack_depth) i s.pass ≡ Some t.pass =
-      sym (same_turn (widths_of metrics s.known) (widths_of metrics (s.known ++ definitions_in i)) (min max_pushes stop.stack_depth) i s.pass now) ∙ right.goes_on in
-      let goes_on : passes (bounded_acts (instruction_acts (widths_of metrics (s.known ++ definitions_in i)))) (min max_pushes stop.stack_depth) (r.body ++ i ∷ []) (Between []) ≡ Some t.pass =
-      passes-append (bounded_acts (instruction_acts (widths_of metrics (s.known ++ definitions_in i)))) (min max_pushes stop.stack_depth) r.body (i ∷ []) (Between []) s.pass before ∙ ap (then_pass (λ p. Some p)) turned in
+      let turned : execute (bounded_acts (instruction_acts (widths_of metrics (s.known ++ definitions_in i)))) (min max_pushes postamble.stack_depth)
+      i s.pass ≡ Some t.pass =
+      sym (same_turn (widths_of metrics s.known) (widths_of metrics (s.known ++ definitions_in i)) (min max_pushes postamble.stack_depth) i s.pass
+      now) ∙ right.goes_on in
+      let goes_on : passes (bounded_acts (instruction_acts (widths_of metrics (s.known ++ definitions_in i)))) (min max_pushes postamble.stack_depth)
+      (r.body ++ i ∷ []) (Between []) ≡ Some t.pass =
+      passes-append (bounded_acts (instruction_acts (widths_of metrics (s.known ++ definitions_in i)))) (min max_pushes postamble.stack_depth) r.body
+      (i ∷ []) (Between []) s.pass before ∙ ap (then_pass (λ p. Some p)) turned in
       let closing : AllByRecursion (HasWidths metrics (s.known ++ definitions_in i)) (s.selected ++ selection_of i) =
       all_append (HasWidths metrics (s.known ++ definitions_in i)) s.selected (selection_of i) (all_more_widths metrics s.known (definitions_in i) s.selected r.closing)
       (all_more_widths metrics s.known (definitions_in i) (selection_of i) right.closing) in
@@ -90,21 +98,24 @@ module _ (metrics : WidthsByName) (ahead : List ℤ) (bytes : List ℕ) (stop : 
         front_is = says_more ∙ ap (λ (is : List Instruction). is ++ i ∷ []) r.front_is;
         known_is = ap (λ (is : List Instruction). definitions is) says_more ∙ (definitions_more (token_instructions r.before) i ∙ (ap (λ (ds : List Definition). ds ++ definitions_in i) r.known_is ∙ known));
         selected_is = ap (λ (is : List Instruction). selections is) says_more ∙ (selections_more (token_instructions r.before) i ∙ (ap (λ (fs : List ℤ). fs ++ selection_of i) r.selected_is ∙ selected));
-        passed = subst (λ (ds : List Definition). passes (bounded_acts (instruction_acts (widths_of metrics ds))) (min max_pushes stop.stack_depth) (r.body ++ i ∷ []) (Between []) ≡ Some t.pass) known goes_on;
+        passed = subst (λ (ds : List Definition). passes (bounded_acts (instruction_acts (widths_of metrics ds)))
+            (min max_pushes postamble.stack_depth) (r.body ++ i ∷ []) (Between []) ≡ Some t.pass) known goes_on;
         bops = ap (λ (ns : List ℕ). after_bops ns (all_left chain)) bops_are ∙ (after_bops-append (places 0 r.before) (bop_place at i) (all_left chain) s.left r.bops ∙ right.bop);
         fonts = subst (λ (is : List Instruction). FontsAreRight [] is) (sym says_more) (fonts_append [] (token_instructions r.before) (i ∷ []) r.fonts (first, tt));
         closing = subst (λ (ds : List Definition). AllByRecursion (HasWidths metrics ds) t.selected) known closed;
-        named = subst (AllByRecursion (λ f. has_number ahead f ≡ true)) selected (all_append (λ f. has_number ahead f ≡ true) s.selected (selection_of i) r.named right.named);
+        named = subst (AllByRecursion (λ f. has_number after_post f ≡ true)) selected
+            (all_append (λ f. has_number after_post f ≡ true) s.selected (selection_of i) r.named right.named);
       }
     where
       zero_first : (n : ℕ) → 0 + n ≡ n
       zero_first n = omega arith
 
   -- The preamble.
-  pub reached_first : (next : ℕ) (comment : List ℕ) → next ≤ length bytes → Spells (Pre 2 stop.units comment) (take next bytes) → IsReached metrics ahead bytes stop chain next (before_pages chain)
+  pub reached_first : (next : ℕ) (comment : List ℕ) → next ≤ length bytes → Spells (Pre 2 postamble.units comment) (take next bytes)
+      → IsReached metrics after_post bytes postamble chain next (before_pages chain)
   reached_first next comment high spelled =
       record {
-        before = token (Pre 2 stop.units comment) (take next bytes) ∷ [];
+        before = token (Pre 2 postamble.units comment) (take next bytes) ∷ [];
         spelled = (spelled, tt);
         whole = append-nil (take next bytes);
         comment = comment;
@@ -137,9 +148,10 @@ selected_widths : (metrics : WidthsByName) (xs ys : List Definition) (i : Instru
 selected_widths metrics xs ys (Do (FontNum f)) some (widths, none) = (fewer_widths metrics xs ys f some widths, tt)
 selected_widths metrics xs ys i right all = tt
 
-module _ (metrics : WidthsByName) (bytes : List ℕ) (post after last : ℕ) (stop : Postamble) (chain : List ℕ) (pages : List MarkedPage)
-    (f : IsPassed metrics bytes (file_framing post after last stop chain) pages) (small : post ≤ length bytes)
-    (ahead : List ℤ) (numbers : AreNumbersOf ahead (definitions (token_instructions f.tail))) (at : ℕ) (s : ReadSoFar) (low : at ≤ post) (r : IsReached metrics ahead bytes stop chain at s) where
+module _ (metrics : WidthsByName) (bytes : List ℕ) (post after last : ℕ) (postamble : Postamble) (chain : List ℕ) (pages : List MarkedPage)
+    (f : IsPassed metrics bytes (file_framing post after last postamble chain) pages) (small : post ≤ length bytes)
+    (after_post : List ℤ) (numbers : AreNumbersOf after_post (definitions (token_instructions f.tail))) (at : ℕ) (s : ReadSoFar) (low : at ≤ post)
+    (r : IsReached metrics after_post bytes postamble chain at s) where
   -- The instructions that are still to come.
   pub record Rest : Type 0 where
     pub more : List Token
@@ -148,7 +160,8 @@ module _ (metrics : WidthsByName) (bytes : List ℕ) (post after last : ℕ) (st
     pub whole : token_bytes more ≡ take (post - at) (drop at bytes)
     pub body : f.body ≡ r.body ++ token_instructions more
     pub known : definitions (token_instructions f.front) ≡ s.known ++ definitions (token_instructions more)
-    pub passed : passes (bounded_acts (instruction_acts (widths_of metrics (s.known ++ definitions (token_instructions more))))) (min max_pushes stop.stack_depth) (token_instructions more) s.pass ≡ Some (Between pages)
+    pub passed : passes (bounded_acts (instruction_acts (widths_of metrics (s.known ++ definitions (token_instructions more)))))
+        (min max_pushes postamble.stack_depth) (token_instructions more) s.pass ≡ Some (Between pages)
     pub now : SameNow (widths_of metrics s.known) (widths_of metrics (s.known ++ definitions (token_instructions more))) s.pass
     pub bops : s.left ≡ record { missed = false; places = places at more }
 
@@ -158,7 +171,7 @@ module _ (metrics : WidthsByName) (bytes : List ℕ) (post after last : ℕ) (st
       ap (λ (x : List ℕ). x ++ take (post - at) (drop at bytes)) r.whole ∙ (sym (take_next bytes at post low small) ∙ sym f.front_whole) in
       let (more, front, spelled, whole) = begins r.before f.front (take (post - at) (drop at bytes)) r.spelled f.front_spelled cut in
       let size : length (token_bytes r.before) ≡ at = ap (λ (x : List ℕ). length x) r.whole ∙ length-take-le at bytes (omega arith) in
-      let all : Pre 2 stop.units f.comment ∷ f.body ≡ Pre 2 stop.units r.comment ∷ (r.body ++ token_instructions more) =
+      let all : Pre 2 postamble.units f.comment ∷ f.body ≡ Pre 2 postamble.units r.comment ∷ (r.body ++ token_instructions more) =
       sym f.front_is ∙ (ap (λ (ts : List Token). token_instructions ts) front ∙ (says-append r.before more ∙ ap (λ (is : List Instruction). is ++ token_instructions more) r.front_is)) in
       let body : f.body ≡ r.body ++ token_instructions more = cc in
       let all_places : reverse chain ≡ places 0 r.before ++ places at more =
@@ -168,8 +181,9 @@ module _ (metrics : WidthsByName) (bytes : List ℕ) (post after last : ℕ) (st
       let fronts : token_instructions f.front ≡ token_instructions r.before ++ token_instructions more = ap (λ (ts : List Token). token_instructions ts) front ∙ says-append r.before more in
       let known : definitions (token_instructions f.front) ≡ s.known ++ definitions (token_instructions more) =
       ap (λ (is : List Instruction). definitions is) fronts ∙ (definitions-append (token_instructions r.before) (token_instructions more) ∙ ap (λ (ds : List Definition). ds ++ definitions (token_instructions more)) r.known_is) in
-      let (before, now) = passed_more metrics ahead bytes stop chain at s r (definitions (token_instructions more)) in
-      let all_passed = subst (λ (ds : List Definition). passes (bounded_acts (instruction_acts (widths_of metrics ds))) (min max_pushes stop.stack_depth) f.body (Between []) ≡ Some (Between pages)) known f.passed in
+      let (before, now) = passed_more metrics after_post bytes postamble chain at s r (definitions (token_instructions more)) in
+      let all_passed = subst (λ (ds : List Definition). passes (bounded_acts (instruction_acts (widths_of metrics ds)))
+      (min max_pushes postamble.stack_depth) f.body (Between []) ≡ Some (Between pages)) known f.passed in
       let still : Some s.left ≡ Some (record { missed = false; places = places at more }) =
       sym r.bops ∙ (ap (λ (ns : List ℕ). after_bops (places 0 r.before) (record { missed = false; places = ns })) all_places ∙ bops_met (places 0 r.before) (places at more)) in
       record {
@@ -179,8 +193,11 @@ module _ (metrics : WidthsByName) (bytes : List ℕ) (post after last : ℕ) (st
         whole = whole;
         body = body;
         known = known;
-        passed = sym (passes-append (bounded_acts (instruction_acts (widths_of metrics (s.known ++ definitions (token_instructions more))))) (min max_pushes stop.stack_depth) r.body (token_instructions more) (Between []) s.pass before)
-            ∙ (ap (λ (is : List Instruction). passes (bounded_acts (instruction_acts (widths_of metrics (s.known ++ definitions (token_instructions more))))) (min max_pushes stop.stack_depth) is (Between [])) (sym body) ∙ all_passed);
+        passed = sym (passes-append (bounded_acts (instruction_acts (widths_of metrics (s.known ++ definitions (token_instructions more)))))
+            (min max_pushes postamble.stack_depth) r.body (token_instructions more) (Between []) s.pass before)
+            ∙ (ap (λ (is : List Instruction). passes
+            (bounded_acts (instruction_acts (widths_of metrics (s.known ++ definitions (token_instructions more)))))
+            (min max_pushes postamble.stack_depth) is (Between [])) (sym body) ∙ all_passed);
         now = now;
         bops = cc;
       }
@@ -189,14 +206,15 @@ module _ (metrics : WidthsByName) (bytes : List ℕ) (post after last : ℕ) (st
       zero_first n = omega arith
 
   -- A right instruction is at each place before post.
-  pub next_right : at < post → HasRight metrics ahead bytes stop at post s
+  pub next_right : at < post → HasRight metrics after_post bytes postamble at post s
   unfolding rest
   next_right below = by_first rest.more rest.front rest.spelled rest.whole rest.known rest.passed rest.now rest.bops
     where
       by_first : (more : List Token) → f.front ≡ r.before ++ more → AllByRecursion IsSpelled more → token_bytes more ≡ take (post - at) (drop at bytes) → definitions (token_instructions f.front) ≡ s.known ++ definitions (token_instructions more)
-          → passes (bounded_acts (instruction_acts (widths_of metrics (s.known ++ definitions (token_instructions more))))) (min max_pushes stop.stack_depth) (token_instructions more) s.pass ≡ Some (Between pages)
+          → passes (bounded_acts (instruction_acts (widths_of metrics (s.known ++ definitions (token_instructions more)))))
+          (min max_pushes postamble.stack_depth) (token_instructions more) s.pass ≡ Some (Between pages)
           → SameNow (widths_of metrics s.known) (widths_of metrics (s.known ++ definitions (token_instructions more))) s.pass → s.left ≡ record { missed = false; places = places at more }
-          → HasRight metrics ahead bytes stop at post s
+          → HasRight metrics after_post bytes postamble at post s
       by_first [] front spelled whole known passed now bops =
           let none : 0 ≡ length (take (post - at) (drop at bytes)) = ap (λ (x : List ℕ). length x) whole in
           let some = length-take-le (post - at) (drop at bytes) (omega (arith, length-drop at bytes)) in
@@ -208,8 +226,10 @@ module _ (metrics : WidthsByName) (bytes : List ℕ) (post after last : ℕ) (st
           sym (take-take (length t.bytes) (post - at) (drop at bytes) (omega arith)) ∙ (ap (λ (x : List ℕ). take (length t.bytes) x) (sym whole) ∙ take_at t.bytes (token_bytes more) (length t.bytes) refl) in
           let span : at + length t.bytes - at ≡ length t.bytes = omega arith in
           let all_known : List Definition = s.known ++ definitions (t.says ∷ token_instructions more) in
-          let (q, turned) = first_turn (bounded_acts (instruction_acts (widths_of metrics all_known))) (min max_pushes stop.stack_depth) t.says (token_instructions more) s.pass (Between pages) passed in
-          let goes_on = same_turn (widths_of metrics s.known) (widths_of metrics all_known) (min max_pushes stop.stack_depth) t.says s.pass now ∙ turned in
+          let (q, turned) = first_turn (bounded_acts (instruction_acts (widths_of metrics all_known))) (min max_pushes postamble.stack_depth) t.says
+          (token_instructions more) s.pass (Between pages) passed in
+          let goes_on = same_turn (widths_of metrics s.known) (widths_of metrics all_known) (min max_pushes postamble.stack_depth) t.says s.pass
+          now ∙ turned in
           let fronts : token_instructions f.front ≡ token_instructions r.before ++ (t.says ∷ token_instructions more) = ap (λ (ts : List Token). token_instructions ts) front ∙ says-append r.before (t ∷ more) in
           let fonts = fonts_back [] (token_instructions r.before) (t.says ∷ token_instructions more) (subst (λ (is : List Instruction). FontsAreRight [] is) fronts (fonts_front [] (token_instructions f.front) (token_instructions f.tail) f.fonts)) in
           let all_selected : selections (token_instructions f.front) ≡ selections (token_instructions r.before) ++ (selection_of t.says ++ selections (token_instructions more)) =
@@ -235,7 +255,8 @@ module _ (metrics : WidthsByName) (bytes : List ℕ) (post after last : ℕ) (st
               known_is = refl;
               selected_is = refl;
               closing = selected_widths metrics s.known (definitions (t.says ∷ token_instructions more)) t.says right widths;
-              named = all_weaker (IsDefined (definitions (token_instructions f.tail))) (λ f. has_number ahead f ≡ true) (selection_of t.says) (λ f some. numbers f ∙ some) (here_of (IsDefined (definitions (token_instructions f.tail))) t.says more all_selected f.named);
+              named = all_weaker (IsDefined (definitions (token_instructions f.tail))) (λ f. has_number after_post f ≡ true) (selection_of t.says)
+                  (λ f some. numbers f ∙ some) (here_of (IsDefined (definitions (token_instructions f.tail))) t.says more all_selected f.named);
             };
           }
         where
@@ -257,7 +278,9 @@ module _ (metrics : WidthsByName) (bytes : List ℕ) (post after last : ℕ) (st
   end_right same = by_first rest.more rest.spelled rest.whole rest.passed rest.bops
     where
       by_first : (more : List Token) → AllByRecursion IsSpelled more → token_bytes more ≡ take (post - at) (drop at bytes)
-          → passes (bounded_acts (instruction_acts (widths_of metrics (s.known ++ definitions (token_instructions more))))) (min max_pushes stop.stack_depth) (token_instructions more) s.pass ≡ Some (Between pages) → s.left ≡ record { missed = false; places = places at more }
+          → passes (bounded_acts (instruction_acts (widths_of metrics (s.known ++ definitions (token_instructions more)))))
+          (min max_pushes postamble.stack_depth) (token_instructions more) s.pass ≡ Some (Between pages)
+          → s.left ≡ record { missed = false; places = places at more }
           → (s.pass ≡ Between pages) × (s.left ≡ all_left [])
       by_first [] spelled whole passed bops = let e : s.pass ≡ Between pages = cc in (e, bops)
       by_first (t ∷ more) (here, spelled) whole passed bops =
@@ -269,10 +292,12 @@ module _ (metrics : WidthsByName) (bytes : List ℕ) (post after last : ℕ) (st
           by_bytes (x ∷ b) here e = cc
 
 -- The end of the pass.
-pub reached_end : (metrics : WidthsByName) (bytes : List ℕ) (post after last : ℕ) (stop : Postamble) (chain : List ℕ) (pages : List MarkedPage) (ahead : List ℤ) (s : ReadSoFar) (tail : List Token) → AreUnits stop.units
-    → AreNumbersOf ahead (definitions (token_instructions tail)) → IsReached metrics ahead bytes stop chain post s → s.pass ≡ Between pages → s.left ≡ all_left [] → IsTail bytes after last s.known tail
-    → IsPassed metrics bytes (file_framing post after last stop chain) pages
-reached_end metrics bytes post after last stop chain pages ahead s tail units numbers r pass_is left_is t =
+pub reached_end : (metrics : WidthsByName) (bytes : List ℕ) (post after last : ℕ) (postamble : Postamble) (chain : List ℕ) (pages : List MarkedPage)
+    (after_post : List ℤ) (s : ReadSoFar) (tail : List Token) → AreUnits postamble.units
+    → AreNumbersOf after_post (definitions (token_instructions tail)) → IsReached metrics after_post bytes postamble chain post s
+    → s.pass ≡ Between pages → s.left ≡ all_left [] → IsTail bytes after last s.known tail
+    → IsPassed metrics bytes (file_framing post after last postamble chain) pages
+reached_end metrics bytes post after last postamble chain pages after_post s tail units numbers r pass_is left_is t =
     let bops = r.bops ∙ ap (λ (l : PlacesLeft). Some l) left_is in
     let order = same_order (token_instructions r.before) s.known r.known_is in
     record {
@@ -287,7 +312,8 @@ reached_end metrics bytes post after last stop chain pages ahead s tail units nu
       front_is = r.front_is;
       units = units;
       passed =
-          subst (λ (ds : List Definition). passes (bounded_acts (instruction_acts (widths_of metrics ds))) (min max_pushes stop.stack_depth) r.body (Between []) ≡ Some (Between pages)) (sym r.known_is)
+          subst (λ (ds : List Definition). passes (bounded_acts (instruction_acts (widths_of metrics ds))) (min max_pushes postamble.stack_depth)
+          r.body (Between []) ≡ Some (Between pages)) (sym r.known_is)
           (r.passed ∙ ap (λ (p : PassStateView). Some p) pass_is);
       bops = sym (append-nil (places 0 r.before)) ∙ (none_missed (places 0 r.before) (all_left chain) [] bops).1;
       tail_is = t.idle;
@@ -296,14 +322,17 @@ reached_end metrics bytes post after last stop chain pages ahead s tail units nu
           subst (λ (ds : List Definition). AllByRecursion (HasWidths metrics ds) (selections (token_instructions r.before))) (sym r.known_is)
           (subst (AllByRecursion (HasWidths metrics s.known)) (sym r.selected_is) r.closing);
       named =
-          all_weaker (λ f. has_number ahead f ≡ true) (IsDefined (definitions (token_instructions tail))) (selections (token_instructions r.before)) (λ f has. sym (numbers f) ∙ has)
-          (subst (AllByRecursion (λ f. has_number ahead f ≡ true)) (sym r.selected_is) r.named);
+          all_weaker (λ f. has_number after_post f ≡ true) (IsDefined (definitions (token_instructions tail)))
+          (selections (token_instructions r.before)) (λ f has. sym (numbers f) ∙ has)
+          (subst (AllByRecursion (λ f. has_number after_post f ≡ true)) (sym r.selected_is) r.named);
     }
 
 -- The tail of a file, after the fonts that are known at the place of post.
-pub tail_right : (metrics : WidthsByName) (bytes : List ℕ) (post after last : ℕ) (stop : Postamble) (chain : List ℕ) (pages : List MarkedPage) (f : IsPassed metrics bytes (file_framing post after last stop chain) pages)
-    → post ≤ length bytes → (ahead : List ℤ) (s : ReadSoFar) → IsReached metrics ahead bytes stop chain post s → IsTail bytes after last s.known f.tail
-tail_right metrics bytes post after last stop chain pages f small ahead s r =
+pub tail_right : (metrics : WidthsByName) (bytes : List ℕ) (post after last : ℕ) (postamble : Postamble) (chain : List ℕ) (pages : List MarkedPage)
+    (f : IsPassed metrics bytes (file_framing post after last postamble chain) pages)
+    → post ≤ length bytes → (after_post : List ℤ) (s : ReadSoFar) → IsReached metrics after_post bytes postamble chain post s
+    → IsTail bytes after last s.known f.tail
+tail_right metrics bytes post after last postamble chain pages f small after_post s r =
     let same : f.front ≡ r.before = one_list f.front r.before f.front_spelled r.spelled (f.front_whole ∙ sym r.whole) in
     let fonts = fonts_back [] (token_instructions f.front) (token_instructions f.tail) f.fonts in
     let before = subst (λ (ts : List Token). FontsAreRight (known_after [] (token_instructions ts)) (token_instructions f.tail)) same fonts in

@@ -19,8 +19,8 @@ no_widths files d (BadTfm cause) (file, named, bad) = rw named (rw bad refl)
 no_widths files d DimensionTooLarge (file, named, metrics, is, unfit) = rw named (rw is (rw unfit refl))
 
 -- Where a font has widths, the first file with its name breaks no rule that needs no table.
-pub widths_room : (files : List NamedBytes) (d : Definition) (w : ℤ → Option ℤ) → file_widths files d.name d.size ≡ Some w → MayAllocate files d
-widths_room files d w e = by_file (file_named d.name files) refl e
+pub widths_space : (files : List NamedBytes) (d : Definition) (w : ℤ → Option ℤ) → file_widths files d.name d.size ≡ Some w → MayAllocate files d
+widths_space files d w e = by_file (file_named d.name files) refl e
   where
     by_read : (file : NamedBytes) (read : Result MetricFile TfmCause) → metric_file file.bytes ≡ read → widths_by read d.size ≡ Some w → broken_in_front file.bytes ≡ None
     by_read file (Err cause) is e = absurd cc

@@ -5,7 +5,7 @@ use Rattle.std.proofs.lemmas.List.{reverse-append, length-take-le}
 use Rattle.std.specs.Prelude.{◌⊎◌, nat_eq, option_and_then}
 use Rattle.std.specs.List.{AllByRecursion}
 use Rattle.dvi_scan.specs.Chain.{Links}
-use Rattle.dvi_scan.specs.Ends.{StandsAt}
+use Rattle.dvi_scan.specs.Ends.{IsSpelledAt}
 use Rattle.dvi_ops.specs.Fonts.{WidthsByName}
 use Rattle.dvi_ops.specs.Instruction.{Instruction, Bop, Postamble}
 use Rattle.dvi_ops.specs.Table.{Spells}
@@ -29,7 +29,7 @@ all_from x bound [] low all = tt
 all_from x bound (y ∷ ys) low (here, all) = (omega arith, all_from x bound ys low all)
 
 -- An instruction has at least one byte.
-pub ends_after : (bytes : List ℕ) (place bound : ℕ) (i : Instruction) → StandsAt bytes place bound i → place < bound
+pub ends_after : (bytes : List ℕ) (place bound : ℕ) (i : Instruction) → IsSpelledAt bytes place bound i → place < bound
 ends_after bytes place bound i (zero, within, spelled) = absurd (not_empty i spelled)
 ends_after bytes place bound i (suc n, within, spelled) = omega arith
 
@@ -39,8 +39,8 @@ onto x xs ys = ap (λ (zs : List ℕ). zs ++ ys) (reverse-append (x ∷ []) xs) 
 -- The places of a chain rise from the first to the last.
 links_rise : (bytes : List ℕ) (bound : ℕ) (pointer : ℤ) (chain later : List ℕ) → Links bytes bound pointer chain → AllByRecursion (λ (y : ℕ). bound ≤ y) later → Rises later → Rises (reverse chain ++ later)
 links_rise bytes bound pointer [] later links above rises = rises
-links_rise bytes bound pointer (place ∷ earlier) later (named, counts, before, stands, links) above rises =
-    let low : place < bound = ends_after bytes place bound (Bop counts before) stands in
+links_rise bytes bound pointer (place ∷ earlier) later (named, counts, before, spelled_at, links) above rises =
+    let low : place < bound = ends_after bytes place bound (Bop counts before) spelled_at in
     subst Rises (sym (onto place earlier later))
     (links_rise bytes place before earlier (place ∷ later) links (omega arith, all_from place bound later low above) (all_less place bound later low above, rises))
 
@@ -114,7 +114,8 @@ bops_below n most (t ∷ ts) (here, spelled) high =
     some_bytes [] here = absurd (not_empty t.says here)
     some_bytes (x ∷ b) here = omega arith
 
-module _ (metrics : WidthsByName) (ahead : List ℤ) (bytes : List ℕ) (stop : Postamble) (chain : List ℕ) (at : ℕ) (s : ReadSoFar) (r : IsReached metrics ahead bytes stop chain at s) where
+module _ (metrics : WidthsByName) (after_post : List ℤ) (bytes : List ℕ) (postamble : Postamble) (chain : List ℕ) (at : ℕ) (s : ReadSoFar)
+    (r : IsReached metrics after_post bytes postamble chain at s) where
   -- A place of the chain that is not before the place of the pass is left.
   pub later_left : (bound : ℕ) (pointer : ℤ) (c : ℕ) → at ≤ length bytes → Links bytes bound pointer chain → IsIn c (reverse chain) → at ≤ c → IsIn c s.left.places
   later_left bound pointer c high links there low =

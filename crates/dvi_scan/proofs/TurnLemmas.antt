@@ -17,7 +17,7 @@ use Rattle.dvi_scan.specs.Drawing.{constant_width, reached_position}
 use Rattle.dvi_scan.specs.Private.Drawing.{Draws, meaning_towards}
 use Rattle.dvi_scan.specs.Pass.{PassStateView, Between, Inside, execute, popped_state, with_page_ended}
 use Rattle.dvi_scan.specs.Execution.{BreaksTurn, Executes, TurnsPage, inside_of, pass_at}
-use Rattle.dvi_scan.specs.View.{mark_of, spot_position, standing_state}
+use Rattle.dvi_scan.specs.View.{mark_of, spot_position, dvi_state}
 use Rattle.dvi_scan.specs.Private.View.{marks_in}
 use Rattle.dvi_scan.specs.declared.executing.OpenPage.{OpenPage}
 use Rattle.dvi_scan.specs.declared.executing.PassFault.{PassFault}
@@ -25,7 +25,7 @@ use Rattle.dvi_scan.specs.declared.executing.PassFault.TheVariants.{OutOfMemory,
 use Rattle.dvi_scan.specs.declared.page.Mark.{Mark as PassMark}
 use Rattle.dvi_scan.specs.declared.page.Position.{Position as Spot}
 use Rattle.dvi_scan.specs.declared.executing.PassState.{PassState}
-use Rattle.dvi_scan.specs.declared.executing.PassState.TheVariants as stands
+use Rattle.dvi_scan.specs.declared.executing.PassState.TheVariants as states
 
 -- The place that was saved last comes first.
 pub reverse_more : (xs : List Spot) (x : Spot) → reverse (map spot_position (xs ++ x ∷ [])) ≡ spot_position x ∷ reverse (map spot_position xs)
@@ -36,7 +36,7 @@ saved_size xs = length-reverse (map spot_position xs) ∙ length-map xs spot_pos
 
 pub push_turn : (does : Acts) (most : ℕ) (pages : List MarkedPage) (counts : List ℤ) (marks : List Mark) (s : DviState) (old new : List Spot) (place : Spot) → new ≡ old ++ place ∷ [] → spot_position place ≡ s.place
     → length old < most → execute does most Push (Inside pages counts marks (reverse (map spot_position old)) s) ≡ Some (Inside pages counts marks (reverse (map spot_position new)) s)
-push_turn does most pages counts marks s old new place more same room =
+push_turn does most pages counts marks s old new place more same space =
     let size = saved_size old in
     let test : nat_lt (length (reverse (map spot_position old))) most ≡ true = lt-ltb (length (reverse (map spot_position old))) most (omega arith) in
     rw test (ap (λ (stack : List Position). Some (Inside pages counts marks stack s)) (sym (ap (λ (ps : List Spot). reverse (map spot_position ps)) more ∙ (reverse_more old place ∙ ap (λ (p : Position). p ∷ reverse (map spot_position old)) same))))
@@ -45,8 +45,8 @@ pub push_fault : (does : Acts) (most : ℕ) (pages : List MarkedPage) (counts : 
 push_fault does most pages counts marks s old many = let size = saved_size old in omega arith
 
 -- A push is allowed.
-pub push_room : (most : ℕ) (old : List Spot) → length old < most → length (reverse (map spot_position old)) < most
-push_room most old room = let size = saved_size old in omega arith
+pub push_space : (most : ℕ) (old : List Spot) → length old < most → length (reverse (map spot_position old)) < most
+push_space most old space = let size = saved_size old in omega arith
 
 pub pop_turn : (does : Acts) (most : ℕ) (pages : List MarkedPage) (counts : List ℤ) (marks : List Mark) (s : DviState) (old new : List Spot) (place : Spot) → old ≡ new ++ place ∷ []
     → execute does most Pop (Inside pages counts marks (reverse (map spot_position old)) s) ≡ Some (Inside pages counts marks (reverse (map spot_position new)) (record { place = spot_position place; font = s.font }))
@@ -67,10 +67,12 @@ end_turn does most pages counts marks s stack e = ap (λ (stack : List Position)
 
 -- A result for the meaning of a leaf is one for the leaf.
 pub leaf_turns : (width : Option ℤ) (most : ℕ) (op known : Op) (leaf : BodyLeaf) (pages : List MarkedPage) (old new : OpenPage) (r : Result Unit PassFault) → op ≡ known → view known ≡ Do leaf
-    → Draws (instruction_acts (constant_width width) leaf (standing_state old.state)) pages old new r → TurnsPage (instruction_acts (constant_width width)) most (view op) pages old new r
+    → Draws (instruction_acts (constant_width width) leaf (dvi_state old.state)) pages old new r
+    → TurnsPage (instruction_acts (constant_width width)) most (view op) pages old new r
 leaf_turns width most op known leaf pages old new r is does d = subst (λ (i : Instruction). TurnsPage (instruction_acts (constant_width width)) most i pages old new r) (sym (ap view is ∙ does)) (turns r d)
   where
-    turns : (r : Result Unit PassFault) → Draws (instruction_acts (constant_width width) leaf (standing_state old.state)) pages old new r → TurnsPage (instruction_acts (constant_width width)) most (Do leaf) pages old new r
+    turns : (r : Result Unit PassFault) → Draws (instruction_acts (constant_width width) leaf (dvi_state old.state)) pages old new r
+        → TurnsPage (instruction_acts (constant_width width)) most (Do leaf) pages old new r
     turns (Ok done) d = d
     turns (Err OutOfMemory) d = d
     turns (Err (Broken Glyph)) d = d
@@ -80,7 +82,8 @@ leaf_turns width most op known leaf pages old new r is does d = subst (λ (i : I
 -- A nop and a font definition change nothing.
 pub idle_turns : (width : Option ℤ) (most : ℕ) (op : Op) (pages : List MarkedPage) (old new : OpenPage) (r : Result Unit PassFault)
     → (op ≡ ops.Body bodies.Nop) ⊎ ((d : _) × (op ≡ ops.FontDef d))
-    → Draws (state_without_mark (standing_state old.state)) pages old new r → TurnsPage (instruction_acts (constant_width width)) most (view op) pages old new r
+    → Draws (state_without_mark (dvi_state old.state)) pages old new r
+    → TurnsPage (instruction_acts (constant_width width)) most (view op) pages old new r
 idle_turns width most op pages old new r (inl is) d = leaf_turns width most op (ops.Body bodies.Nop) Nop pages old new r is refl d
 idle_turns width most op pages old new r (inr (font, is)) d = leaf_turns width most op (ops.FontDef font) (FontDef (definition font)) pages old new r is refl d
 
@@ -97,15 +100,18 @@ page_turns does most i pages old new (Ok done) t = t
 page_turns does most i pages old new (Err fault) t = t.0
 
 -- A refusal in an open page leaves the state of the pass as it was.
-pub page_stays : {A : Type 0} (does : Acts) (most : ℕ) (i : Instruction) (done : A) (stand : PassState) (old new : OpenPage) (r : Result Unit PassFault) → stand ≡ stands.Inside old
-    → ((pages : List MarkedPage) → TurnsPage does most i pages old new r) → OnErr r ((done ≡ done) × ((pages : List MarkedPage) → inside_of pages new ≡ pass_at pages stand))
-page_stays does most i done stand old new (Ok x) is t = tt
-page_stays does most i done stand old new (Err fault) is t = (refl, λ pages. (t pages).1 ∙ sym (ap (λ (s : PassState). pass_at pages s) is))
+pub page_stays : {A : Type 0} (does : Acts) (most : ℕ) (i : Instruction) (done : A) (pass_state : PassState) (old new : OpenPage)
+    (r : Result Unit PassFault) → pass_state ≡ states.Inside old
+    → ((pages : List MarkedPage) → TurnsPage does most i pages old new r)
+    → OnErr r ((done ≡ done) × ((pages : List MarkedPage) → inside_of pages new ≡ pass_at pages pass_state))
+page_stays does most i done pass_state old new (Ok x) is t = tt
+page_stays does most i done pass_state old new (Err fault) is t = (refl, λ pages. (t pages).1 ∙ sym (ap (λ (s : PassState). pass_at pages s) is))
 
 -- A result for an equal instruction in an equal state.
-pub at_turn : (does : Acts) (most : ℕ) (op known : Op) (stand here : PassState) (pages : List MarkedPage) (new : PassStateView) (r : Result Unit PassFault) → op ≡ known → stand ≡ here
-    → Executes does most (view known) (pass_at pages here) new r → Executes does most (view op) (pass_at pages stand) new r
-at_turn does most op known stand here pages new r is at t =
+pub at_turn : (does : Acts) (most : ℕ) (op known : Op) (pass_state here : PassState) (pages : List MarkedPage) (new : PassStateView)
+    (r : Result Unit PassFault) → op ≡ known → pass_state ≡ here
+    → Executes does most (view known) (pass_at pages here) new r → Executes does most (view op) (pass_at pages pass_state) new r
+at_turn does most op known pass_state here pages new r is at t =
     subst (λ (s : PassState). Executes does most (view op) (pass_at pages s) new r) (sym at) (subst (λ (o : Op). Executes does most (view o) (pass_at pages here) new r) (sym is) t)
 
 -- A place that was reached is in range, so a meaning that ends there is kept.
@@ -118,9 +124,10 @@ reached_kept place p marks s is e = go (in_range s.place.h && in_range s.place.v
     go false e m = absurd cc
 
 -- Memory is refused for a mark at a place that was reached.
-pub no_room : (place : Option Spot) (p : Spot) (mark : Option PassMark) (one : PassMark) (to : Position) (pages : List MarkedPage) (old new : OpenPage) → place ≡ Some p → mark ≡ Some one
+pub no_space : (place : Option Spot) (p : Spot) (mark : Option PassMark) (one : PassMark) (to : Position) (pages : List MarkedPage)
+    (old new : OpenPage) → place ≡ Some p → mark ≡ Some one
     → option_map spot_position place ≡ reached_position to → inside_of pages new ≡ inside_of pages old → Draws {A = Unit {0}} (meaning_towards (marks_in mark) to old) pages old new (Err OutOfMemory)
-no_room place p mark one to pages old new at is e same =
+no_space place p mark one to pages old new at is e same =
     let t : DviState = record { place = to; font = old.state.font } in
     subst (λ (m : Option PassMark). Draws {A = Unit {0}} (meaning_towards (marks_in m) to old) pages old new (Err OutOfMemory)) (sym is)
     ((mark_of one, t, reached_kept place p (mark_of one ∷ []) t at e), same)

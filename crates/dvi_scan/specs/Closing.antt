@@ -5,7 +5,7 @@ use Rattle.dvi_ops.specs.File.{IsIdle}
 use Rattle.dvi_ops.specs.Fonts.{FontsAreRight, IsRightAfter, definitions}
 use Rattle.dvi_ops.specs.Instruction.{Definition, FontDef, Instruction, Do}
 use Rattle.dvi_ops.specs.Tokens.{Token, IsSpelled, token_instructions, token_bytes}
-use Rattle.dvi_scan.specs.Ends.{StandsAt}
+use Rattle.dvi_scan.specs.Ends.{IsSpelledAt}
 use Rattle.dvi_scan.specs.declared.fault.DviCause.{DviCause}
 use Rattle.dvi_scan.specs.declared.fault.DviCause.TheVariants.{Opcode, Truncated, Font}
 use Rattle.dvi_scan.specs.declared.fault.FrameFault.{FrameFault}
@@ -32,18 +32,18 @@ ClosesTo bytes from to old new = (tail : List Token) × Closes bytes from to old
 -- A rule is broken at a place, after these definitions: a byte begins an instruction that is cut off; or it begins none, or one that is neither a nop
 -- nor a definition; or a definition has no valid size, or differs from another one of its number.
 abbrev pub BreaksClosing : List ℕ → (place to : ℕ) → (known : List Definition) → DviCause → Type 0
-BreaksClosing bytes place to known Truncated = (250 ≤ slice_index bytes place → ⊥) × ((i : Instruction) → StandsAt bytes place to i → ⊥)
+BreaksClosing bytes place to known Truncated = (250 ≤ slice_index bytes place → ⊥) × ((i : Instruction) → IsSpelledAt bytes place to i → ⊥)
 BreaksClosing bytes place to known Opcode =
-    (250 ≤ slice_index bytes place) × ((i : Instruction) → StandsAt bytes place to i → ⊥) ⊎ (i : Instruction) × StandsAt bytes place to i
+    (250 ≤ slice_index bytes place) × ((i : Instruction) → IsSpelledAt bytes place to i → ⊥) ⊎ (i : Instruction) × IsSpelledAt bytes place to i
     × (IsIdle i → ⊥)
-BreaksClosing bytes place to known Font = (d : Definition) × StandsAt bytes place to (Do (FontDef d)) × (IsRightAfter known (Do (FontDef d)) → ⊥)
+BreaksClosing bytes place to known Font = (d : Definition) × IsSpelledAt bytes place to (Do (FontDef d)) × (IsRightAfter known (Do (FontDef d)) → ⊥)
 BreaksClosing bytes place to known cause = ⊥
 
 -- A fault on the way: the instructions before its place are right, and their definitions come after the others. Memory is refused only at a right
 -- definition.
 abbrev pub IsClosingFault : List ℕ → (from to : ℕ) → (old new : List Definition) → FrameFault → Type 0
 IsClosingFault bytes from to old new frames.OutOfMemory =
-    (place : ℕ) × (from ≤ place) × (place < to) × ClosesTo bytes from place old new × (d : Definition) × StandsAt bytes place to (Do (FontDef d))
+    (place : ℕ) × (from ≤ place) × (place < to) × ClosesTo bytes from place old new × (d : Definition) × IsSpelledAt bytes place to (Do (FontDef d))
     × IsRightAfter new (Do (FontDef d))
 IsClosingFault bytes from to old new (frames.Bad fault) =
     (from ≤ fault.place) × (fault.place < to) × ClosesTo bytes from fault.place old new × BreaksClosing bytes fault.place to new fault.cause

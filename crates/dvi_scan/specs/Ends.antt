@@ -9,12 +9,12 @@ use Rattle.dvi_ops.specs.declared.fault.OpFault.{OpFault}
 use Rattle.dvi_ops.specs.declared.fault.OpFault.TheVariants as faults
 
 -- An instruction is spelled from a place on, and ends at or before `bound`.
-abbrev pub StandsAt : List ℕ → (place bound : ℕ) → Instruction → Type 0
-StandsAt bytes place bound i = (size : ℕ) × (place + size ≤ bound) × Spells i (take size (drop place bytes))
+abbrev pub IsSpelledAt : List ℕ → (place bound : ℕ) → Instruction → Type 0
+IsSpelledAt bytes place bound i = (size : ℕ) × (place + size ≤ bound) × Spells i (take size (drop place bytes))
 
 -- After the place e there are only bytes 223, at least four. The byte at e is another one, and five or more bytes are before it (DVItype, 20).
 pub record IsTrailed (bytes : List ℕ) (e : ℕ) : Type 0 where
-  pub room : 5 ≤ e
+  pub space : 5 ≤ e
   pub padded : e + 5 ≤ length bytes
   pub after : (k : ℕ) → e < k → k < length bytes → slice_index bytes k ≡ 223
   pub last : slice_index bytes e ≢ 223
@@ -26,10 +26,10 @@ pub record IsClosed (bytes : List ℕ) (e : ℕ) : Type 0 where
   pub opcode : slice_index bytes (e - 5) ≡ 249
 
 -- The instruction post_post, whose version is at e, names a post that ends at or before post_post (DVItype, 19 and 20).
-pub record HasPostamble (bytes : List ℕ) (post e : ℕ) (stop : Postamble) : Type 0 where
+pub record HasPostamble (bytes : List ℕ) (post e : ℕ) (postamble : Postamble) : Type 0 where
   pub closed : IsClosed bytes e
   pub named : signed 4 (drop (e - 4) bytes) ≡ pos post
-  pub stands : StandsAt bytes post (e - 5) (Post stop)
+  pub spelled_at : IsSpelledAt bytes post (e - 5) (Post postamble)
 
 -- A rule of the end is broken at a place, and the earlier rules hold: trailer; version, then code; pointer.
 abbrev pub BreaksEnd : List ℕ → (place : ℕ) → DviCause → Type 0
@@ -37,7 +37,8 @@ BreaksEnd bytes place Trailer = (place ≡ length bytes) × ((e : ℕ) → IsTra
 BreaksEnd bytes place Version = IsTrailed bytes place × (slice_index bytes place ≢ 2)
 BreaksEnd bytes place Opcode = IsTrailed bytes (place + 5) × (slice_index bytes (place + 5) ≡ 2) × (slice_index bytes place ≢ 249)
 BreaksEnd bytes place Pointer =
-    IsClosed bytes (place + 4) × ((post : ℕ) (stop : Postamble) → signed 4 (drop place bytes) ≡ pos post → StandsAt bytes post (place - 1) (Post stop)
+    IsClosed bytes (place + 4)
+    × ((post : ℕ) (postamble : Postamble) → signed 4 (drop place bytes) ≡ pos post → IsSpelledAt bytes post (place - 1) (Post postamble)
     → ⊥)
 BreaksEnd bytes place cause = ⊥
 

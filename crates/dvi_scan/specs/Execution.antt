@@ -10,10 +10,10 @@ use Rattle.dvi_scan.specs.declared.fault.DviCause.TheVariants.{Opcode, Stack, Gl
 use Rattle.dvi_scan.specs.declared.fault.FrameFault.{FrameFault}
 use Rattle.dvi_scan.specs.declared.fault.FrameFault.TheVariants as frames
 use Rattle.dvi_scan.specs.Pass.{PassStateView, Between, Inside, execute}
-use Rattle.dvi_scan.specs.View.{mark_of, spot_position, standing_state}
+use Rattle.dvi_scan.specs.View.{mark_of, spot_position, dvi_state}
 use Rattle.dvi_scan.specs.declared.executing.OpenPage.{OpenPage}
 use Rattle.dvi_scan.specs.declared.executing.PassState.{PassState}
-use Rattle.dvi_scan.specs.declared.executing.PassState.TheVariants as stands
+use Rattle.dvi_scan.specs.declared.executing.PassState.TheVariants as states
 use Rattle.dvi_scan.specs.declared.executing.PassFault.{PassFault}
 use Rattle.dvi_scan.specs.declared.executing.PassFault.TheVariants.{OutOfMemory, Broken}
 
@@ -43,23 +43,23 @@ BreaksTurn does most i p cause = ⊥
 
 -- The state of the pass in an open page, after these pages.
 abbrev pub inside_of : List MarkedPage → OpenPage → PassStateView
-inside_of pages p = Inside pages p.counts (map mark_of p.marks.items) (reverse (map spot_position p.stack.items)) (standing_state p.state)
+inside_of pages p = Inside pages p.counts (map mark_of p.marks.items) (reverse (map spot_position p.stack.items)) (dvi_state p.state)
 
 -- The state of the pass, after these pages.
 abbrev pub pass_at : List MarkedPage → PassState → PassStateView
-pass_at pages stands.Between = Between pages
-pass_at pages (stands.Inside p) = inside_of pages p
+pass_at pages states.Between = Between pages
+pass_at pages (states.Inside p) = inside_of pages p
 
 -- A right instruction that takes memory: a push for the place, an eop for the page, and others for their mark.
-abbrev pub TakesRoom : Acts → (most : ℕ) → Instruction → PassStateView → Type 0
-TakesRoom does most Push (Inside pages counts marks stack s) = length stack < most
-TakesRoom does most Eop (Inside pages counts marks stack s) = stack ≡ []
-TakesRoom does most (Do leaf) (Inside pages counts marks stack s) = (mark : Mark) × (t : DviState) × (kept_in (does leaf s) ≡ Some (mark ∷ [], t))
-TakesRoom does most i p = ⊥
+abbrev pub TakesMemory : Acts → (most : ℕ) → Instruction → PassStateView → Type 0
+TakesMemory does most Push (Inside pages counts marks stack s) = length stack < most
+TakesMemory does most Eop (Inside pages counts marks stack s) = stack ≡ []
+TakesMemory does most (Do leaf) (Inside pages counts marks stack s) = (mark : Mark) × (t : DviState) × (kept_in (does leaf s) ≡ Some (mark ∷ [], t))
+TakesMemory does most i p = ⊥
 
 -- A fault is refused memory for a right instruction, or names a broken rule.
 abbrev pub IsTurnFault : Acts → (most : ℕ) → Instruction → PassStateView → PassFault → Type 0
-IsTurnFault does most i p OutOfMemory = TakesRoom does most i p
+IsTurnFault does most i p OutOfMemory = TakesMemory does most i p
 IsTurnFault does most i p (Broken cause) = BreaksTurn does most i p cause
 
 -- The fault of an instruction at a place of the file.
@@ -77,14 +77,14 @@ abbrev pub TurnsPage : {A : Type 0} → Acts → (most : ℕ) → Instruction �
 TurnsPage does most i pages old new (Ok done) = execute (bounded_acts does) most i (inside_of pages old) ≡ Some (inside_of pages new)
 TurnsPage does most i pages old new (Err fault) = IsTurnFault does most i (inside_of pages old) fault × (inside_of pages new ≡ inside_of pages old)
 
--- An open page has room for one more mark, and for as many saved places as pushes may be open.
-pub record HasPageRoom (most : ℕ) (page : OpenPage) : Type 0 where
+-- An open page has space for one more mark, and for as many saved places as pushes may be open.
+pub record HasPageSpace (most : ℕ) (page : OpenPage) : Type 0 where
   pub mark : vec_len page.marks < vec_capacity page.marks
   pub places : most ≤ page.stack.capacity
 
--- Where an open page has room, memory is not refused. The room for marks and for saved places does not shrink.
-pub record KeepsRoom {A : Type 0} (most : ℕ) (old new : OpenPage) (result : Result A PassFault) : Type 0 where
-  pub taken : HasPageRoom most old → result ≢ Err OutOfMemory
+-- Where an open page has space, memory is not refused. The space for marks and for saved places does not shrink.
+pub record KeepsSpace {A : Type 0} (most : ℕ) (old new : OpenPage) (result : Result A PassFault) : Type 0 where
+  pub taken : HasPageSpace most old → result ≢ Err OutOfMemory
   pub marks : vec_capacity old.marks ≤ vec_capacity new.marks
   pub places : old.stack.capacity ≤ new.stack.capacity
 

@@ -10,5 +10,5 @@ pub mod Passed
 pub mod Reached
 pub mod Widths
 pub mod Closing
-pub mod Ahead
+pub mod AfterPost
 pub mod Private

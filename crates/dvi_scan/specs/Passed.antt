@@ -18,19 +18,19 @@ pub record Framing : Type 0 where
   pub post : ℕ
   pub after : ℕ
   pub last : ℕ
-  pub stop : Postamble
+  pub postamble : Postamble
   pub chain : List ℕ
 
 abbrev pub file_framing : (post after last : ℕ) → Postamble → (chain : List ℕ) → Framing
-file_framing post after last stop chain = record { post = post; after = after; last = last; stop = stop; chain = chain }
+file_framing post after last postamble chain = record { post = post; after = after; last = last; postamble = postamble; chain = chain }
 
 -- The places of the parts that a file names at its end, and its pages from the last one back, as found before the pass.
-pub record IsFramed (bytes : List ℕ) (post after last : ℕ) (stop : Postamble) (chain : List ℕ) : Type 0 where
-  pub ends : HasPostamble bytes post last stop
-  pub spelled : Spells (Post stop) (take (after - post) (drop post bytes))
+pub record IsFramed (bytes : List ℕ) (post after last : ℕ) (postamble : Postamble) (chain : List ℕ) : Type 0 where
+  pub ends : HasPostamble bytes post last postamble
+  pub spelled : Spells (Post postamble) (take (after - post) (drop post bytes))
   pub low : post ≤ after
   pub high : after + 5 ≤ last
-  pub links : Links bytes post stop.last_bop chain
+  pub links : Links bytes post postamble.last_bop chain
 
 -- The effects of the instructions of a body, with these metric files and the fonts that these instructions define, each by its first definition.
 abbrev pub drawing_by : WidthsByName → List Token → Acts
@@ -47,9 +47,9 @@ pub record IsPassed (metrics : WidthsByName) (bytes : List ℕ) (parts : Framing
   -- A preamble of version 2 with the units of the postamble, which are positive; then the instructions of the pass.
   pub comment : List ℕ
   pub body : List Instruction
-  pub front_is : token_instructions front ≡ Pre 2 parts.stop.units comment ∷ body
-  pub units : AreUnits parts.stop.units
-  pub passed : passes (drawing_by metrics front) (min max_pushes parts.stop.stack_depth) body (Between []) ≡ Some (Between pages)
+  pub front_is : token_instructions front ≡ Pre 2 parts.postamble.units comment ∷ body
+  pub units : AreUnits parts.postamble.units
+  pub passed : passes (drawing_by metrics front) (min max_pushes parts.postamble.stack_depth) body (Between []) ≡ Some (Between pages)
   -- The places of the bops are those of the chain.
   pub bops : places 0 front ≡ reverse parts.chain
   -- After post there are only nops and font definitions, and all definitions are right. Each selected font has widths, and its number is defined

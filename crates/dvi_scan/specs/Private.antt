@@ -1,5 +1,5 @@
 -- What no contract reaches that another crate or a user can call: only proofs and private functions speak of these definitions.
-pub mod Ahead
+pub mod AfterPost
 pub mod Chain
 pub mod Closing
 pub mod Drawing

@@ -68,44 +68,47 @@ before_pages chain = record { pass = Between []; known = []; selected = []; left
 
 -- The instructions before a place are right. The pass takes the width of a character from the first definition of its font; each selected font is
 -- defined before it, so a later definition changes no width. Each bop is in the chain. Each selected font has widths, and its number is among
--- `ahead`, the numbers that are defined after post.
-pub record IsReached (metrics : WidthsByName) (ahead : List ℤ) (bytes : List ℕ) (stop : Postamble) (chain : List ℕ) (at : ℕ)
+-- `after_post`, the numbers that are defined after post.
+pub record IsReached (metrics : WidthsByName) (after_post : List ℤ) (bytes : List ℕ) (postamble : Postamble) (chain : List ℕ) (at : ℕ)
     (s : ReadSoFar) : Type 0 where
   pub before : List Token
   pub spelled : AllByRecursion IsSpelled before
   pub whole : token_bytes before ≡ take at bytes
   pub comment : List ℕ
   pub body : List Instruction
-  pub front_is : token_instructions before ≡ Pre 2 stop.units comment ∷ body
+  pub front_is : token_instructions before ≡ Pre 2 postamble.units comment ∷ body
   pub known_is : definitions (token_instructions before) ≡ s.known
   pub selected_is : selections (token_instructions before) ≡ s.selected
-  pub passed : passes (bounded_acts (instruction_acts (widths_of metrics s.known))) (min max_pushes stop.stack_depth) body (Between []) ≡ Some s.pass
+  pub passed : passes (bounded_acts (instruction_acts (widths_of metrics s.known))) (min max_pushes postamble.stack_depth) body
+      (Between []) ≡ Some s.pass
   pub bops : after_bops (places 0 before) (all_left chain) ≡ Some s.left
   pub fonts : FontsAreRight [] (token_instructions before)
   pub closing : AllByRecursion (HasWidths metrics s.known) s.selected
-  pub named : AllByRecursion (λ f. has_number ahead f ≡ true) s.selected
+  pub named : AllByRecursion (λ f. has_number after_post f ≡ true) s.selected
 
 -- An instruction is right at a place, and `new` is the state after it: the pass goes on; a bop is among the places left of the chain; the fonts are
 -- right; a selected font has widths, and its number is defined after post.
-pub record IsRightAt (metrics : WidthsByName) (ahead : List ℤ) (stop : Postamble) (at : ℕ) (old : ReadSoFar) (i : Instruction)
+pub record IsRightAt (metrics : WidthsByName) (after_post : List ℤ) (postamble : Postamble) (at : ℕ) (old : ReadSoFar) (i : Instruction)
     (new : ReadSoFar) : Type 0 where
-  pub goes_on : execute (bounded_acts (instruction_acts (widths_of metrics old.known))) (min max_pushes stop.stack_depth) i old.pass ≡ Some new.pass
+  pub goes_on : execute (bounded_acts (instruction_acts (widths_of metrics old.known))) (min max_pushes postamble.stack_depth) i old.pass
+      ≡ Some new.pass
   pub bop : after_bops (bop_place at i) old.left ≡ Some new.left
   pub fonts : IsRightAfter old.known i
   pub known_is : new.known ≡ old.known ++ definitions_in i
   pub selected_is : new.selected ≡ old.selected ++ selection_of i
   pub closing : AllByRecursion (HasWidths metrics old.known) (selection_of i)
-  pub named : AllByRecursion (λ f. has_number ahead f ≡ true) (selection_of i)
+  pub named : AllByRecursion (λ f. has_number after_post f ≡ true) (selection_of i)
 
 -- A right instruction is at a place and ends at or before `bound`.
-pub record HasRight (metrics : WidthsByName) (ahead : List ℤ) (bytes : List ℕ) (stop : Postamble) (at bound : ℕ) (old : ReadSoFar) : Type 0 where
+pub record HasRight (metrics : WidthsByName) (after_post : List ℤ) (bytes : List ℕ) (postamble : Postamble) (at bound : ℕ)
+    (old : ReadSoFar) : Type 0 where
   pub next : ℕ
   pub forward : at < next
   pub within : next ≤ bound
   pub here : Instruction
   pub spelled : Spells here (take (next - at) (drop at bytes))
   pub new : ReadSoFar
-  pub right : IsRightAt metrics ahead stop at old here new
+  pub right : IsRightAt metrics after_post postamble at old here new
 
 -- The instructions between post and post_post: nops and font definitions that are right after the known definitions.
 pub record IsTail (bytes : List ℕ) (after last : ℕ) (known : List Definition) (tail : List Token) : Type 0 where

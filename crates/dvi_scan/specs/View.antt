@@ -7,7 +7,7 @@ use Rattle.dvi_scan.specs.declared.page.Mark.{Mark as PassMark}
 use Rattle.dvi_scan.specs.declared.page.Mark.TheVariants as marks
 use Rattle.dvi_scan.specs.declared.page.Page.{Page}
 use Rattle.dvi_scan.specs.declared.page.Position.{Position as Spot}
-use Rattle.dvi_scan.specs.declared.page.DviState.{DviState as Standing}
+use Rattle.dvi_scan.specs.declared.page.DviState.{DviState as CodeState}
 
 -- The mark that a value of the code represents.
 abbrev pub mark_of : PassMark → Mark
@@ -25,5 +25,5 @@ spot_position p =
     record { h = p.h; v = p.v; held = record { across = record { first = p.w; second = p.x }; down = record { first = p.y; second = p.z } } }
 
 -- The state that a value of the code represents.
-abbrev pub standing_state : Standing → DviState
-standing_state s = record { place = spot_position s.place; font = s.font }
+abbrev pub dvi_state : CodeState → DviState
+dvi_state s = record { place = spot_position s.place; font = s.font }

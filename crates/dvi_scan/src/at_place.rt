@@ -4,7 +4,7 @@ ghost use Rattle.std.specs.Prelude.{◌≡◌, ◌≤◌, ◌<◌, ◌-◌, Err,
 ghost use Rattle.dvi_ops.specs.Instruction.{Instruction};
 ghost use Rattle.dvi_ops.specs.Table.{Spells};
 ghost use Rattle.dvi_ops.specs.View.{view};
-ghost use Rattle.dvi_scan.specs.Ends.{StandsAt};
+ghost use Rattle.dvi_scan.specs.Ends.{IsSpelledAt};
 
 use dvi_ops::{BodyOp, Op, OpFault, next};
 
@@ -19,7 +19,7 @@ pub fn read_at(bytes: &[u8], place: usize, bound: usize) -> Result<(Op<'_>, usiz
     ensures after { IfOk result (λ found. place < found.1) }
     ensures end_bounded { IfOk result (λ found. found.1 ≤ bound) }
     // A fault is returned only where no instruction is there.
-    ensures none { OnErr result ((i : Instruction) → StandsAt bytes.now place bound i → ⊥) }
+    ensures none { OnErr result ((i : Instruction) → IsSpelledAt bytes.now place bound i → ⊥) }
     // The fault is Opcode only where the first byte begins no instruction.
     ensures opcode { result ≡ Err OpFault.Opcode → 250 ≤ slice_index bytes.now place }
     // There is a first byte then.

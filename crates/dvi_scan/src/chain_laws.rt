@@ -12,13 +12,13 @@ ghost use Rattle.dvi_scan.specs.declared.fault.DviCause.{DviCause};
 
 /// The end of the bytes is unique: the place of the version, and post.
 pub fn one_end()
-    ensures { (bytes : List ℕ) (post e post' e' : ℕ) (stop stop' : Postamble)
-        → HasPostamble bytes post e stop → HasPostamble bytes post' e' stop' → (e ≡ e') × (post ≡ post') × (stop ≡ stop') }
+    ensures { (bytes : List ℕ) (post e post' e' : ℕ) (postamble postamble' : Postamble)
+        → HasPostamble bytes post e postamble → HasPostamble bytes post' e' postamble' → (e ≡ e') × (post ≡ post') × (postamble ≡ postamble') }
 {}
 
 /// Each file has an end, which names its post. So bytes that break a rule of the end are no file.
 pub fn files_have_ends()
-    ensures end { (bytes : List ℕ) (f : Frame bytes) → (e : ℕ) × HasPostamble bytes (length (token_bytes f.front)) e f.stop }
+    ensures end { (bytes : List ℕ) (f : Frame bytes) → (e : ℕ) × HasPostamble bytes (length (token_bytes f.front)) e f.postamble }
     ensures none { (bytes : List ℕ) (place : ℕ) (cause : DviCause) → BreaksEnd bytes place cause → Frame bytes → ⊥ }
 {}
 
@@ -40,9 +40,9 @@ pub fn chain_is_linked()
 /// In each file, post leads to all pages, and their number is the one in post. So bytes that break a rule of the chain are no file.
 pub fn files_have_chains()
     ensures chain { (metrics : WidthsByName) (bytes : List ℕ) (pages : List MarkedPage) (f : IsFile metrics bytes pages)
-        → Links bytes (length (token_bytes f.frame.front)) f.frame.stop.last_bop (reverse (places 0 f.frame.front)) }
+        → Links bytes (length (token_bytes f.frame.front)) f.frame.postamble.last_bop (reverse (places 0 f.frame.front)) }
     ensures count { (metrics : WidthsByName) (bytes : List ℕ) (pages : List MarkedPage) (f : IsFile metrics bytes pages)
-        → f.frame.stop.pages ≡ length (places 0 f.frame.front) % 65536 }
-    ensures none { (metrics : WidthsByName) (bytes : List ℕ) (pages : List MarkedPage) (post e place : ℕ) (stop : Postamble) (cause : DviCause)
-        → HasPostamble bytes post e stop → BreaksChain bytes post stop place cause → IsFile metrics bytes pages → ⊥ }
+        → f.frame.postamble.pages ≡ length (places 0 f.frame.front) % 65536 }
+    ensures none { (metrics : WidthsByName) (bytes : List ℕ) (pages : List MarkedPage) (post e place : ℕ) (postamble : Postamble) (cause : DviCause)
+        → HasPostamble bytes post e postamble → BreaksChain bytes post postamble place cause → IsFile metrics bytes pages → ⊥ }
 {}

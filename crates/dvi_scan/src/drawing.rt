@@ -6,10 +6,10 @@ ghost use Rattle.dvi_ops.specs.Body.{rule_at};
 ghost use Rattle.scaled_core.specs.Mark.{Special};
 ghost use Rattle.dvi_ops.specs.File.{MarkedPage};
 ghost use Rattle.dvi_ops.specs.Instruction.{Across, Downward, By, PutChar, PutRule, SetChar, SetRule, Xxx};
-ghost use Rattle.dvi_scan.specs.Execution.{KeepsRoom};
+ghost use Rattle.dvi_scan.specs.Execution.{KeepsSpace};
 ghost use Rattle.dvi_scan.specs.Drawing.{constant_width, reached_position};
 ghost use Rattle.dvi_scan.specs.Private.Drawing.{Draws, meaning_towards};
-ghost use Rattle.dvi_scan.specs.View.{mark_of, spot_position, standing_state};
+ghost use Rattle.dvi_scan.specs.View.{mark_of, spot_position, dvi_state};
 ghost use Rattle.dvi_scan.specs.Private.View.{marks_in};
 
 use crate::executing::{OpenPage, PassFault};
@@ -78,7 +78,7 @@ impl DviState {
     /// The state with this font selected.
     pub(crate) fn with_font(self, font: i32) -> DviState
         ensures { kept_in (state_without_mark (record { place = spot_position self.place; font = Some font }))
-            ≡ state_without_mark (standing_state result) }
+            ≡ state_without_mark (dvi_state result) }
     {
         DviState {
             font: Some(font),
@@ -97,7 +97,7 @@ impl<'a> OpenPage<'a> {
     ) -> Result<(), PassFault>
         ensures turns { (pages : List MarkedPage) (to : Spot) → option_map spot_position place ≡ reached_position to
             → Draws (meaning_towards (marks_in mark.entry) to self.old) pages self.old self.new result }
-        ensures room { (most : ℕ) → KeepsRoom most self.old self.new result }
+        ensures space { (most : ℕ) → KeepsSpace most self.old self.new result }
     {
         let place = place.ok_or(DviCause::Range)?;
         if let Some(mark) = mark {
@@ -115,7 +115,7 @@ impl<'a> OpenPage<'a> {
     pub(crate) fn go(&mut self, place: Option<Position>) -> Result<(), PassFault>
         ensures turns { (pages : List MarkedPage) (to : Spot) → option_map spot_position place ≡ reached_position to
             → Draws (meaning_towards [] to self.old) pages self.old self.new result }
-        ensures room { (most : ℕ) → KeepsRoom most self.old self.new result }
+        ensures space { (most : ℕ) → KeepsSpace most self.old self.new result }
     {
         self.mark_and_go(None, place)
     }
@@ -138,8 +138,8 @@ impl<'a> OpenPage<'a> {
     #[inline(always)]
     pub(crate) fn set_char(&mut self, code: i32, width: Option<i32>) -> Result<(), PassFault>
         ensures turns { (pages : List MarkedPage)
-            → Draws (instruction_acts (constant_width width) (SetChar code) (standing_state self.old.state)) pages self.old self.new result }
-        ensures room { (most : ℕ) → KeepsRoom most self.old self.new result }
+            → Draws (instruction_acts (constant_width width) (SetChar code) (dvi_state self.old.state)) pages self.old self.new result }
+        ensures space { (most : ℕ) → KeepsSpace most self.old self.new result }
     {
         let (mark, width) = self.glyph(code, width).ok_or(DviCause::Glyph)?;
         let place = self.state.place;
@@ -149,8 +149,8 @@ impl<'a> OpenPage<'a> {
     /// Puts a character: makes a mark, without moving.
     pub(crate) fn put_char(&mut self, code: i32, width: Option<i32>) -> Result<(), PassFault>
         ensures turns { (pages : List MarkedPage)
-            → Draws (instruction_acts (constant_width width) (PutChar code) (standing_state self.old.state)) pages self.old self.new result }
-        ensures room { (most : ℕ) → KeepsRoom most self.old self.new result }
+            → Draws (instruction_acts (constant_width width) (PutChar code) (dvi_state self.old.state)) pages self.old self.new result }
+        ensures space { (most : ℕ) → KeepsSpace most self.old self.new result }
     {
         let (mark, _) = self.glyph(code, width).ok_or(DviCause::Glyph)?;
         let place = self.state.place;
@@ -160,8 +160,8 @@ impl<'a> OpenPage<'a> {
     /// Sets a rule: makes a mark, if it shows something, and moves right by its width in any case.
     pub(crate) fn set_rule(&mut self, size: Size) -> Result<(), PassFault>
         ensures turns { (widths : Widths) (pages : List MarkedPage)
-            → Draws (instruction_acts widths (SetRule size.height size.width) (standing_state self.old.state)) pages self.old self.new result }
-        ensures room { (most : ℕ) → KeepsRoom most self.old self.new result }
+            → Draws (instruction_acts widths (SetRule size.height size.width) (dvi_state self.old.state)) pages self.old self.new result }
+        ensures space { (most : ℕ) → KeepsSpace most self.old self.new result }
     {
         let place = self.state.place;
         self.mark_and_go(place.rule(size), place.right(size.width))
@@ -170,8 +170,8 @@ impl<'a> OpenPage<'a> {
     /// Puts a rule, without moving.
     pub(crate) fn put_rule(&mut self, size: Size) -> Result<(), PassFault>
         ensures turns { (widths : Widths) (pages : List MarkedPage)
-            → Draws (instruction_acts widths (PutRule size.height size.width) (standing_state self.old.state)) pages self.old self.new result }
-        ensures room { (most : ℕ) → KeepsRoom most self.old self.new result }
+            → Draws (instruction_acts widths (PutRule size.height size.width) (dvi_state self.old.state)) pages self.old self.new result }
+        ensures space { (most : ℕ) → KeepsSpace most self.old self.new result }
     {
         let place = self.state.place;
         self.mark_and_go(place.rule(size), place.here())
@@ -180,8 +180,8 @@ impl<'a> OpenPage<'a> {
     /// Puts a special, which is a text at the place, without moving.
     pub(crate) fn put_special(&mut self, text: &'a [u8]) -> Result<(), PassFault>
         ensures turns { (widths : Widths) (pages : List MarkedPage)
-            → Draws (instruction_acts widths (Xxx text.now) (standing_state self.old.state)) pages self.old self.new result }
-        ensures room { (most : ℕ) → KeepsRoom most self.old self.new result }
+            → Draws (instruction_acts widths (Xxx text.now) (dvi_state self.old.state)) pages self.old self.new result }
+        ensures space { (most : ℕ) → KeepsSpace most self.old self.new result }
     {
         let place = self.state.place;
         self.mark_and_go(Some(place.special(text)), place.here())

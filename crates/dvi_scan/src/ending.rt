@@ -3,8 +3,8 @@
 ghost use Rattle.std.specs.Prelude.{◌≡◌, ◌≢◌, ◌≤◌, ◌<◌, ◌+◌, ◌-◌, None, length, drop, slice_index, take, ℕ, pos, IfOk, IfErr, IfSome};
 ghost use Rattle.dvi_ops.specs.Instruction.{Post, Postamble};
 ghost use Rattle.dvi_ops.specs.Table.{Spells, signed};
-ghost use Rattle.dvi_ops.specs.View.{postamble};
-ghost use Rattle.dvi_scan.specs.Ends.{HasPostamble, IsClosed, IsEndFault, IsTrailed, StandsAt};
+ghost use Rattle.dvi_ops.specs.View.{view_postamble};
+ghost use Rattle.dvi_scan.specs.Ends.{HasPostamble, IsClosed, IsEndFault, IsTrailed, IsSpelledAt};
 
 use crate::at_place::read_at;
 use crate::fault::{BadDvi, DviCause};
@@ -27,7 +27,7 @@ pub struct FileEnd {
     /// The place of the version in post_post. After it there are only bytes 223.
     pub last: usize,
     /// The operands of post.
-    pub stop: dvi_ops::Postamble,
+    pub postamble: dvi_ops::Postamble,
 }
 
 /// The number of bytes before the bytes 223 at the end.
@@ -67,10 +67,10 @@ pub(crate) fn place_at(bytes: &[u8], at: usize) -> Option<usize>
 /// Post and the place after it, where post is at a place and ends at or before `bound`.
 fn post_at(bytes: &[u8], place: usize, bound: usize) -> Option<(dvi_ops::Postamble, usize)>
     requires { bound ≤ length bytes.now }
-    ensures post_read { IfSome result (λ found. Spells (Post (postamble found.0)) (take (found.1 - place) (drop place bytes.now))) }
+    ensures post_read { IfSome result (λ found. Spells (Post (view_postamble found.0)) (take (found.1 - place) (drop place bytes.now))) }
     ensures low { IfSome result (λ found. place ≤ found.1) }
     ensures high { IfSome result (λ found. found.1 ≤ bound) }
-    ensures none { result ≡ None → (stop : Postamble) → StandsAt bytes.now place bound (Post stop) → ⊥ }
+    ensures none { result ≡ None → (postamble : Postamble) → IsSpelledAt bytes.now place bound (Post postamble) → ⊥ }
 {
     if bound < place {
         return None;
@@ -78,17 +78,17 @@ fn post_at(bytes: &[u8], place: usize, bound: usize) -> Option<(dvi_ops::Postamb
     let Ok((op, after)) = read_at(bytes, place, bound) else {
         return None;
     };
-    let Op::Post(stop) = op else {
+    let Op::Post(postamble) = op else {
         return None;
     };
-    Some((stop, after))
+    Some((postamble, after))
 }
 
 /// Post, at the place that post_post names.
 fn post_of(bytes: &[u8], last: usize) -> Result<FileEnd, BadDvi>
     requires { IsClosed bytes.now last }
-    ensures ok { IfOk result (λ ends. HasPostamble bytes.now ends.post ends.last (postamble ends.stop)) }
-    ensures after { IfOk result (λ ends. Spells (Post (postamble ends.stop)) (take (ends.after - ends.post) (drop ends.post bytes.now))) }
+    ensures ok { IfOk result (λ ends. HasPostamble bytes.now ends.post ends.last (view_postamble ends.postamble)) }
+    ensures after { IfOk result (λ ends. Spells (Post (view_postamble ends.postamble)) (take (ends.after - ends.post) (drop ends.post bytes.now))) }
     ensures low { IfOk result (λ ends. ends.post ≤ ends.after) }
     ensures high { IfOk result (λ ends. ends.after + 5 ≤ ends.last) }
     ensures bad { IfErr result (IsEndFault bytes.now) }
@@ -100,14 +100,14 @@ fn post_of(bytes: &[u8], last: usize) -> Result<FileEnd, BadDvi>
     let Some(post) = place_at(bytes, last - 4) else {
         return Err(fault);
     };
-    let Some((stop, after)) = post_at(bytes, post, last - 5) else {
+    let Some((postamble, after)) = post_at(bytes, post, last - 5) else {
         return Err(fault);
     };
     Ok(FileEnd {
         post,
         after,
         last,
-        stop,
+        postamble,
     })
 }
 
@@ -117,9 +117,9 @@ fn post_of(bytes: &[u8], last: usize) -> Result<FileEnd, BadDvi>
 /// Pointer, at the place of its operand.
 pub fn find_postamble(bytes: &[u8]) -> Result<FileEnd, BadDvi>
     // The instructions post and post_post are where they have to be.
-    ensures ok { IfOk result (λ ends. HasPostamble bytes.now ends.post ends.last (postamble ends.stop)) }
+    ensures ok { IfOk result (λ ends. HasPostamble bytes.now ends.post ends.last (view_postamble ends.postamble)) }
     // The bytes from post to the place after it spell it.
-    ensures after { IfOk result (λ ends. Spells (Post (postamble ends.stop)) (take (ends.after - ends.post) (drop ends.post bytes.now))) }
+    ensures after { IfOk result (λ ends. Spells (Post (view_postamble ends.postamble)) (take (ends.after - ends.post) (drop ends.post bytes.now))) }
     ensures low { IfOk result (λ ends. ends.post ≤ ends.after) }
     ensures high { IfOk result (λ ends. ends.after + 5 ≤ ends.last) }
     // The rule that a fault names is broken at its place, and the earlier rules hold.

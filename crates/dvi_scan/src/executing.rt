@@ -7,7 +7,7 @@ ghost use Rattle.dvi_ops.specs.Instruction.{Eop, Pop, Push};
 ghost use Rattle.dvi_ops.specs.View.{view};
 ghost use Rattle.dvi_scan.specs.Drawing.{constant_width};
 ghost use Rattle.dvi_scan.specs.Pass.{Between};
-ghost use Rattle.dvi_scan.specs.Execution.{Executes, KeepsRoom, TurnsPage, fault_at, inside_of, pass_at};
+ghost use Rattle.dvi_scan.specs.Execution.{Executes, KeepsSpace, TurnsPage, fault_at, inside_of, pass_at};
 ghost use Rattle.dvi_scan.specs.View.{marked_page};
 ghost use Rattle.dvi_scan.specs.declared.executing.PassFault.TheVariants.{OutOfMemory, Broken};
 
@@ -88,7 +88,7 @@ impl<'a> OpenPage<'a> {
     /// Saves the place, if fewer than `most` pushes are open.
     fn push(&mut self, most: usize) -> Result<(), PassFault>
         ensures turns { (does : Acts) (pages : List MarkedPage) → TurnsPage does most Push pages self.old self.new result }
-        ensures room { KeepsRoom most self.old self.new result }
+        ensures space { KeepsSpace most self.old self.new result }
     {
         if most <= self.stack.len() {
             return Err(PassFault::Broken(DviCause::Stack));
@@ -101,7 +101,7 @@ impl<'a> OpenPage<'a> {
     /// Restores the place that was saved last. The font stays.
     fn pop(&mut self) -> Result<(), PassFault>
         ensures turns { (does : Acts) (most : ℕ) (pages : List MarkedPage) → TurnsPage does most Pop pages self.old self.new result }
-        ensures room { (most : ℕ) → KeepsRoom most self.old self.new result }
+        ensures space { (most : ℕ) → KeepsSpace most self.old self.new result }
     {
         let place = self.stack.pop().ok_or(DviCause::Stack)?;
         self.state = DviState {
@@ -112,14 +112,14 @@ impl<'a> OpenPage<'a> {
     }
 
     /// Processes an instruction that does not end the page. `width` is as for `execute`. It takes memory for a mark or a saved place alone, and none
-    /// where the page has room for it.
+    /// where the page has space for it.
     #[inline(always)]
     pub fn take(&mut self, most: usize, op: &Op<'a>, width: Option<i32>) -> Result<(), PassFault>
         requires { view op.now ≢ Eop }
         ensures turns { (pages : List MarkedPage)
             → TurnsPage (instruction_acts (constant_width width)) most (view op.now) pages self.old self.new result }
-        // Memory is not refused where the page has room, and the room does not shrink.
-        ensures room { KeepsRoom most self.old self.new result }
+        // Memory is not refused where the page has space, and the space does not shrink.
+        ensures space { KeepsSpace most self.old self.new result }
     {
         let place = self.state.place;
         match *op {
@@ -174,16 +174,16 @@ impl<'a> OpenPage<'a> {
 }
 
 /// Processes an instruction between two pages.
-fn begin<'a>(alloc: Global, stand: &mut PassState<'a>, op: &Op<'a>) -> Result<(), PassFault>
-    requires { stand.old ≡ PassState.Between }
+fn begin<'a>(alloc: Global, pass_state: &mut PassState<'a>, op: &Op<'a>) -> Result<(), PassFault>
+    requires { pass_state.old ≡ PassState.Between }
     ensures turns { (does : Acts) (most : ℕ) (pages : List MarkedPage)
-        → Executes does most (view op.now) (Between pages) (pass_at pages stand.new) result }
-    ensures err { OnErr result (stand.new ≡ stand.old) }
+        → Executes does most (view op.now) (Between pages) (pass_at pages pass_state.new) result }
+    ensures err { OnErr result (pass_state.new ≡ pass_state.old) }
 {
     match *op {
         Op::Body(BodyOp::Nop) | Op::FontDef(_) => Ok(()),
         Op::Bop { counts, .. } => {
-            *stand = PassState::Inside(OpenPage {
+            *pass_state = PassState::Inside(OpenPage {
                 counts,
                 marks: Vec::new(alloc),
                 stack: SmallVec::new(alloc),
@@ -206,24 +206,25 @@ fn begin<'a>(alloc: Global, stand: &mut PassState<'a>, op: &Op<'a>) -> Result<()
 /// a missing character or font; Range where h or v leaves signed 32 bits; or OutOfMemory. A fault changes nothing.
 pub fn execute<'a>(
     alloc: Global,
-    stand: &mut PassState<'a>,
+    pass_state: &mut PassState<'a>,
     done: &mut Vec<Page<'a>>,
     most: usize,
     op: &Op<'a>,
     width: Option<i32>,
 ) -> Result<(), PassFault>
     // The pass goes on as it is defined, or the rule that a fault names is broken.
-    ensures turns { Executes (instruction_acts (constant_width width)) most (view op.now) (pass_at (map marked_page done.old.items) stand.old)
-        (pass_at (map marked_page done.new.items) stand.new) result }
+    ensures turns { Executes (instruction_acts (constant_width width)) most (view op.now) (pass_at (map marked_page done.old.items) pass_state.old)
+        (pass_at (map marked_page done.new.items) pass_state.new) result }
     // A fault changes nothing: the state of the pass and the pages are as before.
-    ensures err { OnErr result ((done.new.items ≡ done.old.items) × ((pages : List MarkedPage) → pass_at pages stand.new ≡ pass_at pages stand.old)) }
+    ensures err { OnErr result
+        ((done.new.items ≡ done.old.items) × ((pages : List MarkedPage) → pass_at pages pass_state.new ≡ pass_at pages pass_state.old)) }
 {
-    match stand {
-        PassState::Between => begin(alloc, stand, op),
+    match pass_state {
+        PassState::Between => begin(alloc, pass_state, op),
         PassState::Inside(page) => match *op {
             Op::Eop => {
                 page.end(alloc, done)?;
-                *stand = PassState::Between;
+                *pass_state = PassState::Between;
                 Ok(())
             }
             _ => page.take(most, op, width),

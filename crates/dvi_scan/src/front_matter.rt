@@ -2,7 +2,7 @@
 
 ghost use Rattle.std.specs.Prelude.{◌≡◌, ◌≢◌, ◌≤◌, false, true, length, IfOk, IfErr};
 ghost use Rattle.dvi_ops.specs.File.{AreUnits};
-ghost use Rattle.dvi_ops.specs.View.{postamble};
+ghost use Rattle.dvi_ops.specs.View.{view_postamble};
 ghost use Rattle.dvi_ops.specs.View.{units as view_units};
 ghost use Rattle.dvi_scan.specs.Preamble.{HasPreamble, IsPreambleFault};
 
@@ -31,9 +31,9 @@ fn are_positive(units: &Units) -> bool
 /// Returns the place after the preamble, which is of version 2 and has the units of the postamble, all positive (DVItype, 17). It takes no memory.
 pub fn preamble(bytes: &[u8], ending: &FileEnd) -> Result<usize, BadDvi>
     requires { ending.now.post ≤ length bytes.now }
-    ensures ok { IfOk result (HasPreamble bytes.now ending.now.post (postamble ending.now.stop)) }
+    ensures ok { IfOk result (HasPreamble bytes.now ending.now.post (view_postamble ending.now.postamble)) }
     // The fault is Preamble at place 0, and there is no such preamble.
-    ensures bad { IfErr result (IsPreambleFault bytes.now ending.now.post (postamble ending.now.stop)) }
+    ensures bad { IfErr result (IsPreambleFault bytes.now ending.now.post (view_postamble ending.now.postamble)) }
 {
     let fault = BadDvi {
         place: 0,
@@ -48,10 +48,10 @@ pub fn preamble(bytes: &[u8], ending: &FileEnd) -> Result<usize, BadDvi>
     if id != FORMAT {
         return Err(fault);
     }
-    if !are_same(&units, &ending.stop.units) {
+    if !are_same(&units, &ending.postamble.units) {
         return Err(fault);
     }
-    if !are_positive(&ending.stop.units) {
+    if !are_positive(&ending.postamble.units) {
         return Err(fault);
     }
     Ok(after)

@@ -9,7 +9,7 @@
 //! agrees with those before it, which one a selection means, and the font itself are found by the number, in a search tree.
 #![tactic(auto)]
 
-mod ahead;
+mod after_post;
 mod at_place;
 pub mod chain_laws;
 mod closing;
@@ -19,17 +19,17 @@ mod drawing;
 mod ending;
 mod executing;
 pub mod fault;
-pub mod files;
+pub mod file_laws;
 pub mod font_laws;
 mod front_matter;
 mod known;
 mod page;
 mod page_chain;
 pub mod pass_laws;
-pub mod steps;
+pub mod step_laws;
 mod widths;
 
-pub use ahead::{NumbersAhead, is_ahead, prescan_definitions};
+pub use after_post::{NumbersAfterPost, is_after_post, prescan_definitions};
 pub use at_place::read_at;
 pub use closing::read_trailing_definitions;
 pub use definitions::{FontNumber, KnownFonts};

@@ -3,10 +3,10 @@
 ghost use Rattle.std.specs.Prelude.{◌≡◌, ◌≢◌, ◌≤◌, ◌<◌, ◌+◌, ◌%◌, List, length, drop, ℤ, false, true, negsuc, IfOk, IfErr};
 ghost use Rattle.dvi_ops.specs.Instruction.{Bop};
 ghost use Rattle.dvi_ops.specs.Table.{signed};
-ghost use Rattle.dvi_ops.specs.View.{postamble};
+ghost use Rattle.dvi_ops.specs.View.{view_postamble};
 ghost use Rattle.dvi_scan.specs.Chain.{IsChainRefusal, Links};
 ghost use Rattle.dvi_scan.specs.Private.Chain.{IsBrokenFrom, Names};
-ghost use Rattle.dvi_scan.specs.Ends.{HasPostamble, StandsAt};
+ghost use Rattle.dvi_scan.specs.Ends.{HasPostamble, IsSpelledAt};
 
 use crate::at_place::read_at;
 use crate::ending::{FileEnd, place_at};
@@ -24,7 +24,7 @@ const PAGES_MODULUS: usize = 65_536;
 
 /// What a pointer names: the start before the first page, a bop, or nothing, with the place of the pointer.
 #[derive(Clone, Copy, Debug, PartialEq)]
-enum Named {
+enum PointerTarget {
     Start,
     Page(usize),
     Nothing(usize),
@@ -33,9 +33,9 @@ enum Named {
 /// Whether a bop is at a place and ends at or before `bound`.
 fn is_page(bytes: &[u8], place: usize, bound: usize) -> bool
     requires { bound ≤ length bytes.now }
-    ensures bop_found { result ≡ true → (counts : List ℤ) × (before : ℤ) × StandsAt bytes.now place bound (Bop counts before) }
+    ensures bop_found { result ≡ true → (counts : List ℤ) × (before : ℤ) × IsSpelledAt bytes.now place bound (Bop counts before) }
     ensures low { result ≡ true → place < bound }
-    ensures none { result ≡ false → (counts : List ℤ) (before : ℤ) → StandsAt bytes.now place bound (Bop counts before) → ⊥ }
+    ensures none { result ≡ false → (counts : List ℤ) (before : ℤ) → IsSpelledAt bytes.now place bound (Bop counts before) → ⊥ }
 {
     if bound < place {
         return false;
@@ -59,38 +59,38 @@ fn is_start(bytes: &[u8], at: usize) -> bool
 }
 
 /// What the pointer at a place names, where only a bop before `bound` counts. The bound falls from page to page, so the walk ends.
-fn what_it_names(bytes: &[u8], at: usize, bound: usize) -> Named
-    requires room { at + 4 ≤ length bytes.now }
+fn what_it_names(bytes: &[u8], at: usize, bound: usize) -> PointerTarget
+    requires space { at + 4 ≤ length bytes.now }
     requires high { bound ≤ length bytes.now }
     ensures { Names bytes.now at bound (signed 4 (drop at bytes.now)) result }
 {
     if is_start(bytes, at) {
-        return Named::Start;
+        return PointerTarget::Start;
     }
     let Some(place) = place_at(bytes, at) else {
-        return Named::Nothing(at);
+        return PointerTarget::Nothing(at);
     };
     if is_page(bytes, place, bound) {
-        return Named::Page(place);
+        return PointerTarget::Page(place);
     }
-    Named::Nothing(at)
+    PointerTarget::Nothing(at)
 }
 
 /// The places that a pointer leads to, the last page first.
 fn walk(alloc: Global, bytes: &[u8], at: usize, bound: usize) -> Result<Vec<usize>, FrameFault>
-    requires room { at + 4 ≤ length bytes.now }
+    requires space { at + 4 ≤ length bytes.now }
     requires high { bound ≤ length bytes.now }
     ensures found { IfOk result (λ places. Links bytes.now bound (signed 4 (drop at bytes.now)) places.items) }
     ensures bad { IfErr result (IsBrokenFrom bytes.now at bound (signed 4 (drop at bytes.now))) }
 {
     let mut places = Vec::new(alloc);
     let mut named = what_it_names(bytes, at, bound);
-    while let Named::Page(place) = named {
+    while let PointerTarget::Page(place) = named {
         places.push(place)?;
         named = what_it_names(bytes, place + BOP_POINTER, place);
     }
     match named {
-        Named::Nothing(place) => Err(FrameFault::Bad(BadDvi {
+        PointerTarget::Nothing(place) => Err(FrameFault::Bad(BadDvi {
             place,
             cause: DviCause::Pointer,
         })),
@@ -103,16 +103,16 @@ fn walk(alloc: Global, bytes: &[u8], at: usize, bound: usize) -> Result<Vec<usiz
 /// The fault is Pointer, at the place of a pointer that names no earlier page; or Count, at the place of post, where it gives another number of
 /// pages; or OutOfMemory.
 pub fn page_offsets(alloc: Global, bytes: &[u8], ending: &FileEnd) -> Result<Vec<usize>, FrameFault>
-    requires { HasPostamble bytes.now ending.now.post ending.now.last (postamble ending.now.stop) }
+    requires { HasPostamble bytes.now ending.now.post ending.now.last (view_postamble ending.now.postamble) }
     // These are the pages that post leads to.
-    ensures found { IfOk result (λ places. Links bytes.now ending.now.post ending.now.stop.last_bop places.items) }
+    ensures found { IfOk result (λ places. Links bytes.now ending.now.post ending.now.postamble.last_bop places.items) }
     // Their number is the one in post, modulo 65536.
-    ensures count { IfOk result (λ places. ending.now.stop.pages ≡ length places.items % 65536) }
+    ensures count { IfOk result (λ places. ending.now.postamble.pages ≡ length places.items % 65536) }
     // The rule that a fault names is broken at its place, and the earlier rules hold. Memory is refused only where post names a page.
-    ensures bad { IfErr result (IsChainRefusal bytes.now ending.now.post (postamble ending.now.stop)) }
+    ensures bad { IfErr result (IsChainRefusal bytes.now ending.now.post (view_postamble ending.now.postamble)) }
 {
     let places = walk(alloc, bytes, ending.post + POST_POINTER, ending.post)?;
-    if places.len() % PAGES_MODULUS != usize::from(ending.stop.pages) {
+    if places.len() % PAGES_MODULUS != usize::from(ending.postamble.pages) {
         return Err(FrameFault::Bad(BadDvi {
             place: ending.post,
             cause: DviCause::Count,

@@ -34,7 +34,7 @@ pub fn one_after_the_other()
 {}
 
 /// Where an instruction breaks a rule, the pass stops.
-pub fn broken_rules_stop_the_pass()
+pub fn broken_rules_end_the_pass()
     ensures { (does : Acts) (most : ℕ) (i : Instruction) (p : PassStateView) (cause : DviCause) → BreaksTurn does most i p cause
         → execute (bounded_acts does) most i p ≡ None }
 {}

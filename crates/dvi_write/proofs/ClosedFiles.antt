@@ -10,7 +10,9 @@ use Rattle.dvi_ops.specs.Forest.{flat, nests}
 use Rattle.dvi_ops.specs.Fonts.{definitions}
 use Rattle.dvi_ops.specs.File.{FilePart, Defines, Shows, instructions, push_depth_of}
 use Rattle.dvi_ops.specs.Spelling.{NumberFits, NumbersFit, UnitsFit}
-use Rattle.dvi_ops.specs.Layout.{bytes_of, define, preamble, scaled_points, FilePage, WriterKnowledge, after_preamble, file_page_from, knowledge_after, file_pages_from, after_all, closing_of, front_of, stop_of, whole_of, padding_after, IsTabled, IsWritable, Table}
+use Rattle.dvi_ops.specs.Layout.{bytes_of, define, preamble, scaled_points, FilePage, WriterKnowledge, after_preamble, file_page_from}
+use Rattle.dvi_ops.specs.Layout.{knowledge_after, file_pages_from, after_all, closing_of, front_of, postamble_of, whole_of, padding_after, IsTabled}
+use Rattle.dvi_ops.specs.Layout.{IsWritable, Table}
 use Rattle.scaled_core.proofs.EachOf.{all_append}
 use Rattle.dvi_ops.proofs.Appends.{definitions-append, instructions-append}
 use Rattle.dvi_ops.proofs.Layouts.{says-wrote, definitions-define, instructions-define, length-bytes_of-append, parts_of}
@@ -216,17 +218,21 @@ all_definitions fonts slots pages =
 
 -- The end of a file: instructions that can be spelled, post, definitions, post_post that names the place of post, and bytes 223.
 framed :
-    (fonts : Slots) (is : List Instruction) (stop : Postamble) (tail : List Instruction) (place padding : ℕ) (pages : List ShippedPage) (parts : List FilePart)
-    → AllByRecursion (IsOfJob fonts) (definitions (is ++ tail)) → is ≡ Pre 2 stop.units [] ∷ flat_map instructions parts → stop.units ≡ scaled_points
-    → AllByRecursion IsWritable is → NumbersFit (Post stop) → AllByRecursion IsWritable tail → place ≡ length (bytes_of is) → place < 2 ^ 31 → 4 ≤ padding → padding ≤ 7
-    → IsGreatestOf (pos 0 ∷ map reach_down pages) stop.height_plus_depth → IsGreatestOf (pos 0 ∷ map reach_right pages) stop.width
-    → IsGreatestOf (pos 0 ∷ map (λ part. pos (push_depth_of part)) parts) (pos stop.stack_depth)
-    → length (bytes_of is ++ (bytes_of (Post stop ∷ (tail ++ PostPost (pos place) 2 ∷ [])) ++ replicate padding 223)) % 4 ≡ 0
-    → IsClosedFor fonts (bytes_of is ++ (bytes_of (Post stop ∷ (tail ++ PostPost (pos place) 2 ∷ [])) ++ replicate padding 223)) pages
+    (fonts : Slots) (is : List Instruction) (postamble : Postamble) (tail : List Instruction) (place padding : ℕ) (pages : List ShippedPage)
+    (parts : List FilePart)
+    → AllByRecursion (IsOfJob fonts) (definitions (is ++ tail)) → is ≡ Pre 2 postamble.units [] ∷ flat_map instructions parts
+    → postamble.units ≡ scaled_points
+    → AllByRecursion IsWritable is → NumbersFit (Post postamble) → AllByRecursion IsWritable tail → place ≡ length (bytes_of is) → place < 2 ^ 31
+    → 4 ≤ padding → padding ≤ 7
+    → IsGreatestOf (pos 0 ∷ map reach_down pages) postamble.height_plus_depth → IsGreatestOf (pos 0 ∷ map reach_right pages) postamble.width
+    → IsGreatestOf (pos 0 ∷ map (λ part. pos (push_depth_of part)) parts) (pos postamble.stack_depth)
+    → length (bytes_of is ++ (bytes_of (Post postamble ∷ (tail ++ PostPost (pos place) 2 ∷ [])) ++ replicate padding 223)) % 4 ≡ 0
+    → IsClosedFor fonts (bytes_of is ++ (bytes_of (Post postamble ∷ (tail ++ PostPost (pos place) 2 ∷ [])) ++ replicate padding 223)) pages
 unfolding frame_of
-framed fonts is stop tail place padding pages parts defined front_is units fits stop_fits tail_fits at small least most tall wide deep fills =
+framed fonts is postamble tail place padding pages parts defined front_is units fits postamble_fits tail_fits at small least most tall
+    wide deep fills =
     record {
-      frame = frame_of is stop tail place padding fits stop_fits tail_fits at small least;
+      frame = frame_of is postamble tail place padding fits postamble_fits tail_fits at small least;
       parts = parts;
       front_is = says-wrote is ∙ front_is;
       units = units;
@@ -242,10 +248,11 @@ framed fonts is stop tail place padding pages parts defined front_is units fits 
 -- The length of a file in the layout.
 length-whole : (file_pages : List FilePage) (tall wide : ℤ) (closing : List Definition) (padding : ℕ) → length (whole_of file_pages tall wide closing padding)
     ≡ (after_all after_preamble file_pages).size
-    + length (bytes_of (closing_of (after_all after_preamble file_pages) (stop_of (after_all after_preamble file_pages) tall wide (length file_pages)) closing)) + padding
+    + length (bytes_of (closing_of (after_all after_preamble file_pages)
+    (postamble_of (after_all after_preamble file_pages) tall wide (length file_pages)) closing)) + padding
 length-whole file_pages tall wide closing padding =
     let s = after_all after_preamble file_pages in
-    let end = bytes_of (closing_of s (stop_of s tall wide (length file_pages)) closing) in
+    let end = bytes_of (closing_of s (postamble_of s tall wide (length file_pages)) closing) in
     omega (
       arith,
       length-append (front_of file_pages) (end ++ replicate padding 223),
@@ -265,11 +272,12 @@ laid_out_closes fonts pages padding definable all below least most fills =
     let kept = so_far_of fonts pages in
     let is = preamble ∷ file_pages_from after_preamble file_pages in
     let parts = parts_from fonts [] after_preamble pages in
-    let stop = stop_of s kept.tall kept.wide (length file_pages) in
+    let postamble = postamble_of s kept.tall kept.wide (length file_pages) in
     let closing = definitions_of fonts (in_rising_order kept.defined) in
     let first : NumberFits (negsuc 0) = record { sfits = omega arith } in
     let units : UnitsFit scaled_points = (record { sfits = lit< tt }, record { sfits = lit< tt }, record { sfits = lit< tt }) in
-    framed fonts is stop (define closing) s.size padding pages parts (all_definitions fonts kept.defined pages) (ap (λ (is : List Instruction). preamble ∷ is) (instructions_from fonts [] after_preamble pages))
+    framed fonts is postamble (define closing) s.size padding pages parts (all_definitions fonts kept.defined pages)
+    (ap (λ (is : List Instruction). preamble ∷ is) (instructions_from fonts [] after_preamble pages))
     refl
     (((lit< tt, units), pages_writable fonts definable [] after_preamble pages all first below))
     (last_fits fonts [] after_preamble pages first below, units, tall_fits fonts pages all, wide_fits fonts pages all, omega (arith, few_pushes fonts [] after_preamble pages all (omega arith)), omega arith)
@@ -288,8 +296,11 @@ file_closes fonts pages definable some all small =
     let closing = definitions_of fonts (in_rising_order s.defined) in
     let size = s.layout.size + length (bytes_of (closing_so_far fonts s)) in
     let same : s.layout ≡ after_all after_preamble file_pages = layout-is fonts nothing_so_far pages in
-    let counted : size ≡ (after_all after_preamble file_pages).size + length (bytes_of (closing_of (after_all after_preamble file_pages) (stop_of (after_all after_preamble file_pages) s.tall s.wide (length file_pages)) closing)) =
-    ap₂ (λ (w : WriterKnowledge) (count : ℕ). w.size + length (bytes_of (closing_of w (stop_of w s.tall s.wide count) closing))) same (pages-are fonts pages ∙ sym (length-file_pages fonts [] pages)) in
+    let counted : size ≡ (after_all after_preamble file_pages).size + length
+    (bytes_of (closing_of (after_all after_preamble file_pages)
+    (postamble_of (after_all after_preamble file_pages) s.tall s.wide (length file_pages)) closing)) =
+    ap₂ (λ (w : WriterKnowledge) (count : ℕ). w.size + length (bytes_of (closing_of w (postamble_of w s.tall s.wide count) closing))) same
+    (pages-are fonts pages ∙ sym (length-file_pages fonts [] pages)) in
     let fills = ap (λ n. n % 4) (length-whole file_pages s.tall s.wide closing (padding_after size) ∙ ap (λ n. n + padding_after size) (sym counted)) ∙ padding_fills size in
     subst (λ (bytes : List ℕ). IsClosedFor fonts bytes pages) (sym (whole-laid_out fonts pages some))
     (laid_out_closes fonts pages (padding_after size) definable all (small_layout fonts pages small) (padding_low size) (omega arith) fills)

@@ -28,7 +28,7 @@ use Rattle.dvi_write.specs.Shippable.{slot_font_widths, slot_widths, IsRightPage
 use Rattle.dvi_write.proofs.DefinedFonts.{AreKnown, HasSelected, none_known, known_next, selected_known, each_selected, each_of, rising_among, listed_at, defined_among, holds_selected}
 use Rattle.node_core.proofs.Leaves.{each_leaf}
 use Rattle.dvi_write.proofs.NextPages.{layout-is, whole-laid_out}
-use Rattle.dvi_write.proofs.Rooms.{definable_in}
+use Rattle.dvi_write.proofs.Spaces.{definable_in}
 use Rattle.dvi_write.proofs.WrittenBodies.{selections_written, shown_written, writable_written, definitions-written, nests_written}
 
 -- The definitions of the fonts in slots by their numbers.

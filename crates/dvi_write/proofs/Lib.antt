@@ -5,7 +5,7 @@ pub mod PageBytes
 pub mod FreshFonts
 pub mod DefinedFonts
 pub mod NextPages
-pub mod Rooms
+pub mod Spaces
 pub mod Files
 pub mod MoreFonts
 pub mod ClosedFiles

@@ -2,7 +2,8 @@
 use Rattle.std.proofs.Common.{◌≡◌, ◌≢◌, ℕ, zero, suc, ◌+◌, List, [], ◌∷◌, ◌++◌, length, refl, ap, ap₂, sym, ◌∙◌, arith, append-nil}
 use Rattle.std.specs.Prelude.{negsuc}
 use Rattle.dvi_ops.specs.Instruction.{Instruction}
-use Rattle.dvi_ops.specs.Layout.{FilePage, WriterKnowledge, after_preamble, after_all, bytes_of, ending_of, front_of, padding_after, preamble, file_page_from, stop_of, whole_of}
+use Rattle.dvi_ops.specs.Layout.{FilePage, WriterKnowledge, after_preamble, after_all, bytes_of, ending_of, front_of, padding_after, preamble}
+use Rattle.dvi_ops.specs.Layout.{file_page_from, postamble_of, whole_of}
 use Rattle.dvi_ops.proofs.WholeFile.{front_more, size_of_front}
 use Rattle.page_core.specs.Marks.{ShippedPage}
 use Rattle.tfm_core.specs.Slots.{Slots}
@@ -90,5 +91,6 @@ whole-laid_out fonts pages some =
     let padding = padding_after (s.layout.size + length (bytes_of (closing_so_far fonts s))) in
     whole-is fonts pages some
     ∙ (ap (λ (bytes : List ℕ). bytes ++ last_bytes fonts s) (front-some fonts pages some)
-    ∙ ap₂ (λ (w : WriterKnowledge) (count : ℕ). front_of (file_pages_of fonts [] pages) ++ ending_of w (stop_of w s.tall s.wide count) (defined_so_far fonts s) padding)
+    ∙ ap₂ (λ (w : WriterKnowledge) (count : ℕ). front_of (file_pages_of fonts [] pages) ++ ending_of w (postamble_of w s.tall s.wide count)
+    (defined_so_far fonts s) padding)
     (layout-is fonts nothing_so_far pages) (pages-are fonts pages ∙ sym (length-file_pages fonts [] pages)))

@@ -18,7 +18,7 @@ use Rattle.dvi_write.specs.Shippable.{IsRightPage}
 use Rattle.dvi_write.specs.SoFar.{ProgressView, nothing_so_far, so_far_of, next_bytes, with_next, last_bytes}
 use Rattle.dvi_write.specs.Limits.{IsWithinLimits, limit_of}
 use Rattle.dvi_write.specs.Writing.{GoesOn, HasWritten, RefusesPage, Writing, refusal_of}
-use Rattle.dvi_write.proofs.Rooms.{small}
+use Rattle.dvi_write.proofs.Spaces.{small}
 use Rattle.dvi_write.proofs.NextPages.{front-append, pages-are, size-some, so_far-append, whole-is}
 use Rattle.dvi_write.proofs.MoreFonts.{front_more, so_far_more, pages_more}
 
@@ -204,7 +204,7 @@ unfolding whole
 none_ended fonts before w pages written none = sym (ap (λ pages. length (whole fonts pages)) (no_pages fonts before w pages written none))
 
 pub written_small : (fonts : Slots) (before : Option (List ℕ)) (w : Writing) (pages : List ShippedPage) → HasWritten fonts before w pages → IsWithinLimits w.so_far → (so_far_of fonts pages).layout.size < 2 ^ 31
-written_small fonts before w pages written room = omega (arith, small w.so_far room, ap (λ (s : ProgressView). s.layout.size) written.so_far)
+written_small fonts before w pages written space = omega (arith, small w.so_far space, ap (λ (s : ProgressView). s.layout.size) written.so_far)
 
 -- What was written is the same with more fonts.
 pub written_with_more : (fonts more : Slots) (before : Option (List ℕ)) (w : Writing) (pages : List ShippedPage) → Extends fonts more → HasWritten fonts before w pages

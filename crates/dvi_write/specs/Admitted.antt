@@ -1,4 +1,4 @@
--- The page that a file has room for (own).
+-- The page that a file has space for (own).
 use Rattle.page_core.specs.Marks.{ShippedPage}
 use Rattle.page_core.specs.Pages.{page_at}
 use Rattle.dvi_write.specs.declared.page.AdmittedPage.{AdmittedPage}

@@ -29,16 +29,16 @@ pub record IsOfJob (fonts : Slots) (d : Definition) : Type 0 where
 pub record IsClosedFor (fonts : Slots) (bytes : List ℕ) (pages : List ShippedPage) : Type 0 where
   pub frame : Frame bytes
   pub parts : List FilePart
-  pub front_is : token_instructions frame.front ≡ Pre 2 frame.stop.units [] ∷ flat_map instructions parts
+  pub front_is : token_instructions frame.front ≡ Pre 2 frame.postamble.units [] ∷ flat_map instructions parts
   -- The DVI unit is a scaled point (TeX: The Program, part 32, §617).
-  pub units : frame.stop.units ≡ scaled_points
+  pub units : frame.postamble.units ≡ scaled_points
   -- Each definition, before post and after it, is that of one of these fonts.
   pub defined : AllByRecursion (IsOfJob fonts) (definitions (token_instructions frame.front ++ token_instructions frame.tail))
   -- The sizes in post are the greatest bottom and right edge of the pages, at least 0.
-  pub tall : IsGreatestOf (pos 0 ∷ map reach_down pages) frame.stop.height_plus_depth
-  pub wide : IsGreatestOf (pos 0 ∷ map reach_right pages) frame.stop.width
+  pub tall : IsGreatestOf (pos 0 ∷ map reach_down pages) frame.postamble.height_plus_depth
+  pub wide : IsGreatestOf (pos 0 ∷ map reach_right pages) frame.postamble.width
   -- The depth in post is the greatest number of pushes that are open at once.
-  pub deep : IsGreatestOf (pos 0 ∷ map (λ part. pos (push_depth_of part)) parts) (pos frame.stop.stack_depth)
+  pub deep : IsGreatestOf (pos 0 ∷ map (λ part. pos (push_depth_of part)) parts) (pos frame.postamble.stack_depth)
   -- The length is filled up to a multiple of 4 with four to seven bytes 223.
   pub least : 4 ≤ frame.padding
   pub most : frame.padding ≤ 7

@@ -3,7 +3,8 @@
 use Rattle.std.specs.Prelude.{◌+◌, ◌++◌, [], ◌∷◌, zero, suc, ℕ, ℤ, pos, List, length}
 use Rattle.std.specs.Int.{int_max}
 use Rattle.dvi_ops.specs.Instruction.{Definition, Instruction, Postamble}
-use Rattle.dvi_ops.specs.Layout.{WriterKnowledge, after_preamble, knowledge_after, bytes_of, preamble, file_page_from, stop_of, closing_of, ending_of}
+use Rattle.dvi_ops.specs.Layout.{WriterKnowledge, after_preamble, knowledge_after, bytes_of, preamble, file_page_from, postamble_of, closing_of}
+use Rattle.dvi_ops.specs.Layout.{ending_of}
 use Rattle.dvi_ops.specs.Layout.{padding_after}
 use Rattle.node_core.specs.Loads.{Load, load_with_box}
 use Rattle.page_core.specs.Marks.{ShippedPage}
@@ -63,8 +64,8 @@ abbrev pub so_far_of : Slots → List ShippedPage → ProgressView
 so_far_of fonts pages = so_far_from fonts nothing_so_far pages
 
 -- The operands of post (TeX: The Program, part 32, §642).
-abbrev pub stop_so_far : ProgressView → Postamble
-stop_so_far s = stop_of s.layout s.tall s.wide s.pages
+abbrev pub postamble_so_far : ProgressView → Postamble
+postamble_so_far s = postamble_of s.layout s.tall s.wide s.pages
 
 -- The definitions of the postamble: those of all defined fonts, in rising order of the slots.
 abbrev pub defined_so_far : Slots → ProgressView → List Definition
@@ -72,9 +73,9 @@ defined_so_far fonts s = definitions_of fonts (in_rising_order s.defined)
 
 -- The instructions of the postamble.
 abbrev pub closing_so_far : Slots → ProgressView → List Instruction
-closing_so_far fonts s = closing_of s.layout (stop_so_far s) (defined_so_far fonts s)
+closing_so_far fonts s = closing_of s.layout (postamble_so_far s) (defined_so_far fonts s)
 
 -- The bytes from post to the end of the file: four to seven bytes 223 make its length a multiple of 4.
 unfoldable pub last_bytes : Slots → ProgressView → List ℕ
 last_bytes fonts s =
-    ending_of s.layout (stop_so_far s) (defined_so_far fonts s) (padding_after (s.layout.size + length (bytes_of (closing_so_far fonts s))))
+    ending_of s.layout (postamble_so_far s) (defined_so_far fonts s) (padding_after (s.layout.size + length (bytes_of (closing_so_far fonts s))))

@@ -113,7 +113,7 @@ impl<D: Device> DviWriter<D> {
         requires { self.old.over ≡ false }
         ensures so_far { self.new.so_far ≡ self.old.so_far }
         ensures bytes_written { OnOk result (self.new.bytes_written ≡ written_then self.old.bytes_written bytes.now) }
-        ensures stands { OnOk result (self.new.failed ≡ self.old.failed) }
+        ensures no_failure { OnOk result (self.new.failed ≡ self.old.failed) }
         ensures running { OnOk result (self.new.over ≡ false) }
         ensures fault { IfErr result (λ fault. fault ≡ WriteFault.Device) }
         ensures front { OnErr result (GrowsByFront self.old.bytes_written self.new.bytes_written bytes.now) }
@@ -141,7 +141,7 @@ impl<D: Device> DviWriter<D> {
         requires { IsShippable fonts.now box_node.now }
         ensures bytes { IfOk result (λ next. next.bytes.items ≡ next_bytes fonts.now self.now.so_far (page_with counts.now offsets box_node.now)) }
         ensures after { IfOk result (λ next. next.after ≡ with_next fonts.now self.now.so_far (page_with counts.now offsets box_node.now)) }
-        ensures room { IfOk result (λ next. IsWithinLimits next.after) }
+        ensures space { IfOk result (λ next. IsWithinLimits next.after) }
         ensures right { OnOk result (IsRightPage fonts.now (page_with counts.now offsets box_node.now)) }
         ensures may { OnOk result (refusal_of self.now (page_with counts.now offsets box_node.now) ≡ None) }
         ensures running { OnOk result (self.now.over ≡ false) }
@@ -191,7 +191,7 @@ impl<D: Device> DviWriter<D> {
         ensures may { OnOk result (refusal_of self.old (page_with counts.now offsets box_node.now) ≡ None) }
         ensures refused { IfErr result (EndsWith self.old (page_with counts.now offsets box_node.now)) }
         ensures same { IfErr result (λ fault. fault ≢ WriteFault.Device → self.new ≡ self.old) }
-        ensures stands { OnOk result (self.new.failed ≡ self.old.failed) }
+        ensures no_failure { OnOk result (self.new.failed ≡ self.old.failed) }
         ensures failed { result ≡ Err WriteFault.Device → self.new.failed ≡ self.old.failed + 1 }
         ensures over { result ≡ Err WriteFault.Device → self.new.over ≡ true }
         ensures so_far { result ≡ Err WriteFault.Device → self.new.so_far ≡ self.old.so_far }
@@ -231,7 +231,7 @@ impl<D: Device> DviWriter<D> {
         ensures may { OnOk result (self.old.over ≡ false) }
         ensures refused { IfErr result (MayFail self.old) }
         ensures same { IfErr result (λ fault. fault ≢ WriteFault.Device → self.new ≡ self.old) }
-        ensures stands { OnOk result (self.new.failed ≡ self.old.failed) }
+        ensures no_failure { OnOk result (self.new.failed ≡ self.old.failed) }
         ensures failed { result ≡ Err WriteFault.Device → self.new.failed ≡ self.old.failed + 1 }
         ensures over { OnOk result (self.new.over ≡ true) }
         ensures lost { result ≡ Err WriteFault.Device → self.new.over ≡ true }

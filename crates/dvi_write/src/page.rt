@@ -1,4 +1,4 @@
-//! A page that a file has room for: its reference point, its load, its edges, and its instructions as they are written.
+//! A page that a file has space for: its reference point, its load, its edges, and its instructions as they are written.
 
 ghost use Rattle.std.specs.Prelude.{◌≡◌, ◌≤◌, ◌+ℤ◌, true, false, if◌then◌else◌, OnOk, IfOk, IfErr};
 ghost use Rattle.dvi_ops.specs.Forest.{flat};
@@ -18,7 +18,7 @@ use ship_core::{ShipFault, plan_runs};
 use std::alloc::Global;
 
 /// The greatest capacity for characters of a page at the start. A page of a book has fewer characters.
-const MAX_ROOM: u64 = 16_384;
+const MAX_CAPACITY: u64 = 16_384;
 
 /// The number of nodes of the box of a page, and the number of bytes in the texts of its specials.
 #[derive(Clone, Copy, Debug, PartialEq, Eq)]
@@ -27,7 +27,7 @@ pub struct PageLoad {
     pub text: u64,
 }
 
-/// A page that a file has room for: its box, the reference point of the box, its counts, and the load of the box.
+/// A page that a file has space for: its box, the reference point of the box, its counts, and the load of the box.
 #[derive(Clone, Copy)]
 pub struct AdmittedPage<'a> {
     pub box_node: &'a BoxNode,
@@ -36,12 +36,12 @@ pub struct AdmittedPage<'a> {
     pub load: PageLoad,
 }
 
-/// The greatest number of nodes of a page that takes its room as it grows. Mostly such a page has no character.
+/// The greatest number of nodes of a page that takes its space as it grows. Mostly such a page has no character.
 const FEW_NODES: u64 = 3;
 
 /// The capacity for characters of a page with that many nodes. A quarter of it is for the other instructions, so a page of few nodes gets more.
-fn room_for(nodes: u64) -> usize
-    // More room than the bound could be refused where the page itself finds memory.
+fn capacity_for(nodes: u64) -> usize
+    // More space than the bound could be refused where the page itself finds memory.
     ensures { result ≤ 16384 }
 {
     if nodes <= FEW_NODES {
@@ -50,7 +50,7 @@ fn room_for(nodes: u64) -> usize
     nodes
         .saturating_add(nodes / 8)
         .saturating_add(16)
-        .min(MAX_ROOM) as usize
+        .min(MAX_CAPACITY) as usize
 }
 
 /// The instructions of a page body as it is written. The fault is HugePage exactly where the page is huge, and OutOfMemory otherwise.
@@ -60,8 +60,8 @@ pub fn written_body<'a>(alloc: Global, page: &AdmittedPage<'a>) -> Result<PageRu
     ensures err { IfErr result (λ fault. fault
         ≡ (if is_huge (shipped_page page.now) then WriteFault.HugePage else WriteFault.OutOfMemory)) }
 {
-    let room = room_for(page.load.nodes);
-    match plan_runs(alloc, page.box_node, page.at, room) {
+    let capacity = capacity_for(page.load.nodes);
+    match plan_runs(alloc, page.box_node, page.at, capacity) {
         Ok(drawn) => Ok(reuse_runs(drawn)?),
         Err(ShipFault::HugePage) => Err(WriteFault::HugePage),
         Err(ShipFault::OutOfMemory) => Err(WriteFault::OutOfMemory),

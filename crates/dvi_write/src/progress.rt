@@ -16,7 +16,7 @@ ghost use Rattle.page_core.specs.Marks.{is_huge};
 ghost use Rattle.page_core.specs.Pages.{page_at, reach_down, reach_right};
 ghost use Rattle.dvi_write.specs.Admitted.{shipped_page};
 ghost use Rattle.dvi_write.specs.FilePages.{definitions_of};
-ghost use Rattle.dvi_write.specs.SoFar.{closing_so_far, last_bytes, next_bytes, nothing_so_far, opening_instructions, stop_so_far, with_next};
+ghost use Rattle.dvi_write.specs.SoFar.{closing_so_far, last_bytes, next_bytes, nothing_so_far, opening_instructions, postamble_so_far, with_next};
 ghost use Rattle.dvi_write.specs.Limits.{IsWithinLimits, limit_of};
 
 use crate::defined::DefinedSlots;
@@ -193,12 +193,12 @@ impl Progress {
         let mut before = opening(alloc, self.pages)?;
         append_definitions(fonts, slots, &mut before)?;
         let movements = body.ops.len().saturating_mul(3);
-        let room = body
+        let capacity = body
             .codes
             .len()
             .saturating_add(movements)
             .saturating_add(AROUND_A_BODY);
-        let mut bytes = Vec::with_capacity(alloc, room)?;
+        let mut bytes = Vec::with_capacity(alloc, capacity)?;
         append_all(&mut bytes, &before)?;
         let start = opening_size(self.pages);
         let bop = bytes.len() - start;
@@ -211,7 +211,7 @@ impl Progress {
     fn keep_size(&mut self, slots: &[u8], bop: usize, size: usize, load: PageLoad)
         requires slots_bounded { length self.old.defined + length slots.now ≤ FONT_SLOTS }
         requires bop_bounded { bop ≤ size }
-        requires room { self.old.layout.size + size < 2 ^ 31 }
+        requires space { self.old.layout.size + size < 2 ^ 31 }
         requires pages { self.old.pages < MAX_PAGES }
         requires nodes { self.old.load.nodes + load.nodes ≤ MAX_SHIPPED_NODES }
         requires text { self.old.load.text + load.text ≤ MAX_SHIPPED_TEXT }
@@ -259,7 +259,7 @@ impl Progress {
     ) -> Result<NextPage, WriteFault>
         requires nodes { page.now.load.nodes ≡ box_count page.now.box_node.now }
         requires text { page.now.load.text ≡ box_text page.now.box_node.now }
-        requires room { IsWithinLimits (with_next fonts.now self.now (shipped_page page.now)) }
+        requires space { IsWithinLimits (with_next fonts.now self.now (shipped_page page.now)) }
         ensures bytes { IfOk result (λ next. next.bytes.items ≡ next_bytes fonts.now self.now (shipped_page page.now)) }
         ensures after { IfOk result (λ next. next.after ≡ with_next fonts.now self.now (shipped_page page.now)) }
         ensures fits { OnOk result (is_huge (shipped_page page.now) ≡ false) }
@@ -283,7 +283,7 @@ impl Progress {
     /// The operands of post.
     fn postamble(&self) -> Postamble
         requires { self.now.layout.depth < 2 ^ 16 }
-        ensures { view (ops.Post result) ≡ Post (stop_so_far self.now) }
+        ensures { view (ops.Post result) ≡ Post (postamble_so_far self.now) }
     {
         Postamble {
             last_bop: self.last,
@@ -297,7 +297,7 @@ impl Progress {
 
     /// The instructions of the postamble.
     fn closing_ops<'a>(&self, alloc: Global, fonts: &'a Fonts) -> Result<Vec<Op<'a>>, AllocError>
-        requires room { self.now.layout.size < 2 ^ 31 }
+        requires space { self.now.layout.size < 2 ^ 31 }
         requires deep { self.now.layout.depth < 2 ^ 16 }
         ensures ok { IfOk result (λ ops. map view ops.items ≡ closing_so_far fonts.now self.now) }
         ensures operands_fit { IfOk result (λ ops. AllByRecursion HasSpelling (map view ops.items)) }
@@ -316,7 +316,7 @@ impl Progress {
     /// The bytes from post to the end of the file. The result is an Err where memory is refused.
     #[tactic(auto, unfolding(crate::specs::SoFar::last_bytes))]
     pub fn last_bytes(&self, alloc: Global, fonts: &Fonts) -> Result<Vec<u8>, AllocError>
-        requires room { self.now.layout.size < 2 ^ 31 }
+        requires space { self.now.layout.size < 2 ^ 31 }
         requires deep { self.now.layout.depth < 2 ^ 16 }
         ensures { IfOk result (λ bytes. bytes.items ≡ last_bytes fonts.now self.now) }
     {

@@ -16,11 +16,11 @@ pub fn print_page<W: Write>(
 }
 
 /// A listing, the length of a bitmap's text, and how many digits 1 there are in it.
-pub fn print_listing<W: Write>(output: &mut W, listing: &[u8], picture: &[u8]) -> io::Result<()> {
-    let ones = picture.iter().filter(|byte| **byte == b'1').count();
+pub fn print_listing<W: Write>(output: &mut W, listing: &[u8], pbm: &[u8]) -> io::Result<()> {
+    let ones = pbm.iter().filter(|byte| **byte == b'1').count();
     writeln!(output, "== shown")?;
     output.write_all(listing)?;
-    writeln!(output, "{} bytes, {ones} digits 1", picture.len())
+    writeln!(output, "{} bytes, {ones} digits 1", pbm.len())
 }
 
 /// The ends of lines, one a line.

@@ -18,7 +18,7 @@ fn first_page(alloc: Global, dvi: &Dvi) -> Result<Bitmap, AllocError> {
 }
 
 /// The listing of a DVI file, and its first page in plain PBM.
-pub fn listing_and_picture<'a>(
+pub fn listing_and_pbm<'a>(
     alloc: Global,
     bytes: &'a [u8],
     files: &[FontFile],
@@ -26,8 +26,8 @@ pub fn listing_and_picture<'a>(
     let dvi = Dvi::open(alloc, bytes, files)?; // the whole file is checked
     let bitmap = first_page(alloc, &dvi)?;
     let mut text = Vec::new(alloc);
-    let mut picture = Vec::new(alloc);
+    let mut pbm = Vec::new(alloc);
     dvi.listing(&mut text)?;
-    bitmap.write_pbm(&mut picture)?;
-    Ok((text, picture))
+    bitmap.write_pbm(&mut pbm)?;
+    Ok((text, pbm))
 }

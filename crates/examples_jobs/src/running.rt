@@ -3,7 +3,7 @@
 use crate::pages::one_rule_page;
 use crate::paragraphs::count_breaks;
 use crate::printing::{print_breaks, print_listing, print_page};
-use crate::reading::listing_and_picture;
+use crate::reading::listing_and_pbm;
 use crate::resuming::complete_file;
 use crate::texts::{text_commands, text_page};
 use crate::values::{box_of_a_rule, one_rule, tiny, tiny_name, two_rules};
@@ -72,9 +72,9 @@ pub fn run_same_pages<W: Write>(alloc: Global, output: &mut W) -> Result<()> {
 /// Lists and paints a page with one rule.
 pub fn run_shown<W: Write>(alloc: Global, output: &mut W) -> Result<()> {
     let memory = rule_pages(alloc, &[[0; 10]])?;
-    let shown = listing_and_picture(alloc, memory.bytes(), &[]).ok();
-    let (listing, picture) = shown.context("the file was not read")?;
-    print_listing(output, &listing, &picture)?;
+    let shown = listing_and_pbm(alloc, memory.bytes(), &[]).ok();
+    let (listing, pbm) = shown.context("the file was not read")?;
+    print_listing(output, &listing, &pbm)?;
     Ok(())
 }
 

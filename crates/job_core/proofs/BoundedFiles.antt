@@ -17,11 +17,11 @@ use Rattle.tfm_core.specs.Slots.{Slots, IsDefinable, AreDefinable}
 use Rattle.dvi_write.specs.FilePages.{definitions_of, in_rising_order}
 use Rattle.dvi_write.specs.Layout.{unfinished_file, whole}
 use Rattle.dvi_write.specs.Shippable.{IsRightPage}
-use Rattle.dvi_write.specs.SoFar.{ProgressView, with_next, stop_so_far, closing_so_far, last_bytes}
+use Rattle.dvi_write.specs.SoFar.{ProgressView, with_next, postamble_so_far, closing_so_far, last_bytes}
 use Rattle.dvi_write.specs.Limits.{IsWithinLimits, limit_of}
 use Rattle.dvi_write.proofs.DefinedFonts.{few_defined}
 use Rattle.dvi_write.proofs.PageBytes.{HasShortNames, definition_bytes}
-use Rattle.dvi_write.proofs.Rooms.{first_room, room_next, short_names}
+use Rattle.dvi_write.proofs.Spaces.{first_space, space_next, short_names}
 use Rattle.dvi_write.specs.Writing.{Writing, HasWritten, refusal_of}
 use Rattle.dvi_write.proofs.Writings.{ended_size, none_ended}
 use Rattle.job_state.specs.Private.Loaded.{IsLoaded, AreLoaded}
@@ -39,7 +39,8 @@ definable files fonts loaded = record { slots = loaded.slots; each = definable_e
 -- The file of a new writer has no page.
 pub bounded_first : (fonts : Slots) (before : Option (List ℕ)) (w : Writing) → HasWritten fonts before w [] → IsBoundedFile fonts w
 unfolding unfinished_file
-bounded_first fonts before w written = record { room = subst IsWithinLimits (sym written.so_far) first_room; before = before; pages = []; written = written }
+bounded_first fonts before w written =
+    record { space = subst IsWithinLimits (sym written.so_far) first_space; before = before; pages = []; written = written }
 
 last_of : {A : Type 0} (P : A → Type 0) (xs : List A) (x : A) → AllByRecursion P (xs ++ x ∷ []) → P x
 last_of P [] x (here, all) = here
@@ -66,7 +67,8 @@ bounded_next fonts old new page definable may kept on bounded =
     let right : IsRightPage fonts page = last_of (IsRightPage fonts) bounded.pages page written.right in
     let none : limit_of old.so_far page ≡ None = sym (ap (λ (over : Bool). if over then Some JobOver else limit_of old.so_far page) bounded.written.running) ∙ may in
     record {
-      room = subst IsWithinLimits (sym kept) (room_next fonts old.so_far page definable right.sound right.ten (admitted old.so_far page none) bounded.room);
+      space = subst IsWithinLimits (sym kept)
+          (space_next fonts old.so_far page definable right.sound right.ten (admitted old.so_far page none) bounded.space);
       before = bounded.before;
       pages = bounded.pages ++ page ∷ [];
       written = written;
@@ -75,7 +77,7 @@ bounded_next fonts old new page definable may kept on bounded =
 -- The bytes from post to the end of the file are few.
 few_last_bytes : (fonts : Slots) (s : ProgressView) → HasShortNames fonts → IsWithinLimits s → length (last_bytes fonts s) ≤ 42 + 271 * 256
 unfolding last_bytes
-few_last_bytes fonts s short room =
+few_last_bytes fonts s short space =
     let slots = in_rising_order s.defined in
     let fill = padding_after (s.layout.size + length (bytes_of (closing_so_far fonts s))) in
     let post_post = PostPost (pos s.layout.size) 2 in
@@ -83,14 +85,14 @@ few_last_bytes fonts s short room =
       arith,
       length-append (bytes_of (closing_so_far fonts s)) (replicate fill 223),
       length-replicate {A = ℕ} fill 223,
-      length-append (spelling (Post (stop_so_far s))) (bytes_of (define (definitions_of fonts slots) ++ post_post ∷ [])),
-      postamble_length (stop_so_far s),
+      length-append (spelling (Post (postamble_so_far s))) (bytes_of (define (definitions_of fonts slots) ++ post_post ∷ [])),
+      postamble_length (postamble_so_far s),
       length-bytes_of-append (define (definitions_of fonts slots)) (post_post ∷ []),
       definition_bytes fonts slots short,
       length-append (spelling post_post) [],
       ending_length (pos s.layout.size) 2,
-      room.defined,
-      few_defined s.defined room.defined,
+      space.defined,
+      few_defined s.defined space.defined,
     )
 
 pub small_whole : (fonts : Slots) (w : Writing) → AreDefinable fonts → (bounded : IsBoundedFile fonts w) → length (whole fonts bounded.pages) < 2 ^ 31
@@ -99,16 +101,16 @@ small_whole fonts w definable bounded = by_pages w.so_far.pages refl
     by_pages : (n : ℕ) → w.so_far.pages ≡ n → length (whole fonts bounded.pages) < 2 ^ 31
     by_pages zero is = omega (arith, none_ended fonts bounded.before w bounded.pages bounded.written is)
     by_pages (suc n) is =
-        let room = bounded.room in
+        let space = bounded.space in
         omega (
           arith,
           ended_size fonts bounded.before w bounded.pages bounded.written (λ none. absurd (omega (arith, none, is))),
-          few_last_bytes fonts w.so_far (short_names fonts definable) room,
-          room.size,
-          room.nodes,
-          room.text,
-          room.pages,
-          few_defined w.so_far.defined room.defined,
+          few_last_bytes fonts w.so_far (short_names fonts definable) space,
+          space.size,
+          space.nodes,
+          space.text,
+          space.pages,
+          few_defined w.so_far.defined space.defined,
         )
 
 -- The length of the file, as the writer gives it, is below 2^31.

@@ -258,7 +258,7 @@ stays_refused kept now w command (Err refusal) says goes =
 pub bounded_after : (s : State) (w : Writing) (command : Command) → IsBoundedFile s.fonts w → IsBoundedFile (state_after s command).fonts w
 bounded_after s w command bounded =
     record {
-      room = bounded.room;
+      space = bounded.space;
       before = bounded.before;
       pages = bounded.pages;
       written = with_fonts s command (first_refusal (checks s command)) refl bounded.before w bounded.pages bounded.written;

@@ -157,11 +157,11 @@ module _ (kept : JobStateView) (w : Writing) (r : ℕ) (b : BoxNode) (page : Shi
     pub shipped : (count : ℕ) → count ≡ new.so_far.pages → new.failed ≡ w.failed → GoesOn w new
         → ((before : Option (List ℕ)) (pages : List ShippedPage) → HasWritten kept.fonts before w pages → HasWritten kept.fonts before new (pages ++ page ∷ []))
         → KeepsTo (view_of kept w) (Ship r) (Ok (Shipped count)) (view_of now new)
-    shipped count counts stands goes on =
+    shipped count counts no_failure goes on =
         replied (view_of kept w) (view_of now new) (Ship r) (Ok (Shipped count))
         (ap (λ n. reply_by None (Shipped n)) (counts ∙ pages) ∙ ap (λ refused. reply_by refused (Shipped (w.so_far.pages + 1))) (sym (accepted none)))
         (following ∙ ap (λ refused. state_by refused s (state_after_command s (Ship r))) (sym (accepted none)))
-        (λ running. goes_on on) (λ over. absurd (true_or_false over old_runs)) stands goes.began
+        (λ running. goes_on on) (λ over. absurd (true_or_false over old_runs)) no_failure goes.began
 
   -- What holds of the bytes up to this page, by the fonts and pages of the machine.
   by_machine : (P : List ℕ → Type 0) → w.over ≡ false

@@ -154,13 +154,13 @@ impl<D: Device> Job<D> {
 
     /// Runs the commands in order, and appends one reply for each. A refused command does not stop the run.
     ///
-    /// The error is a refused growth: room for all replies is made first, so no command was run then, and `replies` is as before.
+    /// The error is a refused growth: space for all replies is made first, so no command was run then, and `replies` is as before.
     pub fn run(&mut self, commands: &[Command], replies: &mut Vec<Reply>) -> Result<(), AllocError>
         ensures ran { OnOk result ((added : List AReply) × (replies.new.items ≡ replies.old.items ++ added)
             × RunsTo self.old commands.now added self.new) }
         ensures none { OnErr result (self.new ≡ self.old) }
         ensures cut { OnErr result (replies.new.items ≡ replies.old.items) }
-        ensures room { vec_len replies.old + length commands.now ≤ vec_capacity replies.old → IsOk result }
+        ensures space { vec_len replies.old + length commands.now ≤ vec_capacity replies.old → IsOk result }
         ensures idle { self.old.state.over ≡ true → self.new ≡ self.old }
         ensures goes_on { GoesOn (writing_of self.old) (writing_of self.new) }
     {

@@ -12,7 +12,7 @@ pub use dvi_device::{Device, DeviceFault, Fuse, Memory, Rest};
 pub use job_machine::{
     Answer, AppendBox, BoxForm, Characters, Command, CountNumber, Counting, FontLoad,
     NumberParameter, Opening, Parameter, Refusal, Register, Reply, SizeParameter, Sizes,
-    SkipParameter, Summary, Transfer, Unboxing, runs, totality,
+    SkipParameter, Summary, Transfer, Unboxing, run_laws, totality_laws,
 };
 pub use pack_core::Target;
 pub use resuming::finish_rest;

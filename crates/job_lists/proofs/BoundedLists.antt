@@ -47,14 +47,15 @@ changed_and_taken nest i n l after few short own left =
     let changed = one_changed nest i l few short own in
     subst (λ (lists : List OpenList). (length lists ≤ MAX_OPEN_LISTS) × AreBounded lists) (sym left) (innermost_taken (set nest i l) n changed.0 changed.1)
 
--- A list gets nodes for which it has room.
+-- A list gets nodes for which it has space.
 pub bounded_with_nodes : (nodes more : List Node) → length nodes + length more ≤ MAX_ITEMS → length (nodes_of (items_of (nodes ++ more))) ≤ MAX_ITEMS
-bounded_with_nodes nodes more room = omega (arith, room, length-append nodes more, ap length (nodes_of-items_of (nodes ++ more)))
+bounded_with_nodes nodes more space = omega (arith, space, length-append nodes more, ap length (nodes_of-items_of (nodes ++ more)))
 
 pub more_fit : {E : Type 0} (result : Result (Unit {0}) E) (old new : Items) (more : List Node) → length (nodes_of old) + length more ≤ MAX_ITEMS
     → OnOk result (new ≡ items_of (nodes_of old ++ more)) → OnErr result (new ≡ old) → length (nodes_of new) ≤ MAX_ITEMS
-more_fit (Ok u) old new more room ok err = subst (λ (items : Items). length (nodes_of items) ≤ MAX_ITEMS) (sym ok) (bounded_with_nodes (nodes_of old) more room)
-more_fit (Err e) old new more room ok err = subst (λ (items : Items). length (nodes_of items) ≤ MAX_ITEMS) (sym err) (omega (arith, room))
+more_fit (Ok u) old new more space ok err =
+    subst (λ (items : Items). length (nodes_of items) ≤ MAX_ITEMS) (sym ok) (bounded_with_nodes (nodes_of old) more space)
+more_fit (Err e) old new more space ok err = subst (λ (items : Items). length (nodes_of items) ≤ MAX_ITEMS) (sym err) (omega (arith, space))
 
 second_fails : (a b : Bool) (p q : Refusal) → first_refusal ((a, p) ∷ (b, q) ∷ []) ≡ None → b ≡ false
 second_fails true b p q none = cc
@@ -69,10 +70,10 @@ same_count (Some glue) shift b = refl
 pub bounded_with_box : (params : Params) (shift : ℤ) (b : BoxNode) (l : OpenList) → first_refusal (box_checks params (Some l) b) ≡ None → IsBounded (list_with_box params shift b l)
 bounded_with_box params shift b l none =
     let count = length (nodes_of l.list) + length (box_items params l (pos 0) b) in
-    let room = ltb-false MAX_ITEMS count
+    let space = ltb-false MAX_ITEMS count
     (second_fails (not (is_ok (glue_in params l b.height))) (nat_lt MAX_ITEMS count) DimensionTooLarge ListTooLong none) in
     bounded_with_nodes (nodes_of l.list) (box_items params l shift b)
-    (omega (arith, room, same_count (glue_of (glue_in params l b.height)) shift b))
+    (omega (arith, space, same_count (glue_of (glue_in params l b.height)) shift b))
 
 pub box_fits : {E : Type 0} (result : Result (Unit {0}) E) (params : Params) (shift : ℤ) (b : BoxNode) (old new : OpenList)
     → first_refusal (box_checks params (Some old) b) ≡ None → IsBounded old → OnOk result (new ≡ list_with_box params shift b old) → OnErr result (new ≡ old) → IsBounded new

@@ -9,7 +9,7 @@ use Rattle.node_core.specs.declared.tree.Node.{Node}
 use Rattle.node_core.specs.declared.params.Params.{Params}
 use Rattle.node_core.specs.Items.{Items, none}
 use Rattle.node_core.specs.Nodes.{items_of, nodes_of}
-use Rattle.pack_core.specs.declared.pack.Packed as packs
+use Rattle.pack_core.specs.declared.pack.PackedBox as packs
 use Rattle.job_machine.specs.declared.command.Command.TheVariants.{End}
 use Rattle.job_machine.specs.declared.command.Opening.{Opening}
 use Rattle.job_machine.specs.declared.replies.Refusal.{Refusal}
@@ -108,17 +108,17 @@ module _
     found_around = ap innermost (sym outer_is) ∙ around_found bare l count (many ∙ sym as_many) (omega (arith, enough, as_many)) read
 
     pub ended_nest :
-        (changed : OpenList) (after : List OpenList) (told : AppendedParagraph)
-        → IsAppended (setting (nodes_of items) params l.previous_depth) (nodes_of l.list) (nodes_of changed.list) told
-        → changed ≡ record l { list = changed.list; previous_depth = told.depth }
+        (changed : OpenList) (after : List OpenList) (figures : AppendedParagraph)
+        → IsAppended (setting (nodes_of items) params l.previous_depth) (nodes_of l.list) (nodes_of changed.list) figures
+        → changed ≡ record l { list = changed.list; previous_depth = figures.depth }
         → after ≡ take (length (set bare (count - 2) changed) - 1) (set bare (count - 2) changed)
-        → IsEnded params (outer nest) (items_in (innermost nest)) after told
-    ended_nest changed after told appended turned left =
+        → IsEnded params (outer nest) (items_in (innermost nest)) after figures
+    ended_nest changed after figures appended turned left =
         let lines = appended.set in
         let list_is : changed.list ≡ items_of (nodes_of l.list ++ nodes_of lines.items) = sym (items_of-nodes_of changed.list) ∙ ap items_of appended.items in
         let changed_is : changed ≡ record l { list = items_of (nodes_of l.list ++ nodes_of lines.items); previous_depth = lines.depth } =
         turned
-        ∙ (ap (λ (more : Items). record l { list = more; previous_depth = told.depth }) list_is
+        ∙ (ap (λ (more : Items). record l { list = more; previous_depth = figures.depth }) list_is
         ∙ ap (λ depth. record l { list = items_of (nodes_of l.list ++ nodes_of lines.items); previous_depth = depth }) appended.depth) in
         record {
           set = lines;
@@ -155,7 +155,8 @@ put_back nest now items l is taken same =
     ap (λ n. refilled_nest n items (innermost n)) bare ∙ (ap (λ more. refilled_nest (emptied_nest nest (Some l)) more (innermost (emptied_nest nest (Some l)))) own ∙ refilled-emptied nest l is)
 
 -- The end of a list is refused where its box is, although the code asks with the innermost list emptied.
-pub end_refused : (s : State) (l : OpenList) (opening : Opening) (p : packs.Packed) (now : List OpenList) (found : Option Refusal) → s.over ≡ false → innermost s.nest ≡ Some l
+pub end_refused : (s : State) (l : OpenList) (opening : Opening) (p : packs.PackedBox) (now : List OpenList) (found : Option Refusal) → s.over ≡ false
+    → innermost s.nest ≡ Some l
     → l.purpose ≡ Box opening → packed_list s.params (innermost s.nest) ≡ Some p → now ≡ emptied_nest s.nest (innermost s.nest)
     → found ≡ first_refusal (place_checks s.params (outer now) opening.into p.box_node) → first_refusal (checks s End) ≡ found
 end_refused s l opening p now found running is opened packed taken asked =

@@ -36,7 +36,8 @@ pub early_free : (params : Params) (around : List OpenList) (items : Items) → 
 early_free params around items some free = rw (some, free) refl
 
 -- A paragraph whose lines were appended is not refused; its answer and the lists after it are the machine's.
-module _ (params : Params) (around after : List OpenList) (items : Items) (told : AppendedParagraph) (ended : IsEnded params around items after told) where
+module _ (params : Params) (around after : List OpenList) (items : Items) (figures : AppendedParagraph)
+    (ended : IsEnded params around items after figures) where
   pub not_refused : is_none (innermost around) ≡ false → first_refusal (paragraph_checks params around items) ≡ None
   not_refused some =
       let shallow : nat_lt MAX_DEPTH (items_depth ended.set.items) ≡ false = le-ltb MAX_DEPTH (items_depth ended.set.items) ended.shallow in
@@ -51,29 +52,29 @@ module _ (params : Params) (around after : List OpenList) (items : Items) (told 
 pub refused_so :
     (params : Params) (around : List OpenList) (items : Items) (unappended : UnappendedLines) (refusal : Refusal) → is_none (innermost around) ≡ false
     → IsRefused params around items unappended → refusal_of unappended ≡ Some refusal → first_refusal (paragraph_checks params around items) ≡ Some refusal
-refused_so params around items (Unset fault) refusal some is told =
+refused_so params around items (Unset fault) refusal some is figures =
     let unset : set_after params around items ≡ Err fault =
-    paragraph_unset (nodes_of items) params (depth_in (innermost around)) fault (λ memory. absurd (no_refusal fault memory told)) is in
-    rw (some, unset, told) refl
+    paragraph_unset (nodes_of items) params (depth_in (innermost around)) fault (λ memory. absurd (no_refusal fault memory figures)) is in
+    rw (some, unset, figures) refl
   where
     no_refusal : (fault : ParagraphFault) → fault ≡ faults.OutOfMemory → paragraph_refusal fault ≡ Some refusal → ⊥
-    no_refusal fault memory told = cc
-refused_so params around items TooDeep refusal some is told =
+    no_refusal fault memory figures = cc
+refused_so params around items TooDeep refusal some is figures =
     let deep : nat_lt MAX_DEPTH (items_depth is.0.items) ≡ true = lt-ltb MAX_DEPTH (items_depth is.0.items) is.2 in
-    rw (some, is.1, deep) told
-refused_so params around items TooLong refusal some is told =
+    rw (some, is.1, deep) figures
+refused_so params around items TooLong refusal some is figures =
     let shallow : nat_lt MAX_DEPTH (items_depth is.0.items) ≡ false = le-ltb MAX_DEPTH (items_depth is.0.items) is.2 in
     let long : nat_lt MAX_ITEMS (length (nodes_of (items_in (innermost around))) + length (nodes_of is.0.items)) ≡ true =
     lt-ltb MAX_ITEMS (length (nodes_of (items_in (innermost around))) + length (nodes_of is.0.items)) is.3 in
-    rw (some, is.1, shallow, long) told
+    rw (some, is.1, shallow, long) figures
 
 pub memory_refused :
     (params : Params) (around : List OpenList) (items : Items) (unappended : UnappendedLines) → is_none (innermost around) ≡ false
     → IsRefused params around items unappended → refusal_of unappended ≡ None → first_refusal (early_paragraph_checks params around items) ≡ None
-memory_refused params around items (Unset faults.OutOfMemory) some is told =
+memory_refused params around items (Unset faults.OutOfMemory) some is figures =
     early_free params around items some (memory_free (nodes_of items) params (depth_in (innermost around)) is)
-memory_refused params around items (Unset faults.InfiniteShrink) some is told = absurd (cc)
-memory_refused params around items (Unset faults.TooManyBreaks) some is told = absurd (cc)
-memory_refused params around items (Unset faults.DimensionTooLarge) some is told = absurd (cc)
-memory_refused params around items TooDeep some is told = absurd (cc)
-memory_refused params around items TooLong some is told = absurd (cc)
+memory_refused params around items (Unset faults.InfiniteShrink) some is figures = absurd (cc)
+memory_refused params around items (Unset faults.TooManyBreaks) some is figures = absurd (cc)
+memory_refused params around items (Unset faults.DimensionTooLarge) some is figures = absurd (cc)
+memory_refused params around items TooDeep some is figures = absurd (cc)
+memory_refused params around items TooLong some is figures = absurd (cc)

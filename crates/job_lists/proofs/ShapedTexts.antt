@@ -17,36 +17,40 @@ use Rattle.job_machine.specs.FontSlots.{CharacterItems, no_characters, text_item
 use Rattle.job_machine.specs.Answers.{shaped_answer}
 use Rattle.job_machine.specs.declared.OpenList.{OpenList}
 use Rattle.job_machine.specs.State.{innermost, with_innermost, items_in}
-use Rattle.job_machine.specs.Checks.{room_checks, first_refusal}
+use Rattle.job_machine.specs.Checks.{count_checks, first_refusal}
 use Rattle.job_machine.specs.Effects.{with_nodes}
 use Rattle.job_lists.specs.EmptiedNest.{emptied_nest, refilled_nest}
 use Rattle.job_machine.specs.Machine.{reply_by, state_by}
 use Rattle.job_machine.proofs.ListElements.{get_set, set_again}
 use Rattle.job_machine.proofs.States.{same_innermost}
 
--- An empty text becomes no items, for which there is always room.
+-- An empty text becomes no items, for which there is always space.
 no_text : (loaded : LoadedFont) (slot : ℕ) (text : List ℕ) → (length text == 0) ≡ true → text_items_in (Some loaded) slot text ≡ no_characters
 unfolding text_items text_missing
 no_text loaded slot [] empty = refl
 no_text loaded slot (c ∷ text) empty = absurd (omega (arith, eqb-true (length (c ∷ text)) 0 empty))
 
-room_for_none : (count : ℕ) → count ≤ MAX_ITEMS → first_refusal (room_checks count []) ≡ None
-room_for_none count short = rw (le-ltb MAX_ITEMS (count + 0) (omega (arith, short))) refl
+space_for_none : (count : ℕ) → count ≤ MAX_ITEMS → first_refusal (count_checks count []) ≡ None
+space_for_none count short = rw (le-ltb MAX_ITEMS (count + 0) (omega (arith, short))) refl
 
 module _ (loaded : LoadedFont) (slot : ℕ) (text : List ℕ) (items : List Node) (empty : (length text == 0) ≡ true) (short : length items ≤ MAX_ITEMS) where
-  none_reply : reply_by (first_refusal (room_checks (length items) [])) (shaped_answer no_characters) ≡ Ok (Shaped 0 0)
-  none_reply = ap (λ (o : Option Refusal). reply_by o (shaped_answer no_characters)) (room_for_none (length items) short)
+  none_reply : reply_by (first_refusal (count_checks (length items) [])) (shaped_answer no_characters) ≡ Ok (Shaped 0 0)
+  none_reply = ap (λ (o : Option Refusal). reply_by o (shaped_answer no_characters)) (space_for_none (length items) short)
 
-  pub reply_to_none : Ok (Shaped 0 0) ≡ reply_by (first_refusal (room_checks (length items) (text_items_in (Some loaded) slot text).items)) (shaped_answer (text_items_in (Some loaded) slot text))
+  pub reply_to_none : Ok (Shaped 0 0) ≡ reply_by (first_refusal (count_checks (length items) (text_items_in (Some loaded) slot text).items))
+      (shaped_answer (text_items_in (Some loaded) slot text))
   reply_to_none =
-      sym (ap (λ (x : CharacterItems). reply_by (first_refusal (room_checks (length items) x.items)) (shaped_answer x)) (no_text loaded slot text empty) ∙ none_reply)
+      sym (ap (λ (x : CharacterItems). reply_by (first_refusal (count_checks (length items) x.items)) (shaped_answer x))
+      (no_text loaded slot text empty) ∙ none_reply)
 
-  none_kept : state_by (first_refusal (room_checks (length items) [])) items (items ++ []) ≡ items
-  none_kept = ap (λ (o : Option Refusal). state_by o items (items ++ [])) (room_for_none (length items) short) ∙ append-nil items
+  none_kept : state_by (first_refusal (count_checks (length items) [])) items (items ++ []) ≡ items
+  none_kept = ap (λ (o : Option Refusal). state_by o items (items ++ [])) (space_for_none (length items) short) ∙ append-nil items
 
-  pub items_with_none : items ≡ state_by (first_refusal (room_checks (length items) (text_items_in (Some loaded) slot text).items)) items (items ++ (text_items_in (Some loaded) slot text).items)
+  pub items_with_none : items ≡ state_by (first_refusal (count_checks (length items) (text_items_in (Some loaded) slot text).items)) items
+      (items ++ (text_items_in (Some loaded) slot text).items)
   items_with_none =
-      sym (ap (λ (x : CharacterItems). state_by (first_refusal (room_checks (length items) x.items)) items (items ++ x.items)) (no_text loaded slot text empty) ∙ none_kept)
+      sym (ap (λ (x : CharacterItems). state_by (first_refusal (count_checks (length items) x.items)) items (items ++ x.items))
+      (no_text loaded slot text empty) ∙ none_kept)
 
 -- Items go into the innermost list after its own were taken out.
 refilled_again : (nest : List OpenList) (items : Items)

@@ -16,7 +16,7 @@ use crate::open_lists::{append_lines, append_with_glue, pack};
 use job_machine::{ListPurpose, OpenList};
 use node_core::limits::{MAX_ITEMS, MAX_OPEN_LISTS};
 use node_core::{BoxNode, Node, NodeList, Params, Rule};
-use pack_core::Packed;
+use pack_core::PackedBox;
 use scaled_core::Dimen;
 use smallvec::SmallVec;
 use std::alloc::{AllocError, Global};
@@ -196,7 +196,7 @@ impl Nest {
 
     /// The box of the innermost list, which is then empty. None where no list is open or a size does not fit, and then nothing changes.
     #[tactic(auto, using(job_machine::proofs::States::same_innermost))]
-    pub fn pack(&mut self, params: &Params) -> Option<Packed>
+    pub fn pack(&mut self, params: &Params) -> Option<PackedBox>
         ensures value { result ≡ packed_list params.now (innermost self.old) }
         ensures emptied { IfSome result (λ packed. self.new ≡ emptied_nest self.old (innermost self.old)) }
         ensures none { result ≡ None → self.new ≡ self.old }

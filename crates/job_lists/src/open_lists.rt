@@ -15,7 +15,7 @@ ghost use Rattle.job_machine.specs.Effects.{list_with_box};
 use job_machine::{BoxForm, ListPurpose, OpenList, Refusal};
 use node_core::limits::MAX_ITEMS;
 use node_core::{BoxNode, Glue, Kind, NodeList, Params};
-use pack_core::{Packed, Target, TooLarge, hpack, vpack, vtop};
+use pack_core::{PackedBox, Target, TooLarge, hpack, vpack, vtop};
 use scaled_core::Dimen;
 use std::alloc::Global;
 use std::mem::replace;
@@ -30,7 +30,7 @@ fn pack_as(
     target: Target,
     params: &Params,
     list: NodeList,
-) -> Result<Packed, TooLarge>
+) -> Result<PackedBox, TooLarge>
     ensures value { result ≡ packed_as form params.now target list }
     ensures list_returned { IfErr result (λ large. large.list ≡ list) }
 {
@@ -42,7 +42,7 @@ fn pack_as(
 }
 
 /// The box that a list becomes, or the list where a size does not fit. A paragraph becomes no box.
-fn pack_for(purpose: ListPurpose, params: &Params, list: NodeList) -> Result<Packed, TooLarge>
+fn pack_for(purpose: ListPurpose, params: &Params, list: NodeList) -> Result<PackedBox, TooLarge>
     ensures value { result ≡ packed_by purpose params.now list }
     ensures list_returned { IfErr result (λ large. large.list ≡ list) }
 {
@@ -53,7 +53,7 @@ fn pack_for(purpose: ListPurpose, params: &Params, list: NodeList) -> Result<Pac
 }
 
 /// The box of a list, which is then empty. None where a size does not fit, and the list is then unchanged.
-pub(crate) fn pack(open_list: &mut OpenList, alloc: Global, params: &Params) -> Option<Packed>
+pub(crate) fn pack(open_list: &mut OpenList, alloc: Global, params: &Params) -> Option<PackedBox>
     ensures value { result ≡ packed_list params.now (Some open_list.old) }
     ensures emptied { IfSome result (λ packed. open_list.new ≡ record open_list.old { list = none }) }
     ensures none { result ≡ None → open_list.new ≡ open_list.old }
@@ -87,7 +87,7 @@ fn glue_before(
 /// How many items a box adds to a list: 1, or 2 with the glue before it.
 ///
 /// `DimensionTooLarge` where that glue does not fit, and else `ListTooLong` where the list would have more than `MAX_ITEMS` items.
-pub fn room_for_box(
+pub fn space_for_box(
     open_list: &OpenList,
     box_node: &BoxNode,
     params: &Params,
@@ -112,7 +112,7 @@ pub fn room_for_box(
 /// `WrongMode` where the list is not of the command's kind, else `WrongKind` where the box is not, else `ListTooLong` where the list would have
 /// more than `MAX_ITEMS` items.
 #[tactic(auto, using(job_machine::proofs::OtherKinds::other_kinds))]
-pub fn room_for_items(
+pub fn space_for_items(
     open_list: &OpenList,
     kind: Kind,
     held: Option<&BoxNode>,
@@ -218,7 +218,7 @@ pub(crate) fn append_lines(
     ensures ok { IfOk result (IsAppended (setting (nodes_of items.old) params.now open_list.old.previous_depth) (nodes_of open_list.old.list)
         (nodes_of open_list.new.list)) }
     ensures fits { OnOk result (break_fault (nodes_of items.old) params.now.par_fill_skip ≡ None) }
-    ensures changed { IfOk result (λ told. open_list.new ≡ record open_list.old { list = open_list.new.list; previous_depth = told.depth }) }
+    ensures changed { IfOk result (λ figures. open_list.new ≡ record open_list.old { list = open_list.new.list; previous_depth = figures.depth }) }
     ensures emptied { OnOk result (items.new ≡ none) }
     ensures refused { IfErr result (IsUnappended (setting (nodes_of items.old) params.now open_list.old.previous_depth)
         (IsUnset (nodes_of items.old) params.now open_list.old.previous_depth) (nodes_of open_list.old.list)) }

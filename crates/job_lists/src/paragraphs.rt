@@ -31,15 +31,15 @@ fn pass_number(pass: Option<Pass>) -> u8
 }
 
 /// The answer to `end` for a paragraph that was set.
-fn answer_of(told: &AppendedParagraph) -> Answer
-    ensures { (set : SetParagraph) → told.now.lines ≡ set.lines → told.now.pass ≡ set.pass → told.now.overhang ≡ set.overhang
-        → told.now.demerits ≡ set.demerits → result ≡ paragraph_answer (Ok set) }
+fn answer_of(figures: &AppendedParagraph) -> Answer
+    ensures { (set : SetParagraph) → figures.now.lines ≡ set.lines → figures.now.pass ≡ set.pass → figures.now.overhang ≡ set.overhang
+        → figures.now.demerits ≡ set.demerits → result ≡ paragraph_answer (Ok set) }
 {
     Answer::Paragraph {
-        lines: told.lines,
-        pass: pass_number(told.pass),
-        overhang: told.overhang,
-        demerits: told.demerits,
+        lines: figures.lines,
+        pass: pass_number(figures.pass),
+        overhang: figures.overhang,
+        demerits: figures.demerits,
     }
 }
 
@@ -110,7 +110,7 @@ impl Nest {
             return Ok(Err(Refusal::NoOpenList));
         }
         match self.append_paragraph(params) {
-            Ok(told) => Ok(Ok(answer_of(&told))),
+            Ok(figures) => Ok(Ok(answer_of(&figures))),
             Err(unappended) => match refusal_of(unappended) {
                 Some(refusal) => Ok(Err(refusal)),
                 None => Err(AllocError),

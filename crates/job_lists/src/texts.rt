@@ -3,7 +3,7 @@
 ghost use Rattle.std.specs.Prelude.{◌≡◌, ◌≢◌, ◌≤◌, ◌++◌, [], List, Some, length, IfOk, OnOk, OnErr};
 ghost use Rattle.node_core.specs.declared.tree.Node.{Node as ANode};
 ghost use Rattle.job_machine.specs.FontSlots.{text_items_in, character_in};
-ghost use Rattle.job_machine.specs.Checks.{room_checks, first_refusal};
+ghost use Rattle.job_machine.specs.Checks.{count_checks, first_refusal};
 ghost use Rattle.job_machine.specs.Answers.{shaped_answer};
 ghost use Rattle.job_machine.specs.Machine.{reply_by, state_by};
 
@@ -18,9 +18,9 @@ use tfm_core::LoadedFont;
 fn keep_shaped(items: &mut Vec<Node>, before: usize, missing: Missing) -> Reply
     requires before_bounded { before ≤ length items.old.items }
     ensures reply { (list added : List ANode) → items.old.items ≡ list ++ added → before ≡ length list → result
-        ≡ reply_by (first_refusal (room_checks (length list) added)) (shaped_answer (record { items = added; missing = missing.characters })) }
+        ≡ reply_by (first_refusal (count_checks (length list) added)) (shaped_answer (record { items = added; missing = missing.characters })) }
     ensures items { (list added : List ANode) → items.old.items ≡ list ++ added → before ≡ length list
-        → items.new.items ≡ state_by (first_refusal (room_checks (length list) added)) list (list ++ added) }
+        → items.new.items ≡ state_by (first_refusal (count_checks (length list) added)) list (list ++ added) }
 {
     if items.len() > MAX_ITEMS {
         items.truncate(before);
@@ -34,8 +34,8 @@ fn keep_shaped(items: &mut Vec<Node>, before: usize, missing: Missing) -> Reply
 
 /// Shapes a text, and appends its items to those of an open list.
 ///
-/// Room for one glyph a character is made first, but for no more than the list may hold: most texts then need no further growth, and a text that is
-/// far too long does not ask for room for all its characters at once. An empty text takes no memory.
+/// Space for one glyph a character is made first, but for no more than the list may hold: most texts then need no further growth, and a text that is
+/// far too long does not ask for space for all its characters at once. An empty text takes no memory.
 /// Where the list would be too long, or memory is refused, the items are unchanged.
 pub fn append_text(
     loaded: &LoadedFont,
@@ -45,10 +45,10 @@ pub fn append_text(
 ) -> Result<Reply, AllocError>
     requires { length items.old.items ≤ MAX_ITEMS }
     ensures reply { IfOk result
-        (λ reply. reply ≡ reply_by (first_refusal (room_checks (length items.old.items) (text_items_in (Some loaded.now) slot text.now).items))
+        (λ reply. reply ≡ reply_by (first_refusal (count_checks (length items.old.items) (text_items_in (Some loaded.now) slot text.now).items))
         (shaped_answer (text_items_in (Some loaded.now) slot text.now))) }
     ensures items { OnOk result
-        (items.new.items ≡ state_by (first_refusal (room_checks (length items.old.items) (text_items_in (Some loaded.now) slot text.now).items))
+        (items.new.items ≡ state_by (first_refusal (count_checks (length items.old.items) (text_items_in (Some loaded.now) slot text.now).items))
         items.old.items (items.old.items ++ (text_items_in (Some loaded.now) slot text.now).items)) }
     ensures err { OnErr result (items.new.items ≡ items.old.items) }
     ensures takes { OnErr result (text.now ≢ []) }
@@ -75,10 +75,10 @@ pub fn append_character(
 ) -> Result<Reply, AllocError>
     requires { length items.old.items ≤ MAX_ITEMS }
     ensures reply { IfOk result
-        (λ reply. reply ≡ reply_by (first_refusal (room_checks (length items.old.items) (character_in (Some loaded.now) slot code).items))
+        (λ reply. reply ≡ reply_by (first_refusal (count_checks (length items.old.items) (character_in (Some loaded.now) slot code).items))
         (shaped_answer (character_in (Some loaded.now) slot code))) }
     ensures items { OnOk result
-        (items.new.items ≡ state_by (first_refusal (room_checks (length items.old.items) (character_in (Some loaded.now) slot code).items))
+        (items.new.items ≡ state_by (first_refusal (count_checks (length items.old.items) (character_in (Some loaded.now) slot code).items))
         items.old.items (items.old.items ++ (character_in (Some loaded.now) slot code).items)) }
     ensures err { OnErr result (items.new.items ≡ items.old.items) }
 {

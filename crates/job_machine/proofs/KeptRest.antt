@@ -2,7 +2,7 @@
 use Rattle.std.proofs.Common.{◌≡◌, ℕ, List, Option, Some, None, refl}
 use Rattle.std.specs.Prelude.{ℤ}
 use Rattle.node_core.specs.declared.tree.BoxNode.{BoxNode}
-use Rattle.pack_core.specs.declared.pack.Packed as packs
+use Rattle.pack_core.specs.declared.pack.PackedBox as packs
 use Rattle.job_machine.specs.declared.OpenList.{OpenList}
 use Rattle.job_machine.specs.declared.command.Transfer.{Transfer}
 use Rattle.job_machine.specs.State.{State, innermost, outer, held_in}
@@ -30,7 +30,7 @@ home_rest : (s : State) (around : List OpenList) (into : Option ℕ) (b : BoxNod
 home_rest s around None b = record { files = refl; fonts = refl; over = refl }
 home_rest s around (Some r) b = record { files = refl; fonts = refl; over = refl }
 
-closed_rest : (s : State) (into : Option ℕ) (packed : Option packs.Packed) → KeepsRest s (with_closed s into packed)
+closed_rest : (s : State) (into : Option ℕ) (packed : Option packs.PackedBox) → KeepsRest s (with_closed s into packed)
 closed_rest s into None = same_rest s
 closed_rest s into (Some packed) = home_rest s (outer s.nest) into packed.box_node
 

@@ -3,7 +3,7 @@ use Rattle.std.proofs.Common.{◌≡◌, ℕ, List, [], Option, Some, None, refl
 use Rattle.std.specs.Prelude.{ℤ}
 use Rattle.node_core.specs.declared.tree.BoxNode.{BoxNode}
 use Rattle.node_core.specs.Loads.{Load}
-use Rattle.pack_core.specs.declared.pack.Packed as packs
+use Rattle.pack_core.specs.declared.pack.PackedBox as packs
 use Rattle.job_machine.specs.declared.command.Transfer.{Transfer}
 use Rattle.job_machine.specs.declared.replies.Refusal.{Refusal}
 use Rattle.job_machine.specs.declared.command.Command.{Command}
@@ -28,7 +28,8 @@ module _ (s : State) (n : Load) (p : ℕ) where
   home_numbered around None b = refl
   home_numbered around (Some r) b = refl
 
-  closed_numbered : (into : Option ℕ) (packed : Option packs.Packed) → with_closed (numbered s n p) into packed ≡ numbered (with_closed s into packed) n p
+  closed_numbered : (into : Option ℕ) (packed : Option packs.PackedBox)
+      → with_closed (numbered s n p) into packed ≡ numbered (with_closed s into packed) n p
   closed_numbered into None = refl
   closed_numbered into (Some packed) = home_numbered (outer s.nest) into packed.box_node
 

@@ -18,7 +18,7 @@ use Rattle.node_core.specs.declared.params.Params.{Params}
 use Rattle.node_core.specs.declared.params.SplitParams.{SplitParams}
 use Rattle.node_core.specs.declared.tree.Kind.{Kind}
 use Rattle.node_core.specs.declared.tree.BoxNode.{BoxNode}
-use Rattle.pack_core.specs.declared.pack.Packed as packs
+use Rattle.pack_core.specs.declared.pack.PackedBox as packs
 use Rattle.job_machine.specs.declared.OpenList.{OpenList}
 use Rattle.std.specs.Prelude.{length}
 use Rattle.node_core.specs.Nodes.{nodes_of}
@@ -82,7 +82,8 @@ chosen_by_home : (params : Params) (around : List OpenList) (into : Option ℕ) 
 chosen_by_home params around None b = chosen_by_box params (innermost around) b
 chosen_by_home params around (Some register) b = tt
 
-chosen_by_packed : (params : Params) (around : List OpenList) (into : Option ℕ) (packed : Option packs.Packed) → AreChosen (packed_checks params around into packed)
+chosen_by_packed : (params : Params) (around : List OpenList) (into : Option ℕ) (packed : Option packs.PackedBox)
+    → AreChosen (packed_checks params around into packed)
 chosen_by_packed params around into None = (tt, tt)
 chosen_by_packed params around into (Some packed) = (tt, chosen_by_home params around into packed.box_node)
 

@@ -15,7 +15,7 @@ use Rattle.job_machine.specs.declared.command.Command.TheVariants.{Penalty, Appe
 use Rattle.job_machine.specs.declared.replies.Answer.{Answer}
 use Rattle.job_machine.specs.declared.replies.Answer.TheVariants as answers
 use Rattle.job_machine.specs.declared.replies.Answer.TheVariants.{Done, Packed, Measured, MeasuredVoid, Shaped, Added, SplitVoid, Shipped}
-use Rattle.pack_core.specs.declared.pack.Packed as packs
+use Rattle.pack_core.specs.declared.pack.PackedBox as packs
 use Rattle.vert_core.specs.Split.{front_of, rest_of}
 use Rattle.job_machine.specs.FontSlots.{CharacterItems, text_shaped, character_shaped}
 use Rattle.job_machine.specs.State.{State, innermost, outer, held_in, nodes_in}
@@ -27,7 +27,7 @@ abbrev pub sizes_of : BoxNode → Sizes
 sizes_of b = record { width = b.width; height = b.height; depth = b.depth }
 
 -- The answer to the end of a list that becomes a box. Where a size does not fit there is no box: the end is refused, and this answer is not given.
-abbrev pub packed_answer : Option packs.Packed → Answer
+abbrev pub packed_answer : Option packs.PackedBox → Answer
 packed_answer None = Done
 packed_answer (Some packed) = Packed (sizes_of packed.box_node) packed.badness
 
@@ -47,8 +47,8 @@ measured_answer None = MeasuredVoid
 measured_answer (Some b) = Measured b.kind (sizes_of b)
 
 -- The answer to a split into these parts: the sizes of both, and the badness of the front.
-abbrev pub parts_answer : (front : packs.Packed) → (rest : Option packs.Packed) → Answer
-parts_answer front rest = answers.Split (sizes_of front.box_node) front.badness (option_map (λ (p : packs.Packed). sizes_of p.box_node) rest)
+abbrev pub parts_answer : (front : packs.PackedBox) → (rest : Option packs.PackedBox) → Answer
+parts_answer front rest = answers.Split (sizes_of front.box_node) front.badness (option_map (λ (p : packs.PackedBox). sizes_of p.box_node) rest)
 
 -- The answer to a split of the box of a register.
 abbrev pub split_answer : SplitParams → (height : ℤ) → Option BoxNode → Answer

@@ -23,7 +23,7 @@ use Rattle.job_machine.specs.declared.replies.Refusal.TheVariants.{DimensionTooL
 use Rattle.job_machine.specs.declared.replies.Refusal.TheVariants.{ListTooLong, TooDeep, InfiniteShrink, HugePage, TooManyPages, TooMuchShipped}
 use Rattle.job_machine.specs.declared.replies.Refusal.TheVariants.{TooMuchSpecial, JobOver, VoidBox}
 use Rattle.node_core.specs.declared.limits.TheConstants.{MAX_OPEN_LISTS, MAX_ITEMS, MAX_DEPTH, MAX_SPECIAL_TEXT}
-use Rattle.pack_core.specs.declared.pack.Packed as packs
+use Rattle.pack_core.specs.declared.pack.PackedBox as packs
 pub use Rattle.page_core.specs.Limits.{first_refusal}
 use Rattle.page_core.specs.Limits.{page_limits}
 use Rattle.scaled_core.specs.Dimensions.{fits}
@@ -38,12 +38,12 @@ use Rattle.job_machine.specs.OpenLists.{kind_in, is_vertical, glue_in, box_items
 use Rattle.job_machine.specs.Paragraphs.{paragraph_checks}
 
 -- The refusal of items that do not fit into a list that has this number of items already.
-abbrev pub room_checks : (count : ℕ) → List Node → List (Bool × Refusal)
-room_checks count items = (nat_lt MAX_ITEMS (count + length items), ListTooLong) ∷ []
+abbrev pub count_checks : (count : ℕ) → List Node → List (Bool × Refusal)
+count_checks count items = (nat_lt MAX_ITEMS (count + length items), ListTooLong) ∷ []
 
 -- The refusal of items that do not fit into the innermost list.
 abbrev pub length_checks : State → List Node → List (Bool × Refusal)
-length_checks m items = room_checks (open_count m) items
+length_checks m items = count_checks (open_count m) items
 
 -- The refusals of one more item.
 abbrev pub item_checks : State → List (Bool × Refusal)
@@ -89,7 +89,7 @@ abbrev pub place_checks : Params → (around : List OpenList) → (into : Option
 place_checks params around into b = (nat_lt MAX_DEPTH (box_depth b), TooDeep) ∷ home_checks params around into b
 
 -- The refusals of packing an open list: a size does not fit where there is no box, else those of the box.
-abbrev pub packed_checks : Params → (around : List OpenList) → (into : Option ℕ) → Option packs.Packed → List (Bool × Refusal)
+abbrev pub packed_checks : Params → (around : List OpenList) → (into : Option ℕ) → Option packs.PackedBox → List (Bool × Refusal)
 packed_checks params around into None = (true, DimensionTooLarge) ∷ []
 packed_checks params around into (Some packed) = place_checks params around into packed.box_node
 

@@ -18,7 +18,7 @@ use Rattle.job_machine.specs.declared.command.Transfer.TheVariants.{Move, Copy}
 use Rattle.job_machine.specs.declared.command.Command.{Command}
 use Rattle.job_machine.specs.declared.command.Command.TheVariants.{LoadFont, UseFont, Open, Paragraph, End, Text, Character, Rule, Kern, Glue}
 use Rattle.job_machine.specs.declared.command.Command.TheVariants.{Penalty, Append, Unbox, LastBox, Split, Measure, Void, Set, Count, Special, Ship}
-use Rattle.pack_core.specs.declared.pack.Packed as packs
+use Rattle.pack_core.specs.declared.pack.PackedBox as packs
 use Rattle.vert_core.specs.Split.{front_of, rest_of}
 use Rattle.page_core.specs.Marks.{ShippedPage}
 use Rattle.job_machine.specs.FontSlots.{with_font, text_shaped, character_shaped}
@@ -74,7 +74,7 @@ with_home m around None b = record m { nest = with_box m.params around (pos 0) b
 with_home m around (Some r) b = record m { nest = around; registers = slice_set m.registers r (Some b) }
 
 -- The state after the innermost list was packed into a box, which goes into its register or to the end of the list around.
-abbrev pub with_closed : State → (into : Option ℕ) → Option packs.Packed → State
+abbrev pub with_closed : State → (into : Option ℕ) → Option packs.PackedBox → State
 with_closed m into None = m
 with_closed m into (Some packed) = with_home m (outer m.nest) into packed.box_node
 
@@ -102,9 +102,9 @@ with_unboxed m taking r (Some b) =
 
 -- The registers after a box was split into these parts. The rest goes back into its register first, and then the front into the other one: so a
 -- register that is both has the front (TeX: The Program, part 44, §977 to §979).
-abbrev pub with_parts : List (Option BoxNode) → Splitting → (front : packs.Packed) → (rest : Option packs.Packed) → List (Option BoxNode)
+abbrev pub with_parts : List (Option BoxNode) → Splitting → (front : packs.PackedBox) → (rest : Option packs.PackedBox) → List (Option BoxNode)
 with_parts registers splitting front rest =
-    slice_set (slice_set registers splitting.register (option_map (λ (p : packs.Packed). p.box_node) rest)) splitting.into (Some front.box_node)
+    slice_set (slice_set registers splitting.register (option_map (λ (p : packs.PackedBox). p.box_node) rest)) splitting.into (Some front.box_node)
 
 -- The registers after the box of one was split. Where that register is void, the one for the front becomes void.
 abbrev pub with_split : SplitParams → List (Option BoxNode) → Splitting → Option BoxNode → List (Option BoxNode)

@@ -16,7 +16,7 @@ use Rattle.job_machine.specs.BoxForms.{kind_of}
 use Rattle.job_machine.specs.declared.command.BoxForm.{BoxForm}
 use Rattle.job_machine.specs.declared.command.BoxForm.TheVariants.{Hbox, Vbox, Vtop}
 use Rattle.pack_core.specs.declared.pack.Target.{Target}
-use Rattle.pack_core.specs.declared.pack.Packed as packs
+use Rattle.pack_core.specs.declared.pack.PackedBox as packs
 use Rattle.pack_core.specs.declared.pack.TooLarge.{TooLarge}
 use Rattle.pack_core.specs.Boxes.{hpack_result, vpack_result, vtop_result}
 
@@ -54,23 +54,23 @@ box_items params open_list shift b = appended_nodes (glue_of (glue_in params ope
 
 -- The box that a list of items becomes, or the items where a size does not fit. A vbox is no deeper than boxmaxdepth
 -- (TeX: The Program, part 47, §1086).
-abbrev pub packed_as : BoxForm → Params → Target → Items → Result packs.Packed TooLarge
+abbrev pub packed_as : BoxForm → Params → Target → Items → Result packs.PackedBox TooLarge
 packed_as Hbox params target items = hpack_result target items
 packed_as Vbox params target items = vpack_result target params.box_max_depth items
 packed_as Vtop params target items = vtop_result target params.box_max_depth items
 
 -- The box that a list with these items becomes, by what it was opened for. A paragraph becomes no box.
-abbrev pub packed_by : ListPurpose → Params → Items → Result packs.Packed TooLarge
+abbrev pub packed_by : ListPurpose → Params → Items → Result packs.PackedBox TooLarge
 packed_by (Box opening) params items = packed_as opening.form params opening.target items
 packed_by Paragraph params items = Err (record { list = items })
 
 -- The packed box, if its sizes fit.
-abbrev pub if_packed : Result packs.Packed TooLarge → Option packs.Packed
+abbrev pub if_packed : Result packs.PackedBox TooLarge → Option packs.PackedBox
 if_packed (Ok packed) = Some packed
 if_packed (Err items) = None
 
 -- The box of an open list, if there is one and its sizes fit.
-abbrev pub packed_list : Params → Option OpenList → Option packs.Packed
+abbrev pub packed_list : Params → Option OpenList → Option packs.PackedBox
 packed_list params None = None
 packed_list params (Some open_list) = if_packed (packed_by open_list.purpose params open_list.list)
 

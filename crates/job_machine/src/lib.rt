@@ -11,9 +11,9 @@ pub mod command;
 pub mod laws;
 pub mod parameter;
 pub mod replies;
-pub mod runs;
-pub mod specials;
-pub mod totality;
+pub mod run_laws;
+pub mod special_laws;
+pub mod totality_laws;
 
 ghost use Rattle.std.specs.Prelude.{◌≡◌};
 ghost use Rattle.job_machine.specs.OpenLists.{kind_by};

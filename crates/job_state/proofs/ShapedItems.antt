@@ -8,7 +8,7 @@ use Rattle.tfm_core.specs.Slots.{font_in}
 use Rattle.job_machine.specs.declared.OpenList.{OpenList}
 use Rattle.job_machine.specs.FontSlots.{CharacterItems, text_items_in, character_in, text_shaped, character_shaped}
 use Rattle.job_machine.specs.State.{State, innermost, open_count}
-use Rattle.job_machine.specs.Checks.{character_checks, room_checks, length_checks, shape_checks, first_refusal}
+use Rattle.job_machine.specs.Checks.{character_checks, count_checks, length_checks, shape_checks, first_refusal}
 use Rattle.job_machine.specs.Effects.{with_nodes, with_items}
 use Rattle.job_machine.specs.Machine.{state_by, state_after}
 use Rattle.job_state.specs.JobStateView.{JobStateView, before_shipping}
@@ -44,16 +44,16 @@ by_number : (s : State) (shaped : CharacterItems) → s.over ≡ false → first
     → first_refusal (length_checks s shaped.items) ≡ first_refusal ((s.over, JobOver) ∷ shape_checks s shaped)
 by_number s shaped running free = rw running (sym (none_before (character_checks s) (length_checks s shaped.items) free))
 
--- The state with the items that characters become, if the innermost list has room for them.
+-- The state with the items that characters become, if the innermost list has space for them.
 module _ (s : State) (shaped : CharacterItems) (running : s.over ≡ false) (free : first_refusal (character_checks s) ≡ None) where
   shaped_state : (now : List OpenList) (found : CharacterItems) (count : ℕ) → found ≡ shaped → count ≡ open_count s
-      → now ≡ state_by (first_refusal (room_checks count found.items)) s.nest (with_nodes s.nest found.items (innermost s.nest))
+      → now ≡ state_by (first_refusal (count_checks count found.items)) s.nest (with_nodes s.nest found.items (innermost s.nest))
       → record s { nest = now } ≡ state_by (first_refusal ((s.over, JobOver) ∷ shape_checks s shaped)) s (with_items s shaped.items)
   shaped_state now found count same many is =
       ap (λ (nest : List OpenList). record s { nest = nest })
       (is
-      ∙ (ap (λ (x : CharacterItems). state_by (first_refusal (room_checks count x.items)) s.nest (with_nodes s.nest x.items (innermost s.nest))) same
-      ∙ ap (λ (n : ℕ). state_by (first_refusal (room_checks n shaped.items)) s.nest (with_nodes s.nest shaped.items (innermost s.nest))) many))
+      ∙ (ap (λ (x : CharacterItems). state_by (first_refusal (count_checks count x.items)) s.nest (with_nodes s.nest x.items (innermost s.nest))) same
+      ∙ ap (λ (n : ℕ). state_by (first_refusal (count_checks n shaped.items)) s.nest (with_nodes s.nest shaped.items (innermost s.nest))) many))
       ∙ (by (first_refusal (length_checks s shaped.items))
       ∙ ap (λ (o : Option Refusal). state_by o s (with_items s shaped.items)) (by_number s shaped running free))
     where
@@ -72,7 +72,7 @@ module _ (s : State) (slot : ℕ) (loaded : LoadedFont) (running : s.over ≡ fa
   character_same code = rw (current, font) refl
 
   pub text_state : (now : List OpenList) (text codes : List ℕ) (count : ℕ) → codes ≡ text → count ≡ open_count s
-      → now ≡ state_by (first_refusal (room_checks count (text_items_in (Some loaded) slot codes).items)) s.nest
+      → now ≡ state_by (first_refusal (count_checks count (text_items_in (Some loaded) slot codes).items)) s.nest
       (with_nodes s.nest (text_items_in (Some loaded) slot codes).items (innermost s.nest))
       → record s { nest = now } ≡ state_after s (Text text)
   text_state now text codes count are many is =
@@ -80,7 +80,7 @@ module _ (s : State) (slot : ℕ) (loaded : LoadedFont) (running : s.over ≡ fa
       (ap (text_items_in (Some loaded) slot) are ∙ text_same text) many is
 
   pub character_state : (now : List OpenList) (code : ℕ) (count : ℕ) → count ≡ open_count s
-      → now ≡ state_by (first_refusal (room_checks count (character_in (Some loaded) slot code).items)) s.nest
+      → now ≡ state_by (first_refusal (count_checks count (character_in (Some loaded) slot code).items)) s.nest
       (with_nodes s.nest (character_in (Some loaded) slot code).items (innermost s.nest))
       → record s { nest = now } ≡ state_after s (Character code)
   character_state now code count many is =

@@ -21,7 +21,7 @@ use Rattle.shape_core.specs.Shaping.{IsGlyphOf}
 use Rattle.shape_core.specs.Spaces.{space_glue}
 use Rattle.shape_core.proofs.GlyphLemmas.{shaped_items-glyphs, text_items-glyphs}
 use Rattle.scaled_core.proofs.EachOf.{all_append, all_weaker, each_taken, each_set, each_at, each_copy, each_held}
-use Rattle.pack_core.specs.declared.pack.Packed as packs
+use Rattle.pack_core.specs.declared.pack.PackedBox as packs
 use Rattle.pack_core.specs.declared.pack.TooLarge.{TooLarge}
 use Rattle.job_machine.specs.declared.OpenList.{OpenList}
 use Rattle.tfm_core.specs.declared.slots.LoadedFont.{LoadedFont}
@@ -330,7 +330,8 @@ home_sized s (Some r) b sized sound =
       registers = each_set (IsSizedHeld s.fonts) s.registers r (Some b) sized.registers sound;
     }
 
-packed_sized : (s : State) (l : OpenList) (into : Option ℕ) (found : Result packs.Packed TooLarge) → ((q : packs.Packed) → found ≡ Ok q → l.list ≡ q.box_node.list)
+packed_sized : (s : State) (l : OpenList) (into : Option ℕ) (found : Result packs.PackedBox TooLarge)
+    → ((q : packs.PackedBox) → found ≡ Ok q → l.list ≡ q.box_node.list)
     → first_refusal ((s.over, JobOver) ∷ packed_checks s.params (outer s.nest) into (if_packed found)) ≡ None
     → HasSizedGlyphs s → IsSizedList s.fonts l → HasSizedGlyphs (with_closed s into (if_packed found))
 packed_sized s l into (Err large) own may sized list = sized

@@ -9,7 +9,7 @@ use Rattle.node_core.specs.declared.tree.BoxNode.{BoxNode}
 use Rattle.node_core.specs.Items as leaves
 use Rattle.node_core.specs.Items.{Leaf, Items, EachLeaf, items_depth}
 use Rattle.node_core.specs.Nodes.{items_of, node_of, nodes_of, box_depth}
-use Rattle.pack_core.specs.declared.pack.Packed as packs
+use Rattle.pack_core.specs.declared.pack.PackedBox as packs
 use Rattle.pack_core.specs.Boxes.{vbox}
 use Rattle.vert_core.specs.Places.{is_box_or_rule}
 use Rattle.vert_core.specs.Split.{from_box_or_rule, is_special, specials_above, split_place, from_first_box, left_of, items_after, packed_rest, front_of, rest_of}
@@ -124,7 +124,8 @@ left_inner fonts params after all =
     all_append (IsInner fonts) (specials_above after) (from_first_box params (from_box_or_rule after)) (specials_inner fonts after all)
     (topped_inner fonts params (from_box_or_rule after) (from_inner fonts after all))
 
-packed_sound : (fonts : Slots) (items : List Node) → AreInner fonts items → IsSizedHeld fonts (option_map (λ (p : packs.Packed). p.box_node) (packed_rest items))
+packed_sound : (fonts : Slots) (items : List Node) → AreInner fonts items
+    → IsSizedHeld fonts (option_map (λ (p : packs.PackedBox). p.box_node) (packed_rest items))
 unfolding vbox
 packed_sound fonts [] all = tt
 packed_sound fonts (x ∷ xs) all =
@@ -133,7 +134,7 @@ packed_sound fonts (x ∷ xs) all =
 
 -- The rest of a split is sound.
 pub rest_sound : (fonts : Slots) (params : SplitParams) (height : ℤ) (items : List Node) → AreInner fonts items
-    → IsSizedHeld fonts (option_map (λ (p : packs.Packed). p.box_node) (rest_of params height items))
+    → IsSizedHeld fonts (option_map (λ (p : packs.PackedBox). p.box_node) (rest_of params height items))
 unfolding rest_of
 rest_sound fonts params height items all =
     packed_sound fonts (left_of params (items_after params height items))

@@ -9,7 +9,7 @@ use Rattle.node_core.specs.declared.tree.Node.{Node}
 use Rattle.node_core.specs.declared.tree.Kind.TheVariants.{Vertical}
 use Rattle.node_core.specs.declared.tree.BoxNode.{BoxNode}
 use Rattle.node_core.specs.Nodes.{nodes_of}
-use Rattle.pack_core.specs.declared.pack.Packed as packs
+use Rattle.pack_core.specs.declared.pack.PackedBox as packs
 use Rattle.vert_core.specs.declared.parts.SplitFault.{SplitFault}
 use Rattle.vert_core.specs.declared.parts.SplitFault.TheVariants as faults
 use Rattle.node_core.specs.Classes.{shrinks_infinitely}
@@ -75,13 +75,15 @@ module _ (params : SplitParams) (splitting : Splitting) (registers taken : List 
       rw void (put ∙ ap (λ (xs : List (Option BoxNode)). slice_set xs splitting.into None) (is_taken ∙ void_again registers splitting.register void))
 
   module _ (b : BoxNode) (held : held_in registers splitting.register ≡ Some b) where
-    pub parts_split : (now : List (Option BoxNode)) (front : packs.Packed) (rest : Option packs.Packed) → front ≡ front_of params splitting.height (nodes_of b.list)
+    pub parts_split : (now : List (Option BoxNode)) (front : packs.PackedBox) (rest : Option packs.PackedBox)
+        → front ≡ front_of params splitting.height (nodes_of b.list)
         → rest ≡ rest_of params splitting.height (nodes_of b.list) → first_refusal (split_checks params splitting.height (Some b)) ≡ None
         → now ≡ with_parts taken splitting front rest → now ≡ after_split (held_in registers splitting.register)
     parts_split now front rest front_is rest_is free put =
         let again : with_parts taken splitting front rest ≡ with_parts registers splitting front rest =
         ap (λ (xs : List (Option BoxNode)). with_parts xs splitting front rest) is_taken
-        ∙ ap (λ (xs : List (Option BoxNode)). slice_set xs splitting.into (Some front.box_node)) (set_again registers splitting.register None (option_map (λ (p : packs.Packed). p.box_node) rest)) in
+        ∙ ap (λ (xs : List (Option BoxNode)). slice_set xs splitting.into (Some front.box_node))
+        (set_again registers splitting.register None (option_map (λ (p : packs.PackedBox). p.box_node) rest)) in
         let right : with_parts registers splitting front rest ≡ with_split params registers splitting (Some b) = rw (front_is, rest_is) refl in
         let accepted : after_split (Some b) ≡ with_split params registers splitting (Some b) = ap (λ o. state_by o registers (with_split params registers splitting (Some b))) free in
         put ∙ again ∙ right ∙ sym accepted ∙ sym (ap after_split held)

@@ -20,7 +20,7 @@ use vert_core::Split;
 /// What each register holds: a box, or nothing.
 #[derive(Debug, Drop)]
 pub struct Registers {
-    /// The registers up to the highest that has held a box: those above hold nothing. There is room for all, so that no call but `new` takes memory.
+    /// The registers up to the highest that has held a box: those above hold nothing. There is space for all, so that no call but `new` takes memory.
     used: Vec<Option<BoxNode>>,
 }
 
@@ -42,8 +42,8 @@ impl Model for Registers {
 }
 
 impl Registers {
-    /// Makes all registers void. It takes room for all of them, 2.3 MB, once: a table that asks for more could run out of memory at each `end`.
-    /// The room is not written before it is used, so that a job of few registers stays small.
+    /// Makes all registers void. It takes space for all of them, 2.3 MB, once: a table that asks for more could run out of memory at each `end`.
+    /// The space is not written before it is used, so that a job of few registers stays small.
     ///
     /// Its one error is a refused growth.
     pub fn new(alloc: Global) -> Result<Registers, AllocError>
@@ -146,10 +146,10 @@ impl Registers {
     }
 }
 
-/// Puts a box above all used registers, in room that is there.
+/// Puts a box above all used registers, in space that is there.
 fn put_above(used: &mut Vec<Option<BoxNode>>, number: usize, box_node: BoxNode)
     requires above { length used.old.items ≤ number }
-    requires room { number < vec_capacity used.old }
+    requires space { number < vec_capacity used.old }
     ensures items { used.new.items ≡ used.old.items ++ (replicate (number - length used.old.items) None ++ Some box_node ∷ []) }
     ensures capacity { vec_capacity used.new ≡ vec_capacity used.old }
 {

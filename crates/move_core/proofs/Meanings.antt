@@ -3,7 +3,7 @@ use Rattle.std.proofs.Common.{◌≡◌, ◌++◌, ◌∷◌, List, ℤ, Option,
 use Rattle.dvi_ops.specs.Instruction.{Across, Downward, By, Set, Again, BodyLeaf, SetChar, PutChar, Move, Do}
 use Rattle.dvi_ops.specs.Body.{MoveRegisters, Position, DviState, Widths, Meaning, instruction_acts, state_without_mark, glyph, glyph_of, set_glyph, put_glyph, held_after}
 use Rattle.scaled_core.specs.Mark.{Mark}
-use Rattle.dvi_ops.specs.Forest.{Forest, Empty, Then, Group, marks_ahead, and_then, restored_meaning, meaning, points, points_then}
+use Rattle.dvi_ops.specs.Forest.{Forest, Empty, Then, Group, marks_before, and_then, restored_meaning, meaning, points, points_then}
 use Rattle.dvi_ops.specs.Plain.{NamesNoRegister}
 use Rattle.move_core.specs.Registers.{KnownRegisters, written_leaf, choose, is_amount}
 use Rattle.move_core.specs.Reused.{has_move, comes_again, reused_from}
@@ -75,10 +75,10 @@ act_turned widths k (Move Downward (Set register n)) again r s plain h = absurd 
 act_turned widths k (Move Downward (Again register)) again r s plain h = absurd plain
 act_turned widths k leaf again r s plain h = (r, h, refl)
 
-follows_ahead : (marks : List Mark) (m m' : Meaning) → Follows m m' → Follows (marks_ahead marks m) (marks_ahead marks m')
+follows_before : (marks : List Mark) (m m' : Meaning) → Follows m m' → Follows (marks_before marks m) (marks_before marks m')
 unfolding Follows
-follows_ahead marks None m' e = ap (marks_ahead marks) e
-follows_ahead marks (Some (more, t)) m' (r, e) = (r, ap (marks_ahead marks) e)
+follows_before marks None m' e = ap (marks_before marks) e
+follows_before marks (Some (more, t)) m' (r, e) = (r, ap (marks_before marks) e)
 
 -- The continuation starts from the known values.
 follows_then : (k : KnownRegisters) (m m' : Meaning) (j j' : DviState → Meaning) → Turned k m m' →
@@ -86,7 +86,7 @@ follows_then : (k : KnownRegisters) (m m' : Meaning) (j j' : DviState → Meanin
 unfolding Turned Follows
 follows_then k None m' j j' e next = ap (λ (m : Meaning). and_then m j') e
 follows_then k (Some (marks, t)) m' j j' (r, h, e) next =
-    rw e (follows_ahead marks (j t) (j' (with_held r t)) (next t r h))
+    rw e (follows_before marks (j t) (j' (with_held r t)) (next t r h))
 
 restored_turned : (k : KnownRegisters) (r : MoveRegisters) (p : Position) (m m' : Meaning) → Follows m m' → AgreeAll k r →
     Turned k (restored_meaning p m) (restored_meaning (record { h = p.h; v = p.v; held = r }) m')

@@ -2,18 +2,18 @@
 use Rattle.std.proofs.Common.{◌≡◌, ◌≤◌, ◌+◌, ◌++◌, max, [], ◌∷◌, List, ℤ, Some, None, Bool, true, false, ◌&&◌, refl, sym, ◌∙◌, ap, subst, Contains, ◌⊎◌, inl, inr, arith}
 use Rattle.std.proofs.lemmas.List.Elements.{Contains-append_left, Contains-append_right, Contains-append_cases}
 use Rattle.dvi_ops.specs.Body.{DviState, Meaning, Acts}
-use Rattle.dvi_ops.specs.Forest.{Forest, Empty, Then, Group, marks_ahead, and_then, restored_meaning, meaning, nests, points, points_then}
+use Rattle.dvi_ops.specs.Forest.{Forest, Empty, Then, Group, marks_before, and_then, restored_meaning, meaning, nests, points, points_then}
 use Rattle.dvi_ops.proofs.Forests.{and_then-same}
 use Rattle.move_core.specs.Reused.{grouped_body, pruned_body}
 use Rattle.move_core.specs.SamePage.{is_hollow, HasNoHollow}
 use Rattle.move_core.proofs.Meanings.{IsPlain}
 
-ahead-nil : (m : Meaning) → marks_ahead [] m ≡ m
-ahead-nil None = refl
-ahead-nil (Some (marks, s)) = refl
+set_before_use-nil : (m : Meaning) → marks_before [] m ≡ m
+set_before_use-nil None = refl
+set_before_use-nil (Some (marks, s)) = refl
 
 meaning-grouped : (does : Acts) (inner rest : Forest) (s : DviState) → meaning does (grouped_body inner rest) s ≡ meaning does (Group inner rest) s
-meaning-grouped does Empty rest s = sym (ahead-nil (meaning does rest s))
+meaning-grouped does Empty rest s = sym (set_before_use-nil (meaning does rest s))
 meaning-grouped does (Then leaf inner) rest s = refl
 meaning-grouped does (Group first inner) rest s = refl
 

@@ -10,12 +10,13 @@ use Rattle.dvi_ops.specs.Plain.{NamesNoRegister}
 use Rattle.scaled_core.proofs.EachOf.{all_front, all_back}
 use Rattle.move_core.specs.Registers.{nothing_known}
 use Rattle.move_core.specs.Reused.{reused_from, pruned_body, reused_body}
-use Rattle.move_core.specs.SamePage.{IsPlainBody, AreBodies, shown_meaning, MeansTheSame, PassesThroughNoOther, NestsNoDeeper, HasNoHollow, unset_registers, UsesStored, SetsAhead, leaves_in_order}
+use Rattle.move_core.specs.SamePage.{IsPlainBody, AreBodies, shown_meaning, MeansTheSame, PassesThroughNoOther, NestsNoDeeper, HasNoHollow}
+use Rattle.move_core.specs.SamePage.{unset_registers, UsesStored, SetsBeforeUse, leaves_in_order}
 use Rattle.move_core.specs.Private.Passes.{trimmed_instructions, rewritten_instructions, outside_groups}
 use Rattle.move_core.proofs.Choices.{nothing_agrees}
 use Rattle.move_core.proofs.Meanings.{IsPlain, shown_follows, reused_follows, reused_points}
 use Rattle.move_core.proofs.Pruned.{meaning-pruned, points-pruned, nests-pruned, plain-pruned, no_hollow-pruned}
-use Rattle.move_core.proofs.Tidy.{uses_stored, sets_ahead, no_hollow-reused, nests-reused}
+use Rattle.move_core.proofs.Tidy.{uses_stored, sets_before, no_hollow-reused, nests-reused}
 use Rattle.move_core.proofs.Passing.{passes_body}
 use Rattle.move_core.proofs.ShorterBodies.{reused_shorter, pruned_shorter, reused_still, pruned_still, reused_writable, pruned_writable}
 
@@ -55,10 +56,10 @@ unfolding reused_body
 reused_uses Across f plain = uses_stored Across nothing_known (pruned_body f) (plain-pruned f plain)
 reused_uses Downward f plain = uses_stored Downward nothing_known (pruned_body f) (plain-pruned f plain)
 
-pub reused_ahead : (axis : Axis) (f : Forest) → IsPlain f → SetsAhead axis unset_registers (reused_body f)
+pub reused_before : (axis : Axis) (f : Forest) → IsPlain f → SetsBeforeUse axis unset_registers (reused_body f)
 unfolding reused_body
-reused_ahead Across f plain = sets_ahead Across nothing_known (pruned_body f) (plain-pruned f plain)
-reused_ahead Downward f plain = sets_ahead Downward nothing_known (pruned_body f) (plain-pruned f plain)
+reused_before Across f plain = sets_before Across nothing_known (pruned_body f) (plain-pruned f plain)
+reused_before Downward f plain = sets_before Downward nothing_known (pruned_body f) (plain-pruned f plain)
 
 pub reused_length : (f : Forest) → length (bytes_of (flat (reused_body f))) ≤ length (bytes_of (flat f))
 unfolding reused_body

@@ -6,7 +6,8 @@ use Rattle.dvi_ops.specs.Forest.{Forest, Empty, Then, Group, nests}
 use Rattle.dvi_ops.specs.Plain.{NamesNoRegister}
 use Rattle.move_core.specs.Registers.{RegisterPair, KnownRegisters, WrittenOp, written_leaf, other_register, set_in, choice, is_amount}
 use Rattle.move_core.specs.Reused.{movement_along, plain_amount, has_move, comes_again, reused_from}
-use Rattle.move_core.specs.SamePage.{is_hollow, HasNoHollow, StoredValues, stored_after, NamesNoStored, UsesStored, then_meaning, goes_later, GoesNoLater, SetsAhead}
+use Rattle.move_core.specs.SamePage.{is_hollow, HasNoHollow, StoredValues, stored_after, NamesNoStored, UsesStored, then_meaning, goes_later}
+use Rattle.move_core.specs.SamePage.{GoesNoLater, SetsBeforeUse}
 use Rattle.move_core.proofs.Meanings.{IsPlain}
 
 -- The known values of a direction are the values that its registers were set to.
@@ -145,18 +146,18 @@ no_later_from axis s (Some (Set register n)) rest h = tt
 no_later_from axis s (Some (Again register)) rest h = tt
 
 -- No plain movement has an amount that comes again.
-pub sets_ahead : (axis : Axis) (k : KnownRegisters) (f : Forest) → IsPlain f → SetsAhead axis (stored_of (known_in axis k)) (reused_from k f)
-sets_ahead axis k Empty plain = tt
-sets_ahead axis k (Then leaf rest) (here, plain) =
+pub sets_before : (axis : Axis) (k : KnownRegisters) (f : Forest) → IsPlain f → SetsBeforeUse axis (stored_of (known_in axis k)) (reused_from k f)
+sets_before axis k Empty plain = tt
+sets_before axis k (Then leaf rest) (here, plain) =
     let out = written_leaf k leaf (comes_again leaf (has_move rest)) in
     let fit = fits axis k leaf (has_move rest) here in
     let after = reused_from out.known rest in (
       no_later_from axis (stored_of (known_in axis k)) (movement_along axis out.leaf) after
           (subst (λ (s : StoredValues). GoesNoLater axis s (movement_along axis out.leaf) after) fit.keeps
           (no_later axis (stored_of (known_in axis out.known)) (movement_along axis out.leaf) (has_move rest axis) after fit.last (λ n. later_same axis out.known rest n plain))),
-      subst (λ (s : StoredValues). SetsAhead axis s after) fit.keeps (sets_ahead axis out.known rest plain),
+      subst (λ (s : StoredValues). SetsBeforeUse axis s after) fit.keeps (sets_before axis out.known rest plain),
     )
-sets_ahead axis k (Group inner rest) (within, plain) = (sets_ahead axis k inner within, sets_ahead axis k rest plain)
+sets_before axis k (Group inner rest) (within, plain) = (sets_before axis k inner within, sets_before axis k rest plain)
 
 hollow_same : (k : KnownRegisters) (f : Forest) → is_hollow (reused_from k f) ≡ is_hollow f
 hollow_same k Empty = refl

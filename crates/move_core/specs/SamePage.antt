@@ -110,11 +110,11 @@ GoesNoLater axis k (Some (By n)) rest = goes_later axis k n rest ≡ false
 GoesNoLater axis k step rest = Unit {0}
 
 -- No right (down) of a body has the distance of a later horizontal (vertical) movement of the same group.
-abbrev pub SetsAhead : Axis → StoredValues → Forest → Type 0
-SetsAhead axis k Empty = Unit {0}
-SetsAhead axis k (Then leaf rest) = GoesNoLater axis k (movement_along axis leaf) rest
-    × SetsAhead axis (stored_after k (movement_along axis leaf)) rest
-SetsAhead axis k (Group inner rest) = SetsAhead axis k inner × SetsAhead axis k rest
+abbrev pub SetsBeforeUse : Axis → StoredValues → Forest → Type 0
+SetsBeforeUse axis k Empty = Unit {0}
+SetsBeforeUse axis k (Then leaf rest) = GoesNoLater axis k (movement_along axis leaf) rest
+    × SetsBeforeUse axis (stored_after k (movement_along axis leaf)) rest
+SetsBeforeUse axis k (Group inner rest) = SetsBeforeUse axis k inner × SetsBeforeUse axis k rest
 
 -- An instruction other than a movement, a push or a pop, as a list of one or none.
 abbrev pub still_of : Instruction → List BodyLeaf

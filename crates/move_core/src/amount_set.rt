@@ -40,7 +40,7 @@ impl AmountSet {
         ensures updates { OnOk result ((n : ℤ) → has_amount self.new n ≡ (int_eq amount n || has_amount self.old n)) }
     {
         if self.count < 16 {
-            // The tree is empty while the array has room. A call that asks it is cheaper than an invariant that says so.
+            // The tree is empty while the array has space. A call that asks it is cheaper than an invariant that says so.
             let is_new = !self.others.contains(&amount);
             self.first[self.count] = amount;
             self.count += 1;

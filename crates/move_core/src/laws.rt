@@ -7,7 +7,8 @@ ghost use Rattle.dvi_ops.specs.Forest.{Forest, flat};
 ghost use Rattle.dvi_ops.specs.Layout.{IsWritable, bytes_of};
 ghost use Rattle.dvi_ops.specs.Plain.{NamesNoRegister};
 ghost use Rattle.move_core.specs.Reused.{reused_body};
-ghost use Rattle.move_core.specs.SamePage.{HasNoHollow, MeansTheSame, NestsNoDeeper, PassesThroughNoOther, SetsAhead, UsesStored, leaves_in_order};
+ghost use Rattle.move_core.specs.SamePage.{HasNoHollow, MeansTheSame, NestsNoDeeper, PassesThroughNoOther, SetsBeforeUse, UsesStored};
+ghost use Rattle.move_core.specs.SamePage.{leaves_in_order};
 ghost use Rattle.move_core.specs.SamePage.{unset_registers};
 ghost use Rattle.move_core.specs.Examples.{apart_amounts, empty_groups, empty_groups_reused, fonts_in_nested_boxes, kerned_rules};
 ghost use Rattle.move_core.specs.Examples.{kerned_rules_reused, nested_movements, nested_reused, set_in_a_group, set_in_a_group_reused};
@@ -26,7 +27,8 @@ pub fn reused_means_the_same()
     ensures writable { (body : Forest) → AllByRecursion IsWritable (flat body) → AllByRecursion IsWritable (flat (reused_body body)) }
     ensures full { (body : Forest) → HasNoHollow (reused_body body) }
     ensures held { (body : Forest) (axis : Axis) → AllByRecursion NamesNoRegister (flat body) → UsesStored axis unset_registers (reused_body body) }
-    ensures ahead { (body : Forest) (axis : Axis) → AllByRecursion NamesNoRegister (flat body) → SetsAhead axis unset_registers (reused_body body) }
+    ensures set_before_use { (body : Forest) (axis : Axis) → AllByRecursion NamesNoRegister (flat body)
+        → SetsBeforeUse axis unset_registers (reused_body body) }
 {}
 
 /// What `reused_body` gives for known bodies.

@@ -8,7 +8,7 @@ ghost use Rattle.dvi_ops.specs.Layout.{IsWritable, bytes_of};
 ghost use Rattle.dvi_ops.specs.Runs.{instructions_of};
 ghost use Rattle.dvi_ops.specs.View.{body_view};
 ghost use Rattle.move_core.specs.Reused.{reused_body};
-ghost use Rattle.move_core.specs.SamePage.{AreBodies, HasNoHollow, IsPlainBody, MeansTheSame, NestsNoDeeper, PassesThroughNoOther, SetsAhead};
+ghost use Rattle.move_core.specs.SamePage.{AreBodies, HasNoHollow, IsPlainBody, MeansTheSame, NestsNoDeeper, PassesThroughNoOther, SetsBeforeUse};
 ghost use Rattle.move_core.specs.SamePage.{UsesStored, leaves_in_order, unset_registers};
 
 use crate::passes::{has_empty_group, with_registers, without_empty_groups};
@@ -41,7 +41,8 @@ pub fn reuse<'a>(ops: Vec<BodyOp<'a>>) -> Result<Vec<BodyOp<'a>>, AllocError>
     ensures held { IfOk result (λ written. AreBodies (λ f g. (axis : Axis) → UsesStored axis unset_registers g) (map body_view ops.entry.items)
         (map body_view written.items)) }
     // No movement without a register goes as far as a later one of its group.
-    ensures ahead { IfOk result (λ written. AreBodies (λ f g. (axis : Axis) → SetsAhead axis unset_registers g) (map body_view ops.entry.items)
+    ensures set_before_use { IfOk result
+        (λ written. AreBodies (λ f g. (axis : Axis) → SetsBeforeUse axis unset_registers g) (map body_view ops.entry.items)
         (map body_view written.items)) }
     // The result is the reused body.
     ensures reused { IfOk result (λ written. (body : Forest) → map body_view ops.entry.items ≡ flat body

@@ -11,7 +11,7 @@ use Rattle.node_core.specs.declared.tree.Kind.{Kind}
 use Rattle.node_core.specs.declared.tree.Kind.TheVariants.{Horizontal, Vertical}
 use Rattle.node_core.specs.declared.tree.Setting.TheVariants.{Natural}
 use Rattle.pack_core.specs.declared.pack.Target.{Target}
-use Rattle.pack_core.specs.declared.pack.Packed.{Packed}
+use Rattle.pack_core.specs.declared.pack.PackedBox.{PackedBox}
 use Rattle.pack_core.specs.declared.pack.TooLarge.{TooLarge}
 use Rattle.pack_core.specs.declared.pack.Shell.{Shell}
 use Rattle.pack_core.specs.Items.{advance}
@@ -55,16 +55,18 @@ packed-vbox target limit items = refl
 
 -- A fact about the packed box holds whenever the list is packed, and the list is packed exactly when all its numbers fit.
 packed-ok :
-    (fit : Bool) (packed : Packed) (items : Items) (P : Packed → Type 0)
+    (fit : Bool) (packed : PackedBox) (items : Items) (P : PackedBox → Type 0)
     → P packed → IfOk {E = TooLarge} (if fit then Ok packed else Err (record { list = items })) P
 packed-ok true packed items P h = h
 packed-ok false packed items P h = tt
 
-packed-fits : (fit : Bool) (packed : Packed) (items : Items) → is_ok {E = TooLarge} (if fit then Ok packed else Err (record { list = items })) ≡ fit
+packed-fits : (fit : Bool) (packed : PackedBox) (items : Items)
+    → is_ok {E = TooLarge} (if fit then Ok packed else Err (record { list = items })) ≡ fit
 packed-fits true packed items = refl
 packed-fits false packed items = refl
 
-packed-back : (fit : Bool) (packed : Packed) (items : Items) → IfErr {E = TooLarge} (if fit then Ok packed else Err (record { list = items })) (λ e. e.list ≡ items)
+packed-back : (fit : Bool) (packed : PackedBox) (items : Items)
+    → IfErr {E = TooLarge} (if fit then Ok packed else Err (record { list = items })) (λ e. e.list ≡ items)
 packed-back true packed items = tt
 packed-back false packed items = refl
 

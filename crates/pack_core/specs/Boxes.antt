@@ -10,7 +10,7 @@ use Rattle.node_core.specs.Items.{BoxFrame, Items}
 use Rattle.node_core.specs.Nodes.{box_of, nodes_of}
 use Rattle.pack_core.specs.declared.pack.Target.{Target}
 use Rattle.pack_core.specs.declared.pack.Target.TheVariants.{Natural, To, Spread}
-use Rattle.pack_core.specs.declared.pack.Packed.{Packed}
+use Rattle.pack_core.specs.declared.pack.PackedBox.{PackedBox}
 use Rattle.pack_core.specs.declared.pack.Shell.{Shell}
 use Rattle.pack_core.specs.declared.pack.TooLarge.{TooLarge}
 use Rattle.pack_core.specs.Items.{item_width, height_above_baseline, depth_below_baseline, downward, breadth}
@@ -32,7 +32,7 @@ pub record Packing : Type 0 where
   pub numbers : List ℤ
 
 -- The list in its box with its badness, or the list itself if one of the numbers does not fit (own).
-abbrev pub packed_by : Packing → Items → Result Packed TooLarge
+abbrev pub packed_by : Packing → Items → Result PackedBox TooLarge
 packed_by packing items =
     if list_all fits packing.numbers then Ok (record { box_node = box_of packing.frame items; badness = packing.badness })
     else Err (record { list = items })
@@ -81,7 +81,7 @@ abbrev pub hbox_packing : Target → List Node → Packing
 hbox_packing target nodes = record { frame = hbox_frame target nodes; badness = hbox_badness target nodes; numbers = hbox_numbers target nodes }
 
 -- The result of packing a horizontal list: its box and its badness, or the list itself if one of its numbers does not fit (own).
-unfoldable pub hpack_result : Target → Items → Result Packed TooLarge
+unfoldable pub hpack_result : Target → Items → Result PackedBox TooLarge
 hpack_result target items = packed_by (hbox_packing target (nodes_of items)) items
 
 -- The depth of a vbox: that of its last rule or box, but at most the limit (TeX: The Program, part 33, §668).
@@ -131,7 +131,7 @@ vbox_packing target limit nodes =
     record { frame = vbox_frame target limit nodes; badness = vbox_badness target limit nodes; numbers = vbox_numbers target limit nodes }
 
 -- The result of packing a vertical list into a vbox: its box and its badness, or the list itself if one of its numbers does not fit (own).
-unfoldable pub vpack_result : Target → (limit : ℤ) → Items → Result Packed TooLarge
+unfoldable pub vpack_result : Target → (limit : ℤ) → Items → Result PackedBox TooLarge
 vpack_result target limit items = packed_by (vbox_packing target limit (nodes_of items)) items
 
 -- A value if a test holds, and otherwise none (own).
@@ -160,7 +160,7 @@ unfoldable pub vbox_shell : Target → (limit : ℤ) → List Node → Shell
 vbox_shell target limit nodes = shell_of (vbox_frame target limit nodes) (vbox_badness target limit nodes)
 
 -- A list put into a box that was computed without it, with the badness of the box (own).
-unfoldable pub packed_of : Items → Shell → Packed
+unfoldable pub packed_of : Items → Shell → PackedBox
 packed_of items shell =
     record {
       box_node = record {
@@ -197,5 +197,5 @@ vtop_packing target limit nodes =
     record { frame = vtop_frame target limit nodes; badness = vbox_badness target limit nodes; numbers = vtop_numbers target limit nodes }
 
 -- The result of packing a vertical list into a vtop: its box and its badness, or the list itself if one of its numbers does not fit (own).
-unfoldable pub vtop_result : Target → (limit : ℤ) → Items → Result Packed TooLarge
+unfoldable pub vtop_result : Target → (limit : ℤ) → Items → Result PackedBox TooLarge
 vtop_result target limit items = packed_by (vtop_packing target limit (nodes_of items)) items

@@ -18,7 +18,7 @@ mod totals;
 pub use below::vbox_below;
 pub use orders::{OrderAmounts, OrderDimens};
 pub use pack::{
-    Packed, Shell, Target, TooLarge, hbox_shell, hpack, packed_of, vbox_shell, vpack, vtop,
+    PackedBox, Shell, Target, TooLarge, hbox_shell, hpack, packed_of, vbox_shell, vpack, vtop,
 };
 pub use places::{Cursor, offset};
 pub use sizes::{advance_of, first_height_of, own_size, share_of, shrink_of, stretch_of};

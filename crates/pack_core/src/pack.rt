@@ -38,7 +38,7 @@ pub enum Target {
 
 /// A packed box.
 #[derive(Debug, Drop)]
-pub struct Packed {
+pub struct PackedBox {
     pub box_node: BoxNode,
     /// How badly its glue is stretched or shrunk: 0 to 10000, or 1000000 if the box is overfull.
     pub badness: u32,
@@ -55,7 +55,7 @@ pub struct TooLarge {
 /// (TeX: The Program, part 33, §649, hpack). `TooLarge` is returned exactly when one of its numbers does not fit (own), with the list unchanged. Does
 /// not allocate.
 #[tactic(auto, using(crate::proofs::Packing::packing))]
-pub fn hpack(list: NodeList, target: Target) -> Result<Packed, TooLarge>
+pub fn hpack(list: NodeList, target: Target) -> Result<PackedBox, TooLarge>
     ensures value { result ≡ hpack_result target list }
     ensures ok { IfOk result (λ p. (p.box_node ≡ hbox target list) × (p.badness ≡ hbox_badness target (nodes_of list))) }
     ensures fits { is_ok result ≡ list_all fits (hbox_numbers target (nodes_of list)) }
@@ -71,7 +71,7 @@ pub fn hpack(list: NodeList, target: Target) -> Result<Packed, TooLarge>
 /// the limit (TeX: The Program, part 33, §668, vpackage). `TooLarge` is returned exactly when one of its numbers does not fit (own), with the list
 /// unchanged. Does not allocate.
 #[tactic(auto, using(crate::proofs::Packing::packing))]
-pub fn vpack(list: NodeList, target: Target, depth_limit: Dimen) -> Result<Packed, TooLarge>
+pub fn vpack(list: NodeList, target: Target, depth_limit: Dimen) -> Result<PackedBox, TooLarge>
     ensures value { result ≡ vpack_result target depth_limit list }
     ensures ok { IfOk result (λ p. (p.box_node ≡ vbox target depth_limit list) × (p.badness ≡ vbox_badness target depth_limit (nodes_of list))) }
     ensures fits { is_ok result ≡ list_all fits (vbox_numbers target depth_limit (nodes_of list)) }
@@ -86,7 +86,7 @@ pub fn vpack(list: NodeList, target: Target, depth_limit: Dimen) -> Result<Packe
 /// Packs a vertical list into a vtop: the vbox with its baseline at that of its first item, if it is a rule or a box, and otherwise at its top (TeX:
 /// The Program, part 47, §1087). `TooLarge` is returned exactly when one of its numbers does not fit, with the list unchanged. Does not allocate.
 #[tactic(auto, using(crate::proofs::Packing::packing))]
-pub fn vtop(list: NodeList, target: Target, depth_limit: Dimen) -> Result<Packed, TooLarge>
+pub fn vtop(list: NodeList, target: Target, depth_limit: Dimen) -> Result<PackedBox, TooLarge>
     ensures value { result ≡ vtop_result target depth_limit list }
     ensures ok { IfOk result (λ p. (p.box_node ≡ vtop_box target depth_limit list) × (p.badness ≡ vbox_badness target depth_limit (nodes_of list))) }
     ensures fits { is_ok result ≡ list_all fits (vtop_numbers target depth_limit (nodes_of list)) }
@@ -232,7 +232,7 @@ fn vtop_shell_of(target: Target, limit: Dimen, nodes: &[Node]) -> Option<Shell>
 
 /// The list in its box, or the list itself if there is no box for it.
 #[tactic(auto, unfolding(crate::specs::Private::Steps::boxed_list))]
-fn boxed_list(list: NodeList, shell: Option<Shell>) -> Result<Packed, TooLarge>
+fn boxed_list(list: NodeList, shell: Option<Shell>) -> Result<PackedBox, TooLarge>
     ensures { result ≡ boxed_list list shell }
 {
     match shell {
@@ -243,7 +243,7 @@ fn boxed_list(list: NodeList, shell: Option<Shell>) -> Result<Packed, TooLarge>
 
 /// Puts a list into a box that was computed without it. Does not allocate.
 #[tactic(auto, unfolding(crate::specs::Boxes::packed_of))]
-pub fn packed_of(list: NodeList, shell: &Shell) -> Packed
+pub fn packed_of(list: NodeList, shell: &Shell) -> PackedBox
     ensures { result ≡ packed_of list shell.now }
 {
     let box_node = BoxNode {
@@ -254,7 +254,7 @@ pub fn packed_of(list: NodeList, shell: &Shell) -> Packed
         setting: shell.setting,
         list,
     };
-    Packed {
+    PackedBox {
         box_node,
         badness: shell.badness,
     }

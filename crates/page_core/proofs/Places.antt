@@ -19,9 +19,9 @@ use Rattle.pack_core.specs.Cursors.{WalkSums, sums_after, one_more, place_at}
 use Rattle.pack_core.proofs.Walks.{one_more-reached, place-reached, reached-passed}
 use Rattle.page_core.specs.Marks.{ShippedPage, page_v, is_huge, right_at, down_at, list_v, item_h, item_v, box_h, box_v, numbers_at, numbers_after}
 use Rattle.scaled_core.specs.Mark as body
-use Rattle.page_core.specs.Pictures.{Picture, stroke, group, grouped_picture, picture_after}
-use Rattle.page_core.specs.Placing.{Reaches, strokes_of, reference_h, reference_v}
-use Rattle.page_core.specs.Private.Placing.{numbers_between, strokes_at}
+use Rattle.page_core.specs.DrawnPages.{DrawnPage, marked, group, grouped_page, drawn_after}
+use Rattle.page_core.specs.Placing.{Reaches, marked_of, reference_h, reference_v}
+use Rattle.page_core.specs.Private.Placing.{numbers_between, marked_at}
 use Rattle.page_core.proofs.Walked.{reach_by}
 
 -- The items from place i on are the item there and those after it.
@@ -32,12 +32,12 @@ left_at xs i x within is = rw (add-one, drop-cons xs i x) (ap (λ y. y ∷ drop 
 pub taken_at : (xs : List Node) (i : ℕ) (x : Node) → i < length xs → x ≡ get_or xs i x → take i xs ++ x ∷ [] ≡ take (i + 1) xs
 taken_at xs i x within is = sym (take_more xs i x within ∙ ap (λ y. take i xs ++ y ∷ []) (sym is))
 
--- The items inside an item at (h, v), before a picture: for a box its picture, as a group; and their numbers.
-abbrev pub inside : BoxNode → (h v : ℤ) → Node → Picture → Picture
+-- The items inside an item at (h, v), before what is drawn after: for a box what is drawn in it, as a group; and their numbers.
+abbrev pub inside : BoxNode → (h v : ℤ) → Node → DrawnPage → DrawnPage
 inside b h v (nodes.Box shift inner) rest =
-    grouped_picture inner.list inner.kind
-    (picture_after inner (box_h b.kind h shift) (list_v inner.kind inner.height (box_v b.kind v shift inner.height)) [] inner.list) rest
-inside b h v (nodes.Special text) rest = stroke (body.Special h v text) (pos 0) rest
+    grouped_page inner.list inner.kind
+    (drawn_after inner (box_h b.kind h shift) (list_v inner.kind inner.height (box_v b.kind v shift inner.height)) [] inner.list) rest
+inside b h v (nodes.Special text) rest = marked (body.Special h v text) (pos 0) rest
 inside b h v other rest = rest
 
 abbrev pub numbers_inside : BoxNode → (h v : ℤ) → Node → List ℤ
@@ -45,20 +45,20 @@ numbers_inside b h v (nodes.Box shift inner) =
     numbers_after inner (box_h b.kind h shift) (list_v inner.kind inner.height (box_v b.kind v shift inner.height)) [] inner.list
 numbers_inside b h v other = []
 
--- The picture of an item and of the items after it, and their numbers, by cases on the item.
-pub picture-one :
+-- What is drawn for an item and of the items after it, and their numbers, by cases on the item.
+pub drawn-one :
     (b : BoxNode) (h v : ℤ) (before rest : List Node) (x : Node)
-    → picture_after b h v before (items_of (x ∷ rest))
-    ≡ strokes_of b (item_h b h before) (item_v b v before) x
-    (inside b (item_h b h before) (item_v b v before) x (picture_after b h v (before ++ x ∷ []) (items_of rest)))
-picture-one b h v before rest (nodes.Glyph g) = refl
-picture-one b h v before rest (nodes.FontKern width) = refl
-picture-one b h v before rest (nodes.Kern width) = refl
-picture-one b h v before rest (nodes.Glue g) = refl
-picture-one b h v before rest (nodes.Penalty p) = refl
-picture-one b h v before rest (nodes.Special text) = refl
-picture-one b h v before rest (nodes.Rule sizes) = refl
-picture-one b h v before rest (nodes.Box shift inner) = refl
+    → drawn_after b h v before (items_of (x ∷ rest))
+    ≡ marked_of b (item_h b h before) (item_v b v before) x
+    (inside b (item_h b h before) (item_v b v before) x (drawn_after b h v (before ++ x ∷ []) (items_of rest)))
+drawn-one b h v before rest (nodes.Glyph g) = refl
+drawn-one b h v before rest (nodes.FontKern width) = refl
+drawn-one b h v before rest (nodes.Kern width) = refl
+drawn-one b h v before rest (nodes.Glue g) = refl
+drawn-one b h v before rest (nodes.Penalty p) = refl
+drawn-one b h v before rest (nodes.Special text) = refl
+drawn-one b h v before rest (nodes.Rule sizes) = refl
+drawn-one b h v before rest (nodes.Box shift inner) = refl
 
 pub numbers-one :
     (b : BoxNode) (h v : ℤ) (before rest : List Node) (x : Node)
@@ -74,23 +74,24 @@ numbers-one b h v before rest (nodes.Special text) = refl
 numbers-one b h v before rest (nodes.Rule sizes) = refl
 numbers-one b h v before rest (nodes.Box shift inner) = refl
 
--- The picture of the items that are left, and their numbers.
-abbrev pub picture_left : BoxNode → (h v : ℤ) → List Node → ℕ → Picture
-picture_left b h v xs i = picture_after b h v (take i xs) (items_of (drop i xs))
+-- The drawn items that are left, and their numbers.
+abbrev pub drawn_left : BoxNode → (h v : ℤ) → List Node → ℕ → DrawnPage
+drawn_left b h v xs i = drawn_after b h v (take i xs) (items_of (drop i xs))
 
 abbrev pub numbers_left : BoxNode → (h v : ℤ) → List Node → ℕ → List ℤ
 numbers_left b h v xs i = numbers_after b h v (take i xs) (items_of (drop i xs))
 
-pub picture_more :
+pub drawn_more :
     (b : BoxNode) (h v : ℤ) (xs : List Node) (i : ℕ) (x : Node) → i < length xs → x ≡ get_or xs i x
-    → picture_left b h v xs i
-    ≡ strokes_of b (item_h b h (take i xs)) (item_v b v (take i xs)) x
-    (inside b (item_h b h (take i xs)) (item_v b v (take i xs)) x (picture_left b h v xs (i + 1)))
-picture_more b h v xs i x within is =
-    ap (λ after. picture_after b h v (take i xs) (items_of after)) (left_at xs i x within is)
-    ∙ (picture-one b h v (take i xs) (drop (i + 1) xs) x
-    ∙ ap (λ before. strokes_of b (item_h b h (take i xs)) (item_v b v (take i xs)) x
-    (inside b (item_h b h (take i xs)) (item_v b v (take i xs)) x (picture_after b h v before (items_of (drop (i + 1) xs))))) (taken_at xs i x within is))
+    → drawn_left b h v xs i
+    ≡ marked_of b (item_h b h (take i xs)) (item_v b v (take i xs)) x
+    (inside b (item_h b h (take i xs)) (item_v b v (take i xs)) x (drawn_left b h v xs (i + 1)))
+drawn_more b h v xs i x within is =
+    ap (λ after. drawn_after b h v (take i xs) (items_of after)) (left_at xs i x within is)
+    ∙ (drawn-one b h v (take i xs) (drop (i + 1) xs) x
+    ∙ ap (λ before. marked_of b (item_h b h (take i xs)) (item_v b v (take i xs)) x
+    (inside b (item_h b h (take i xs)) (item_v b v (take i xs)) x (drawn_after b h v before (items_of (drop (i + 1) xs)))))
+    (taken_at xs i x within is))
 
 pub numbers_more :
     (b : BoxNode) (h v : ℤ) (xs : List Node) (i : ℕ) (x : Node) → i < length xs → x ≡ get_or xs i x
@@ -183,10 +184,10 @@ unfolding sums_after
 reached-none kind setting = refl
 
 -- The marks of an item and its reference point, from the state of such a walk.
-pub item_strokes :
-    (b : BoxNode) (h v : ℤ) (before : List Node) (x : Node) (from : WalkSums) (rest found : Picture) → from ≡ sums_after b.kind b.setting before
-    → found ≡ strokes_at b h v (place_at b.setting from) x rest → found ≡ strokes_of b (item_h b h before) (item_v b v before) x rest
-item_strokes b h v before x from rest found at is = is ∙ ap (λ here. strokes_at b h v here x rest) (reached-place b before from at)
+pub item_marks :
+    (b : BoxNode) (h v : ℤ) (before : List Node) (x : Node) (from : WalkSums) (rest found : DrawnPage) → from ≡ sums_after b.kind b.setting before
+    → found ≡ marked_at b h v (place_at b.setting from) x rest → found ≡ marked_of b (item_h b h before) (item_v b v before) x rest
+item_marks b h v before x from rest found at is = is ∙ ap (λ here. marked_at b h v here x rest) (reached-place b before from at)
 
 -- The item after a glyph or a rule is where h is after it.
 pub reach : (b : BoxNode) (h : ℤ) (before : List Node) (x : Node) → Reaches b.kind (item_h b h before) (item_h b h (before ++ x ∷ [])) x
@@ -212,18 +213,18 @@ inner_begin b inner h v before x shift from at_h at_v begin_h begin_v at is righ
           (down ∙ (ap (reference_v b.kind (down_at b.kind v (place_at b.setting from))) is ∙ ap (λ place. box_v b.kind (down_at b.kind v place) shift inner.height) here)),
     )
 
--- The numbers of the items of such a box, and its picture.
+-- The numbers of the items of such a box, and what is drawn in it.
 pub inner_numbers :
     (b inner : BoxNode) (h v shift begin_h begin_v : ℤ) (x : Node) → x ≡ nodes.Box shift inner
     → (begin_h ≡ box_h b.kind h shift) × (begin_v ≡ list_v inner.kind inner.height (box_v b.kind v shift inner.height))
     → numbers_inside b h v x ≡ numbers_after inner begin_h begin_v [] inner.list
 inner_numbers b inner h v shift begin_h begin_v x is (right, down) = rw (is, right, down) refl
 
-pub inner_picture :
-    (b inner : BoxNode) (h v shift begin_h begin_v : ℤ) (x : Node) (rest : Picture) → x ≡ nodes.Box shift inner
+pub inner_drawn :
+    (b inner : BoxNode) (h v shift begin_h begin_v : ℤ) (x : Node) (rest : DrawnPage) → x ≡ nodes.Box shift inner
     → (begin_h ≡ box_h b.kind h shift) × (begin_v ≡ list_v inner.kind inner.height (box_v b.kind v shift inner.height))
-    → inside b h v x rest ≡ grouped_picture inner.list inner.kind (picture_after inner begin_h begin_v [] inner.list) rest
-inner_picture b inner h v shift begin_h begin_v x rest is (right, down) = rw (is, right, down) refl
+    → inside b h v x rest ≡ grouped_page inner.list inner.kind (drawn_after inner begin_h begin_v [] inner.list) rest
+inner_drawn b inner h v shift begin_h begin_v x rest is (right, down) = rw (is, right, down) refl
 
 -- A list without items, and its numbers.
 pub no_items : (items : Items) → (length (nodes_of items) == 0) ≡ true → items ≡ none
@@ -252,26 +253,27 @@ leaf_numbers b h v (nodes.Penalty p) other = refl
 leaf_numbers b h v (nodes.Special text) other = refl
 leaf_numbers b h v (nodes.Rule sizes) other = refl
 
-pub leaf_picture :
-    (b : BoxNode) (h v : ℤ) (x : Node) (rest : Picture) → ((shift : ℤ) (inner : BoxNode) → x ≢ nodes.Box shift inner) → ((text : List ℕ) → x ≢ nodes.Special text)
+pub leaf_drawn :
+    (b : BoxNode) (h v : ℤ) (x : Node) (rest : DrawnPage) → ((shift : ℤ) (inner : BoxNode) → x ≢ nodes.Box shift inner)
+    → ((text : List ℕ) → x ≢ nodes.Special text)
     → inside b h v x rest ≡ rest
-leaf_picture b h v (nodes.Box shift inner) rest other no_text = absurd (other shift inner refl)
-leaf_picture b h v (nodes.Glyph g) rest other no_text = refl
-leaf_picture b h v (nodes.FontKern width) rest other no_text = refl
-leaf_picture b h v (nodes.Kern width) rest other no_text = refl
-leaf_picture b h v (nodes.Glue g) rest other no_text = refl
-leaf_picture b h v (nodes.Penalty p) rest other no_text = refl
-leaf_picture b h v (nodes.Special text) rest other no_text = absurd (no_text text refl)
-leaf_picture b h v (nodes.Rule sizes) rest other no_text = refl
+leaf_drawn b h v (nodes.Box shift inner) rest other no_text = absurd (other shift inner refl)
+leaf_drawn b h v (nodes.Glyph g) rest other no_text = refl
+leaf_drawn b h v (nodes.FontKern width) rest other no_text = refl
+leaf_drawn b h v (nodes.Kern width) rest other no_text = refl
+leaf_drawn b h v (nodes.Glue g) rest other no_text = refl
+leaf_drawn b h v (nodes.Penalty p) rest other no_text = refl
+leaf_drawn b h v (nodes.Special text) rest other no_text = absurd (no_text text refl)
+leaf_drawn b h v (nodes.Rule sizes) rest other no_text = refl
 
 -- A special that a walk reaches after the items before it is at its place.
-pub special_picture :
-    (b : BoxNode) (h v : ℤ) (before : List Node) (x : Node) (text : List ℕ) (from : WalkSums) (at_h at_v : ℤ) (rest : Picture)
+pub special_drawn :
+    (b : BoxNode) (h v : ℤ) (before : List Node) (x : Node) (text : List ℕ) (from : WalkSums) (at_h at_v : ℤ) (rest : DrawnPage)
     → from ≡ sums_after b.kind b.setting before → x ≡ nodes.Special text
     → at_h ≡ reference_h b.kind (right_at b.kind h (place_at b.setting from)) x
     → at_v ≡ reference_v b.kind (down_at b.kind v (place_at b.setting from)) x
-    → inside b (item_h b h before) (item_v b v before) x rest ≡ stroke (body.Special at_h at_v text) (pos 0) rest
-special_picture b h v before x text from at_h at_v rest at is right down =
+    → inside b (item_h b h before) (item_v b v before) x rest ≡ marked (body.Special at_h at_v text) (pos 0) rest
+special_drawn b h v before x text from at_h at_v rest at is right down =
     let here = reached-place b before from at in
     let across : at_h ≡ item_h b h before = right ∙ (ap (reference_h b.kind (right_at b.kind h (place_at b.setting from))) is ∙ ap (λ place. right_at b.kind h place) here) in
     let below : at_v ≡ item_v b v before = down ∙ (ap (reference_v b.kind (down_at b.kind v (place_at b.setting from))) is ∙ ap (λ place. down_at b.kind v place) here) in
@@ -333,10 +335,12 @@ unfolding is_huge
 items_fit page small = last_of_three _ _ _ small
 
 -- A box without items is no group, and a box with items is one.
-pub grouped-none : (items : Items) (kind : Kind) (inner rest : Picture) → (length (nodes_of items) == 0) ≡ true → grouped_picture items kind inner rest ≡ rest
-grouped-none items kind inner rest empty = ap (λ items. grouped_picture items kind inner rest) (no_items items empty)
+pub grouped-none : (items : Items) (kind : Kind) (inner rest : DrawnPage) → (length (nodes_of items) == 0) ≡ true
+    → grouped_page items kind inner rest ≡ rest
+grouped-none items kind inner rest empty = ap (λ items. grouped_page items kind inner rest) (no_items items empty)
 
-pub grouped-some : (items : Items) (kind : Kind) (inner rest : Picture) → (length (nodes_of items) == 0) ≡ false → grouped_picture items kind inner rest ≡ group kind inner rest
+pub grouped-some : (items : Items) (kind : Kind) (inner rest : DrawnPage) → (length (nodes_of items) == 0) ≡ false
+    → grouped_page items kind inner rest ≡ group kind inner rest
 grouped-some none kind inner rest full = absurd (cc)
 grouped-some (leaf x items) kind inner rest full = refl
 grouped-some (box shift frame some items) kind inner rest full = refl

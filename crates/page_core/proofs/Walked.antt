@@ -19,11 +19,11 @@ use Rattle.pack_core.specs.Cursors.{WalkSums, one_more, moved_on, place_at}
 use Rattle.page_core.specs.declared.placing.Point.{Point}
 use Rattle.scaled_core.specs.Mark as body
 use Rattle.page_core.specs.Marks.{right_at, down_at, rule_below, rule_tall, rule_wide, glyph_mark, box_h, box_v, points_and_sizes}
-use Rattle.page_core.specs.Pictures.{Picture, stroke, in_front}
+use Rattle.page_core.specs.DrawnPages.{DrawnPage, marked, in_front}
 use Rattle.page_core.specs.declared.placing.PlacedItem.{PlacedItem}
 use Rattle.std.specs.Option.{IfSome, OnSome, option_map}
-use Rattle.page_core.specs.Placing.{strokes_of, fitting_point, Reaches, reference_h, reference_v}
-use Rattle.page_core.specs.Private.Placing.{level_with, point_in, numbers_between, strokes_at, is_rigid, is_blank}
+use Rattle.page_core.specs.Placing.{marked_of, fitting_point, Reaches, reference_h, reference_v}
+use Rattle.page_core.specs.Private.Placing.{level_with, point_in, numbers_between, marked_at, is_rigid, is_blank}
 
 -- A point is at its numbers.
 pub point-is : (h v : ℤ) (p : Point ℤ) → fitting_point h v ≡ Some p → (p.h ≡ h) × (p.v ≡ v)
@@ -86,17 +86,17 @@ between-points b h v place next at after x here there =
     let q = point-is (right_at b.kind h next) (down_at b.kind v next) after there in
     cc (p.0, p.1, q.0, q.1)
 
-pub strokes-point :
-    (b : BoxNode) (h v place : ℤ) (at : Point ℤ) (x : Node) (rest : Picture) → point_in b h v place ≡ Some at
-    → strokes_at b h v place x rest ≡ strokes_of b at.h at.v x rest
-strokes-point b h v place at x rest here = let p = point-is (right_at b.kind h place) (down_at b.kind v place) at here in cc (p.0, p.1)
+pub marks-point :
+    (b : BoxNode) (h v place : ℤ) (at : Point ℤ) (x : Node) (rest : DrawnPage) → point_in b h v place ≡ Some at
+    → marked_at b h v place x rest ≡ marked_of b at.h at.v x rest
+marks-point b h v place at x rest here = let p = point-is (right_at b.kind h place) (down_at b.kind v place) at here in cc (p.0, p.1)
 
--- The strokes of a glyph of a horizontal list at a position.
-pub strokes-glyph :
-    (b : BoxNode) (h v place : ℤ) (at : Point ℤ) (g : Glyph) (rest : Picture) → b.kind ≡ Horizontal → point_in b h v place ≡ Some at
-    → strokes_at b h v place (nodes.Glyph g) rest ≡ stroke (body.Glyph (pos g.slot) (pos g.code) at.h at.v) g.width rest
-strokes-glyph b h v place at g rest across here =
-    strokes-point b h v place at (nodes.Glyph g) rest here
+-- The drawn marks of a glyph of a horizontal list at a position.
+pub marks-glyph :
+    (b : BoxNode) (h v place : ℤ) (at : Point ℤ) (g : Glyph) (rest : DrawnPage) → b.kind ≡ Horizontal → point_in b h v place ≡ Some at
+    → marked_at b h v place (nodes.Glyph g) rest ≡ marked (body.Glyph (pos g.slot) (pos g.code) at.h at.v) g.width rest
+marks-glyph b h v place at g rest across here =
+    marks-point b h v place at (nodes.Glyph g) rest here
     ∙ ap (λ (kind : Kind). in_front (glyph_mark kind at.h at.v g) g.width rest) across
 
 -- A point whose height fits is one where the value of h fits.
@@ -155,16 +155,16 @@ blank-fits b h v place next at after (nodes.Special text) is here there = absurd
 blank-fits b h v place next at after (nodes.Rule r) is here there = absurd (cc)
 blank-fits b h v place next at after (nodes.Box shift inner) is here there = absurd (cc)
 
--- Such an item has no strokes, and its reference point is its place.
-pub blank-strokes : (b : BoxNode) (h v : ℤ) (x : Node) (rest : Picture) → is_blank x ≡ true → strokes_of b h v x rest ≡ rest
-blank-strokes b h v (nodes.FontKern w) rest is = refl
-blank-strokes b h v (nodes.Kern w) rest is = refl
-blank-strokes b h v (nodes.Glue g) rest is = refl
-blank-strokes b h v (nodes.Penalty p) rest is = refl
-blank-strokes b h v (nodes.Glyph g) rest is = absurd (cc)
-blank-strokes b h v (nodes.Special text) rest is = absurd (cc)
-blank-strokes b h v (nodes.Rule r) rest is = absurd (cc)
-blank-strokes b h v (nodes.Box shift inner) rest is = absurd (cc)
+-- Such an item has no drawn marks, and its reference point is its place.
+pub blank-marks : (b : BoxNode) (h v : ℤ) (x : Node) (rest : DrawnPage) → is_blank x ≡ true → marked_of b h v x rest ≡ rest
+blank-marks b h v (nodes.FontKern w) rest is = refl
+blank-marks b h v (nodes.Kern w) rest is = refl
+blank-marks b h v (nodes.Glue g) rest is = refl
+blank-marks b h v (nodes.Penalty p) rest is = refl
+blank-marks b h v (nodes.Glyph g) rest is = absurd (cc)
+blank-marks b h v (nodes.Special text) rest is = absurd (cc)
+blank-marks b h v (nodes.Rule r) rest is = absurd (cc)
+blank-marks b h v (nodes.Box shift inner) rest is = absurd (cc)
 
 pub blank-place : (kind : Kind) (h v : ℤ) (x : Node) → is_blank x ≡ true → (reference_h kind h x ≡ h) × (reference_v kind v x ≡ v)
 blank-place kind h v (nodes.FontKern w) is = (refl, refl)
@@ -305,6 +305,6 @@ ends b h v from at after g across here there =
 
 -- What was drawn in a horizontal list, in a list of a kind that is known to be horizontal.
 pub across-so :
-    {D : Type 0} (from to : Kind → Picture → D) (kind : Kind) (seen shown rest : Picture) → kind ≡ Horizontal → seen ≡ shown
+    {D : Type 0} (from to : Kind → DrawnPage → D) (kind : Kind) (seen shown rest : DrawnPage) → kind ≡ Horizontal → seen ≡ shown
     → from Horizontal shown ≡ to Horizontal rest → from kind seen ≡ to kind rest
 across-so from to kind seen shown rest across same is = rw (across, same) is

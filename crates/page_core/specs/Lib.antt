@@ -1,7 +1,7 @@
--- Pages, their marks and their pictures, and the numbers that have to fit.
+-- Pages, their marks and their drawn forms, and the numbers that have to fit.
 pub mod Limits
 pub mod Marks
 pub mod Pages
-pub mod Pictures
+pub mod DrawnPages
 pub mod Placing
 pub mod Private

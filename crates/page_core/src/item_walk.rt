@@ -6,11 +6,11 @@ ghost use Rattle.node_core.specs.Nodes.{max_nodes};
 ghost use Rattle.scaled_core.specs.Dimensions.{fits};
 ghost use Rattle.pack_core.specs.Cursors.{one_more, place_at};
 ghost use Rattle.page_core.specs.Marks.{right_at, down_at, list_v};
-ghost use Rattle.page_core.specs.Pictures.{Picture};
+ghost use Rattle.page_core.specs.DrawnPages.{DrawnPage};
 ghost use Rattle.node_core.specs.declared.tree.Node.TheVariants as nodes;
 ghost use Rattle.std.specs.Option.{option_map};
-ghost use Rattle.page_core.specs.Private.Placing.{level_with, point_in, numbers_between, strokes_at, is_rigid};
-ghost use Rattle.page_core.specs.Placing.{IsMarkEnd, strokes_in, reference_h, reference_v};
+ghost use Rattle.page_core.specs.Private.Placing.{level_with, point_in, numbers_between, marked_at, is_rigid};
+ghost use Rattle.page_core.specs.Placing.{IsMarkEnd, marked_in, reference_h, reference_v};
 
 use crate::placing::{
     PagePoint, PagePosition, PlacedItem, Point, dimension_after, place_item, point_at,

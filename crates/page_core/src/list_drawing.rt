@@ -7,10 +7,10 @@ ghost use Rattle.scaled_core.specs.Dimensions.{fits};
 ghost use Rattle.pack_core.specs.Cursors.{sums_after, one_more, place_at};
 ghost use Rattle.page_core.specs.Marks.{right_at, down_at, list_v, numbers_after, points_and_sizes};
 ghost use Rattle.node_core.specs.declared.tree.Kind.{Kind};
-ghost use Rattle.page_core.specs.Pictures.{Picture, blank, grouped_picture, picture_after};
+ghost use Rattle.page_core.specs.DrawnPages.{DrawnPage, blank, grouped_page, drawn_after};
 ghost use Rattle.node_core.specs.declared.tree.Node.TheVariants as nodes;
-ghost use Rattle.page_core.specs.Placing.{Reaches, strokes_of, reference_h, reference_v};
-ghost use Rattle.page_core.specs.Private.Placing.{is_blank, level_with, point_in, numbers_between, strokes_at};
+ghost use Rattle.page_core.specs.Placing.{Reaches, marked_of, reference_h, reference_v};
+ghost use Rattle.page_core.specs.Private.Placing.{is_blank, level_with, point_in, numbers_between, marked_at};
 
 use crate::item_walk::{ItemWalk, ListOrigin, begin_of, go_past_glyph};
 use crate::placing::{PagePoint, PagePosition, Point, place_item};
@@ -56,10 +56,10 @@ fn draw_first<B: BoxRef, S: MarkSink<B>>(
         (place_at box_node.now.setting run.old.cursor)
         (place_at box_node.now.setting (one_more box_node.now.kind box_node.now.setting run.old.cursor (nodes.Glyph glyph.now)))
         (nodes.Glyph glyph.now))) }
-    ensures mark { IfOk result (λ fit. fit ≡ true → (rest : Picture) → S.drawn_with box_node.now.kind sink.old
-        (strokes_at box_node.now begin.now.h begin.now.v (place_at box_node.now.setting run.old.cursor) (nodes.Glyph glyph.now) rest)
+    ensures mark { IfOk result (λ fit. fit ≡ true → (rest : DrawnPage) → S.drawn_with box_node.now.kind sink.old
+        (marked_at box_node.now begin.now.h begin.now.v (place_at box_node.now.setting run.old.cursor) (nodes.Glyph glyph.now) rest)
         ≡ S.drawn_with box_node.now.kind sink.new rest) }
-    ensures stands { IfOk result (λ fit. fit ≡ true → S.Stands sink.new run.new.h run.new.v run.new.slot) }
+    ensures is_at { IfOk result (λ fit. fit ≡ true → S.IsAt sink.new run.new.h run.new.v run.new.slot) }
 {
     let at = Point { h: run.h, v: run.v };
     let Some(end) = go_past_glyph(&mut run.cursor, box_node, begin, &at, glyph) else {
@@ -84,7 +84,7 @@ fn draw_next<B: BoxRef, S: MarkSink<B>>(
     requires items_bounded { run.old.cursor.passed < max_nodes }
     requires at { point_in box_node.now begin.now.h begin.now.v (place_at box_node.now.setting run.old.cursor)
         ≡ Some (level_with run.old.v run.old.h) }
-    requires stands { S.Stands sink.old run.old.h run.old.v run.old.slot }
+    requires is_at { S.IsAt sink.old run.old.h run.old.v run.old.slot }
     ensures cursor { result ≡ true → run.new.cursor ≡ one_more box_node.now.kind box_node.now.setting run.old.cursor (nodes.Glyph glyph.now) }
     ensures at { result ≡ true → point_in box_node.now begin.now.h begin.now.v (place_at box_node.now.setting run.new.cursor)
         ≡ Some (level_with run.new.v run.new.h) }
@@ -92,12 +92,12 @@ fn draw_next<B: BoxRef, S: MarkSink<B>>(
         (place_at box_node.now.setting run.old.cursor)
         (place_at box_node.now.setting (one_more box_node.now.kind box_node.now.setting run.old.cursor (nodes.Glyph glyph.now)))
         (nodes.Glyph glyph.now)) ≡ true }
-    ensures mark { result ≡ true → (rest : Picture) → S.drawn_with box_node.now.kind sink.old
-        (strokes_at box_node.now begin.now.h begin.now.v (place_at box_node.now.setting run.old.cursor) (nodes.Glyph glyph.now) rest)
+    ensures mark { result ≡ true → (rest : DrawnPage) → S.drawn_with box_node.now.kind sink.old
+        (marked_at box_node.now begin.now.h begin.now.v (place_at box_node.now.setting run.old.cursor) (nodes.Glyph glyph.now) rest)
         ≡ S.drawn_with box_node.now.kind sink.new rest }
-    ensures stands { result ≡ true → S.Stands sink.new run.new.h run.new.v run.new.slot }
+    ensures is_at { result ≡ true → S.IsAt sink.new run.new.h run.new.v run.new.slot }
     ensures stays { result ≡ false → run.new ≡ run.old }
-    ensures same { result ≡ false → (rest : Picture) → S.drawn_with box_node.now.kind sink.old rest ≡ S.drawn_with box_node.now.kind sink.new rest }
+    ensures same { result ≡ false → (rest : DrawnPage) → S.drawn_with box_node.now.kind sink.old rest ≡ S.drawn_with box_node.now.kind sink.new rest }
 {
     if glyph.slot != run.slot {
         return false;
@@ -131,7 +131,7 @@ fn draw_run<B: BoxRef, S: MarkSink<B>>(
     requires cursor { run.old.cursor ≡ sums_after box_node.now.kind box_node.now.setting (take left.from left.items.now) }
     requires at { point_in box_node.now begin.now.h begin.now.v (place_at box_node.now.setting run.old.cursor)
         ≡ Some (level_with run.old.v run.old.h) }
-    requires stands { S.Stands sink.old run.old.h run.old.v run.old.slot }
+    requires is_at { S.IsAt sink.old run.old.h run.old.v run.old.slot }
     ensures onward { left.entry.from ≤ result }
     ensures within { result ≤ length left.entry.items.now }
     ensures cursor { run.new.cursor ≡ sums_after box_node.now.kind box_node.now.setting (take result left.entry.items.now) }
@@ -142,9 +142,9 @@ fn draw_run<B: BoxRef, S: MarkSink<B>>(
         ≡ list_all fits (numbers_after box_node.now begin.now.h begin.now.v (take left.entry.from left.entry.items.now)
         (items_of (drop left.entry.from left.entry.items.now))) }
     ensures marks { S.drawn_with box_node.now.kind sink.new
-        (picture_after box_node.now begin.now.h begin.now.v (take result left.entry.items.now) (items_of (drop result left.entry.items.now)))
+        (drawn_after box_node.now begin.now.h begin.now.v (take result left.entry.items.now) (items_of (drop result left.entry.items.now)))
         ≡ S.drawn_with box_node.now.kind sink.old
-        (picture_after box_node.now begin.now.h begin.now.v (take left.entry.from left.entry.items.now)
+        (drawn_after box_node.now begin.now.h begin.now.v (take left.entry.from left.entry.items.now)
         (items_of (drop left.entry.from left.entry.items.now))) }
 {
     let ItemsFrom { items, from } = left;
@@ -189,9 +189,9 @@ fn draw_glyphs<B: BoxRef, S: MarkSink<B>>(
         (items_of (drop left.entry.from left.entry.items.now))))) }
     ensures marks { IfOk result (λ drawn. IfSome drawn (λ next.
         S.drawn_with box_node.now.kind sink.new
-        (picture_after box_node.now begin.now.h begin.now.v (take next left.entry.items.now) (items_of (drop next left.entry.items.now)))
+        (drawn_after box_node.now begin.now.h begin.now.v (take next left.entry.items.now) (items_of (drop next left.entry.items.now)))
         ≡ S.drawn_with box_node.now.kind sink.old
-        (picture_after box_node.now begin.now.h begin.now.v (take left.entry.from left.entry.items.now)
+        (drawn_after box_node.now begin.now.h begin.now.v (take left.entry.from left.entry.items.now)
         (items_of (drop left.entry.from left.entry.items.now))))) }
 {
     let ItemsFrom { items, from } = left;
@@ -232,8 +232,8 @@ fn draw_at<B: BoxRef, S: MarkSink<B>>(
 ) -> Result<Option<PagePosition>, S::Fault>
     requires { Reaches box_node.now.kind at.h next.h node.now }
     ensures fits { IfOk result (λ drawn. is_some drawn ≡ list_all fits (points_and_sizes box_node.now at.h at.v next.h next.v node.now)) }
-    ensures mark { IfOk result (λ drawn. OnSome drawn ((rest : Picture) → S.drawn_with box_node.now.kind sink.old
-        (strokes_of box_node.now at.h at.v node.now rest) ≡ S.drawn_with box_node.now.kind sink.new rest)) }
+    ensures mark { IfOk result (λ drawn. OnSome drawn ((rest : DrawnPage) → S.drawn_with box_node.now.kind sink.old
+        (marked_of box_node.now at.h at.v node.now rest) ≡ S.drawn_with box_node.now.kind sink.new rest)) }
     ensures h { IfOk result (λ drawn. IfSome drawn (λ place. place.h ≡ reference_h box_node.now.kind at.h node.now)) }
     ensures v { IfOk result (λ drawn. IfSome drawn (λ place. place.v ≡ reference_v box_node.now.kind at.v node.now)) }
 {
@@ -274,8 +274,8 @@ fn draw_item<B: BoxRef, S: MarkSink<B>>(
     ensures fits { IfOk result
         (λ drawn. is_some drawn ≡ list_all fits (numbers_between box_node.now begin.now.h begin.now.v (place_at box_node.now.setting walk.old.cursor)
         (place_at box_node.now.setting (one_more box_node.now.kind box_node.now.setting walk.old.cursor node.now)) node.now)) }
-    ensures mark { IfOk result (λ drawn. OnSome drawn ((rest : Picture) → S.drawn_with box_node.now.kind sink.old
-        (strokes_at box_node.now begin.now.h begin.now.v (place_at box_node.now.setting walk.old.cursor) node.now rest)
+    ensures mark { IfOk result (λ drawn. OnSome drawn ((rest : DrawnPage) → S.drawn_with box_node.now.kind sink.old
+        (marked_at box_node.now begin.now.h begin.now.v (place_at box_node.now.setting walk.old.cursor) node.now rest)
         ≡ S.drawn_with box_node.now.kind sink.new rest)) }
     ensures h { IfOk result (λ drawn. IfSome drawn (λ place. place.h
         ≡ reference_h box_node.now.kind (right_at box_node.now.kind begin.now.h (place_at box_node.now.setting walk.old.cursor)) node.now)) }
@@ -304,9 +304,9 @@ fn draw_group<B: BoxRef, S: MarkSink<B>>(
 ) -> Result<bool, S::Fault>
     ensures fits { IfOk result (λ fit. fit ≡ list_all fits (numbers_after (B.box_node tree) at.h
         (list_v (B.box_node tree).kind (B.box_node tree).height at.v) [] (B.box_node tree).list)) }
-    ensures marks { IfOk result (λ fit. fit ≡ true → (kind : Kind) (rest : Picture) → S.drawn_with kind sink.old
-        (grouped_picture (B.box_node tree).list (B.box_node tree).kind
-        (picture_after (B.box_node tree) at.h (list_v (B.box_node tree).kind (B.box_node tree).height at.v) [] (B.box_node tree).list) rest)
+    ensures marks { IfOk result (λ fit. fit ≡ true → (kind : Kind) (rest : DrawnPage) → S.drawn_with kind sink.old
+        (grouped_page (B.box_node tree).list (B.box_node tree).kind
+        (drawn_after (B.box_node tree) at.h (list_v (B.box_node tree).kind (B.box_node tree).height at.v) [] (B.box_node tree).list) rest)
         ≡ S.drawn_with kind sink.new rest) }
 {
     let box_node = tree.as_box();
@@ -331,7 +331,7 @@ fn draw_items<B: BoxRef, S: MarkSink<B>>(
 ) -> Result<bool, S::Fault>
     ensures fits { IfOk result (λ fit. fit ≡ list_all fits (numbers_after (B.box_node tree) begin.now.h begin.now.v [] (B.box_node tree).list)) }
     ensures marks { IfOk result (λ fit. fit ≡ true → S.drawn_with (B.box_node tree).kind sink.old
-        (picture_after (B.box_node tree) begin.now.h begin.now.v [] (B.box_node tree).list) ≡ S.drawn_with (B.box_node tree).kind sink.new blank) }
+        (drawn_after (B.box_node tree) begin.now.h begin.now.v [] (B.box_node tree).list) ≡ S.drawn_with (B.box_node tree).kind sink.new blank) }
 {
     let box_node = tree.as_box();
     let mut walk = ItemWalk::new(box_node, begin);
@@ -379,7 +379,7 @@ pub fn draw_list<B: BoxRef, S: MarkSink<B>>(
     ensures fits { IfOk result (λ fit. fit ≡ list_all fits (numbers_after (B.box_node tree) at.h
         (list_v (B.box_node tree).kind (B.box_node tree).height at.v) [] (B.box_node tree).list)) }
     ensures marks { IfOk result (λ fit. fit ≡ true → S.drawn_with (B.box_node tree).kind sink.old
-        (picture_after (B.box_node tree) at.h (list_v (B.box_node tree).kind (B.box_node tree).height at.v) [] (B.box_node tree).list)
+        (drawn_after (B.box_node tree) at.h (list_v (B.box_node tree).kind (B.box_node tree).height at.v) [] (B.box_node tree).list)
         ≡ S.drawn_with (B.box_node tree).kind sink.new blank) }
 {
     let begin = begin_of(tree.as_box(), at);

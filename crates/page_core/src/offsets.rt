@@ -1,4 +1,4 @@
-//! How far a page is moved from the corner of the sheet.
+//! How far a page is moved from the corner of the paper.
 
 ghost use Rattle.std.specs.Prelude.{◌≡◌, ◌+ℤ◌};
 

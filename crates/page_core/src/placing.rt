@@ -4,8 +4,8 @@ ghost use Rattle.std.specs.Prelude.{◌≡◌, ◌+ℤ◌, ◌+◌, ◌^◌, [],
 ghost use Rattle.std.specs.List.{list_all};
 ghost use Rattle.scaled_core.specs.Dimensions.{Within, fits, dimension_of};
 ghost use Rattle.page_core.specs.Marks.{size_in, right_at, down_at, rule_below, rule_tall, rule_wide, rule_mark, box_h, box_v, points_and_sizes};
-ghost use Rattle.page_core.specs.Pictures.{Picture, in_front};
-ghost use Rattle.page_core.specs.Placing.{fitting_point, Reaches, IsMarkEnd, strokes_in, strokes_of, reference_h, reference_v};
+ghost use Rattle.page_core.specs.DrawnPages.{DrawnPage, in_front};
+ghost use Rattle.page_core.specs.Placing.{fitting_point, Reaches, IsMarkEnd, marked_in, marked_of, reference_h, reference_v};
 ghost use Rattle.node_core.specs.declared.tree.Kind.{Kind};
 ghost use Rattle.node_core.specs.declared.tree.Node.TheVariants as nodes;
 
@@ -64,7 +64,7 @@ pub struct PlacedMark {
     pub v: Dimen,
     pub width: Dimen,
     pub end: Dimen,
-    pub ink: MarkKind,
+    pub mark_kind: MarkKind,
 }
 
 /// An item on a page: its mark, if it has one, and its position; for a box its reference point.
@@ -172,8 +172,8 @@ fn sizes_of(box_node: &BoxNode, rule: Rule) -> Option<RuleSizes>
 
 /// The mark of a rule; None exactly where its height or its width is not positive, since such a rule shows nothing.
 fn visible_rule(height: Dimen, h: Dimen, v: Dimen, width: Dimen, end: Dimen) -> Option<PlacedMark>
-    ensures mark { (rest : Picture) → strokes_in result rest ≡ in_front (rule_mark h v height width) width rest }
-    ensures end { IfSome result (λ m. m ≡ record { h = h; v = v; width = width; end = end; ink = MarkKind.Rule height }) }
+    ensures mark { (rest : DrawnPage) → marked_in result rest ≡ in_front (rule_mark h v height width) width rest }
+    ensures end { IfSome result (λ m. m ≡ record { h = h; v = v; width = width; end = end; mark_kind = MarkKind.Rule height }) }
 {
     if height.get() <= 0 {
         return None;
@@ -186,7 +186,7 @@ fn visible_rule(height: Dimen, h: Dimen, v: Dimen, width: Dimen, end: Dimen) -> 
         v,
         width,
         end,
-        ink: MarkKind::Rule(height),
+        mark_kind: MarkKind::Rule(height),
     })
 }
 
@@ -233,7 +233,7 @@ fn place_rule(
 ) -> Option<PlacedItem>
     requires { Reaches box_node.now.kind at.h next.h (nodes.Rule rule) }
     ensures fits { is_some result ≡ list_all fits (points_and_sizes box_node.now at.h at.v next.h next.v (nodes.Rule rule)) }
-    ensures mark { IfSome result (λ s. (rest : Picture) → strokes_in s.mark rest ≡ strokes_of box_node.now at.h at.v (nodes.Rule rule) rest) }
+    ensures mark { IfSome result (λ s. (rest : DrawnPage) → marked_in s.mark rest ≡ marked_of box_node.now at.h at.v (nodes.Rule rule) rest) }
     ensures end { IfSome result (λ s. IfSome s.mark (IsMarkEnd box_node.now.kind)) }
     ensures at { IfSome result (λ s. s.at ≡ at) }
 {
@@ -255,7 +255,7 @@ pub fn glyph_mark(
 ) -> PlacedMark
     requires kind { box_node.now.kind ≡ Kind.Horizontal }
     requires reaches { Reaches box_node.now.kind at.h next.h (nodes.Glyph glyph) }
-    ensures mark { (rest : Picture) → strokes_in (Some result) rest ≡ strokes_of box_node.now at.h at.v (nodes.Glyph glyph) rest }
+    ensures mark { (rest : DrawnPage) → marked_in (Some result) rest ≡ marked_of box_node.now at.h at.v (nodes.Glyph glyph) rest }
     ensures end { IsMarkEnd Kind.Horizontal result }
 {
     let _kind = box_node.kind;
@@ -264,7 +264,7 @@ pub fn glyph_mark(
         v: at.v,
         width: glyph.width,
         end: next.h,
-        ink: MarkKind::Glyph {
+        mark_kind: MarkKind::Glyph {
             slot: glyph.slot,
             code: glyph.code,
         },
@@ -280,7 +280,7 @@ pub fn place_glyph(
     glyph: Glyph,
 ) -> Option<PlacedMark>
     requires { Reaches box_node.now.kind at.h next.h (nodes.Glyph glyph) }
-    ensures mark { (rest : Picture) → strokes_in result rest ≡ strokes_of box_node.now at.h at.v (nodes.Glyph glyph) rest }
+    ensures mark { (rest : DrawnPage) → marked_in result rest ≡ marked_of box_node.now at.h at.v (nodes.Glyph glyph) rest }
     ensures end { IfSome result (IsMarkEnd box_node.now.kind) }
 {
     match box_node.kind {
@@ -299,7 +299,7 @@ pub fn place_item(
 ) -> Option<PlacedItem>
     requires { Reaches box_node.now.kind at.h next.h node.now }
     ensures fits { is_some result ≡ list_all fits (points_and_sizes box_node.now at.h at.v next.h next.v node.now) }
-    ensures mark { IfSome result (λ s. (rest : Picture) → strokes_in s.mark rest ≡ strokes_of box_node.now at.h at.v node.now rest) }
+    ensures mark { IfSome result (λ s. (rest : DrawnPage) → marked_in s.mark rest ≡ marked_of box_node.now at.h at.v node.now rest) }
     ensures end { IfSome result (λ s. IfSome s.mark (IsMarkEnd box_node.now.kind)) }
     ensures h { IfSome result (λ s. s.at.h ≡ reference_h box_node.now.kind at.h node.now) }
     ensures v { IfSome result (λ s. s.at.v ≡ reference_v box_node.now.kind at.v node.now) }

@@ -75,8 +75,8 @@ pub trait MarkSink<B: BoxRef> {
     ghost use Rattle.node_core.specs.declared.tree.Kind.{Kind};
     ghost use Rattle.scaled_core.specs.Mark as marks;
     ghost use Rattle.scaled_core.specs.Mark.{Special};
-    ghost use Rattle.page_core.specs.Pictures.{Picture, blank, stroke, group};
-    ghost use Rattle.page_core.specs.Placing.{IsMarkEnd, strokes_in};
+    ghost use Rattle.page_core.specs.DrawnPages.{DrawnPage, blank, marked, group};
+    ghost use Rattle.page_core.specs.Placing.{IsMarkEnd, marked_in};
 
     /// What the sink keeps of its state where a group begins, for the end of that group.
     type Place: Drop;
@@ -87,48 +87,48 @@ pub trait MarkSink<B: BoxRef> {
     /// What the marks come to.
     ghost Drawn: { Type 0 };
 
-    /// What the marks that the sink was given come to, with a picture that follows them in a list of that kind.
-    ghost drawn_with: { Kind → Self → Picture → Drawn };
+    /// What the marks that the sink was given come to, with what is drawn after them in a list of that kind.
+    ghost drawn_with: { Kind → Self → DrawnPage → Drawn };
 
     /// The second sink is the first one after a group was opened, which returned the place.
     ghost Opens: { Self → Self → Self.Place → Type 0 };
 
     /// The last mark was a glyph of the font in this slot, and ended at (h, v).
-    ghost Stands: { Self → (h v : ℤ) → (slot : ℕ) → Type 0 };
+    ghost IsAt: { Self → (h v : ℤ) → (slot : ℕ) → Type 0 };
 
     /// Takes the mark of an item in a list of that kind, if the item has one.
     fn draw(&mut self, kind: Kind, mark: Option<PlacedMark>) -> Result<(), Self::Fault>
         requires end { IfSome mark (IsMarkEnd kind) }
-        ensures mark { OnOk result ((rest : Picture) → drawn_with kind self.old (strokes_in mark rest) ≡ drawn_with kind self.new rest) };
+        ensures mark { OnOk result ((rest : DrawnPage) → drawn_with kind self.old (marked_in mark rest) ≡ drawn_with kind self.new rest) };
 
     /// Takes a glyph of a horizontal list at a position, with the value of h after it.
     fn draw_glyph(&mut self, at: PagePosition, glyph: Glyph, end: Dimen) -> Result<(), Self::Fault>
         requires { end ≡ at.h +ℤ glyph.width }
-        ensures mark { OnOk result ((rest : Picture) → drawn_with Kind.Horizontal self.old
-            (stroke (marks.Glyph (pos glyph.slot) (pos glyph.code) at.h at.v) glyph.width rest) ≡ drawn_with Kind.Horizontal self.new rest) }
-        ensures stands { OnOk result (Stands self.new end at.v glyph.slot) };
+        ensures mark { OnOk result ((rest : DrawnPage) → drawn_with Kind.Horizontal self.old
+            (marked (marks.Glyph (pos glyph.slot) (pos glyph.code) at.h at.v) glyph.width rest) ≡ drawn_with Kind.Horizontal self.new rest) }
+        ensures is_at { OnOk result (IsAt self.new end at.v glyph.slot) };
 
     /// Takes a glyph that stands where the last one ended, of the same font, where that takes no memory; and returns whether it did.
     fn draw_next(&mut self, at: PagePosition, glyph: Glyph, end: Dimen) -> bool
         requires end { end ≡ at.h +ℤ glyph.width }
-        requires stands { Stands self.old at.h at.v glyph.slot }
-        ensures mark { result ≡ true → (rest : Picture) → drawn_with Kind.Horizontal self.old
-            (stroke (marks.Glyph (pos glyph.slot) (pos glyph.code) at.h at.v) glyph.width rest) ≡ drawn_with Kind.Horizontal self.new rest }
-        ensures stands { result ≡ true → Stands self.new end at.v glyph.slot }
-        ensures same { result ≡ false → (rest : Picture) → drawn_with Kind.Horizontal self.old rest ≡ drawn_with Kind.Horizontal self.new rest };
+        requires is_at { IsAt self.old at.h at.v glyph.slot }
+        ensures mark { result ≡ true → (rest : DrawnPage) → drawn_with Kind.Horizontal self.old
+            (marked (marks.Glyph (pos glyph.slot) (pos glyph.code) at.h at.v) glyph.width rest) ≡ drawn_with Kind.Horizontal self.new rest }
+        ensures is_at { result ≡ true → IsAt self.new end at.v glyph.slot }
+        ensures same { result ≡ false → (rest : DrawnPage) → drawn_with Kind.Horizontal self.old rest ≡ drawn_with Kind.Horizontal self.new rest };
 
     /// Takes a special at a position.
     fn draw_special(&mut self, at: PagePosition, text: B::Text) -> Result<(), Self::Fault>
-        ensures special { OnOk result ((kind : Kind) (rest : Picture)
-            → drawn_with kind self.old (stroke (Special at.h at.v (B.bytes text)) (pos 0) rest) ≡ drawn_with kind self.new rest) };
+        ensures special { OnOk result ((kind : Kind) (rest : DrawnPage)
+            → drawn_with kind self.old (marked (Special at.h at.v (B.bytes text)) (pos 0) rest) ≡ drawn_with kind self.new rest) };
 
     /// Opens a group, and returns what `close_group` needs.
     fn open_group(&mut self) -> Result<Self::Place, Self::Fault>
         ensures opens { IfOk result (λ place. Opens self.old self.new place) };
 
-    /// Closes the group that was opened at a place: where the sink inside it was given the picture of a box, the sink around it has got this group.
+    /// Closes the group that was opened at a place: where the sink inside it was given a drawn box, the sink around it has got this group.
     fn close_group(&mut self, place: Self::Place) -> Result<(), Self::Fault>
-        ensures group { OnOk result ((kind own : Kind) (outer inside : Self) (inner rest : Picture) → Opens outer inside place
+        ensures group { OnOk result ((kind own : Kind) (outer inside : Self) (inner rest : DrawnPage) → Opens outer inside place
             → drawn_with own inside inner ≡ drawn_with own self.old blank
             → drawn_with kind outer (group own inner rest) ≡ drawn_with kind self.new rest) };
 }
@@ -148,7 +148,7 @@ impl<B: BoxRef> MarkSink<B> for NoMarks {
 
     ghost Opens = { λ outer inside place. Unit {0} };
 
-    ghost Stands = { λ sink h v slot. Unit {0} };
+    ghost IsAt = { λ sink h v slot. Unit {0} };
 
     #[inline(always)]
     fn draw(&mut self, _kind: Kind, _mark: Option<PlacedMark>) -> Result<(), Infallible> {

@@ -1,4 +1,4 @@
--- Pictures by their pixels.
+-- Grids by their pixels.
 use Rattle.std.proofs.Common.{◌≡◌, ◌==◌, ℕ, ◌+◌, ◌*◌, ◌/◌, ◌%◌, ◌<◌, ◌≤◌, Bool, true, false, ◌||◌, List, [], length, get_or, map, replicate, sym, ap, ◌∙◌, arith, inl, inr, ◌⊎◌}
 use Rattle.std.proofs.lemmas.Bool.{cases_lt}
 use Rattle.std.proofs.lemmas.List.{get_or-replicate, length-replicate, get_or_past}
@@ -9,9 +9,9 @@ use Rattle.raster_core.specs.Words.{AreFull, in_rows, is_set}
 use Rattle.dvi_scan.specs.View.{mark_of}
 use Rattle.dvi_scan.specs.declared.page.Mark.{Mark as PassMark}
 use Rattle.raster_core.specs.Pixels.{Scale, is_covered}
-use Rattle.raster_core.specs.Pictures.{PixelGrid, grid_of, is_black, painted_picture, white}
+use Rattle.raster_core.specs.PixelGrids.{PixelGrid, grid_of, is_black, painted_grid, white}
 
--- A row of a picture.
+-- A row of a grid of pixels.
 abbrev pub row_of : (width : ℕ) → (black : ℕ → ℕ → Bool) → ℕ → List Bool
 row_of width black y = map (λ x. black x y) (range_with_len 0 width)
 
@@ -25,7 +25,7 @@ same_rows w h f g same =
     fill_by_all (row_of w g) (map (row_of w f) (range_with_len 0 h)) h [] (length-map-range_with_len (row_of w f) 0 h)
     (λ k l. get_or-map-range_with_len (row_of w f) 0 h k k [] l (omega arith) ∙ same_row w f g k (λ x j. same x k j l))
 
--- Pictures with equal pixels are equal.
+-- Grids with equal pixels are equal.
 pub same_drawn : (w h : ℕ) (f g : ℕ → ℕ → Bool) → ((x y : ℕ) → x < w → y < h → f x y ≡ g x y) → grid_of w h f ≡ grid_of w h g
 unfolding grid_of
 same_drawn w h f g same =
@@ -39,7 +39,7 @@ drawn_pixel w h f x y within below =
     ∙ get_or-map-range_with_len (λ z. f z y) 0 w x x false within (omega arith)
 
 pub painted_is : (w h : ℕ) (old new : List ℕ) (n : ℕ) (black : ℕ → ℕ → Bool) → ((x y : ℕ) → x < w → y < h → in_rows new n x y ≡ (in_rows old n x y || black x y))
-    → grid_of w h (in_rows new n) ≡ painted_picture black (grid_of w h (in_rows old n))
+    → grid_of w h (in_rows new n) ≡ painted_grid black (grid_of w h (in_rows old n))
 unfolding grid_of
 painted_is w h old new n black step =
     same_drawn w h (in_rows new n) (λ x y. is_black (grid_of w h (in_rows old n)) x y || black x y)
@@ -49,15 +49,15 @@ painted_is w h old new n black step =
 pub repainted : (w h : ℕ) (words mask old before new after new_words new_mask : List ℕ) (s t : Scale) (marks seen : List PassMark)
     → new_words ≡ new → new_mask ≡ after → length after ≡ length before → old ≡ words → before ≡ mask → s ≡ t → seen ≡ marks
     → ((x y : ℕ) → x < w → y < h → in_rows new (length before) x y ≡ (in_rows old (length before) x y || is_covered s (map mark_of seen) x y))
-    → grid_of w h (in_rows new_words (length new_mask)) ≡ painted_picture (is_covered t (map mark_of marks)) (grid_of w h (in_rows words (length mask)))
+    → grid_of w h (in_rows new_words (length new_mask)) ≡ painted_grid (is_covered t (map mark_of marks)) (grid_of w h (in_rows words (length mask)))
 repainted w h words mask old before new after new_words new_mask s t marks seen a b c d e f g step =
     ap (λ l. grid_of w h (in_rows l (length new_mask))) a
     ∙ (ap (λ n. grid_of w h (in_rows new n)) (ap length b ∙ c)
     ∙ (painted_is w h old new (length before) (is_covered s (map mark_of seen)) step
-    ∙ (ap (λ l. painted_picture (is_covered s (map mark_of seen)) (grid_of w h (in_rows l (length before)))) d
-    ∙ (ap (λ l. painted_picture (is_covered s (map mark_of seen)) (grid_of w h (in_rows words (length l)))) e
-    ∙ (ap (λ u. painted_picture (is_covered u (map mark_of seen)) (grid_of w h (in_rows words (length mask)))) f
-    ∙ ap (λ l. painted_picture (is_covered t (map mark_of l)) (grid_of w h (in_rows words (length mask)))) g)))))
+    ∙ (ap (λ l. painted_grid (is_covered s (map mark_of seen)) (grid_of w h (in_rows l (length before)))) d
+    ∙ (ap (λ l. painted_grid (is_covered s (map mark_of seen)) (grid_of w h (in_rows words (length l)))) e
+    ∙ (ap (λ u. painted_grid (is_covered u (map mark_of seen)) (grid_of w h (in_rows words (length mask)))) f
+    ∙ ap (λ l. painted_grid (is_covered t (map mark_of l)) (grid_of w h (in_rows words (length mask)))) g)))))
 
 abbrev zeros : ℕ → List ℕ
 zeros n = replicate n 0
@@ -78,7 +78,7 @@ none_full n stride full words cleared x y h is =
     ∙ (ap (λ k. is_set k (x / 64 % 64)) (no_word n (y * 3 + x / 64 / 64)) ∙ ap (λ bit. bit == 1) (bit_at-zero (x / 64 % 64))) in
     let both : true ≡ false = sym is ∙ white in absurd cc
 
--- Words that are 0 show a white picture.
+-- Words that are 0 show a white grid.
 pub white_is : (w h n stride : ℕ) (words : List ℕ) → words ≡ zeros n → grid_of w h (in_rows words stride) ≡ white w h
 unfolding in_rows
 white_is w h n stride words cleared =

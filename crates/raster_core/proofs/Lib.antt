@@ -7,4 +7,4 @@ pub mod PaintedMarks
 pub mod DrawnPixels
 pub mod TextRuns
 pub mod RowLines
-pub mod AheadLemmas
+pub mod TextLeftLemmas

@@ -63,7 +63,7 @@ pub fill_more : (mask : List ℕ) (k word first last from : ℕ) → k < length 
     → ((x : ℕ) → 64 * from ≤ x → x < 64 * k → in_row mask x ≡ is_between first last x)
     → (x : ℕ) → 64 * from ≤ x → x < 64 * (k + 1) → in_row (set mask k word) x ≡ is_between first last x
 unfolding in_row
-fill_more mask k word first last from room here below x low high = go (cases_lt x (64 * k))
+fill_more mask k word first last from space here below x low high = go (cases_lt x (64 * k))
   where
     go : (x < 64 * k) ⊎ (64 * k ≤ x) → is_set (get_or (set mask k word) (x / 64) 0) (x % 64) ≡ is_between first last x
     go (inl h) = let other : x / 64 ≢ k = omega arith in ap (λ w. is_set w (x % 64)) (get_or-set_other mask k (x / 64) word 0 other) ∙ below x low h
@@ -71,7 +71,7 @@ fill_more mask k word first last from room here below x low high = go (cases_lt 
         let same : x / 64 ≡ k = omega arith in
         let whole : 64 * k + x % 64 ≡ x = omega arith in
         ap (λ j. is_set (get_or (set mask k word) j 0) (x % 64)) same
-        ∙ (ap (λ w. is_set w (x % 64)) (get_or-set_same mask k word 0 room)
+        ∙ (ap (λ w. is_set w (x % 64)) (get_or-set_same mask k word 0 space)
         ∙ (here (x % 64) (mod_below x 64 (omega arith)) ∙ ap (is_between first last) whole))
 
 -- The word that `fill` writes.

@@ -4,7 +4,7 @@ use Rattle.std.specs.List.{flat_map, range_with_len}
 use Rattle.std.proofs.Math.Nat.{suc-mul}
 use Rattle.std.proofs.lemmas.List.{append-nil, append_assoc}
 use Rattle.raster_core.specs.Words.{in_rows}
-use Rattle.raster_core.specs.Pictures.{PixelGrid, grid_of, is_black}
+use Rattle.raster_core.specs.PixelGrids.{PixelGrid, grid_of, is_black}
 use Rattle.raster_core.specs.PlainText.{digit_text, ends_line, header_text, pbm, row_text, rows_text}
 use Rattle.raster_core.proofs.DrawnPixels.{drawn_pixel}
 
@@ -48,7 +48,7 @@ same_rows_text w h f g same =
     (λ y b. same_from (λ x. digit_text (f x y) (ends_line w x)) (λ x. digit_text (g x y) (ends_line w x)) 0 w
     (λ x a. ap (λ d. digit_text d (ends_line w x)) (same x y (omega arith) (omega arith))))
 
--- The text of a drawn picture.
+-- The text of a drawn grid.
 pub pbm_drawn : (w h : ℕ) (f : ℕ → ℕ → Bool) → header_text w h ++ rows_text w h f ≡ pbm (grid_of w h f)
 unfolding grid_of
 pbm_drawn w h f =

@@ -1,7 +1,7 @@
--- The text of a picture: a plain PBM file (Netpbm, plain PBM).
+-- The text of a grid of pixels: a plain PBM file (Netpbm, plain PBM).
 use Rattle.std.specs.Prelude.{◌==◌, ◌+◌, ◌%◌, ◌||◌, ◌++◌, ℕ, Bool, if◌then◌else◌, List, [], ◌∷◌, codes, decimal}
 use Rattle.std.specs.List.{flat_map, range_with_len}
-use Rattle.raster_core.specs.Pictures.{PixelGrid, is_black}
+use Rattle.raster_core.specs.PixelGrids.{PixelGrid, is_black}
 
 -- Whether a line ends after the digit of column x: after every seventieth digit of a row, and at the end of the row (Netpbm: no line is longer than
 -- 70).
@@ -24,6 +24,6 @@ rows_text width height black = flat_map (λ y. row_text width (λ x. black x y))
 abbrev pub header_text : (width height : ℕ) → List ℕ
 header_text width height = codes "P1\n" ++ (decimal width ++ (codes " " ++ (decimal height ++ codes "\n")))
 
--- The text of a picture (Netpbm, plain PBM).
+-- The text of a grid of pixels (Netpbm, plain PBM).
 abbrev pub pbm : PixelGrid → List ℕ
 pbm p = header_text p.width p.height ++ rows_text p.width p.height (is_black p)

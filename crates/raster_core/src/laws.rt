@@ -2,9 +2,9 @@
 
 ghost use Rattle.std.specs.Prelude.{◌≡◌, ◌+◌, ◌*◌, ◌<◌, ◌≤◌, ◌||◌, ℕ, Bool, false, pos};
 ghost use Rattle.raster_core.specs.Pixels.{Scale, pixels};
-ghost use Rattle.raster_core.specs.Pictures.{PixelGrid, grid_of, is_black, painted_picture};
+ghost use Rattle.raster_core.specs.PixelGrids.{PixelGrid, grid_of, is_black, painted_grid};
 
-/// A drawn picture has its size. A pixel inside it is black exactly where it should be, and none outside is.
+/// A drawn grid has its size. A pixel inside it is black exactly where it should be, and none outside is.
 pub fn drawn_pixels()
     ensures width { (w h : ℕ) (black : ℕ → ℕ → Bool) → (grid_of w h black).width ≡ w }
     ensures height { (w h : ℕ) (black : ℕ → ℕ → Bool) → (grid_of w h black).height ≡ h }

@@ -1,7 +1,7 @@
 //! How a page is painted.
 
 ghost use Rattle.std.specs.Prelude.{◌≡◌, ◌≤◌, IsTrue, SomeIff};
-ghost use Rattle.raster_core.specs.Sheets.{is_paintable, sheet_of};
+ghost use Rattle.raster_core.specs.PaintOptions.{is_paintable, options_of};
 
 use std::marker::Model;
 
@@ -16,20 +16,20 @@ pub struct PaintOptions {
 
 impl Model for PaintOptions {
     ghost use Rattle.std.specs.Prelude.{IsTrue};
-    ghost use Rattle.raster_core.specs.Sheets.{Sheet, is_paintable, sheet_of};
+    ghost use Rattle.raster_core.specs.PaintOptions.{PaintOptionsView, is_paintable, options_of};
 
-    ghost Value = { Sheet };
+    ghost Value = { PaintOptionsView };
 
-    ghost view = { λ options. sheet_of options.page options.dpi options.width options.height };
+    ghost view = { λ options. options_of options.page options.dpi options.width options.height };
 
-    ghost invariant = { λ options. IsTrue (is_paintable (sheet_of options.page options.dpi options.width options.height)) };
+    ghost invariant = { λ options. IsTrue (is_paintable (options_of options.page options.dpi options.width options.height)) };
 
-    ghost inverse = { λ sheet. record { page = sheet.page; dpi = sheet.dpi; width = sheet.width; height = sheet.height } };
+    ghost inverse = { λ options. record { page = options.page; dpi = options.dpi; width = options.width; height = options.height } };
 }
 
 /// Whether numbers are in their ranges.
 fn is_paintable(page: u32, dpi: u32, width: u32, height: u32) -> bool
-    ensures { result ≡ is_paintable (sheet_of page dpi width height) }
+    ensures { result ≡ is_paintable (options_of page dpi width height) }
 {
     1 <= page && dpi <= 10_000 && 1 <= width && width <= 10_000 && 1 <= height && height <= 10_000
 }
@@ -37,7 +37,7 @@ fn is_paintable(page: u32, dpi: u32, width: u32, height: u32) -> bool
 impl PaintOptions {
     /// Options with these numbers: the page, pixels an inch, and the width and the height in pixels. None if one of them is out of its range.
     pub fn try_new(page: u32, dpi: u32, width: u32, height: u32) -> Option<PaintOptions>
-        ensures { SomeIff result (IsTrue (is_paintable (sheet_of page dpi width height))) (sheet_of page dpi width height) }
+        ensures { SomeIff result (IsTrue (is_paintable (options_of page dpi width height))) (options_of page dpi width height) }
     {
         if !is_paintable(page, dpi, width, height) {
             return None;

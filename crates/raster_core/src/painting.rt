@@ -6,9 +6,9 @@ ghost use Rattle.dvi_ops.specs.View.{units as units_of};
 ghost use Rattle.dvi_scan.specs.View.{mark_of, marked_page};
 ghost use Rattle.raster_core.specs.Words.{AreFull, in_rows};
 ghost use Rattle.raster_core.specs.Pixels.{covers, is_covered, scale_of};
-ghost use Rattle.raster_core.specs.Pictures.{is_size, painted_picture, white};
+ghost use Rattle.raster_core.specs.PixelGrids.{is_size, painted_grid, white};
 ghost use Rattle.raster_core.specs.PlainText.{header_text, pbm, rows_text};
-ghost use Rattle.raster_core.specs.TextAhead.{pbm_text_ahead};
+ghost use Rattle.raster_core.specs.TextLeft.{pbm_text_left};
 
 use crate::pixels::Scale;
 use crate::printing::append_text;
@@ -34,13 +34,13 @@ pub struct Bitmap {
 }
 
 impl Model for Bitmap {
-    ghost use Rattle.raster_core.specs.Pictures.{PixelGrid};
+    ghost use Rattle.raster_core.specs.PixelGrids.{PixelGrid};
 
     ghost Value = { PixelGrid };
 
-    ghost use Rattle.raster_core.specs.Private.Bitmaps.{IsBitmap, picture};
+    ghost use Rattle.raster_core.specs.Private.Bitmaps.{IsBitmap, pixels_of};
 
-    ghost view = { picture };
+    ghost view = { pixels_of };
 
     ghost invariant = { IsBitmap };
 }
@@ -67,7 +67,7 @@ impl Bitmap {
     pub fn paint(&mut self, page: &Page<'_>, units: Units, dpi: u32)
         requires units { AreUnits (units_of units) }
         requires dpi { dpi ≤ 10000 }
-        ensures { self.new ≡ painted_picture (is_covered (scale_of (units_of units) dpi) (marked_page page.now).marks) self.old }
+        ensures { self.new ≡ painted_grid (is_covered (scale_of (units_of units) dpi) (marked_page page.now).marks) self.old }
     {
         let scale = Scale::new(units, dpi);
         let window = Window {
@@ -95,7 +95,7 @@ impl Bitmap {
 
     /// The text of the bitmap, the same as `write_pbm` appends, to be taken in pieces. It takes no memory.
     pub fn text(&self) -> PbmText<'_>
-        ensures { pbm_text_ahead result ≡ pbm self.now }
+        ensures { pbm_text_left result ≡ pbm self.now }
     {
         PbmText::new(self.rows())
     }

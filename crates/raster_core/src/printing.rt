@@ -19,7 +19,7 @@ pub const MAX_DIGITS: usize = 10_048;
 
 /// Appends bytes within the capacity of `out`. It takes no memory.
 fn append_bytes(out: &mut Vec<u8>, bytes: &[u8])
-    requires room { vec_len out.old + length bytes.now ≤ vec_capacity out.old }
+    requires space { vec_len out.old + length bytes.now ≤ vec_capacity out.old }
     ensures text { out.new.items ≡ out.old.items ++ bytes.now }
     ensures len { vec_len out.new ≡ vec_len out.old + length bytes.now }
     ensures capacity { vec_capacity out.old ≤ vec_capacity out.new }
@@ -32,7 +32,7 @@ fn append_bytes(out: &mut Vec<u8>, bytes: &[u8])
 /// Appends a number in decimal, within the capacity of `out`.
 fn append_number(out: &mut Vec<u8>, number: usize)
     requires number_bounded { number ≤ 10000 }
-    requires room { vec_len out.old + 5 ≤ vec_capacity out.old }
+    requires space { vec_len out.old + 5 ≤ vec_capacity out.old }
     ensures text { out.new.items ≡ out.old.items ++ decimal number }
     ensures len { vec_len out.new ≤ vec_len out.old + 5 }
     ensures capacity { vec_capacity out.old ≤ vec_capacity out.new }
@@ -45,7 +45,7 @@ fn append_number(out: &mut Vec<u8>, number: usize)
 pub fn append_header(out: &mut Vec<u8>, width: usize, height: usize)
     requires width_bounded { width ≤ 10000 }
     requires height_bounded { height ≤ 10000 }
-    requires room { vec_len out.old + MAX_HEADER ≤ vec_capacity out.old }
+    requires space { vec_len out.old + MAX_HEADER ≤ vec_capacity out.old }
     ensures text { out.new.items ≡ out.old.items ++ header_text width height }
     ensures len { vec_len out.new ≤ vec_len out.old + MAX_HEADER }
     ensures capacity { vec_capacity out.old ≤ vec_capacity out.new }
@@ -82,7 +82,7 @@ fn put_word(word: u64, part: &mut [u8])
 
 /// Writes the digits of all words of a row; there may be more pixels than columns.
 fn put_row(words: &[u64], stride: usize, y: usize, row: &mut [u8])
-    requires room { length row.old ≡ 64 * stride }
+    requires space { length row.old ≡ 64 * stride }
     requires rows { y * stride + stride ≤ length words.now }
     ensures { row.new ≡ digits (λ x. in_rows words.now stride x y) 0 (64 * stride) }
 {
@@ -95,7 +95,7 @@ fn put_row(words: &[u64], stride: usize, y: usize, row: &mut [u8])
 fn append_line(out: &mut Vec<u8>, row: &[u8], width: usize, line: usize)
     requires line { 70 * line < width }
     requires columns { width ≤ length row.now }
-    requires room { vec_len out.old + (min (width - 70 * line) 70 + 1) ≤ vec_capacity out.old }
+    requires space { vec_len out.old + (min (width - 70 * line) 70 + 1) ≤ vec_capacity out.old }
     ensures text { (black : ℕ → Bool) → row.now ≡ digits black 0 (length row.now) → out.new.items ≡ out.old.items ++ line_text width black line }
     ensures len { vec_len out.new ≡ vec_len out.old + (min (width - 70 * line) 70 + 1) }
     ensures capacity { vec_capacity out.old ≤ vec_capacity out.new }
@@ -108,7 +108,7 @@ fn append_line(out: &mut Vec<u8>, row: &[u8], width: usize, line: usize)
 /// Appends the text of a row with these digits, within the capacity of `out`.
 fn append_lines(out: &mut Vec<u8>, row: &[u8], width: usize)
     requires columns { width ≤ length row.now }
-    requires room { vec_len out.old + row_size width ≤ vec_capacity out.old }
+    requires space { vec_len out.old + row_size width ≤ vec_capacity out.old }
     ensures text { (black : ℕ → Bool) → row.now ≡ digits black 0 (length row.now) → out.new.items ≡ out.old.items ++ row_text width black }
     ensures len { vec_len out.new ≡ vec_len out.old + row_size width }
     ensures capacity { vec_capacity out.old ≤ vec_capacity out.new }
@@ -122,7 +122,7 @@ fn append_lines(out: &mut Vec<u8>, row: &[u8], width: usize)
 pub fn append_row(out: &mut Vec<u8>, rows: Rows<'_>, y: usize, digits: &mut [u8])
     requires row { y < rows.height }
     requires digits { MAX_DIGITS ≤ length digits.old }
-    requires room { vec_len out.old + row_size rows.width ≤ vec_capacity out.old }
+    requires space { vec_len out.old + row_size rows.width ≤ vec_capacity out.old }
     ensures text { out.new.items ≡ out.old.items ++ row_text rows.entry.width (λ x. in_rows rows.entry.words.now rows.entry.stride x y) }
     ensures len { vec_len out.new ≡ vec_len out.old + row_size rows.entry.width }
     ensures capacity { vec_capacity out.old ≤ vec_capacity out.new }
@@ -134,7 +134,7 @@ pub fn append_row(out: &mut Vec<u8>, rows: Rows<'_>, y: usize, digits: &mut [u8]
 
 /// Appends the text of all rows, within the capacity of `out`.
 fn append_rows(out: &mut Vec<u8>, rows: Rows<'_>)
-    requires room { vec_len out.old + rows.height * row_size rows.width ≤ vec_capacity out.old }
+    requires space { vec_len out.old + rows.height * row_size rows.width ≤ vec_capacity out.old }
     ensures { out.new.items ≡ out.old.items ++ rows_text rows.entry.width rows.entry.height (in_rows rows.entry.words.now rows.entry.stride) }
 {
     let mut digits = [0; MAX_DIGITS];

@@ -4,7 +4,7 @@ ghost use Rattle.std.specs.Prelude.{◌≡◌, ◌+◌, ◌*◌, ◌<◌, ◌≤
 ghost use Rattle.raster_core.specs.Words.{in_rows};
 ghost use Rattle.raster_core.specs.PlainText.{header_text, rows_text};
 ghost use Rattle.raster_core.specs.Private.RowPieces.{row_size};
-ghost use Rattle.raster_core.specs.TextAhead.{pbm_text_ahead};
+ghost use Rattle.raster_core.specs.TextLeft.{pbm_text_left};
 ghost use Rattle.raster_core.specs.declared.text.TheConstants.{ROW_TEXT};
 
 use crate::printing::{MAX_DIGITS, append_header, append_row};
@@ -28,7 +28,7 @@ pub struct PbmText<'a> {
 impl<'a> PbmText<'a> {
     /// The text of all rows, with its header.
     pub(crate) fn new(rows: Rows<'a>) -> PbmText<'a>
-        ensures { pbm_text_ahead result ≡ header_text rows.entry.width rows.entry.height ++ rows_text rows.entry.width rows.entry.height
+        ensures { pbm_text_left result ≡ header_text rows.entry.width rows.entry.height ++ rows_text rows.entry.width rows.entry.height
             (in_rows rows.entry.words.now rows.entry.stride) }
     {
         PbmText {
@@ -42,7 +42,7 @@ impl<'a> PbmText<'a> {
     /// Appends the header, if it was not given yet.
     fn begin(&mut self, piece: &mut Vec<u8>)
         requires { vec_len piece.old + ROW_TEXT ≤ vec_capacity piece.old }
-        ensures all { piece.new.items ++ pbm_text_ahead self.new ≡ piece.old.items ++ pbm_text_ahead self.old }
+        ensures all { piece.new.items ++ pbm_text_left self.new ≡ piece.old.items ++ pbm_text_left self.old }
         ensures begun { IsTrue self.new.begun }
         ensures capacity { vec_capacity piece.old ≤ vec_capacity piece.new }
     {
@@ -55,8 +55,8 @@ impl<'a> PbmText<'a> {
     /// Appends the next rows, as far as the capacity of `piece` allows. It takes no memory.
     fn fill(&mut self, piece: &mut Vec<u8>)
         requires { IsTrue self.old.begun }
-        ensures all { piece.new.items ++ pbm_text_ahead self.new ≡ piece.old.items ++ pbm_text_ahead self.old }
-        ensures none { ROW_TEXT ≤ vec_capacity piece.old → piece.new.items ≡ [] → pbm_text_ahead self.new ≡ [] }
+        ensures all { piece.new.items ++ pbm_text_left self.new ≡ piece.old.items ++ pbm_text_left self.old }
+        ensures none { ROW_TEXT ≤ vec_capacity piece.old → piece.new.items ≡ [] → pbm_text_left self.new ≡ [] }
         ensures capacity { vec_capacity piece.old ≤ vec_capacity piece.new }
     {
         let size = self.rows.row_size();
@@ -70,8 +70,8 @@ impl<'a> PbmText<'a> {
     /// memory. A piece ends after a row.
     pub fn next_piece(&mut self, piece: &mut Vec<u8>) -> bool
         requires { ROW_TEXT ≤ vec_capacity piece.old }
-        ensures all { pbm_text_ahead self.old ≡ piece.new.items ++ pbm_text_ahead self.new }
-        ensures none { result ≡ false → pbm_text_ahead self.old ≡ [] }
+        ensures all { pbm_text_left self.old ≡ piece.new.items ++ pbm_text_left self.new }
+        ensures none { result ≡ false → pbm_text_left self.old ≡ [] }
         ensures piece_nonempty { IsTrue result → 0 < length piece.new.items }
         ensures capacity { vec_capacity piece.old ≤ vec_capacity piece.new }
     {

@@ -25,8 +25,8 @@ struct Run<'a> {
 /// Makes a run of pixels of a row black. Where the words that it fills are known to be black, only the first and the last word of the run are
 /// written.
 fn blacken_row(words: &mut [u64], full: &mut [u64], run: Run<'_>, row: usize)
-    requires room { row * length run.mask.now + length run.mask.now ≤ length words.old }
-    requires full_room { row * 3 + 3 ≤ length full.old }
+    requires space { row * length run.mask.now + length run.mask.now ≤ length words.old }
+    requires full_space { row * 3 + 3 ≤ length full.old }
     requires full { AreFull full.old words.old (length run.mask.now) }
     ensures full { AreFull full.new words.new (length run.entry.mask.now) }
     ensures pixels { let stride = length run.entry.mask.now in
@@ -48,8 +48,8 @@ fn blacken_row(words: &mut [u64], full: &mut [u64], run: Run<'_>, row: usize)
 /// Makes a run of pixels black in each of these rows.
 fn blacken_rows(words: &mut [u64], full: &mut [u64], run: Run<'_>, rows: Range<usize>)
     requires rows { rows.start ≤ rows.end }
-    requires room { rows.end * length run.mask.now ≤ length words.old }
-    requires full_room { rows.end * 3 ≤ length full.old }
+    requires space { rows.end * length run.mask.now ≤ length words.old }
+    requires full_space { rows.end * 3 ≤ length full.old }
     requires full { AreFull full.old words.old (length run.mask.now) }
     ensures full { AreFull full.new words.new (length run.entry.mask.now) }
     ensures pixels { let stride = length run.entry.mask.now in

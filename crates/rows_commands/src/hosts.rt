@@ -77,9 +77,9 @@ pub fn run<H: Host + Drop>(alloc: Global, words: &[&str], host: H) -> Result<Ran
 
 /// A writer that takes 0 bytes.
 #[derive(Drop)]
-struct Closed;
+struct ClosedWriter;
 
-impl Write for Closed {
+impl Write for ClosedWriter {
     fn write(&mut self, _piece: &[u8]) -> io::Result<usize> {
         Ok(0)
     }
@@ -124,7 +124,7 @@ impl FileHost for UnwritableFiles {
     }
 
     fn write(&mut self, piece: &[u8]) -> Result<usize, HostFault> {
-        let written = write_some(&mut Closed, piece);
+        let written = write_some(&mut ClosedWriter, piece);
         if written.is_err() {
             self.failures.raise();
         }

@@ -50,22 +50,22 @@ pub enum Rerun {
 
 /// A device that takes nothing.
 #[derive(Debug, Drop)]
-pub struct Broken {
+pub struct BrokenDevice {
     failures: u64,
 }
 
-impl Broken {
+impl BrokenDevice {
     ghost use Rattle.std.specs.Prelude.{◌≡◌};
 
     /// A device that has not failed yet.
-    pub fn new() -> Broken
+    pub fn new() -> BrokenDevice
         ensures { result.failures ≡ 0 }
     {
-        Broken { failures: 0 }
+        BrokenDevice { failures: 0 }
     }
 }
 
-impl Device for Broken {
+impl Device for BrokenDevice {
     ghost use Rattle.std.specs.Prelude.{None};
 
     ghost bytes_written = { λ broken. None };

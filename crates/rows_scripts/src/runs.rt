@@ -1,6 +1,6 @@
 //! Runs of a script on a device, and runs of it again over the rest of its file.
 
-use crate::devices::{Broken, FuseKind, Rerun};
+use crate::devices::{BrokenDevice, FuseKind, Rerun};
 use anyhow::{Context, Result, ensure};
 use boxglue_program::{Device, FontFile, Fuse, run_memory, run_rest, run_script};
 use dvi_device::write_all;
@@ -66,7 +66,7 @@ impl Script<'_> {
     /// The output of the script on a device that takes nothing.
     pub fn on_broken(&self, alloc: Global) -> Result<ScriptOutput> {
         let mut text = Vec::new(alloc);
-        let done = run_script(alloc, self.text, self.fonts, Broken::new(), &mut text).ok();
+        let done = run_script(alloc, self.text, self.fonts, BrokenDevice::new(), &mut text).ok();
         let (accepted, device) = done.context("memory was refused")?;
         writeln!(text, "failures {}", device.failures())?;
         Ok(ScriptOutput { text, accepted })

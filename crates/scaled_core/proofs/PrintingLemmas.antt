@@ -201,8 +201,8 @@ left_most f places rest unit p = ⊎_elim
     (cases_lt places 4)
 
 -- The rounding of the fifth digit does not go below 0.
-pub room : (f places rest unit : ℕ) → IsPrinting f places rest unit → 65536 < unit → 17232 ≤ rest
-room f places rest unit p above = ⊎_elim
+pub space : (f places rest unit : ℕ) → IsPrinting f places rest unit → 65536 < unit → 17232 ≤ rest
+space f places rest unit p above = ⊎_elim
     (λ (early : places < 4). absurd (omega (arith, unit_early f places rest unit p early)))
     (λ (late : 4 ≤ places). omega (arith, p.above (omega arith)))
     (cases_lt places 4)

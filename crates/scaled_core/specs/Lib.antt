@@ -5,6 +5,6 @@ pub mod Fractions
 pub mod Mark
 pub mod ParsedTexts
 pub mod PrintedDimensions
-pub mod Rooms
+pub mod Spaces
 pub mod Rounding
 pub mod Units

@@ -88,7 +88,7 @@ fn last_outcome<M: Metrics>(metrics: &M, code: u8) -> Outcome
     }
 }
 
-/// Appends an item. There is nearly always room for it, and then it is written in place.
+/// Appends an item. There is nearly always space for it, and then it is written in place.
 #[inline(always)]
 pub(crate) fn push(node: Node, nodes: &mut Vec<Node>) -> Result<(), AllocError>
     ensures ok { OnOk result (nodes.new.items ≡ nodes.old.items ++ node ∷ []) }

@@ -19,11 +19,11 @@ use Rattle.dvi_ops.proofs.Layouts.{length-bytes_of-append}
 use Rattle.dvi_ops.proofs.Spelled.{operand_length}
 use Rattle.dvi_ops.proofs.Shortest.{brief_length, special_length, movement_length, one_byte}
 use Rattle.page_core.specs.Marks.{ShippedPage, rule_below, rule_tall, rule_wide, marks_of_item, page_v}
-use Rattle.ship_core.specs.Drawing.{moved_by, selection_before, rule_leaf, font_after, body_of_picture, body_of}
-use Rattle.page_core.specs.Pictures.{Picture, blank, stroke, group, width_in, after_rule, picture_of_page}
+use Rattle.ship_core.specs.Drawing.{moved_by, selection_before, rule_leaf, font_after, body_of_drawn, body_of}
+use Rattle.page_core.specs.DrawnPages.{DrawnPage, blank, marked, group, width_in, after_rule, drawn_page_of}
 use Rattle.ship_core.specs.Shown.{HasWidth}
-use Rattle.ship_core.proofs.DrawnMarks.{EachStroke, IsByte}
-use Rattle.ship_core.proofs.Pictures.{parts, texts, each_rule, each_glyph, each_after, few_parts, few_texts}
+use Rattle.ship_core.proofs.DrawnMarks.{EachMark, IsByte}
+use Rattle.ship_core.proofs.DrawnPageLemmas.{parts, texts, each_rule, each_glyph, each_after, few_parts, few_texts}
 
 moved_bytes : (axis : Axis) (z : ℤ) (rest : Forest) → length (bytes_of (flat (moved_by axis z rest))) ≤ 5 + length (bytes_of (flat rest))
 moved_bytes axis (pos zero) rest = omega arith
@@ -68,53 +68,54 @@ selected_bytes (Some current) font rest small = by_test (int_eq font current)
     by_test true = omega arith
     by_test false = omega (arith, length-append (spelling (Do (FontNum font))) (bytes_of (flat rest)), length-font font small)
 
--- The font and the character of a stroke are bytes.
+-- The font and the character of a drawn mark are bytes.
 abbrev pub IsOfBytes : Kind → Mark → (by : ℤ) → Type 0
 IsOfBytes kind (body.Rule x y height width) by = Unit {0}
 IsOfBytes kind (body.Glyph font code x y) by = IsByte font × IsByte code
 IsOfBytes kind (body.Special x y text) by = Unit {0}
 
--- A stroke takes at most 19 bytes and the text of its special, and a group takes 2 bytes more than its contents.
+-- A drawn mark takes at most 19 bytes and the text of its special, and a group takes 2 bytes more than its contents.
 pub drawing_bytes :
-    (kind : Kind) (h v : ℤ) (current : Option ℤ) (p : Picture) → EachStroke IsOfBytes kind p → length (bytes_of (flat (body_of_picture kind h v current p))) ≤ 19 * parts p + texts p
+    (kind : Kind) (h v : ℤ) (current : Option ℤ) (p : DrawnPage) → EachMark IsOfBytes kind p
+    → length (bytes_of (flat (body_of_drawn kind h v current p))) ≤ 19 * parts p + texts p
 drawing_bytes kind h v current blank all = omega arith
-drawing_bytes kind h v current (stroke (body.Rule x y height width) by rest) (here, all) =
-    let others = body_of_picture kind (after_rule kind x width) y current rest in
-    let ink = Then (rule_leaf kind height width) others in
+drawing_bytes kind h v current (marked (body.Rule x y height width) by rest) (here, all) =
+    let others = body_of_drawn kind (after_rule kind x width) y current rest in
+    let mark_kind = Then (rule_leaf kind height width) others in
     omega (
       arith,
-      moved_bytes Across (x -ℤ h) (moved_by Downward (y -ℤ v) ink),
-      moved_bytes Downward (y -ℤ v) ink,
+      moved_bytes Across (x -ℤ h) (moved_by Downward (y -ℤ v) mark_kind),
+      moved_bytes Downward (y -ℤ v) mark_kind,
       length-append (spelling (Do (rule_leaf kind height width))) (bytes_of (flat others)),
       length-rule kind height width,
       drawing_bytes kind (after_rule kind x width) y current rest all,
     )
-drawing_bytes kind h v current (stroke (body.Glyph font code x y) by rest) (here, all) =
-    let others = body_of_picture kind (x +ℤ by) y (Some font) rest in
-    let ink = Then (SetChar code) others in
+drawing_bytes kind h v current (marked (body.Glyph font code x y) by rest) (here, all) =
+    let others = body_of_drawn kind (x +ℤ by) y (Some font) rest in
+    let mark_kind = Then (SetChar code) others in
     omega (
       arith,
-      moved_bytes Across (x -ℤ h) (moved_by Downward (y -ℤ v) (selection_before current font ink)),
-      moved_bytes Downward (y -ℤ v) (selection_before current font ink),
-      selected_bytes current font ink here.0,
+      moved_bytes Across (x -ℤ h) (moved_by Downward (y -ℤ v) (selection_before current font mark_kind)),
+      moved_bytes Downward (y -ℤ v) (selection_before current font mark_kind),
+      selected_bytes current font mark_kind here.0,
       length-append (spelling (Do (SetChar code))) (bytes_of (flat others)),
       length-char code here.1,
       drawing_bytes kind (x +ℤ by) y (Some font) rest all,
     )
-drawing_bytes kind h v current (stroke (body.Special x y text) by rest) (here, all) =
-    let others = body_of_picture kind x y current rest in
-    let ink = Then (Xxx text) others in
+drawing_bytes kind h v current (marked (body.Special x y text) by rest) (here, all) =
+    let others = body_of_drawn kind x y current rest in
+    let mark_kind = Then (Xxx text) others in
     omega (
       arith,
-      moved_bytes Across (x -ℤ h) (moved_by Downward (y -ℤ v) ink),
-      moved_bytes Downward (y -ℤ v) ink,
+      moved_bytes Across (x -ℤ h) (moved_by Downward (y -ℤ v) mark_kind),
+      moved_bytes Downward (y -ℤ v) mark_kind,
       length-append (spelling (Do (Xxx text))) (bytes_of (flat others)),
       special_length text,
       drawing_bytes kind x y current rest all,
     )
 drawing_bytes kind h v current (group own inner rest) (within, all) =
-    let first = flat (body_of_picture own h v current inner) in
-    let others = flat (body_of_picture kind h v (font_after current inner) rest) in
+    let first = flat (body_of_drawn own h v current inner) in
+    let others = flat (body_of_drawn kind h v (font_after current inner) rest) in
     omega (
       arith,
       length-append (spelling Push) (bytes_of (first ++ Pop ∷ others)),
@@ -126,7 +127,7 @@ drawing_bytes kind h v current (group own inner rest) (within, all) =
       drawing_bytes kind h v (font_after current inner) rest all,
     )
 
--- The strokes of a leaf whose font and character are bytes.
+-- The drawn marks of a leaf whose font and character are bytes.
 leaf_bytes :
     (widths : Widths) (b : BoxNode) (h v : ℤ) (x : Leaf) → HasWidth widths x → AllByRecursion (λ mark. IsOfBytes b.kind mark (width_in b x)) (marks_of_item b h v x)
 leaf_bytes widths b h v (glyph g) (wide, small) = each_glyph (λ mark. IsOfBytes b.kind mark g.width) b.kind h v g small
@@ -147,7 +148,8 @@ body_bytes widths page all =
     let b = page.box_node in
     omega (
       arith,
-      drawing_bytes b.kind (pos 0) (pos 0) None (picture_of_page page) (each_after IsOfBytes (HasWidth widths) (leaf_bytes widths) b page.h (page_v page) [] b.list all),
+      drawing_bytes b.kind (pos 0) (pos 0) None (drawn_page_of page)
+          (each_after IsOfBytes (HasWidth widths) (leaf_bytes widths) b page.h (page_v page) [] b.list all),
       few_parts b page.h (page_v page) [] b.list,
       few_texts b page.h (page_v page) [] b.list,
     )

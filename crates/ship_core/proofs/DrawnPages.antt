@@ -19,12 +19,13 @@ use Rattle.dvi_ops.specs.Layout.{IsWritable}
 use Rattle.scaled_core.proofs.EachOf.{all_append}
 use Rattle.page_core.specs.Marks.{ShippedPage, rule_below, rule_tall, rule_wide, marks_of_item, marks_of_box, marks_of_page, page_v, numbers_after, is_huge}
 use Rattle.ship_core.specs.Drawing.{body_of}
-use Rattle.page_core.specs.Pictures.{width_in, picture_of_page}
+use Rattle.page_core.specs.DrawnPages.{width_in, drawn_page_of}
 use Rattle.dvi_ops.specs.Plain.{NamesNoRegister}
 use Rattle.ship_core.specs.Shown.{HasWidth, state_at}
 use Rattle.page_core.proofs.Places.{first_of_three, second_of_three, items_fit}
-use Rattle.ship_core.proofs.DrawnMarks.{EachStroke, IsDrawn, IsInked, IsShort, HoldsBetween, HoldsOfAll, every_stroke, all_within, drawn_marks, drawn_writable, each_drawn, all_drawn, nests-body_of_picture}
-use Rattle.ship_core.proofs.Pictures.{marks-picture, each_rule, each_glyph, each_after, strokes_drawn, few_groups}
+use Rattle.ship_core.proofs.DrawnMarks.{EachMark, IsDrawn, IsDrawnMark, IsShort, HoldsBetween, HoldsOfAll, every_marked, all_within, drawn_marks}
+use Rattle.ship_core.proofs.DrawnMarks.{drawn_writable, each_drawn, all_drawn, nests-body_of_drawn}
+use Rattle.ship_core.proofs.DrawnPageLemmas.{marks-to_draw, each_rule, each_glyph, each_after, marks_drawn, few_groups}
 
 -- The bottom and the right edge of a page that is not huge fit.
 pub fits_down : (page : ShippedPage) → is_huge page ≡ false → fits (page.v +ℤ page.box_node.depth) ≡ true
@@ -39,12 +40,12 @@ fits_right page small =
     second_of_three (fits (page.v +ℤ page.box_node.depth)) (fits (page.h +ℤ page.box_node.width))
     (list_all fits (numbers_after page.box_node page.h (page_v page) [] page.box_node.list)) small
 
--- The strokes of a page that is not huge can be drawn.
+-- The drawn marks of a page that is not huge can be drawn.
 page_drawn :
     (widths : Widths) (page : ShippedPage) → is_huge page ≡ false → EachLeaf (HasWidth widths) page.box_node.list
-    → EachStroke (IsDrawn widths) page.box_node.kind (picture_of_page page)
+    → EachMark (IsDrawn widths) page.box_node.kind (drawn_page_of page)
 page_drawn widths page small wide =
-    strokes_drawn widths page.box_node page.h (page_v page) [] page.box_node.list wide
+    marks_drawn widths page.box_node page.h (page_v page) [] page.box_node.list wide
     (all_within (numbers_after page.box_node page.h (page_v page) [] page.box_node.list) (items_fit page small))
 
 -- The body shows the marks of the page, whatever the values of w, x, y and z are at its start.
@@ -53,8 +54,8 @@ pub drawn_page :
     → (last : DviState) × (meaning (bounded_acts (instruction_acts widths)) (body_of page) (state_at (pos 0) (pos 0) held None) ≡ Some (marks_of_page page, last))
 unfolding body_of marks_of_box
 drawn_page widths held page small wide =
-    let shown = drawn_marks widths held page.box_node.kind (pos 0) (pos 0) None (picture_of_page page) refl (page_drawn widths page small wide) in
-    (shown.last, shown.shows ∙ ap (λ marks. Some (marks, shown.last)) (marks-picture page.box_node page.h (page_v page) [] page.box_node.list))
+    let shown = drawn_marks widths held page.box_node.kind (pos 0) (pos 0) None (drawn_page_of page) refl (page_drawn widths page small wide) in
+    (shown.last, shown.shows ∙ ap (λ marks. Some (marks, shown.last)) (marks-to_draw page.box_node page.h (page_v page) [] page.box_node.list))
 
 -- The number 0 is within the range of dimensions.
 zero_within : Within 1073741823 (pos 0)
@@ -81,7 +82,7 @@ leaf_short b h v (special text) short = (short, tt)
 leaf_short b h v (rule r) short =
     each_rule (λ mark. IsShort b.kind mark (rule_wide b.kind b r)) h (v +ℤ rule_below b.kind b r) (rule_tall b.kind b r) (rule_wide b.kind b r) tt
 
-short_page : (page : ShippedPage) → items_text page.box_node.list < 2 ^ 32 → EachStroke IsShort page.box_node.kind (picture_of_page page)
+short_page : (page : ShippedPage) → items_text page.box_node.list < 2 ^ 32 → EachMark IsShort page.box_node.kind (drawn_page_of page)
 short_page page few =
     each_after IsShort HasShort leaf_short page.box_node page.h (page_v page) [] page.box_node.list (each_short page.box_node.list few)
 
@@ -91,28 +92,29 @@ pub writable_page :
     → AllByRecursion IsWritable (flat (body_of page))
 unfolding body_of
 writable_page widths page small wide few =
-    drawn_writable widths page.box_node.kind (pos 0) (pos 0) None (picture_of_page page) zero_within zero_within (page_drawn widths page small wide)
+    drawn_writable widths page.box_node.kind (pos 0) (pos 0) None (drawn_page_of page) zero_within zero_within (page_drawn widths page small wide)
     (short_page page few)
 
 -- A property of all that is made for pages is one of each instruction of a body, where the texts of its specials can be spelled.
 pub each_page : (P : Instruction → Type 0) → HoldsOfAll P → (page : ShippedPage) → items_text page.box_node.list < 2 ^ 32 → AllByRecursion P (flat (body_of page))
 unfolding body_of
-each_page P holds page few = all_drawn P holds page.box_node.kind (pos 0) (pos 0) None (picture_of_page page) (short_page page few)
+each_page P holds page few = all_drawn P holds page.box_node.kind (pos 0) (pos 0) None (drawn_page_of page) (short_page page few)
 
 -- A property of all that is made for pages, whatever the texts of specials, is one of each instruction of a body.
 pub whole_page :
-    (P : Instruction → Type 0) → HoldsBetween P → ((kind : Kind) (mark : Mark) (by : ℤ) → IsInked P kind mark by) → (page : ShippedPage) → AllByRecursion P (flat (body_of page))
+    (P : Instruction → Type 0) → HoldsBetween P → ((kind : Kind) (mark : Mark) (by : ℤ) → IsDrawnMark P kind mark by) → (page : ShippedPage)
+    → AllByRecursion P (flat (body_of page))
 unfolding body_of
 whole_page P between all page =
-    each_drawn P between page.box_node.kind (pos 0) (pos 0) None (picture_of_page page)
-    (every_stroke (IsInked P) all page.box_node.kind (picture_of_page page))
+    each_drawn P between page.box_node.kind (pos 0) (pos 0) None (drawn_page_of page)
+    (every_marked (IsDrawnMark P) all page.box_node.kind (drawn_page_of page))
 
 -- No instruction uses w, x, y or z.
 pub no_register_page : (page : ShippedPage) → AllByRecursion NamesNoRegister (flat (body_of page))
 no_register_page page =
     whole_page NamesNoRegister (record { moves = λ axis z. tt; push = tt; pop = tt }) plain page
   where
-    plain : (kind : Kind) (mark : Mark) (by : ℤ) → IsInked NamesNoRegister kind mark by
+    plain : (kind : Kind) (mark : Mark) (by : ℤ) → IsDrawnMark NamesNoRegister kind mark by
     plain Horizontal (body.Rule x y height width) by = tt
     plain Vertical (body.Rule x y height width) by = tt
     plain kind (body.Glyph font code x y) by = (tt, tt)
@@ -143,7 +145,7 @@ definitions-page page =
     whole_page (λ i. definitions_in i ≡ []) (record { moves = λ axis z. refl; push = refl; pop = refl }) undefined page
     )
   where
-    undefined : (kind : Kind) (mark : Mark) (by : ℤ) → IsInked (λ i. definitions_in i ≡ []) kind mark by
+    undefined : (kind : Kind) (mark : Mark) (by : ℤ) → IsDrawnMark (λ i. definitions_in i ≡ []) kind mark by
     undefined Horizontal (body.Rule x y height width) by = refl
     undefined Vertical (body.Rule x y height width) by = refl
     undefined kind (body.Glyph font code x y) by = (refl, refl)
@@ -155,7 +157,7 @@ unfolding body_of
 nests_page page =
     omega (
       arith,
-      nests-body_of_picture page.box_node.kind (pos 0) (pos 0) None (picture_of_page page),
+      nests-body_of_drawn page.box_node.kind (pos 0) (pos 0) None (drawn_page_of page),
       few_groups page.box_node page.h (page_v page) [] page.box_node.list,
     )
 
@@ -177,19 +179,21 @@ all_selections : (P : ℤ → Type 0) (is : List Instruction) → AllByRecursion
 all_selections P [] all = tt
 all_selections P (i ∷ is) (here, all) = all_append P (selection_of i) (selections is) here (all_selections P is all)
 
-rule_selects : (P : ℤ → Type 0) (kind : Kind) (h v height width by : ℤ) → IsInked (Selects P) kind (body.Rule h v height width) by
+rule_selects : (P : ℤ → Type 0) (kind : Kind) (h v height width by : ℤ) → IsDrawnMark (Selects P) kind (body.Rule h v height width) by
 rule_selects P Horizontal h v height width by = tt
 rule_selects P Vertical h v height width by = tt
 
-leaf_selects : (P : ℤ → Type 0) (b : BoxNode) (h v : ℤ) (x : Leaf) → HasFont P x → AllByRecursion (λ mark. IsInked (Selects P) b.kind mark (width_in b x)) (marks_of_item b h v x)
-leaf_selects P b h v (glyph g) here = each_glyph (λ mark. IsInked (Selects P) b.kind mark g.width) b.kind h v g ((here, tt), tt)
+leaf_selects : (P : ℤ → Type 0) (b : BoxNode) (h v : ℤ) (x : Leaf) → HasFont P x
+    → AllByRecursion (λ mark. IsDrawnMark (Selects P) b.kind mark (width_in b x)) (marks_of_item b h v x)
+leaf_selects P b h v (glyph g) here = each_glyph (λ mark. IsDrawnMark (Selects P) b.kind mark g.width) b.kind h v g ((here, tt), tt)
 leaf_selects P b h v (font_kern width) here = tt
 leaf_selects P b h v (kern width) here = tt
 leaf_selects P b h v (glue g) here = tt
 leaf_selects P b h v (penalty p) here = tt
 leaf_selects P b h v (special text) here = (tt, tt)
 leaf_selects P b h v (rule r) here =
-    each_rule (λ mark. IsInked (Selects P) b.kind mark (rule_wide b.kind b r)) h (v +ℤ rule_below b.kind b r) (rule_tall b.kind b r) (rule_wide b.kind b r)
+    each_rule (λ mark. IsDrawnMark (Selects P) b.kind mark (rule_wide b.kind b r)) h (v +ℤ rule_below b.kind b r) (rule_tall b.kind b r)
+    (rule_wide b.kind b r)
     (rule_selects P b.kind h (v +ℤ rule_below b.kind b r) (rule_tall b.kind b r) (rule_wide b.kind b r) (rule_wide b.kind b r))
 
 -- Each selected font is the font of a glyph of the box.
@@ -199,6 +203,6 @@ pub selections_page :
 unfolding body_of
 selections_page P page all =
     all_selections P (flat (body_of page)) (
-    each_drawn (Selects P) (record { moves = λ axis z. tt; push = tt; pop = tt }) page.box_node.kind (pos 0) (pos 0) None (picture_of_page page)
-    (each_after (IsInked (Selects P)) (HasFont P) (leaf_selects P) page.box_node page.h (page_v page) [] page.box_node.list all)
+    each_drawn (Selects P) (record { moves = λ axis z. tt; push = tt; pop = tt }) page.box_node.kind (pos 0) (pos 0) None (drawn_page_of page)
+    (each_after (IsDrawnMark (Selects P)) (HasFont P) (leaf_selects P) page.box_node page.h (page_v page) [] page.box_node.list all)
     )

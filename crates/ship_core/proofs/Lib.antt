@@ -3,5 +3,5 @@ pub mod Drawings
 pub mod DrawnMarks
 pub mod DrawnPages
 pub mod DrawnBytes
-pub mod Pictures
+pub mod DrawnPageLemmas
 pub mod PushDepth

@@ -9,10 +9,10 @@ ghost use Rattle.dvi_ops.specs.Runs.{instructions_of};
 ghost use Rattle.dvi_ops.specs.View.{body_view};
 ghost use Rattle.scaled_core.specs.Mark as body;
 ghost use Rattle.scaled_core.specs.Mark.{Special};
-ghost use Rattle.ship_core.specs.Drawing.{rule_leaf, body_of_picture};
-ghost use Rattle.page_core.specs.Pictures.{Picture, stroke};
-ghost use Rattle.page_core.specs.Placing.{IsMarkEnd, strokes_in};
-ghost use Rattle.ship_core.specs.Private.Inking.{ink_instructions, instructions_made, font_left, movement, selection};
+ghost use Rattle.ship_core.specs.Drawing.{rule_leaf, body_of_drawn};
+ghost use Rattle.page_core.specs.DrawnPages.{DrawnPage, marked};
+ghost use Rattle.page_core.specs.Placing.{IsMarkEnd, marked_in};
+ghost use Rattle.ship_core.specs.Private.MarkInstructions.{mark_instructions, instructions_made, font_left, movement, selection};
 
 use dvi_ops::{BodyOp, PageRuns};
 use node_core::{BoxNode, Glyph, Kind};
@@ -67,28 +67,28 @@ fn rule_op(kind: Kind, height: i32, width: i32) -> BodyOp<'static>
 
 /// Appends a rule or a character of a list of that kind.
 #[inline(always)]
-fn append_ink(
+fn append_mark(
     ops: &mut PageRuns<'_>,
     kind: Kind,
     width: Dimen,
-    ink: MarkKind,
+    mark_kind: MarkKind,
 ) -> Result<(), AllocError>
-    ensures { OnOk result (instructions_of ops.new ≡ instructions_of ops.old ++ ink_instructions kind width ink) }
+    ensures { OnOk result (instructions_of ops.new ≡ instructions_of ops.old ++ mark_instructions kind width mark_kind) }
 {
-    match ink {
+    match mark_kind {
         MarkKind::Glyph { code, .. } => ops.push_character(code),
         MarkKind::Rule(height) => ops.push(rule_op(kind, height.get(), width.get())),
     }
 }
 
 impl<'a> Drawing<'a> {
-    /// A drawing without instructions, with capacity for `room` of them. The place is (0, 0), and no font is selected.
-    pub fn new(alloc: Global, room: usize) -> Result<Drawing<'a>, AllocError>
-        ensures { IfOk result (λ drawing. (kind : Kind) (rest : Picture)
-            → instructions_made kind drawing rest ≡ flat (body_of_picture kind (pos 0) (pos 0) None rest)) }
+    /// A drawing without instructions, with capacity for `capacity` of them. The place is (0, 0), and no font is selected.
+    pub fn new(alloc: Global, capacity: usize) -> Result<Drawing<'a>, AllocError>
+        ensures { IfOk result (λ drawing. (kind : Kind) (rest : DrawnPage)
+            → instructions_made kind drawing rest ≡ flat (body_of_drawn kind (pos 0) (pos 0) None rest)) }
     {
         Ok(Drawing {
-            ops: PageRuns::new(alloc, room)?,
+            ops: PageRuns::new(alloc, capacity)?,
             h: Dimen::ZERO,
             v: Dimen::ZERO,
             font: None,
@@ -134,15 +134,15 @@ impl<'a> Drawing<'a> {
     #[inline(always)]
     fn draw_mark(&mut self, kind: Kind, mark: PlacedMark) -> Result<(), AllocError>
         requires { IsMarkEnd kind mark }
-        ensures ops { OnOk result ((rest : Picture)
-            → instructions_made kind self.old (strokes_in (Some mark) rest) ≡ instructions_made kind self.new rest) }
-        ensures font { OnOk result ((rest : Picture) → font_left self.old (strokes_in (Some mark) rest) ≡ font_left self.new rest) }
+        ensures ops { OnOk result ((rest : DrawnPage)
+            → instructions_made kind self.old (marked_in (Some mark) rest) ≡ instructions_made kind self.new rest) }
+        ensures font { OnOk result ((rest : DrawnPage) → font_left self.old (marked_in (Some mark) rest) ≡ font_left self.new rest) }
     {
         self.move_to(mark.h, mark.v)?;
-        if let MarkKind::Glyph { slot, .. } = mark.ink {
+        if let MarkKind::Glyph { slot, .. } = mark.mark_kind {
             self.select(slot)?;
         }
-        append_ink(&mut self.ops, kind, mark.width, mark.ink)?;
+        append_mark(&mut self.ops, kind, mark.width, mark.mark_kind)?;
         self.h = mark.end;
         Ok(())
     }
@@ -152,10 +152,10 @@ impl<'a> Drawing<'a> {
     #[inline(always)]
     fn append_glyph(&mut self, at: PagePosition, glyph: Glyph, end: Dimen) -> Result<(), AllocError>
         requires { end ≡ at.h +ℤ glyph.width }
-        ensures ops { OnOk result ((rest : Picture) → instructions_made Kind.Horizontal self.old
-            (stroke (body.Glyph (pos glyph.slot) (pos glyph.code) at.h at.v) glyph.width rest) ≡ instructions_made Kind.Horizontal self.new rest) }
-        ensures left { OnOk result ((rest : Picture) → font_left self.old
-            (stroke (body.Glyph (pos glyph.slot) (pos glyph.code) at.h at.v) glyph.width rest) ≡ font_left self.new rest) }
+        ensures ops { OnOk result ((rest : DrawnPage) → instructions_made Kind.Horizontal self.old
+            (marked (body.Glyph (pos glyph.slot) (pos glyph.code) at.h at.v) glyph.width rest) ≡ instructions_made Kind.Horizontal self.new rest) }
+        ensures left { OnOk result ((rest : DrawnPage) → font_left self.old
+            (marked (body.Glyph (pos glyph.slot) (pos glyph.code) at.h at.v) glyph.width rest) ≡ font_left self.new rest) }
         ensures h { OnOk result (self.new.h ≡ end) }
         ensures v { OnOk result (self.new.v ≡ at.v) }
         ensures font { OnOk result (self.new.font ≡ Some glyph.slot) }
@@ -168,7 +168,7 @@ impl<'a> Drawing<'a> {
         Ok(())
     }
 
-    /// Draws a glyph of the selected font at a place where the drawing is, where there is room for it; and returns whether it did.
+    /// Draws a glyph of the selected font at a place where the drawing is, where there is space for it; and returns whether it did.
     #[tactic(auto, using(crate::proofs::Drawings::movements))]
     #[inline(always)]
     fn append_next(&mut self, at: PagePosition, glyph: Glyph, end: Dimen) -> bool
@@ -176,17 +176,17 @@ impl<'a> Drawing<'a> {
         requires h { self.old.h ≡ at.h }
         requires v { self.old.v ≡ at.v }
         requires font { self.old.font ≡ Some glyph.slot }
-        ensures ops { result ≡ true → (rest : Picture) → instructions_made Kind.Horizontal self.old
-            (stroke (body.Glyph (pos glyph.slot) (pos glyph.code) at.h at.v) glyph.width rest) ≡ instructions_made Kind.Horizontal self.new rest }
-        ensures left { result ≡ true → (rest : Picture) → font_left self.old
-            (stroke (body.Glyph (pos glyph.slot) (pos glyph.code) at.h at.v) glyph.width rest) ≡ font_left self.new rest }
+        ensures ops { result ≡ true → (rest : DrawnPage) → instructions_made Kind.Horizontal self.old
+            (marked (body.Glyph (pos glyph.slot) (pos glyph.code) at.h at.v) glyph.width rest) ≡ instructions_made Kind.Horizontal self.new rest }
+        ensures left { result ≡ true → (rest : DrawnPage) → font_left self.old
+            (marked (body.Glyph (pos glyph.slot) (pos glyph.code) at.h at.v) glyph.width rest) ≡ font_left self.new rest }
         ensures h { result ≡ true → self.new.h ≡ end }
         ensures v { result ≡ true → self.new.v ≡ at.v }
         ensures font { result ≡ true → self.new.font ≡ Some glyph.slot }
         ensures full { result ≡ false → self.new ≡ self.old }
     {
         let _h = at.h;
-        if !self.ops.push_in_room(glyph.code) {
+        if !self.ops.push_in_space(glyph.code) {
             return false;
         }
         self.h = end;
@@ -196,10 +196,11 @@ impl<'a> Drawing<'a> {
     /// Draws a special at a place. It leaves h and v there, since a special has no width.
     #[tactic(auto, using(crate::proofs::Drawings::movements))]
     fn append_special(&mut self, at: PagePosition, text: &'a [u8]) -> Result<(), AllocError>
-        ensures ops { OnOk result ((kind : Kind) (rest : Picture) → instructions_made kind self.old (stroke (Special at.h at.v text.now) (pos 0) rest)
+        ensures ops { OnOk result
+            ((kind : Kind) (rest : DrawnPage) → instructions_made kind self.old (marked (Special at.h at.v text.now) (pos 0) rest)
             ≡ instructions_made kind self.new rest) }
-        ensures font { OnOk result ((rest : Picture)
-            → font_left self.old (stroke (Special at.h at.v text.now) (pos 0) rest) ≡ font_left self.new rest) }
+        ensures font { OnOk result ((rest : DrawnPage)
+            → font_left self.old (marked (Special at.h at.v text.now) (pos 0) rest) ≡ font_left self.new rest) }
     {
         self.move_to(at.h, at.v)?;
         self.ops.push(BodyOp::Xxx(text))?;
@@ -238,7 +239,7 @@ impl<'a> Drawing<'a> {
 impl<'a> MarkSink<&'a BoxNode> for Drawing<'a> {
     ghost use Rattle.std.specs.Prelude.{◌≡◌, List, Option, Some, ℤ};
     ghost use Rattle.dvi_ops.specs.Instruction.{Instruction};
-    ghost use Rattle.ship_core.specs.Private.Inking.{instructions_made, font_left, IsOpened};
+    ghost use Rattle.ship_core.specs.Private.MarkInstructions.{instructions_made, font_left, IsOpened};
 
     type Place = PagePosition;
 
@@ -250,7 +251,7 @@ impl<'a> MarkSink<&'a BoxNode> for Drawing<'a> {
 
     ghost Opens = { IsOpened };
 
-    ghost Stands = { λ drawing h v slot. (drawing.h ≡ h) × (drawing.v ≡ v) × (drawing.font ≡ Some slot) };
+    ghost IsAt = { λ drawing h v slot. (drawing.h ≡ h) × (drawing.v ≡ v) × (drawing.font ≡ Some slot) };
 
     #[inline(always)]
     fn draw(&mut self, kind: Kind, mark: Option<PlacedMark>) -> Result<(), AllocError> {

@@ -35,7 +35,7 @@ fn draw_page(
     alloc: Global,
     box_node: &BoxNode,
     at: PagePoint,
-    room: usize,
+    capacity: usize,
 ) -> Result<Option<PageRuns<'_>>, AllocError>
     ensures body { IfOk result (λ drawn. IfSome drawn (λ runs. (counts : List ℤ)
         → instructions_of runs ≡ flat (body_of (page_at counts at.h at.v box_node.now)))) }
@@ -44,7 +44,7 @@ fn draw_page(
     if !ends_fit(box_node, at) {
         return Ok(None);
     }
-    let mut drawing = Drawing::new(alloc, room)?;
+    let mut drawing = Drawing::new(alloc, capacity)?;
     let fit = draw_list(&mut drawing, box_node, at)?;
     if !fit {
         return Ok(None);
@@ -68,21 +68,21 @@ pub fn plan(alloc: Global, box_node: &BoxNode, at: PagePoint) -> Result<Vec<Body
     }
 }
 
-/// As `plan`, with the characters apart from the other instructions, and with capacity for `room` characters from the start. Drawing stops at the
+/// As `plan`, with the characters apart from the other instructions, and with capacity for `capacity` characters from the start. Drawing stops at the
 /// first number that does not fit, so one walk is enough; only where memory was refused, `is_huge` walks over the page again to find whether HugePage
 /// comes first.
 pub fn plan_runs(
     alloc: Global,
     box_node: &BoxNode,
     at: PagePoint,
-    room: usize,
+    capacity: usize,
 ) -> Result<PageRuns<'_>, ShipFault>
     ensures ok { IfOk result (λ runs. (counts : List ℤ) → instructions_of runs ≡ flat (body_of (page_at counts at.h at.v box_node.now))) }
     ensures fits { OnOk result ((counts : List ℤ) → is_huge (page_at counts at.h at.v box_node.now) ≡ false) }
     ensures huge { IfErr result (λ fault. (counts : List ℤ)
         → (fault ≡ ShipFault.HugePage) ↔ (is_huge (page_at counts at.h at.v box_node.now) ≡ true)) }
 {
-    match draw_page(alloc, box_node, at, room) {
+    match draw_page(alloc, box_node, at, capacity) {
         Ok(Some(runs)) => Ok(runs),
         Ok(None) => Err(ShipFault::HugePage),
         Err(_) => {

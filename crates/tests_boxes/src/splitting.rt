@@ -1,7 +1,7 @@
 //! Splits of vertical lists.
 
 use node_core::{Glue, Node, Order, Rule, RuleSize, SplitParams};
-use pack_core::Packed;
+use pack_core::PackedBox;
 use scaled_core::Dimen;
 use std::process::Abort;
 use std::test::Fail;
@@ -39,7 +39,7 @@ fn glue(rt: &impl Abort, width: i64, shrink: i64) -> Node {
 }
 
 /// Asserts the size and the badness of a box that is 10pt wide and has no depth.
-fn expect_box(rt: &impl Abort, packed: &Packed, height: i64, badness: u32) {
+fn expect_box(rt: &impl Abort, packed: &PackedBox, height: i64, badness: u32) {
     assert_eq!(rt; packed.box_node.width, points(rt, 10));
     assert_eq!(rt; packed.box_node.height, points(rt, height));
     assert_eq!(rt; packed.box_node.depth, Dimen::ZERO);

@@ -87,18 +87,18 @@ fn append_to_nothing(
     assert!(rt; items.len() <= 131_070);
     let mut list = NodeList::from_vec(items);
     let mut around = NodeList::new(alloc);
-    let told = append_paragraph(alloc, &mut list, &mut around, params, Dimen::ZERO);
-    told.ok().expect(rt, "its lines are appended")
+    let figures = append_paragraph(alloc, &mut list, &mut around, params, Dimen::ZERO);
+    figures.ok().expect(rt, "its lines are appended")
 }
 
 /// Asserts the number of lines into which 8,192 words are broken and appended, and how many were tried.
 fn expect_appended(rt: &impl Abort, alloc: Global, kerned: bool, lines: usize, trials: u128) {
     let items = words(rt, alloc, kerned);
-    let told = append_to_nothing(rt, alloc, items, &very_narrow(rt));
-    assert_eq!(rt; told.lines, lines);
-    assert!(rt; told.pass == Some(Pass::Second) && told.overhang == 0);
-    assert_eq!(rt; told.trials, trials);
-    assert!(rt; told.trials <= 335_872);
+    let figures = append_to_nothing(rt, alloc, items, &very_narrow(rt));
+    assert_eq!(rt; figures.lines, lines);
+    assert!(rt; figures.pass == Some(Pass::Second) && figures.overhang == 0);
+    assert_eq!(rt; figures.trials, trials);
+    assert!(rt; figures.trials <= 335_872);
 }
 
 #[test]
@@ -197,9 +197,9 @@ fn last_pass_over_many_words(rt: HostRuntime) {
     assert_eq!(rt; meter.trials(8_185), 3);
     assert_eq!(rt; meter.all_trials(), 24_581);
     let items = rigid_words(&rt, rt.alloc(), 8_192);
-    let told = append_to_nothing(&rt, rt.alloc(), items, &params);
-    assert!(rt; told.pass == Some(Pass::Third));
-    assert_eq!(rt; told.trials, 24_581);
+    let figures = append_to_nothing(&rt, rt.alloc(), items, &params);
+    assert!(rt; figures.pass == Some(Pass::Third));
+    assert_eq!(rt; figures.trials, 24_581);
 }
 
 #[test]
@@ -209,8 +209,8 @@ fn trials_of_paragraphs(rt: HostRuntime) {
     let params = narrow(&rt);
     for (count, trials) in [(500, 1_505), (1, 1), (0, 0)] {
         let items = rigid_words(&rt, rt.alloc(), count);
-        let told = append_to_nothing(&rt, rt.alloc(), items, &params);
-        assert_eq!(rt; told.trials, trials);
+        let figures = append_to_nothing(&rt, rt.alloc(), items, &params);
+        assert_eq!(rt; figures.trials, trials);
     }
 }
 

@@ -100,7 +100,7 @@ pub(crate) fn expect_same(
 
 /// The breaks that a list has to have: the places at which its lines end, the pass, the overhang and the demerits.
 #[derive(Clone, Copy)]
-struct Expected {
+struct ExpectedBreaks {
     places: &'static [usize],
     pass: Pass,
     overhang: i64,
@@ -113,7 +113,7 @@ fn expect_breaks(
     alloc: Global,
     nodes: &[Node],
     params: &Params,
-    expected: &Expected,
+    expected: &ExpectedBreaks,
 ) {
     assert!(rt; nodes.len() <= 131_072);
     let found = breaks(alloc, nodes, params).expect(rt, "not refused");
@@ -170,7 +170,7 @@ fn lists_that_are_refused(rt: HostRuntime) {
     expect_fault(&rt, alloc, &nodes, BreakFault::InfiniteShrink);
     let nowhere = Vec::from_array(alloc, [rule(&rt, 10), shrinking(&rt, 0)]);
     let nodes = finished_nodes(&rt, nowhere.expect(&rt, "there is memory"), &params);
-    let expected = Expected {
+    let expected = ExpectedBreaks {
         places: &[4],
         pass: Pass::First,
         overhang: 0,
@@ -211,7 +211,7 @@ fn a_tie_by_class_alone(rt: HostRuntime) {
     ];
     let items = Vec::from_array(alloc, items).expect(&rt, "there is memory");
     let nodes = finished_nodes(&rt, items, &params);
-    let expected = Expected {
+    let expected = ExpectedBreaks {
         places: &[1, 7],
         pass: Pass::First,
         overhang: 0,
@@ -229,7 +229,7 @@ fn a_tie_by_class_alone(rt: HostRuntime) {
 /// A paragraph in lines of 40pt, and its breaks.
 struct Row {
     items: &'static [Item],
-    expected: Expected,
+    expected: ExpectedBreaks,
 }
 
 /// Glue of 5pt that can stretch by 15pt.
@@ -269,7 +269,7 @@ const DROPPED: Item = Item::Glue(Amounts {
 const ROWS: [Row; 11] = [
     Row {
         items: &[Item::Rule(10), SPACE, Item::Rule(50), SPACE, Item::Rule(10)],
-        expected: Expected {
+        expected: ExpectedBreaks {
             places: &[1, 3, 7],
             pass: Pass::Third,
             overhang: 655_360,
@@ -285,7 +285,7 @@ const ROWS: [Row; 11] = [
             BETWEEN,
             Item::Rule(10),
         ],
-        expected: Expected {
+        expected: ExpectedBreaks {
             places: &[4, 8],
             pass: Pass::First,
             overhang: 0,
@@ -294,7 +294,7 @@ const ROWS: [Row; 11] = [
     },
     Row {
         items: &[FIRST, Item::Rule(40)],
-        expected: Expected {
+        expected: ExpectedBreaks {
             places: &[4],
             pass: Pass::Third,
             overhang: 327_680,
@@ -303,7 +303,7 @@ const ROWS: [Row; 11] = [
     },
     Row {
         items: &[Item::Rule(40), Item::Penalty(10_000), Item::Rule(40)],
-        expected: Expected {
+        expected: ExpectedBreaks {
             places: &[5],
             pass: Pass::Third,
             overhang: 2_621_440,
@@ -312,7 +312,7 @@ const ROWS: [Row; 11] = [
     },
     Row {
         items: &[Item::Rule(40), Item::Penalty(9_999), Item::Rule(40)],
-        expected: Expected {
+        expected: ExpectedBreaks {
             places: &[1, 5],
             pass: Pass::First,
             overhang: 0,
@@ -321,7 +321,7 @@ const ROWS: [Row; 11] = [
     },
     Row {
         items: &[Item::Rule(40), Item::Penalty(-9_999), Item::Rule(40)],
-        expected: Expected {
+        expected: ExpectedBreaks {
             places: &[1, 5],
             pass: Pass::First,
             overhang: 0,
@@ -330,7 +330,7 @@ const ROWS: [Row; 11] = [
     },
     Row {
         items: &[Item::Rule(40), Item::Penalty(-10_000), Item::Rule(40)],
-        expected: Expected {
+        expected: ExpectedBreaks {
             places: &[1, 5],
             pass: Pass::First,
             overhang: 0,
@@ -339,7 +339,7 @@ const ROWS: [Row; 11] = [
     },
     Row {
         items: &[Item::Rule(10), Item::Penalty(-9_999), Item::Rule(10)],
-        expected: Expected {
+        expected: ExpectedBreaks {
             places: &[5],
             pass: Pass::First,
             overhang: 0,
@@ -348,7 +348,7 @@ const ROWS: [Row; 11] = [
     },
     Row {
         items: &[Item::Rule(10), Item::Penalty(-10_000), Item::Rule(10)],
-        expected: Expected {
+        expected: ExpectedBreaks {
             places: &[1, 5],
             pass: Pass::Third,
             overhang: 0,
@@ -357,7 +357,7 @@ const ROWS: [Row; 11] = [
     },
     Row {
         items: &[Item::Rule(40), Item::Kern(5), BETWEEN, Item::Rule(40)],
-        expected: Expected {
+        expected: ExpectedBreaks {
             places: &[1, 6],
             pass: Pass::First,
             overhang: 0,
@@ -372,7 +372,7 @@ const ROWS: [Row; 11] = [
             Item::Penalty(-10_000),
             Item::Rule(10),
         ],
-        expected: Expected {
+        expected: ExpectedBreaks {
             places: &[1, 3, 7],
             pass: Pass::Third,
             overhang: 0,
@@ -402,7 +402,7 @@ fn a_font_kern_before_glue(rt: HostRuntime) {
     let kern = Node::FontKern(points(&rt, 5));
     let items = Vec::from_array(alloc, [rule(&rt, 35), kern, glue(&rt, 0, 0), rule(&rt, 40)]);
     let nodes = finished_nodes(&rt, items.expect(&rt, "there is memory"), &params);
-    let expected = Expected {
+    let expected = ExpectedBreaks {
         places: &[2, 6],
         pass: Pass::First,
         overhang: 0,

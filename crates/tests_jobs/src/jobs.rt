@@ -139,7 +139,7 @@ fn a_job_is_not_resumed_after_other_bytes(rt: HostRuntime) {
 }
 
 #[test]
-fn a_memory_takes_all_that_there_is_room_for(rt: HostRuntime) {
+fn a_memory_takes_all_that_there_is_space_for(rt: HostRuntime) {
     let mut memory = Memory::new(rt.alloc());
     let piece = [7; 1_000];
     for _ in 0..100 {

@@ -1,6 +1,6 @@
 //! Readers and writers that give or take little in each call, or nothing, or are interrupted.
 
-use boxglue_program::{Unwritten, write_text};
+use boxglue_program::{UnwrittenText, write_text};
 use boxglue_words::{HostFault, read_all, read_within, write_some};
 use std::io;
 use std::io::{Error, ErrorKind, Read, Write};
@@ -45,11 +45,11 @@ fn reads_all_bytes_of_each_reader(rt: HostRuntime) {
 
 /// A reader without an end, each call of which is interrupted, and counted.
 #[derive(Drop)]
-struct Interrupted {
+struct InterruptedReader {
     calls: usize,
 }
 
-impl Read for Interrupted {
+impl Read for InterruptedReader {
     fn read(&mut self, _buffer: &mut [u8]) -> io::Result<usize> {
         self.calls = self.calls.saturating_add(1);
         Err(Error::from(ErrorKind::Interrupted))
@@ -59,7 +59,7 @@ impl Read for Interrupted {
 #[test]
 fn readings_without_an_end(rt: HostRuntime) {
     for limit in [0, 1, 1_000, 65_537] {
-        let mut reader = Interrupted { calls: 0 };
+        let mut reader = InterruptedReader { calls: 0 };
         let read = read_within(rt.alloc(), &mut reader, limit);
         assert_eq!(rt; read.err(), Some(HostFault::Failed));
         assert_eq!(rt; reader.calls, limit);
@@ -129,6 +129,6 @@ fn a_piece_for_a_writer_that_takes_nothing(rt: HostRuntime) {
 #[test]
 fn a_text_for_a_writer_that_takes_nothing(rt: HostRuntime) {
     let mut writer = Idle { calls: 0 };
-    assert_eq!(rt; write_text(&mut writer, b"1: ok\n"), Err(Unwritten));
+    assert_eq!(rt; write_text(&mut writer, b"1: ok\n"), Err(UnwrittenText));
     assert_eq!(rt; writer.calls, 1);
 }

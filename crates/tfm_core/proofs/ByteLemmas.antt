@@ -50,5 +50,6 @@ byte-glyph_of bytes file size code glyph read at =
     let is : IsMetricFile bytes file = IsMetricFile-from_read bytes file read in
     let found = mapped_from (sizes_in file size) (character_at file.counts.first file.characters code) glyph (sym (glyph_of-font_at file size code) ∙ at) in
     let within = character_within file.counts.first file.characters code found.0 found.1 in
-    let small : file.counts.last ≤ 255 = subst (λ (c : Numbers). c.last ≤ 255) (sym is.stands.counts) (last_small (counts_in bytes) (is.kept Counts)) in
-    omega (arith, within.0, within.1, is.stands.characters.length_is)
+    let small : file.counts.last ≤ 255 =
+    subst (λ (c : Numbers). c.last ≤ 255) (sym is.encoded.counts) (last_small (counts_in bytes) (is.kept Counts)) in
+    omega (arith, within.0, within.1, is.encoded.characters.length_is)

@@ -5,7 +5,7 @@ use Rattle.tfm_core.specs.declared.fault.TfmCause.TheVariants.{TooShort, Counts,
 use Rattle.tfm_core.specs.declared.record.CharInfo.{CharInfo as Info}
 use Rattle.tfm_core.specs.declared.record.Counts.{Counts as Numbers}
 use Rattle.tfm_core.specs.declared.record.LigKernStep.{LigKernStep}
-use Rattle.tfm_core.specs.MetricFile.{MetricFile, StandsIn, char_info, counts_in, lig_kern_step, record_in, record_with}
+use Rattle.tfm_core.specs.MetricFile.{MetricFile, IsFileIn, char_info, counts_in, lig_kern_step, record_in, record_with}
 use Rattle.tfm_core.specs.Words.{signed_word}
 use Rattle.tfm_core.proofs.TableLemmas.{IsTable-table, table-unique}
 use Rattle.tfm_core.specs.Rules.{IsFirstBroken, IsMetricFile, broken_in_front, breaks_char_info, breaks_design_size, breaks_fix_word, breaks_lig_kern, first_broken, is_broken, metric_file, record_unless}
@@ -49,9 +49,9 @@ first_broken-tables bytes h =
     chosen-back (is_broken bytes TooShort) (is_broken bytes Counts) (is_broken bytes DesignSize) (is_broken bytes CharInfo) (is_broken bytes FixWord) (is_broken bytes LigKern) h
 
 -- The record is in the bytes.
-pub StandsIn-record_in : (bytes : List ℕ) → StandsIn bytes (record_in bytes)
+pub IsFileIn-record_in : (bytes : List ℕ) → IsFileIn bytes (record_in bytes)
 unfolding record_with
-StandsIn-record_in bytes = record {
+IsFileIn-record_in bytes = record {
   counts = refl;
   check_sum = refl;
   design_word = refl;
@@ -92,7 +92,7 @@ same_file a b e0 e1 e2 e3 e4 e5 e6 e7 e8 e9 e10 =
     cc
 
 -- No other record is in the bytes.
-pub record_in-unique : (bytes : List ℕ) (file : MetricFile) → StandsIn bytes file → file ≡ record_in bytes
+pub record_in-unique : (bytes : List ℕ) (file : MetricFile) → IsFileIn bytes file → file ≡ record_in bytes
 unfolding record_with
 record_in-unique bytes file h =
     same_file file (record_with file.counts bytes) refl h.check_sum h.design_word
@@ -212,7 +212,7 @@ unfolding metric_file
 IsMetricFile-from_read bytes file h =
     let p = unless_ok (record_in bytes) file (first_broken bytes) h in
     record {
-      stands = subst (λ f. StandsIn bytes f) p.1 (StandsIn-record_in bytes);
+      encoded = subst (λ f. IsFileIn bytes f) p.1 (IsFileIn-record_in bytes);
       kept = kept-from_none bytes p.0;
     }
 
@@ -224,7 +224,7 @@ IsFirstBroken-from_read bytes cause h =
 pub read-from_IsMetricFile : (bytes : List ℕ) (file : MetricFile) → IsMetricFile bytes file → metric_file bytes ≡ Ok file
 unfolding metric_file
 read-from_IsMetricFile bytes file h =
-    ap (record_unless (record_in bytes)) (none-from_kept bytes h.kept) ∙ ap Ok (sym (record_in-unique bytes file h.stands))
+    ap (record_unless (record_in bytes)) (none-from_kept bytes h.kept) ∙ ap Ok (sym (record_in-unique bytes file h.encoded))
 
 pub read-from_IsFirstBroken : (bytes : List ℕ) (cause : TfmCause) → IsFirstBroken bytes cause → metric_file bytes ≡ Err cause
 unfolding metric_file

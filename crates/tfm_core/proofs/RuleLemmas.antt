@@ -64,7 +64,7 @@ HasTables-from_kept bytes h k = record {
   tables = long_for_tables bytes h k;
 }
 
-pub ruleset room = (long_for_numbers, long_for_header, HasTables-from_kept)
+pub ruleset space = (long_for_numbers, long_for_header, HasTables-from_kept)
 
 design_size_is_size : (word : ℤ) → SFits w32 word → breaks_design_size word ≡ false → IsFontSize (int_div word (pos 16))
 unfolding breaks_design_size

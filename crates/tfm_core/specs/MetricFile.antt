@@ -114,7 +114,7 @@ abbrev pub design_word_in : List ℕ → ℤ
 design_word_in bytes = signed_word (from_word bytes 7)
 
 -- Each entry of the record is the one at its place in the bytes (TFtoPL, 8 to 15).
-pub record StandsIn (bytes : List ℕ) (file : MetricFile) : Type 0 where
+pub record IsFileIn (bytes : List ℕ) (file : MetricFile) : Type 0 where
   pub counts : file.counts ≡ counts_in bytes
   pub check_sum : file.check_sum ≡ check_sum_in bytes
   pub design_word : file.design_word ≡ design_word_in bytes

@@ -11,7 +11,7 @@ use Rattle.tfm_core.specs.declared.record.Counts.{Counts as Numbers}
 use Rattle.tfm_core.specs.declared.record.LigKernStep.{LigKernStep}
 use Rattle.tfm_core.specs.declared.record.Tag.{Tag}
 use Rattle.tfm_core.specs.declared.record.Tag.TheVariants.{Plain, Program, Larger, Recipe}
-use Rattle.tfm_core.specs.MetricFile.{MetricFile, StandsIn, counts_in, design_word_in, end_place, record_in}
+use Rattle.tfm_core.specs.MetricFile.{MetricFile, IsFileIn, counts_in, design_word_in, end_place, record_in}
 use Rattle.tfm_core.specs.Scaling.{is_fix_word}
 
 -- TooShort: there are fewer than 24 bytes, or fewer than four for each word that the file says it has; extra bytes are allowed (TFtoPL, 8).
@@ -148,7 +148,7 @@ pub record IsFirstBroken (bytes : List ℕ) (cause : TfmCause) : Type 0 where
 
 -- The bytes are a metric file with this record: each entry is at its place, and no rule is broken (TFtoPL, 8).
 pub record IsMetricFile (bytes : List ℕ) (file : MetricFile) : Type 0 where
-  pub stands : StandsIn bytes file
+  pub encoded : IsFileIn bytes file
   pub kept : (cause : TfmCause) → IsFalse (is_broken bytes cause)
 
 -- The first broken rule, if a rule is broken (own).

@@ -145,7 +145,7 @@ impl Entries {
     #[tactic(auto, unfolding(crate::specs::Private::MetricFile::places_of, crate::specs::MetricFile::record_with))]
     pub fn read(alloc: Global, bytes: &[u8], counts: Counts) -> Result<Entries, AllocError>
         requires header { 2 ≤ counts.header }
-        requires room { 4 * end_place counts ≤ length bytes.now }
+        requires space { 4 * end_place counts ≤ length bytes.now }
         ensures { IfOk result (λ entries. entries ≡ record_with counts bytes.now) }
     {
         let at = places_of(counts);

@@ -34,10 +34,10 @@ impl Model for Tfm {
 }
 
 /// The first broken rule among those that need no table.
-#[tactic(auto, using(crate::proofs::RuleLemmas::room), unfolding(crate::specs::Rules::broken_in_front))]
+#[tactic(auto, using(crate::proofs::RuleLemmas::space), unfolding(crate::specs::Rules::broken_in_front))]
 fn broken_in_front(bytes: &[u8]) -> Option<TfmCause>
     ensures value { result ≡ broken_in_front bytes.now }
-    ensures room { result ≡ None → HasTables bytes.now }
+    ensures space { result ≡ None → HasTables bytes.now }
 {
     if rules::is_too_short(bytes) {
         return Some(TfmCause::TooShort);

@@ -100,7 +100,7 @@ pub unappended_so :
     {A : Type 0} (result : Result A UnappendedLines) (s t : Result SetParagraph ParagraphFault) (P Q : ParagraphFault → Type 0) (before front : List Node)
     → s ≡ t → before ≡ front → ((fault : ParagraphFault) → P fault → Q fault)
     → IfErr result (IsUnappended s P before) → IfErr result (IsUnappended t Q front)
-unappended_so (Ok told) s t P Q before front setting_is front_is so is = tt
+unappended_so (Ok figures) s t P Q before front setting_is front_is so is = tt
 unappended_so (Err (unappended.Unset fault)) s t P Q before front setting_is front_is so is = so fault is
 unappended_so (Err unappended.TooDeep) s t P Q before front setting_is front_is so is = (is.0, sym setting_is ∙ is.1, is.2)
 unappended_so (Err unappended.TooLong) s t P Q before front setting_is front_is so is =

@@ -16,7 +16,7 @@ use Rattle.node_core.specs.declared.tree.Order.{Order}
 use Rattle.node_core.specs.declared.tree.Order.TheVariants.{Normal, Fil, Fill, Filll}
 use Rattle.node_core.specs.Nodes.{items_of, nodes_of}
 use Rattle.node_core.proofs.NodeLemmas.{nodes_of-items_of}
-use Rattle.pack_core.specs.declared.pack.Packed.{Packed}
+use Rattle.pack_core.specs.declared.pack.PackedBox.{PackedBox}
 use Rattle.pack_core.specs.declared.pack.Target.TheVariants.{To}
 use Rattle.pack_core.specs.Boxes.{hbox_packing, hbox_badness, hpack_result}
 use Rattle.pack_core.specs.Glue.{is_zero, highest, is_finite, overfull, stretch_totals, shrink_totals, stretch_badness, shrink_badness, setting_badness}
@@ -167,8 +167,8 @@ short_by false short filled n m full is = sym is
 
 -- A line that is too long but not overfull.
 not_over : (over : Bool) (x y : LineFit) → x.overfull ≡ true → (cond over x y).overfull ≡ false → over ≡ false
-not_over true x y is told = absurd (cc)
-not_over false x y is told = refl
+not_over true x y is figures = absurd (cc)
+not_over false x y is figures = refl
 
 stretched_bad : (items : List Node) (n : ℕ) → stretch_badness (pos (suc n)) (stretch_totals items) ≡ (fit_short (sums_of items) (pos (suc n))).badness
 unfolding fit_short sums_of
@@ -208,18 +208,20 @@ unfolding line_fit sums_of
 line_as_bad items size some free fits = as_bad items (size -ℤ total item_width items) some free fits
 
 -- A box has the badness of its packing.
-packed_bad : (fit : Bool) (p packed : Packed) {E : Type 0} (e : E) → cond fit (Ok p) (Err e) ≡ Ok packed → packed.badness ≡ p.badness
+packed_bad : (fit : Bool) (p packed : PackedBox) {E : Type 0} (e : E) → cond fit (Ok p) (Err e) ≡ Ok packed → packed.badness ≡ p.badness
 packed_bad true p packed e is = cc
 packed_bad false p packed e is = absurd (cc)
 
-box_bad : (size : ℤ) (items : List Node) (packed : Packed) → hpack_result (To size) (items_of items) ≡ Ok packed → packed.badness ≡ hbox_badness (To size) items
+box_bad : (size : ℤ) (items : List Node) (packed : PackedBox) → hpack_result (To size) (items_of items) ≡ Ok packed
+    → packed.badness ≡ hbox_badness (To size) items
 unfolding hpack_result
 box_bad size items packed is =
     packed_bad (list_all fits (hbox_packing (To size) (nodes_of (items_of items))).numbers) _ packed _ is
     ∙ ap (hbox_badness (To size)) (nodes_of-items_of items)
 
 pub boxed_as_bad :
-    (list : List Node) (params : Params) (a b lines : ℕ) (packed : Packed) → refusal list ≡ None → kept_items list (begins_at list a) (position_of list b) ≢ []
+    (list : List Node) (params : Params) (a b lines : ℕ) (packed : PackedBox) → refusal list ≡ None
+    → kept_items list (begins_at list a) (position_of list b) ≢ []
     → (line_fit ((facts_of list).sums a b) (line_size params lines)).overfull ≡ false
     → hpack_result (To (line_size params lines)) (items_of (kept_items list (begins_at list a) (position_of list b))) ≡ Ok packed
     → packed.badness ≡ (line_fit ((facts_of list).sums a b) (line_size params lines)).badness

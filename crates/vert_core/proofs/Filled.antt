@@ -15,11 +15,11 @@ popped f old new before after line split more =
     ap (λ xs. xs ++ flat_map f (reverse after)) more
     ∙ (append_assoc old (f line) (flat_map f (reverse after)) ∙ ap (λ lines. old ++ flat_map f lines) (sym back))
 
--- There is room for it.
-pub popped_room :
+-- There is space for it.
+pub popped_space :
     (f : PlannedLine → List Node) (old : List Node) (before after : List PlannedLine) (line : PlannedLine) → before ≡ after ++ line ∷ []
     → length old + length (f line) ≤ length (old ++ flat_map f (reverse before))
-popped_room f old before after line split =
+popped_space f old before after line split =
     let back : reverse before ≡ line ∷ reverse after = ap reverse split ∙ reverse-append after (line ∷ []) in
     omega (
       arith,

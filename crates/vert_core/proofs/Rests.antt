@@ -15,7 +15,7 @@ use Rattle.node_core.specs.Classes.{shrinks_infinitely}
 use Rattle.scaled_core.specs.Dimensions.{fits}
 use Rattle.node_core.specs.Nodes.{box_of, items_of}
 use Rattle.node_core.proofs.NodeLemmas.{nodes_of-items_of}
-use Rattle.pack_core.specs.declared.pack.Packed.{Packed}
+use Rattle.pack_core.specs.declared.pack.PackedBox.{PackedBox}
 use Rattle.pack_core.specs.declared.pack.Shell.{Shell}
 use Rattle.pack_core.specs.declared.pack.Target.{Target}
 use Rattle.pack_core.specs.declared.pack.Target.TheVariants.{Natural, To}
@@ -177,12 +177,13 @@ pub rest-planned :
 unfolding rest_of
 rest-planned params goal items None is inside shell = ap packed_rest is
 rest-planned params goal items (Some rest) is inside shell =
-    ap (λ (p : Packed). Some p) (packed-by Natural no_limit (rest_list rest items) rest.shell shell)
+    ap (λ (p : PackedBox). Some p) (packed-by Natural no_limit (rest_list rest items) rest.shell shell)
     ∙ sym (packed-some (rest_list rest items) inside.some)
     ∙ ap packed_rest is
 
 -- If the plan has a rest, the split has one.
-pub rest-some : (items : List Node) (rest : Option SplitRest) (split : Option Packed) → packed_left rest items ≡ split → is_some rest ≡ true → is_some split ≡ true
+pub rest-some : (items : List Node) (rest : Option SplitRest) (split : Option PackedBox) → packed_left rest items ≡ split → is_some rest ≡ true
+    → is_some split ≡ true
 rest-some items None split same some = absurd (cc)
 rest-some items (Some rest) split same some = sym (ap is_some same)
 

@@ -1,4 +1,4 @@
--- What the setting of a paragraph says is so: a paragraph with a setting is set by it, and one without is not set for the fault that is told.
+-- What the setting of a paragraph says is so: a paragraph with a setting is set by it, and one without is not set for the fault that is reported.
 use Rattle.std.proofs.Common.{◌≡◌, ◌∙◌, ◌≢◌, ◌<◌, ◌≤◌, ◌^◌, Bool, true, false, if◌then◌else◌, List, [], ◌∷◌, reverse, length, refl, subst, arith, Option, Some, None, Ok, Err}
 use Rattle.std.specs.Prelude.{ℤ}
 use Rattle.std.specs.Global.{Vec}
@@ -145,36 +145,36 @@ module _ (list : List Node) (params : Params) (previous : ℤ) where
       cases (Some breaking.OutOfMemory) found refused some is = absurd (cc)
 
   -- The fault of a list that is not set.
-  abbrev Told : ParagraphFault → Type 0
-  Told fault = (fault ≢ OutOfMemory) × IsUnsetList list params previous fault
+  abbrev IsReported : ParagraphFault → Type 0
+  IsReported fault = (fault ≢ OutOfMemory) × IsUnsetList list params previous fault
 
-  list_is_unset : (fault : ParagraphFault) → list_setting list params previous ≡ Err fault → Told fault
+  list_is_unset : (fault : ParagraphFault) → list_setting list params previous ≡ Err fault → IsReported fault
   unfolding list_setting
   list_is_unset fault is = cases (refusal list) (chosen_lines (facts_of list) params) refl refl is
     where
       large : (chosen : ChosenLines) → refusal list ≡ None → AreChosen (facts_of list) params chosen → lines_fit (paragraph_in_lines list params previous chosen) ≡ false
-          → Told DimensionTooLarge
+          → IsReported DimensionTooLarge
       large chosen free are fit =
           let few = few_lines chosen free are in
           ((λ same. cc), (free, (breaks_by chosen few, broken_by chosen few are, fit)))
 
       fits : (chosen : ChosenLines) → refusal list ≡ None → AreChosen (facts_of list) params chosen → (b : Bool) → lines_fit (paragraph_in_lines list params previous chosen) ≡ b
-          → (if b then Ok (set_by list params previous chosen) else Err DimensionTooLarge) ≡ Err fault → Told fault
+          → (if b then Ok (set_by list params previous chosen) else Err DimensionTooLarge) ≡ Err fault → IsReported fault
       fits chosen free are true fit is = absurd (cc)
       fits chosen free are false fit is =
           let same : DimensionTooLarge ≡ fault = cc in
-          subst Told same (large chosen free are fit)
+          subst IsReported same (large chosen free are fit)
 
       cases : (refused : Option BreakFault) (found : Option ChosenLines) → refusal list ≡ refused → chosen_lines (facts_of list) params ≡ found
-          → set_or refused (set_if_fit list params previous found) ≡ Err fault → Told fault
+          → set_or refused (set_if_fit list params previous found) ≡ Err fault → IsReported fault
       cases None None free none is = absurd (some_lines (facts_of list) params none)
       cases None (Some chosen) free some is = fits chosen free (lines_are (facts_of list) params chosen some) (lines_fit (paragraph_in_lines list params previous chosen)) refl is
       cases (Some breaking.InfiniteShrink) found refused some is =
           let same : InfiniteShrink ≡ fault = cc in
-          subst Told same ((λ e. cc), refused)
+          subst IsReported same ((λ e. cc), refused)
       cases (Some breaking.TooManyBreaks) found refused some is =
           let same : TooManyBreaks ≡ fault = cc in
-          subst Told same ((λ e. cc), refused)
+          subst IsReported same ((λ e. cc), refused)
       cases (Some breaking.OutOfMemory) found refused some is = absurd (not_for_memory list refused)
 
 -- A paragraph with a setting is set so.

@@ -120,12 +120,12 @@ pub paragraph_unset :
     (list : List Node) (params : Params) (previous : ℤ) (fault : ParagraphFault) → fault ≢ OutOfMemory
     → IsUnset list params previous fault → setting list params previous ≡ Err fault
 unfolding setting
-paragraph_unset [] params previous fault told is = absurd is
-paragraph_unset (x ∷ rest) params previous InfiniteShrink told is = list_shrinks (finished_list (x ∷ rest) params.par_fill_skip) params previous is
-paragraph_unset (x ∷ rest) params previous TooManyBreaks told is = list_crowded (finished_list (x ∷ rest) params.par_fill_skip) params previous is
-paragraph_unset (x ∷ rest) params previous DimensionTooLarge told (free, large) =
+paragraph_unset [] params previous fault figures is = absurd is
+paragraph_unset (x ∷ rest) params previous InfiniteShrink figures is = list_shrinks (finished_list (x ∷ rest) params.par_fill_skip) params previous is
+paragraph_unset (x ∷ rest) params previous TooManyBreaks figures is = list_crowded (finished_list (x ∷ rest) params.par_fill_skip) params previous is
+paragraph_unset (x ∷ rest) params previous DimensionTooLarge figures (free, large) =
     list_large (finished_list (x ∷ rest) params.par_fill_skip) params previous free large
-paragraph_unset (x ∷ rest) params previous OutOfMemory told is = absurd (told refl)
+paragraph_unset (x ∷ rest) params previous OutOfMemory figures is = absurd (figures refl)
 
 -- A paragraph that is not set has items.
 pub unset_some :

@@ -8,7 +8,7 @@ use Rattle.node_core.specs.declared.tree.Order.TheVariants.{Normal, Fil}
 use Rattle.node_core.specs.declared.tree.RuleSize.TheVariants.{Fixed}
 use Rattle.node_core.specs.Nodes.{nodes_of}
 use Rattle.node_core.specs.Parameters.{rigid, first_split_params}
-use Rattle.pack_core.specs.declared.pack.Packed.{Packed}
+use Rattle.pack_core.specs.declared.pack.PackedBox.{PackedBox}
 use Rattle.vert_core.specs.Split.{trials, front_of, rest_of}
 use Rattle.vert_core.specs.declared.trials.Trial.{Trial}
 
@@ -38,7 +38,7 @@ badness_of_front params goal items = (front_of params goal items).badness
 
 -- The height of the rest of a split, if there is a rest.
 abbrev pub rest_height : SplitParams → (goal : ℤ) → List Node → Option ℤ
-rest_height params goal items = option_map (λ (p : Packed). p.box_node.height) (rest_of params goal items)
+rest_height params goal items = option_map (λ (p : PackedBox). p.box_node.height) (rest_of params goal items)
 
 -- Three rules, 5pt high: glue of 2pt between the first two, and a penalty that forces a split between the last two.
 abbrev pub forced_split : List Node
@@ -83,7 +83,7 @@ stretching_top width =
 
 -- The items of the rest of a split, if there is a rest.
 abbrev pub rest_nodes : SplitParams → (goal : ℤ) → List Node → Option (List Node)
-rest_nodes params goal items = option_map (λ (p : Packed). nodes_of p.box_node.list) (rest_of params goal items)
+rest_nodes params goal items = option_map (λ (p : PackedBox). nodes_of p.box_node.list) (rest_of params goal items)
 
 -- A special whose text is this byte.
 abbrev pub special : (byte : ℕ) → Node
@@ -101,4 +101,5 @@ marked_end = rule (points 5) ∷ nodes.Penalty (negsuc 9999) ∷ space (points 2
 
 -- The width, height and depth of the rest of a split, if there is a rest.
 abbrev pub rest_sizes : SplitParams → (goal : ℤ) → List Node → Option (List ℤ)
-rest_sizes params goal items = option_map (λ (p : Packed). p.box_node.width ∷ p.box_node.height ∷ p.box_node.depth ∷ []) (rest_of params goal items)
+rest_sizes params goal items =
+    option_map (λ (p : PackedBox). p.box_node.width ∷ p.box_node.height ∷ p.box_node.depth ∷ []) (rest_of params goal items)

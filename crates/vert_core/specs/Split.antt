@@ -14,7 +14,7 @@ use Rattle.node_core.specs.Classes.{shrinks_infinitely}
 use Rattle.scaled_core.specs.Dimensions.{fits}
 use Rattle.pack_core.specs.declared.pack.Target.{Target}
 use Rattle.pack_core.specs.declared.pack.Target.TheVariants.{Natural, To}
-use Rattle.pack_core.specs.declared.pack.Packed.{Packed}
+use Rattle.pack_core.specs.declared.pack.PackedBox.{PackedBox}
 use Rattle.pack_core.specs.Boxes.{vbox, vbox_badness, vbox_numbers}
 use Rattle.pack_core.specs.Items.{first_above}
 use Rattle.vert_core.specs.declared.trials.Trial.{Trial}
@@ -103,7 +103,7 @@ abbrev pub items_after : SplitParams → (goal : ℤ) → List Node → List Nod
 items_after params goal items = drop (split_place params goal items) items
 
 -- A vertical list in its vbox, and its badness: the result of `vpack` if all numbers fit.
-abbrev pub packed_vbox : Target → (limit : ℤ) → List Node → Packed
+abbrev pub packed_vbox : Target → (limit : ℤ) → List Node → PackedBox
 packed_vbox target limit items = record { box_node = vbox target limit (items_of items); badness = vbox_badness target limit items }
 
 -- The greatest dimension: as a limit it does not limit the depth of a box (TeX: The Program, part 33, §668, vpack).
@@ -112,16 +112,16 @@ no_limit = pos 1073741823
 
 -- The front of a split: the items before the place, in a vbox of exactly this height with a depth of at most splitmaxdepth (TeX: The Program, part
 -- 44, §977, vsplit).
-unfoldable pub front_of : SplitParams → (goal : ℤ) → List Node → Packed
+unfoldable pub front_of : SplitParams → (goal : ℤ) → List Node → PackedBox
 front_of params goal items = packed_vbox (To goal) params.split_max_depth (front_items params goal items)
 
 -- The items that are left, in a vbox of its natural height; none if nothing is left.
-abbrev pub packed_rest : List Node → Option Packed
+abbrev pub packed_rest : List Node → Option PackedBox
 packed_rest [] = None
 packed_rest (x ∷ xs) = Some (packed_vbox Natural no_limit (x ∷ xs))
 
 -- The rest of a split (TeX: The Program, part 44, §977, vsplit).
-unfoldable pub rest_of : SplitParams → (goal : ℤ) → List Node → Option Packed
+unfoldable pub rest_of : SplitParams → (goal : ℤ) → List Node → Option PackedBox
 rest_of params goal items = packed_rest (left_of params (items_after params goal items))
 
 -- The width of the glue above the first box or rule, as a number that has to fit (own).

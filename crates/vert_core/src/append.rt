@@ -12,7 +12,7 @@ use thiserror::Error;
 /// The box was not appended. It is returned. `DimensionTooLarge` says that the width of the glue before it does not fit.
 #[derive(Debug, Drop, Error)]
 #[error("the box was not appended: {fault}")]
-pub struct Unappended {
+pub struct UnappendedBox {
     pub box_node: BoxNode,
     pub fault: SizeFault,
 }
@@ -26,7 +26,7 @@ pub fn append_box(
     shift: Dimen,
     previous_depth: Dimen,
     params: &Params,
-) -> Result<Dimen, Unappended>
+) -> Result<Dimen, UnappendedBox>
     ensures ok { OnOk result (nodes.new.items ≡
         nodes.old.items ++ appended_nodes (glue_of (interline params.now previous_depth box_node.height)) shift box_node) }
     ensures depth { IfOk result (λ depth. depth ≡ box_node.depth) }
@@ -39,13 +39,13 @@ pub fn append_box(
 {
     let depth = box_node.depth;
     match interline_glue(previous_depth, box_node.height, params) {
-        Err(DimensionTooLarge) => Err(Unappended {
+        Err(DimensionTooLarge) => Err(UnappendedBox {
             box_node,
             fault: SizeFault::DimensionTooLarge,
         }),
         Ok(glue) => match push_with_glue(nodes, glue, shift, box_node) {
             Ok(()) => Ok(depth),
-            Err(box_node) => Err(Unappended {
+            Err(box_node) => Err(UnappendedBox {
                 box_node,
                 fault: SizeFault::OutOfMemory,
             }),

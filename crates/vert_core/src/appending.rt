@@ -65,7 +65,7 @@ fn append_finished(
     requires { length nodes.old.items ≤ max_nodes }
     ensures ok { IfOk result (IsAppended (list_setting nodes.old.items params.now previous_depth) around.old.items around.new.items) }
     ensures fits { OnOk result (refusal nodes.old.items ≡ None) }
-    ensures trials { IfOk result (λ told. AreFewTrials (facts_of nodes.old.items) params.now told.pass told.trials) }
+    ensures trials { IfOk result (λ figures. AreFewTrials (facts_of nodes.old.items) params.now figures.pass figures.trials) }
     ensures emptied { OnOk result (nodes.new.items ≡ []) }
     ensures refused { IfErr result (IsUnappended (list_setting nodes.old.items params.now previous_depth)
         (IsUnsetList nodes.old.items params.now previous_depth) around.old.items) }
@@ -88,7 +88,7 @@ fn append_finished(
     if around.len().saturating_add(plan.count) > MAX_ITEMS {
         return Err(UnappendedLines::TooLong);
     }
-    let told = AppendedParagraph {
+    let figures = AppendedParagraph {
         depth: plan.depth,
         lines: breaks.lines.len(),
         pass: Some(breaks.pass),
@@ -97,7 +97,7 @@ fn append_finished(
         trials,
     };
     match stack_planned(nodes, plan, plain, around) {
-        Ok(()) => Ok(told),
+        Ok(()) => Ok(figures),
         Err(_) => Err(UnappendedLines::Unset(ParagraphFault::OutOfMemory)),
     }
 }
@@ -115,8 +115,8 @@ fn append_items(
     ensures ok { IfOk result (IsAppended (list_setting (finished_list nodes.old.items params.now.par_fill_skip) params.now previous_depth)
         around.old.items around.new.items) }
     ensures fits { OnOk result (refusal (finished_list nodes.old.items params.now.par_fill_skip) ≡ None) }
-    ensures trials { IfOk result (λ told. AreFewTrials (facts_of (finished_list nodes.old.items params.now.par_fill_skip)) params.now told.pass
-        told.trials) }
+    ensures trials { IfOk result (λ figures. AreFewTrials (facts_of (finished_list nodes.old.items params.now.par_fill_skip)) params.now figures.pass
+        figures.trials) }
     ensures emptied { OnOk result (nodes.new.items ≡ []) }
     ensures refused { IfErr result (IsUnappended (list_setting (finished_list nodes.old.items params.now.par_fill_skip) params.now previous_depth)
         (IsUnsetList (finished_list nodes.old.items params.now.par_fill_skip) params.now previous_depth) around.old.items) }
@@ -127,7 +127,7 @@ fn append_items(
         return Err(UnappendedLines::Unset(unfinished_fault(nodes, params)));
     };
     match append_finished(alloc, nodes, around, params, previous_depth) {
-        Ok(told) => Ok(told),
+        Ok(figures) => Ok(figures),
         Err(fault) => {
             unfinish_paragraph(nodes, replaced);
             Err(fault)
@@ -155,8 +155,8 @@ pub fn append_paragraph(
     requires around_bounded { length (nodes_of around.old) ≤ MAX_ITEMS }
     ensures ok { IfOk result (IsAppended (setting (nodes_of list.old) params.now previous_depth) (nodes_of around.old) (nodes_of around.new)) }
     ensures fits { OnOk result (break_fault (nodes_of list.old) params.now.par_fill_skip ≡ None) }
-    ensures trials { IfOk result (λ told. AreFewTrials (facts_of (finished_list (nodes_of list.old) params.now.par_fill_skip)) params.now
-        told.pass told.trials) }
+    ensures trials { IfOk result (λ figures. AreFewTrials (facts_of (finished_list (nodes_of list.old) params.now.par_fill_skip)) params.now
+        figures.pass figures.trials) }
     ensures emptied { OnOk result (list.new ≡ none) }
     ensures refused { IfErr result (IsUnappended (setting (nodes_of list.old) params.now previous_depth)
         (IsUnset (nodes_of list.old) params.now previous_depth) (nodes_of around.old)) }
@@ -175,8 +175,8 @@ pub fn append_paragraph(
     }
     let mut nodes = replace(list, NodeList::new(alloc)).into_vec();
     let mut items = replace(around, NodeList::new(alloc)).into_vec();
-    let told = append_items(alloc, &mut nodes, &mut items, params, previous_depth);
+    let figures = append_items(alloc, &mut nodes, &mut items, params, previous_depth);
     *list = NodeList::from_vec(nodes);
     *around = NodeList::from_vec(items);
-    told
+    figures
 }

@@ -6,16 +6,16 @@ ghost use Rattle.pack_core.specs.Boxes.{packed_of};
 ghost use Rattle.vert_core.specs.Split.{front_of, rest_of, refusal, fault_of};
 ghost use Rattle.vert_core.specs.Private.Steps.{rest_list, packed_left, IsInside, PlanFits};
 
-use crate::parts::{Split, SplitFault, Unsplit};
+use crate::parts::{Split, SplitFault, UnsplitList};
 use crate::plan::{Plan, SplitRest, plan_split};
 use crate::rest::take_rest;
 use node_core::{Node, NodeList, SplitParams};
-use pack_core::{Packed, Shell, packed_of};
+use pack_core::{PackedBox, Shell, packed_of};
 use scaled_core::Dimen;
 use std::alloc::{AllocError, Global};
 
 /// Removes the rest from the nodes and puts it into its box.
-fn pack_rest(nodes: &mut Vec<Node>, rest: &SplitRest) -> Result<Packed, AllocError>
+fn pack_rest(nodes: &mut Vec<Node>, rest: &SplitRest) -> Result<PackedBox, AllocError>
     requires list_bounded { length nodes.old.items ≤ max_nodes }
     requires inside { IsInside rest.now nodes.old.items }
     ensures box_returned { IfOk result (λ packed. packed ≡ packed_of (items_of (rest_list rest.now nodes.old.items)) rest.now.shell) }
@@ -27,7 +27,7 @@ fn pack_rest(nodes: &mut Vec<Node>, rest: &SplitRest) -> Result<Packed, AllocErr
 }
 
 /// Puts the items before a place into their box.
-fn pack_front(mut nodes: Vec<Node>, place: usize, front: &Shell) -> Packed
+fn pack_front(mut nodes: Vec<Node>, place: usize, front: &Shell) -> PackedBox
     requires { length nodes.items ≤ max_nodes }
     ensures { result ≡ packed_of (items_of (take place nodes.items)) front.now }
 {
@@ -64,7 +64,7 @@ fn carry_out(mut nodes: Vec<Node>, plan: &Plan) -> Result<Split, Vec<Node>>
 ///
 /// The error has the list as it was and the fault: `InfiniteShrink` if glue of the list shrinks in an infinite order; `DimensionTooLarge` if there is
 /// no such glue but a size of the parts does not fit; and `OutOfMemory` if the allocation is refused.
-pub fn split_list(list: NodeList, height: Dimen, params: &SplitParams) -> Result<Split, Unsplit>
+pub fn split_list(list: NodeList, height: Dimen, params: &SplitParams) -> Result<Split, UnsplitList>
     ensures front { IfOk result (λ s. s.front ≡ front_of params.now height (nodes_of list)) }
     ensures rest_part { IfOk result (λ s. s.rest ≡ rest_of params.now height (nodes_of list)) }
     // The split is allowed; otherwise the fault is the reason, even if memory would be refused too.
@@ -75,10 +75,10 @@ pub fn split_list(list: NodeList, height: Dimen, params: &SplitParams) -> Result
     ensures list_returned { IfErr result (λ e. e.list ≡ list) }
 {
     match plan_split(list.as_slice(), height, params) {
-        Err(fault) => Err(Unsplit { list, fault }),
+        Err(fault) => Err(UnsplitList { list, fault }),
         Ok(plan) => match carry_out(list.into_vec(), &plan) {
             Ok(parts) => Ok(parts),
-            Err(nodes) => Err(Unsplit {
+            Err(nodes) => Err(UnsplitList {
                 list: NodeList::from_vec(nodes),
                 fault: SplitFault::OutOfMemory,
             }),

@@ -24,7 +24,7 @@ fn rejoin(nodes: &mut Vec<Node>, mut lines: Vec<PlannedLine>)
 {
     while let Some(line) = lines.pop() {
         let mut part = line.box_node.into_inner().list.into_vec();
-        // There is room for them: they were there before.
+        // There is space for them: they were there before.
         let _ = nodes.append(&mut part);
     }
 }

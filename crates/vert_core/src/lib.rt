@@ -28,12 +28,12 @@ mod stacking;
 mod sums;
 mod trials;
 
-pub use append::{Unappended, append_box, append_with_glue};
+pub use append::{UnappendedBox, append_box, append_with_glue};
 pub use appending::{AppendedParagraph, UnappendedLines, append_paragraph};
 pub use cut::{split, split_list};
 pub use finishing::{finish_paragraph, unfinish_paragraph};
 pub use interline::{DimensionTooLarge, interline_glue};
 pub use paragraph::ParagraphFault;
-pub use parts::{Split, SplitFault, Unsplit};
+pub use parts::{Split, SplitFault, UnsplitList};
 pub use stacking::{VerticalItems, lines};
 pub use trials::split_place;

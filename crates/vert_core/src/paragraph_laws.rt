@@ -11,7 +11,7 @@ ghost use Rattle.break_lines.specs.Facts.{position_of, begins_at, facts_of, refu
 ghost use Rattle.break_lines.specs.LineItems.{kept_items};
 ghost use Rattle.break_lines.specs.Costs.{line_fit};
 ghost use Rattle.break_lines.specs.Sizes.{line_size};
-ghost use Rattle.pack_core.specs.declared.pack.Packed.{Packed};
+ghost use Rattle.pack_core.specs.declared.pack.PackedBox.{PackedBox};
 ghost use Rattle.pack_core.specs.declared.pack.Target.TheVariants.{To};
 ghost use Rattle.pack_core.specs.Boxes.{hpack_result};
 ghost use Rattle.node_core.specs.Nodes.{items_of};
@@ -86,7 +86,7 @@ pub fn one_setting()
 
 /// If a line that keeps items is packed to its width and is not overfull, its box has the badness of the line, from which its demerits are computed.
 pub fn boxes_are_as_bad_as_lines()
-    ensures { (list : List Node) → (params : Params) → (a : ℕ) → (b : ℕ) → (lines : ℕ) → (packed : Packed) → refusal list ≡ None →
+    ensures { (list : List Node) → (params : Params) → (a : ℕ) → (b : ℕ) → (lines : ℕ) → (packed : PackedBox) → refusal list ≡ None →
         kept_items list (begins_at list a) (position_of list b) ≢ [] →
         (line_fit ((facts_of list).sums a b) (line_size params lines)).overfull ≡ false →
         hpack_result (To (line_size params lines)) (items_of (kept_items list (begins_at list a) (position_of list b))) ≡ Ok packed →

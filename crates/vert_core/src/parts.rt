@@ -1,16 +1,16 @@
 //! The parts of a split vertical list, and why a list is not split.
 
 use node_core::NodeList;
-use pack_core::Packed;
+use pack_core::PackedBox;
 use thiserror::Error;
 
 /// The parts of a vertical list that was split.
 #[derive(Debug, Drop)]
 pub struct Split {
     /// The items before the place, in a vbox of the given height.
-    pub front: Packed,
+    pub front: PackedBox,
     /// The items that are left, in a vbox of its natural height, or `None` if nothing is left.
-    pub rest: Option<Packed>,
+    pub rest: Option<PackedBox>,
 }
 
 /// Why a vertical list is not split.
@@ -30,7 +30,7 @@ pub enum SplitFault {
 /// The list was not split. It is returned as it was.
 #[derive(Debug, Drop, Error)]
 #[error("the list was not split: {fault}")]
-pub struct Unsplit {
+pub struct UnsplitList {
     pub list: NodeList,
     pub fault: SplitFault,
 }

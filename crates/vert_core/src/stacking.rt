@@ -24,7 +24,7 @@ pub struct VerticalItems {
     pub depth: Dimen,
 }
 
-/// Appends a node, if there is one, to a list with room for it.
+/// Appends a node, if there is one, to a list with space for it.
 fn put_some(list: &mut Vec<Node>, node: Option<Node>)
     requires { vec_len list.old + length (cons_option node []) ≤ vec_capacity list.old }
     ensures items { list.new.items ≡ list.old.items ++ cons_option node [] }
@@ -62,10 +62,10 @@ fn closed_box(alloc: Global, line: PlannedLine, plain: bool) -> HeapBox
     boxed
 }
 
-/// Appends a line to a list with room for it: its glue, its box, and its penalty.
+/// Appends a line to a list with space for it: its glue, its box, and its penalty.
 #[tactic(auto, unfolding(crate::specs::Private::Planned::stacked_nodes))]
 fn stack_line(list: &mut Vec<Node>, line: PlannedLine, plain: bool)
-    requires room { vec_len list.old + length (stacked_nodes line) ≤ vec_capacity list.old }
+    requires space { vec_len list.old + length (stacked_nodes line) ≤ vec_capacity list.old }
     requires plain { plain ≡ true → HasPlainItems line }
     ensures items { list.new.items ≡ list.old.items ++ stacked_nodes line }
     ensures capacity { vec_capacity list.new ≡ vec_capacity list.old }
@@ -77,10 +77,10 @@ fn stack_line(list: &mut Vec<Node>, line: PlannedLine, plain: bool)
     put_some(list, after);
 }
 
-/// Appends lines that have their items, and of which the last one comes first, to a list with room for them. `plain` says that it is known that none
+/// Appends lines that have their items, and of which the last one comes first, to a list with space for them. `plain` says that it is known that none
 /// of these items is a box or a special.
 pub(crate) fn stack_lines(list: &mut Vec<Node>, mut lines: Vec<PlannedLine>, plain: bool)
-    requires room { vec_len list.old + length (flat_map stacked_nodes (reverse lines.items)) ≤ vec_capacity list.old }
+    requires space { vec_len list.old + length (flat_map stacked_nodes (reverse lines.items)) ≤ vec_capacity list.old }
     requires plain { plain ≡ true → All HasPlainItems lines.items }
     ensures { list.new.items ≡ list.old.items ++ flat_map stacked_nodes (reverse lines.items) }
 {

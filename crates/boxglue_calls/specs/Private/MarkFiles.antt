@@ -5,12 +5,12 @@ use Rattle.dvi_ops.specs.Fonts.{definitions}
 use Rattle.dvi_ops.specs.Tokens.{token_instructions}
 use Rattle.dvi_ops.specs.View.{units as view_units}
 use Rattle.dvi_ops.specs.declared.op.Units.{Units as UnitsOf}
-use Rattle.dvi_read.specs.PageMarks.{HasGlyphWidths, HasRoomFor, marks_of, text_places}
+use Rattle.dvi_read.specs.PageMarks.{HasGlyphWidths, HasSpaceFor, marks_of, text_places}
 use Rattle.dvi_read.specs.Seen.{seen_of}
-use Rattle.dvi_read.specs.SeenAhead.{HasCheckedPages, HasCheckedTexts, IsSeenAhead}
+use Rattle.dvi_read.specs.ItemsLeft.{HasCheckedPages, HasCheckedTexts, AreItemsLeft}
 use Rattle.dvi_read.specs.declared.fault.DviFault.{DviFault}
 use Rattle.dvi_read.specs.declared.fault.DviFault.TheVariants.{Bad, OutOfMemory}
-use Rattle.dvi_read.specs.declared.sights.Sights.{Sights}
+use Rattle.dvi_read.specs.declared.seen_items.SeenItems.{SeenItems}
 use Rattle.tfm_core.specs.FileWidths.{file_widths}
 use Rattle.tfm_core.specs.NamedBytes.{NamedBytes}
 use Rattle.boxglue_print.specs.Faults.{fault_line}
@@ -25,17 +25,17 @@ place_of (Bad bad) = bad.place
 place_of fault = 0
 
 -- The bytes are a file of these pages, with these units; its pages are still to be seen, and its glyphs have the widths of the files.
-pub record IsChecked (files : List NamedBytes) (bytes : List ℕ) (units : UnitsOf) (s : Sights) (pages : List MarkedPage) : Type 0 where
+pub record IsChecked (files : List NamedBytes) (bytes : List ℕ) (units : UnitsOf) (s : SeenItems) (pages : List MarkedPage) : Type 0 where
   pub file : IsFile (file_widths files) bytes pages
-  pub units_are : view_units units ≡ file.frame.stop.units
-  pub ahead : IsSeenAhead s (seen_of pages)
+  pub units_are : view_units units ≡ file.frame.postamble.units
+  pub remaining : AreItemsLeft s (seen_of pages)
   pub all : HasCheckedPages s.file.now pages
   pub texts : HasCheckedTexts s.file.now (text_places 0 file.frame.front)
   pub begun : s.at ≡ s.file.now.from
   pub bytes_are : s.file.now.bytes.now ≡ bytes
   pub widths : HasGlyphWidths (file_widths files) (definitions (token_instructions file.frame.front ++ token_instructions file.frame.tail))
       s.file.now.fonts (marks_of pages)
-  pub room : HasRoomFor bytes pages
+  pub space : HasSpaceFor bytes pages
 
 -- The line of a fault, which is not that of memory, is short.
 pub record IsShortRefusal (fault : DviFault) (output : Output) : Type 0 where
@@ -49,12 +49,12 @@ pub record IsRefusal (files : List NamedBytes) (bytes : List ℕ) (output : Outp
   pub refuses : RefusesFile files bytes output.text.items false
   pub text_short : length output.text.items ≤ 64
 
--- The outputs for a file of this length fit into the rooms that always suffice.
+-- The outputs for a file of this length fit into the buffers that always suffice.
 pub record FitsIn (size : ℕ) (outputs : MarkOutputs) : Type 0 where
   pub pages_fit : 46 * length outputs.pages ≤ size
   pub marks_fit : length outputs.marks ≤ size
   pub text_fits : length outputs.text ≤ 64
 
--- The outputs for a file are handed over, and they fit into these rooms.
+-- The outputs for a file are handed over, and they fit into these buffers.
 abbrev pub HandsOverFully : List NamedBytes → (bytes : List ℕ) → (old new : MarkOutputs) → MarkSizes → (status : ℕ) → Type 0
 HandsOverFully files bytes old new sizes status = (handed : HandsOverMarks files bytes old new sizes status) × FitsIn (length bytes) handed.outputs

@@ -4,12 +4,12 @@ use Rattle.dvi_ops.specs.File.{MarkedPage}
 use Rattle.dvi_ops.specs.Fonts.{WidthsByName, widths_of}
 use Rattle.dvi_ops.specs.Instruction.{Definition}
 use Rattle.dvi_read.specs.PageMarks.{HasGlyphWidths, marks_of, read_width}
-use Rattle.dvi_read.specs.Seen.{SeenItem, Counts, Marked, seen_of}
-use Rattle.dvi_read.specs.SeenAhead.{AreTextsAhead, IsSeenAhead}
+use Rattle.dvi_read.specs.Seen.{SeenItemView, Counts, Marked, seen_of}
+use Rattle.dvi_read.specs.ItemsLeft.{AreTextsLeft, AreItemsLeft}
 use Rattle.dvi_read.specs.declared.fonts.ReadFonts.{ReadFonts}
-use Rattle.dvi_read.specs.declared.sights.Sight.{Sight}
-use Rattle.dvi_read.specs.declared.sights.Sight.TheVariants as sights
-use Rattle.dvi_read.specs.declared.sights.Sights.{Sights}
+use Rattle.dvi_read.specs.declared.seen_items.SeenItem.{SeenItem}
+use Rattle.dvi_read.specs.declared.seen_items.SeenItem.TheVariants as seen_items
+use Rattle.dvi_read.specs.declared.seen_items.SeenItems.{SeenItems}
 use Rattle.dvi_scan.specs.View.{mark_of}
 use Rattle.scaled_core.specs.Mark.{Mark, Glyph, Rule, Special}
 use Rattle.boxglue_calls.specs.Buffers.{Holds}
@@ -29,13 +29,13 @@ row_of fonts place (Rule h v height width) = rule_row h v height width
 row_of fonts place (Special h v text) = special_row h v (size_of (length text)) (place - length text)
 
 -- The number of pages among what is seen.
-abbrev pub pages_among : List SeenItem → ℕ
+abbrev pub pages_among : List SeenItemView → ℕ
 pages_among [] = 0
 pages_among (Counts counts ∷ rest) = pages_among rest + 1
 pages_among (Marked mark ∷ rest) = pages_among rest
 
 -- The marks among what is seen.
-abbrev pub marks_among : List SeenItem → List Mark
+abbrev pub marks_among : List SeenItemView → List Mark
 marks_among [] = []
 marks_among (Counts counts ∷ rest) = marks_among rest
 marks_among (Marked mark ∷ rest) = mark ∷ marks_among rest
@@ -46,9 +46,9 @@ HasRowsFor metrics table bytes places marks =
     (rows : List DviMark) × AreMarkRows bytes (widths_of metrics table) rows marks × (text_starts rows ≡ places)
 
 -- The buffers have a place for the row of what is seen next: a mark comes after a page.
-abbrev pub HasPlace : Sight → RowProgress → MarkOutputs → Type 0
-HasPlace (sights.Page counts) w buffers = w.pages < length buffers.pages
-HasPlace (sights.Mark mark) w buffers =
+abbrev pub HasPlace : SeenItem → RowProgress → MarkOutputs → Type 0
+HasPlace (seen_items.Page counts) w buffers = w.pages < length buffers.pages
+HasPlace (seen_items.Mark mark) w buffers =
     (0 < w.pages) × (w.pages ≤ length buffers.pages) × (w.marks < length buffers.marks) × (w.row.marks ≤ w.marks)
 
 -- One row of a page is written, after the others.
@@ -67,16 +67,16 @@ pub record AddsMark (mark : DviMark) (old new : RowProgress) (before after : Mar
   pub mark_written : after.marks ≡ take old.marks before.marks ++ ((mark ∷ []) ++ drop (old.marks + 1) before.marks)
 
 -- The row of what is seen is written.
-abbrev pub WritesSight : Sight → Sights → (old new : RowProgress) → (before after : MarkOutputs) → Type 0
-WritesSight (sights.Page counts) s old new before after = BeginsPage counts old new before.pages after.pages × (after.marks ≡ before.marks)
-WritesSight (sights.Mark mark) s old new before after = AddsMark (row_of s.file.now.fonts s.at (mark_of mark)) old new before after
+abbrev pub WritesItem : SeenItem → SeenItems → (old new : RowProgress) → (before after : MarkOutputs) → Type 0
+WritesItem (seen_items.Page counts) s old new before after = BeginsPage counts old new before.pages after.pages × (after.marks ≡ before.marks)
+WritesItem (seen_items.Mark mark) s old new before after = AddsMark (row_of s.file.now.fonts s.at (mark_of mark)) old new before after
 
--- The pages that are still to be seen, the texts of their specials begin at these places, their glyphs have these widths, and the buffers have room
+-- The pages that are still to be seen, the texts of their specials begin at these places, their glyphs have these widths, and the buffers have space
 -- for all rows.
-pub record CanBeWritten (metrics : WidthsByName) (table : List Definition) (s : Sights) (buffers : MarkOutputs) (places : List ℕ)
+pub record CanBeWritten (metrics : WidthsByName) (table : List Definition) (s : SeenItems) (buffers : MarkOutputs) (places : List ℕ)
     (all : List MarkedPage) : Type 0 where
-  pub ahead : IsSeenAhead s (seen_of all)
-  pub texts : AreTextsAhead s places
+  pub remaining : AreItemsLeft s (seen_of all)
+  pub texts : AreTextsLeft s places
   pub widths : HasGlyphWidths metrics table s.file.now.fonts (marks_of all)
   pub pages_fit : length all ≤ length buffers.pages
   pub marks_fit : length (marks_of all) ≤ length buffers.marks

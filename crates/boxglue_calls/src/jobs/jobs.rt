@@ -4,7 +4,7 @@ ghost use Rattle.std.specs.Prelude.{◌≡◌, ◌≢◌, None, true, IfOk};
 ghost use Rattle.boxglue_calls.specs.Fonts.{are_named, files_of};
 ghost use Rattle.boxglue_calls.specs.Jobs.{IsNewJob};
 ghost use Rattle.boxglue_calls.specs.Pieces.{DoesCommands, FinishesKept, HandsAnswers, HandsBytes};
-ghost use Rattle.boxglue_calls.specs.Replies.{RepliesTo, RepliesToEnd, row_room};
+ghost use Rattle.boxglue_calls.specs.Replies.{RepliesTo, RepliesToEnd, row_space};
 ghost use Rattle.boxglue_calls.specs.Calls.{IsStatusOfNew, KeepsWithoutJob, MakesJob, NeedsJob, OnJob, RefusesJob, RefusesNamesOfJob};
 
 use crate::jobs::handle::{JobHandle, put, take as take_out};
@@ -141,7 +141,7 @@ pub fn run(
     count: &mut usize,
 ) -> u32
     ensures no_job { NeedsJob job.old.value result }
-    ensures done { OnJob (RepliesTo script.now (row_room rows.old count.old) (row_room rows.new count.new)) job.old.value job.new.value result }
+    ensures done { OnJob (RepliesTo script.now (row_space rows.old count.old) (row_space rows.new count.new)) job.old.value job.new.value result }
     ensures rows { KeepsWithoutJob result rows.old rows.new }
     ensures count { KeepsWithoutJob result count.old count.new }
 {

@@ -118,7 +118,7 @@ impl KeptJob {
     /// Runs the lines of a piece of a script, and writes the rows of their replies.
     fn reply_to_piece(&mut self, script: &[u8], lines: &mut [Line], rows: &mut [ReplyRow]) -> u32
         requires piece { IsScript script.now lines.old }
-        requires room { length lines.old ≤ length rows.old }
+        requires space { length lines.old ≤ length rows.old }
         ensures { (count : ℕ) → RepliesToPiece script.now (record { rows = rows.old; count = count })
             (record { rows = rows.new; count = length lines.old }) self.old self.new result }
     {
@@ -129,7 +129,7 @@ impl KeptJob {
     }
 
     /// Runs a piece of a script, which is whole lines, and writes the rows of its replies. It is read first, and where it is bad, or there is no
-    /// room for its rows, no line of it is run.
+    /// space for its rows, no line of it is run.
     pub fn run(
         &mut self,
         alloc: Global,

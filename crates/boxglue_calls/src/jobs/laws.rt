@@ -11,7 +11,7 @@ ghost use Rattle.boxglue_program.specs.Texts.{answer_lines};
 ghost use Rattle.boxglue_calls.specs.Jobs.{HasHanded, IsNewJob, KeptState, sent_by};
 ghost use Rattle.boxglue_calls.specs.Numbers.{line_count, line_feeds, number_after, numbered_lines};
 ghost use Rattle.boxglue_calls.specs.Pieces.{DoesCommands, FinishesKept, HandsAnswers, HandsBytes, RunsLines};
-ghost use Rattle.boxglue_calls.specs.Replies.{NeedsRows, RepliesTo, RepliesToEnd, RowRoom};
+ghost use Rattle.boxglue_calls.specs.Replies.{NeedsRows, RepliesTo, RepliesToEnd, RowBuffer};
 ghost use Rattle.boxglue_calls.specs.Rows.{reply_rows};
 ghost use Rattle.boxglue_calls.specs.declared.jobs.rows.ReplyRow.{ReplyRow};
 
@@ -71,7 +71,7 @@ pub fn bytes_are_handed_over_once()
         → HandsBytes dvi_old dvi_new size old new 4 → HasHanded new handed }
     ensures commands { (script handed : List ℕ) (old new : KeptState) (status : ℕ) → HasHanded old handed → DoesCommands script old new status
         → HasHanded new handed }
-    ensures replies { (script handed : List ℕ) (before after : RowRoom) (old new : KeptState) (status : ℕ) → HasHanded old handed
+    ensures replies { (script handed : List ℕ) (before after : RowBuffer) (old new : KeptState) (status : ℕ) → HasHanded old handed
         → RepliesTo script before after old new status → HasHanded new handed }
     ensures answers { (text_old text_new handed : List ℕ) (size : ℕ) (old new : KeptState) (status : ℕ) → HasHanded old handed
         → HandsAnswers text_old text_new size old new status

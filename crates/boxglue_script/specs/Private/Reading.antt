@@ -509,8 +509,8 @@ ReadsOn number line old new = (rest : List (List ℕ))
     → lines_then old (reading_from number (line ∷ rest)) ≡ lines_then new (reading_from (number + 1) rest)
 
 -- Reading ends at a line with that fault, whatever comes after the line.
-abbrev pub StopsAtLine : ℕ → List ℕ → List Line → ScriptFault → Type 0
-StopsAtLine number line old fault = (rest : List (List ℕ)) → lines_then old (reading_from number (line ∷ rest)) ≡ Err fault
+abbrev pub HasFaultAtLine : ℕ → List ℕ → List Line → ScriptFault → Type 0
+HasFaultAtLine number line old fault = (rest : List (List ℕ)) → lines_then old (reading_from number (line ∷ rest)) ≡ Err fault
 
 -- A line is counted, and a command is read from it.
 abbrev pub GivesCommand : List ℕ → Type 0

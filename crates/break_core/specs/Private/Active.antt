@@ -108,7 +108,7 @@ pub record IsBestOf (table : List Entry) (from to k : ℕ) : Type 0 where
   pub high : k < to
   pub within : to ≤ length table
   pub entry : Entry
-  pub stands : slice_get table k ≡ Some entry
+  pub present : slice_get table k ≡ Some entry
   pub best : (j : ℕ) (f : Entry) → from ≤ j → j < to → slice_get table j ≡ Some f → NotAfter (compared_numbers entry) (compared_numbers f)
 
 -- Each live group has entries, and the number of the best one.

@@ -71,7 +71,7 @@ pub record IsBestOffer (table : List Entry) (params : Params) (place : ℕ) (alo
   pub low : from ≤ by
   pub high : by < to
   pub entry : Entry
-  pub stands : slice_get table by ≡ Some entry
+  pub present : slice_get table by ≡ Some entry
   pub is : best ≡ offer_from params entry by place alone
   pub least :
       (k : ℕ) (e : Entry) → from ≤ k → k < to → slice_get table k ≡ Some e

@@ -16,7 +16,7 @@ pub record IsSmall (e : Entry) : Type 0 where
 -- Entry k is the best one for its place among the first n entries.
 pub record IsBestEnd (table : List Entry) (place n k : ℕ) : Type 0 where
   pub entry : Entry
-  pub stands : slice_get table k ≡ Some entry
+  pub present : slice_get table k ≡ Some entry
   pub at : entry.end.place ≡ place
   pub best : (j : ℕ) (f : Entry) → j < n → slice_get table j ≡ Some f → f.end.place ≡ place → NotAfter (compared_numbers entry) (compared_numbers f)
 

@@ -6,9 +6,9 @@ use Rattle.dvi_scan.specs.Execution.{inside_of}
 use Rattle.dvi_scan.specs.Pass.{PassStateView, Inside}
 use Rattle.dvi_scan.specs.View.{mark_of}
 use Rattle.dvi_scan.specs.declared.executing.OpenPage.{OpenPage}
-use Rattle.dvi_read.specs.SeenAhead.{HasRest}
+use Rattle.dvi_read.specs.ItemsLeft.{HasRest}
 use Rattle.dvi_read.specs.declared.check.checked_file.CheckedFile.{CheckedFile}
-use Rattle.dvi_read.specs.declared.sights.one_page.PageStart.{PageStart}
+use Rattle.dvi_read.specs.declared.seen_items.one_page.PageStart.{PageStart}
 
 -- The instructions from a place on make these pages, in this state of the pass.
 abbrev pub HasRestAt : CheckedFile → (at : ℕ) → PassStateView → List MarkedPage → Type 0

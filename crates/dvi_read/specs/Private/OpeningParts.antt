@@ -9,8 +9,8 @@ use Rattle.dvi_scan.specs.Passed.{Framing}
 use Rattle.dvi_scan.specs.Reached.{PlacesLeft}
 use Rattle.dvi_read.specs.Opening.{HasPages}
 use Rattle.dvi_read.specs.ReadFonts.{AreSound}
-use Rattle.dvi_read.specs.Steps.{FontsAreRead, known_of, stand_of}
-use Rattle.dvi_read.specs.Stops.{PagesHaveEnded, IsUnended}
+use Rattle.dvi_read.specs.Steps.{FontsAreRead, known_of, pass_state_of}
+use Rattle.dvi_read.specs.WalkFaults.{PagesHaveEnded, IsUnended}
 use Rattle.dvi_read.specs.declared.fault.DviFault.{DviFault}
 use Rattle.dvi_read.specs.declared.fault.DviFault.TheVariants.{Bad, OutOfMemory}
 use Rattle.dvi_read.specs.Walks.{bare, read_in}
@@ -21,11 +21,11 @@ use Rattle.tfm_core.specs.NamedBytes.{NamedBytes}
 -- All instructions before post are right, and a walk, which keeps no mark, holds the rest of what was read there. Each selected font was read, and
 -- has the widths of the files.
 pub record HasPassed (files : List NamedBytes) (bytes : List ℕ) (parts : Framing) (from : ℕ) (walk : Walk) : Type 0 where
-  pub ahead : List ℤ
+  pub after_post : List ℤ
   pub selected : List ℤ
   pub pass : PassStateView
-  pub has : HasPages files bytes parts from ahead (read_in pass selected walk)
-  pub stand : stand_of walk ≡ bare pass
+  pub has : HasPages files bytes parts from after_post (read_in pass selected walk)
+  pub pass_state : pass_state_of walk ≡ bare pass
   pub read : FontsAreRead walk.fonts selected
   pub sound : AreSound (file_widths files) (known_of walk) walk.fonts
 

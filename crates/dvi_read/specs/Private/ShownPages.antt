@@ -2,7 +2,7 @@
 use Rattle.std.specs.Prelude.{◌≡◌, List, reverse}
 use Rattle.dvi_ops.specs.File.{MarkedPage}
 use Rattle.dvi_ops.specs.Tokens.{places}
-use Rattle.dvi_read.specs.SeenAhead.{HasCheckedPages}
+use Rattle.dvi_read.specs.ItemsLeft.{HasCheckedPages}
 use Rattle.dvi_read.specs.declared.check.checked_file.CheckedFile.{CheckedFile}
 
 -- The file has these pages, and their places are kept.

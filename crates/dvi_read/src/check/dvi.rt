@@ -9,9 +9,9 @@ ghost use Rattle.dvi_scan.specs.View.{marked_page};
 ghost use Rattle.dvi_read.specs.Listing.{listing as listing_of};
 ghost use Rattle.dvi_read.specs.Opened.{HasUnitsOf, IsExact, IsNoFile};
 ghost use Rattle.dvi_read.specs.Opening.{IsDviFault};
-ghost use Rattle.dvi_read.specs.PageMarks.{HasGlyphWidths, HasRoomFor, marks_of, text_places};
+ghost use Rattle.dvi_read.specs.PageMarks.{HasGlyphWidths, HasSpaceFor, marks_of, text_places};
 ghost use Rattle.dvi_read.specs.Seen.{seen_of};
-ghost use Rattle.dvi_read.specs.SeenAhead.{AreLinesAhead, HasAllLines, HasCheckedPages, HasCheckedTexts, IsSeenAhead};
+ghost use Rattle.dvi_read.specs.ItemsLeft.{AreLinesLeft, HasAllLines, HasCheckedPages, HasCheckedTexts, AreItemsLeft};
 ghost use Rattle.dvi_read.specs.declared.fault.DviFault.TheVariants.{OutOfMemory};
 ghost use Rattle.tfm_core.specs.FileWidths.{file_widths};
 
@@ -25,7 +25,7 @@ use crate::fault::DviFault;
 use crate::fonts::ReadFonts;
 use crate::listings::lines::Lines;
 use crate::listings::part::ListingPart;
-use crate::sights::{Sights, page_room};
+use crate::seen_items::{SeenItems, page_space};
 use dvi_ops::Units;
 use dvi_scan::Page;
 use std::alloc::{AllocError, Global};
@@ -82,7 +82,7 @@ impl<'a> Dvi<'a> {
         ensures widths { IfOk result (λ dvi. (f : Frame bytes.now)
             → HasGlyphWidths (file_widths files.now) (definitions (token_instructions f.front ++ token_instructions f.tail)) dvi.file.fonts
             (marks_of dvi.pages)) }
-        ensures room { IfOk result (λ dvi. HasRoomFor bytes.now dvi.pages) }
+        ensures space { IfOk result (λ dvi. HasSpaceFor bytes.now dvi.pages) }
         ensures bytes { IfOk result (λ dvi. dvi.file.bytes.now ≡ bytes.now) }
         ensures texts { IfOk result (λ dvi. (f : Frame bytes.now) → HasCheckedTexts dvi.file (text_places 0 f.front)) }
         // The rule that a fault names is broken at its place, and the earlier checks hold.
@@ -112,7 +112,7 @@ impl<'a> Dvi<'a> {
         Ok(Dvi {
             alloc,
             file,
-            units: ending.stop.units,
+            units: ending.postamble.units,
             shown,
         })
     }
@@ -142,14 +142,14 @@ impl<'a> Dvi<'a> {
     }
 
     /// What is seen of its pages. It takes memory for one mark and for the places that pushes save, and nothing takes memory after it.
-    pub fn sights(&self) -> Result<Sights<'_, 'a>, AllocError>
-        ensures ahead { IfOk result (λ sights. IsSeenAhead sights (seen_of self.now.pages)) }
-        ensures all { IfOk result (λ sights. HasCheckedPages sights.file.now self.now.pages) }
-        ensures place { IfOk result (λ sights. sights.at ≡ sights.file.now.from) }
-        ensures file { IfOk result (λ sights. sights.file.now ≡ self.now.file) }
+    pub fn seen_items(&self) -> Result<SeenItems<'_, 'a>, AllocError>
+        ensures remaining { IfOk result (λ seen_items. AreItemsLeft seen_items (seen_of self.now.pages)) }
+        ensures all { IfOk result (λ seen_items. HasCheckedPages seen_items.file.now self.now.pages) }
+        ensures place { IfOk result (λ seen_items. seen_items.at ≡ seen_items.file.now.from) }
+        ensures file { IfOk result (λ seen_items. seen_items.file.now ≡ self.now.file) }
     {
-        let page = page_room(self.alloc, self.file.most)?;
-        Ok(Sights {
+        let page = page_space(self.alloc, self.file.most)?;
+        Ok(SeenItems {
             file: &self.file,
             at: self.file.from,
             inside: false,
@@ -158,13 +158,13 @@ impl<'a> Dvi<'a> {
         })
     }
 
-    /// The lines of the listing of all pages, to be taken in pieces. It takes memory as `sights`.
+    /// The lines of the listing of all pages, to be taken in pieces. It takes memory as `seen_items`.
     pub fn lines(&self) -> Result<Lines<'_, 'a>, AllocError>
-        ensures ahead { IfOk result (λ lines. AreLinesAhead lines (listing_of self.now.pages)) }
+        ensures remaining { IfOk result (λ lines. AreLinesLeft lines (listing_of self.now.pages)) }
         ensures all { IfOk result (λ lines. HasAllLines lines (listing_of self.now.pages)) }
     {
-        let sights = self.sights()?;
-        Ok(Lines::new(sights))
+        let seen_items = self.seen_items()?;
+        Ok(Lines::new(seen_items))
     }
 
     /// Appends all lines of the listing. Where memory is refused, a beginning of them may be there.

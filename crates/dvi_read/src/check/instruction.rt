@@ -7,14 +7,14 @@ ghost use Rattle.dvi_ops.specs.Fonts.{IsFontSize};
 ghost use Rattle.dvi_ops.specs.View.{view};
 ghost use Rattle.dvi_scan.specs.Reached.{after_bop};
 ghost use Rattle.dvi_read.specs.ReadFonts.{AreSound, HaveByteCodes, IsCurrent};
-ghost use Rattle.dvi_read.specs.Steps.{IsWalkStep, StopsStep, known_of};
+ghost use Rattle.dvi_read.specs.Steps.{IsWalkStep, IsStepFault, known_of};
 ghost use Rattle.dvi_read.specs.Private.Steps.{BreaksNote, BreaksPass, Notes, PassesOn};
 ghost use Rattle.tfm_core.specs.FileWidths.{file_widths};
 
 use crate::check::walk::{Source, Walk};
 use crate::fault::StepFault;
 use crate::fonts::{select, width_asked};
-use dvi_ops::dvi_file::MAX_PUSHES;
+use dvi_ops::dvi_file_laws::MAX_PUSHES;
 use dvi_ops::{BodyOp, Op};
 use dvi_scan::{DviCause, FileEnd, FontNumber, define, execute};
 use std::alloc::Global;
@@ -47,8 +47,8 @@ fn note<'a>(
 ) -> Result<(), StepFault<'a>>
     requires sizes { AllByRecursion (λ d. IsFontSize d.size) (known_of walk.old) }
     requires sound { AreSound (file_widths source.now.files.now) (known_of walk.old) walk.old.fonts }
-    ensures ok { OnOk result (Notes (file_widths source.now.files.now) source.now.ahead.now.keys at (view op.now) walk.old walk.new) }
-    ensures bad { IfErr result (BreaksNote source.now.files.now source.now.ahead.now.keys at (view op.now) walk.old) }
+    ensures ok { OnOk result (Notes (file_widths source.now.files.now) source.now.after_post.now.keys at (view op.now) walk.old walk.new) }
+    ensures bad { IfErr result (BreaksNote source.now.files.now source.now.after_post.now.keys at (view op.now) walk.old) }
 {
     match *op {
         Op::Bop { .. } => {
@@ -83,15 +83,15 @@ fn pass_on<'a>(
 {
     let current = walk.fonts.current;
     let width = width_asked(&walk.fonts, current, op);
-    execute(alloc, &mut walk.stand, &mut walk.done, most, op, width)?;
+    execute(alloc, &mut walk.pass_state, &mut walk.done, most, op, width)?;
     Ok(())
 }
 
 /// The greatest number of pushes that may be open at once: the depth in post, but at most `MAX_PUSHES`.
 pub(crate) fn most_pushes(ending: &FileEnd) -> usize
-    ensures { result ≡ min max_pushes ending.now.stop.stack_depth }
+    ensures { result ≡ min max_pushes ending.now.postamble.stack_depth }
 {
-    MAX_PUSHES.min(usize::from(ending.stop.stack_depth))
+    MAX_PUSHES.min(usize::from(ending.postamble.stack_depth))
 }
 
 /// Processes an instruction of the pages at a place (DVItype, 15 and 18). It takes memory for marks, pages, places, definitions and fonts. The fault
@@ -106,11 +106,12 @@ pub fn step<'a>(
 ) -> Result<(), StepFault<'a>>
     requires sizes { AllByRecursion (λ d. IsFontSize d.size) (known_of walk.old) }
     requires sound { AreSound (file_widths source.now.files.now) (known_of walk.old) walk.old.fonts }
-    requires current { IsCurrent walk.old.fonts walk.old.stand }
-    ensures ok { OnOk result (IsWalkStep (file_widths source.now.files.now) source.now.ahead.now.keys
-        (min max_pushes source.now.ending.now.stop.stack_depth) at (view op.now) walk.old walk.new) }
+    requires current { IsCurrent walk.old.fonts walk.old.pass_state }
+    ensures ok { OnOk result (IsWalkStep (file_widths source.now.files.now) source.now.after_post.now.keys
+        (min max_pushes source.now.ending.now.postamble.stack_depth) at (view op.now) walk.old walk.new) }
     // The rule that a fault names is broken.
-    ensures bad { IfErr result (StopsStep source.now.files.now source.now.ahead.now.keys (min max_pushes source.now.ending.now.stop.stack_depth) at
+    ensures bad { IfErr result
+        (IsStepFault source.now.files.now source.now.after_post.now.keys (min max_pushes source.now.ending.now.postamble.stack_depth) at
         (view op.now) walk.old) }
 {
     pass_on(alloc, most_pushes(source.ending), op, walk)?;

@@ -2,12 +2,12 @@
 
 ghost use Rattle.std.specs.Prelude.{◌≡◌, ◌≤◌, ◌+◌, ◌-◌, length, map, IfErr, IfOk, OnOk};
 ghost use Rattle.dvi_scan.specs.Closing.{ClosesTo};
-ghost use Rattle.dvi_ops.specs.View.{postamble};
+ghost use Rattle.dvi_ops.specs.View.{view_postamble};
 ghost use Rattle.dvi_scan.specs.View.{marked_page};
 ghost use Rattle.dvi_read.specs.Opening.{IsDviFault, StartsAt};
 ghost use Rattle.dvi_read.specs.Private.OpeningParts.{HasPassed, IsFinishFault};
-ghost use Rattle.dvi_read.specs.Steps.{known_of, places_left, stand_of};
-ghost use Rattle.dvi_read.specs.Stops.{PagesHaveEnded};
+ghost use Rattle.dvi_read.specs.Steps.{known_of, places_left, pass_state_of};
+ghost use Rattle.dvi_read.specs.WalkFaults.{PagesHaveEnded};
 ghost use Rattle.dvi_scan.specs.Passed.{file_framing};
 
 use crate::check::walk::{Source, Walk, pages_end, walk_pages};
@@ -27,16 +27,16 @@ pub(crate) fn check_pages<'c, 'a>(
 ) -> Result<Walk<'c, 'a>, DviFault<'a>>
     requires low { ending.now.after + 5 ≤ ending.now.last }
     requires high { ending.now.last ≤ length bytes.now }
-    requires starts { StartsAt bytes.now ending.now.post ending.now.after ending.now.last (postamble ending.now.stop) chain.now from }
+    requires starts { StartsAt bytes.now ending.now.post ending.now.after ending.now.last (view_postamble ending.now.postamble) chain.now from }
     ensures ok { IfOk result (HasPassed files.now bytes.now
-        (file_framing ending.now.post ending.now.after ending.now.last (postamble ending.now.stop) chain.now) from) }
+        (file_framing ending.now.post ending.now.after ending.now.last (view_postamble ending.now.postamble) chain.now) from) }
     ensures bad { IfErr result (IsDviFault files.now bytes.now) }
 {
-    let ahead = prescan_definitions(alloc, bytes, ending.after, ending.last - 5)?;
+    let after_post = prescan_definitions(alloc, bytes, ending.after, ending.last - 5)?;
     let source = Source {
         bytes,
         files,
-        ahead: &ahead,
+        after_post: &after_post,
         ending,
     };
     walk_pages(alloc, &source, from, chain)
@@ -50,11 +50,11 @@ pub(crate) fn finish<'a>(
 ) -> Result<(), DviFault<'a>>
     requires low { ending.now.after + 5 ≤ ending.now.last }
     requires high { ending.now.last ≤ length bytes.now }
-    ensures ended { OnOk result (PagesHaveEnded (stand_of walk.old) (places_left walk.old) (map marked_page walk.old.done.items)) }
+    ensures ended { OnOk result (PagesHaveEnded (pass_state_of walk.old) (places_left walk.old) (map marked_page walk.old.done.items)) }
     ensures closed { OnOk result (ClosesTo bytes.now ending.now.after (ending.now.last - 5) (known_of walk.old) (known_of walk.new)) }
     ensures done { walk.new.done.items ≡ walk.old.done.items }
     ensures fonts { walk.new.fonts ≡ walk.old.fonts }
-    ensures bad { IfErr result (IsFinishFault bytes.now ending.now.post ending.now.after ending.now.last (stand_of walk.old)
+    ensures bad { IfErr result (IsFinishFault bytes.now ending.now.post ending.now.after ending.now.last (pass_state_of walk.old)
         (places_left walk.old) (known_of walk.old)) }
 {
     pages_end(walk, ending.post)?;

@@ -7,22 +7,22 @@ ghost use Rattle.dvi_ops.specs.Body.{place_after};
 ghost use Rattle.dvi_ops.specs.File.{max_pushes};
 ghost use Rattle.dvi_ops.specs.Fonts.{IsFontSize, WidthsByName};
 ghost use Rattle.dvi_ops.specs.Instruction.{Across, By, Postamble};
-ghost use Rattle.dvi_ops.specs.View.{postamble};
+ghost use Rattle.dvi_ops.specs.View.{view_postamble};
 ghost use Rattle.dvi_scan.specs.Reached.{IsReached, before_pages};
 ghost use Rattle.dvi_scan.specs.Drawing.{reached_position};
 ghost use Rattle.dvi_scan.specs.View.{marked_page, spot_position};
 ghost use Rattle.dvi_read.specs.ReadFonts.{AreSound, HaveByteCodes, IsCurrent, asked_width, selected_in};
-ghost use Rattle.dvi_read.specs.Steps.{known_of, places_left, stand_of};
-ghost use Rattle.dvi_read.specs.Stops.{page_bytes, PagesHaveEnded, IsUnended, IsWalkFault};
+ghost use Rattle.dvi_read.specs.Steps.{known_of, places_left, pass_state_of};
+ghost use Rattle.dvi_read.specs.WalkFaults.{page_bytes, PagesHaveEnded, IsUnended, IsWalkFault};
 ghost use Rattle.dvi_read.specs.Walks.{IsWalked, bare};
-ghost use Rattle.dvi_read.specs.Private.Walks.{IsBegun, Reads, StopsReading};
+ghost use Rattle.dvi_read.specs.Private.Walks.{IsBegun, Reads, IsReadingFault};
 ghost use Rattle.tfm_core.specs.FileWidths.{file_widths};
 
 use crate::check::instruction::step;
 use crate::fault::DviFault;
 use crate::fonts::{CharCode, ReadFonts};
 use dvi_scan::{
-    BadDvi, DviCause, FileEnd, KnownFonts, NumbersAhead, OpenPage, Page, PassState, read_at,
+    BadDvi, DviCause, FileEnd, KnownFonts, NumbersAfterPost, OpenPage, Page, PassState, read_at,
 };
 use std::alloc::Global;
 use tfm_core::FontFile;
@@ -35,7 +35,7 @@ pub struct Source<'s, 'a> {
     /// The metric files.
     pub files: &'s [FontFile],
     /// The numbers of fonts that are defined after post.
-    pub ahead: &'s NumbersAhead,
+    pub after_post: &'s NumbersAfterPost,
     /// The places of the parts of the file, and the operands of post.
     pub ending: &'s FileEnd,
 }
@@ -45,7 +45,7 @@ pub struct Source<'s, 'a> {
 /// bop was there.
 #[derive(Drop)]
 pub struct Walk<'c, 'a> {
-    pub stand: PassState<'a>,
+    pub pass_state: PassState<'a>,
     pub done: Vec<Page<'a>>,
     pub known: KnownFonts<'a>,
     pub fonts: ReadFonts,
@@ -64,13 +64,13 @@ fn read_step<'a>(
     requires high { source.now.ending.now.post ≤ length source.now.bytes.now }
     requires sizes { AllByRecursion (λ d. IsFontSize d.size) (known_of walk.old) }
     requires sound { AreSound (file_widths source.now.files.now) (known_of walk.old) walk.old.fonts }
-    requires current { IsCurrent walk.old.fonts walk.old.stand }
+    requires current { IsCurrent walk.old.fonts walk.old.pass_state }
     ensures ok { IfOk result (Reads (file_widths source.now.files.now)
-        (page_bytes source.now.ahead.now.keys source.now.bytes.now (min max_pushes (postamble source.now.ending.now.stop).stack_depth)
+        (page_bytes source.now.after_post.now.keys source.now.bytes.now (min max_pushes (view_postamble source.now.ending.now.postamble).stack_depth)
         source.now.ending.now.post)
         at walk.old walk.new) }
-    ensures bad { IfErr result (StopsReading source.now.files.now
-        (page_bytes source.now.ahead.now.keys source.now.bytes.now (min max_pushes (postamble source.now.ending.now.stop).stack_depth)
+    ensures bad { IfErr result (IsReadingFault source.now.files.now
+        (page_bytes source.now.after_post.now.keys source.now.bytes.now (min max_pushes (view_postamble source.now.ending.now.postamble).stack_depth)
         source.now.ending.now.post)
         at walk.old) }
 {
@@ -94,7 +94,7 @@ fn walk_start<'c, 'a>(alloc: Global, left: &'c [usize]) -> Walk<'c, 'a>
     ensures { IsBegun left.now result }
 {
     Walk {
-        stand: PassState::Between,
+        pass_state: PassState::Between,
         done: Vec::new(alloc),
         known: KnownFonts::new(alloc),
         fonts: ReadFonts::new(alloc),
@@ -105,14 +105,14 @@ fn walk_start<'c, 'a>(alloc: Global, left: &'c [usize]) -> Walk<'c, 'a>
 
 /// Drops the pages that have ended and the marks so far.
 fn release(walk: &mut Walk<'_, '_>)
-    ensures stand { stand_of walk.new ≡ bare (stand_of walk.old) }
-    ensures selected { selected_in walk.new.stand ≡ selected_in walk.old.stand }
+    ensures pass_state { pass_state_of walk.new ≡ bare (pass_state_of walk.old) }
+    ensures selected { selected_in walk.new.pass_state ≡ selected_in walk.old.pass_state }
     ensures fonts { walk.new.fonts ≡ walk.old.fonts }
     ensures known { known_of walk.new ≡ known_of walk.old }
     ensures left { places_left walk.new ≡ places_left walk.old }
 {
     walk.done.clear();
-    if let PassState::Inside(page) = &mut walk.stand {
+    if let PassState::Inside(page) = &mut walk.pass_state {
         page.marks.clear();
     }
 }
@@ -147,16 +147,16 @@ fn pass_character(source: &Source<'_, '_>, at: usize, walk: &mut Walk<'_, '_>) -
     requires low { at < source.now.ending.now.post }
     requires high { source.now.ending.now.post ≤ length source.now.bytes.now }
     requires codes { HaveByteCodes walk.old.fonts }
-    ensures passed { result ≡ true → (metrics : WidthsByName) (ahead : List ℤ) (stop : Postamble) (chain : List ℕ)
-        → IsWalked metrics ahead source.now.bytes.now stop chain at walk.old
-        → IsWalked metrics ahead source.now.bytes.now stop chain (at + 1) walk.new }
+    ensures passed { result ≡ true → (metrics : WidthsByName) (after_post : List ℤ) (postamble : Postamble) (chain : List ℕ)
+        → IsWalked metrics after_post source.now.bytes.now postamble chain at walk.old
+        → IsWalked metrics after_post source.now.bytes.now postamble chain (at + 1) walk.new }
     ensures same { result ≡ false → walk.new ≡ walk.old }
 {
     let byte = source.bytes[at];
     if byte >= 128 {
         return false;
     }
-    match &mut walk.stand {
+    match &mut walk.pass_state {
         PassState::Inside(page) => pass_in_page(&walk.fonts, byte, page),
         PassState::Between => false,
     }
@@ -175,13 +175,14 @@ pub fn walk_pages<'c, 'a>(
 ) -> Result<Walk<'c, 'a>, DviFault<'a>>
     requires low { from ≤ source.now.ending.now.post }
     requires high { source.now.ending.now.post ≤ length source.now.bytes.now }
-    requires reached { IsReached (file_widths source.now.files.now) source.now.ahead.now.keys source.now.bytes.now
-        (postamble source.now.ending.now.stop) left.now from (before_pages left.now) }
+    requires reached { IsReached (file_widths source.now.files.now) source.now.after_post.now.keys source.now.bytes.now
+        (view_postamble source.now.ending.now.postamble) left.now from (before_pages left.now) }
     // All instructions before post are right, and the walk has their fonts.
-    ensures ok { IfOk result (IsWalked (file_widths source.now.files.now) source.now.ahead.now.keys source.now.bytes.now
-        (postamble source.now.ending.now.stop) left.now source.now.ending.now.post) }
+    ensures ok { IfOk result (IsWalked (file_widths source.now.files.now) source.now.after_post.now.keys source.now.bytes.now
+        (view_postamble source.now.ending.now.postamble) left.now source.now.ending.now.post) }
     // All instructions before the place of a fault are right, and the rule that it names is broken there.
-    ensures bad { IfErr result (IsWalkFault source.now.files.now source.now.ahead.now.keys source.now.bytes.now (postamble source.now.ending.now.stop)
+    ensures bad { IfErr result
+        (IsWalkFault source.now.files.now source.now.after_post.now.keys source.now.bytes.now (view_postamble source.now.ending.now.postamble)
         left.now source.now.ending.now.post) }
 {
     let mut walk = walk_start(alloc, left);
@@ -200,10 +201,10 @@ pub fn walk_pages<'c, 'a>(
 /// Tests that no page is open at the place of post, where the fault is Opcode, and that a bop was at each place of the chain, where the fault is
 /// Pointer. Both faults are at the place of post.
 pub fn pages_end(walk: &Walk<'_, '_>, post: usize) -> Result<(), BadDvi>
-    ensures ok { OnOk result (PagesHaveEnded (stand_of walk.now) (places_left walk.now) (map marked_page walk.now.done.items)) }
-    ensures bad { IfErr result (IsUnended (stand_of walk.now) (places_left walk.now) post) }
+    ensures ok { OnOk result (PagesHaveEnded (pass_state_of walk.now) (places_left walk.now) (map marked_page walk.now.done.items)) }
+    ensures bad { IfErr result (IsUnended (pass_state_of walk.now) (places_left walk.now) post) }
 {
-    if let PassState::Inside(_) = walk.stand {
+    if let PassState::Inside(_) = walk.pass_state {
         return Err(BadDvi {
             place: post,
             cause: DviCause::Opcode,

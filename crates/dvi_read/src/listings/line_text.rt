@@ -3,7 +3,7 @@
 ghost use Rattle.std.specs.Prelude.{◌≡◌, ◌++◌, ◌+◌, ◌*◌, ◌^◌, ◌<◌, ◌≤◌, [], ◌∷◌, codes, decimal, length, IfSome};
 ghost use Rattle.std.specs.Fmt.{signed_decimal};
 ghost use Rattle.std.specs.List.{flat_map};
-ghost use Rattle.dvi_read.specs.Listing.{hexadecimal_digit, is_shown_plainly, line, mark_line, shown_byte, text_ahead, text_line};
+ghost use Rattle.dvi_read.specs.Listing.{hexadecimal_digit, is_shown_plainly, line, mark_line, shown_byte, rest_of_line, text_line};
 ghost use Rattle.dvi_read.specs.declared.listings.part.TheConstants.{PART};
 ghost use Rattle.dvi_scan.specs.View.{mark_of};
 
@@ -60,7 +60,7 @@ fn put_shown(byte: u8, part: &mut ListingPart)
 /// line, so its spaces need no mark and its length is not given.
 #[tactic(auto, unfolding(crate::specs::Listing::text_line))]
 pub(crate) fn put_text<'f>(text: &'f [u8], part: &mut ListingPart) -> Option<&'f [u8]>
-    ensures all { text_line text.now ≡ part.new ++ text_ahead result }
+    ensures all { text_line text.now ≡ part.new ++ rest_of_line result }
     ensures filled { 0 < length part.new }
     ensures shorter { IfSome result (λ rest. length rest.now < length text.now) }
     ensures short { length text.now < 2 ^ 64 }
@@ -77,7 +77,7 @@ pub(crate) fn put_text<'f>(text: &'f [u8], part: &mut ListingPart) -> Option<&'f
 /// Replaces the part by the line of a mark; for a special by the beginning of its line. Returns the text of a special, which is still to come.
 #[tactic(auto, unfolding(crate::specs::Listing::line, crate::specs::Listing::special_line))]
 pub(crate) fn put_mark<'f>(mark: &Mark<'f>, part: &mut ListingPart) -> Option<&'f [u8]>
-    ensures all { mark_line (mark_of mark.now) ≡ part.new ++ text_ahead result }
+    ensures all { mark_line (mark_of mark.now) ≡ part.new ++ rest_of_line result }
     ensures filled { 0 < length part.new }
 {
     match *mark {

@@ -3,12 +3,12 @@ use Rattle.std.specs.Prelude.{◌≡◌, ◌<◌, List, ℕ, ℤ, pos, negsuc}
 use Rattle.dvi_scan.specs.declared.fault.DviCause.TheVariants.{Pointer}
 use Rattle.dvi_scan.specs.declared.fault.FrameFault.{FrameFault}
 use Rattle.dvi_scan.specs.declared.fault.FrameFault.TheVariants.{OutOfMemory, Bad}
-use Rattle.dvi_scan.specs.declared.page_chain.Named.{Named}
-use Rattle.dvi_scan.specs.declared.page_chain.Named.TheVariants.{Start, Page, Nothing}
+use Rattle.dvi_scan.specs.declared.page_chain.PointerTarget.{PointerTarget}
+use Rattle.dvi_scan.specs.declared.page_chain.PointerTarget.TheVariants.{Start, Page, Nothing}
 use Rattle.dvi_scan.specs.Chain.{IsLost, IsBrokenAt, IsPageAt, NamesPage}
 
 -- What a pointer was found to name (own).
-abbrev pub Names : List ℕ → (at bound : ℕ) → (pointer : ℤ) → Named → Type 0
+abbrev pub Names : List ℕ → (at bound : ℕ) → (pointer : ℤ) → PointerTarget → Type 0
 Names bytes at bound pointer Start = pointer ≡ negsuc 0
 Names bytes at bound pointer (Page place) = (pointer ≡ pos place) × (place < bound) × (IsPageAt bytes place bound)
 Names bytes at bound pointer (Nothing p) = (p ≡ at) × IsLost bytes bound pointer

@@ -33,9 +33,9 @@ pub record IsSound (s : State) : Type 0 where
   pub fonts : AreLoaded s.files s.fonts
   pub glyphs : HasSizedGlyphs s
 
--- The file of a job that is not over is within the limits: its writer has written some pages, and the numbers that it keeps of them have room.
+-- The file of a job that is not over is within the limits: its writer has written some pages, and the numbers that it keeps of them have space.
 pub record IsBoundedFile (fonts : Slots) (w : Writing) : Type 0 where
-  pub room : IsWithinLimits w.so_far
+  pub space : IsWithinLimits w.so_far
   pub before : Option (List ℕ)
   pub pages : List ShippedPage
   pub written : HasWritten fonts before w pages

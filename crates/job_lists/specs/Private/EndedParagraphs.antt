@@ -16,16 +16,16 @@ use Rattle.job_machine.specs.State.{innermost, items_in}
 use Rattle.job_machine.specs.Paragraphs.{depth_in, paragraph_refusal, set_after, with_lines}
 
 -- A paragraph of these items was set after the lists around it, and its lines are at the end of the innermost of them.
-pub record IsEnded (params : Params) (around : List OpenList) (items : Items) (after : List OpenList) (told : AppendedParagraph) : Type 0 where
+pub record IsEnded (params : Params) (around : List OpenList) (items : Items) (after : List OpenList) (figures : AppendedParagraph) : Type 0 where
   pub set : SetParagraph
   pub is_set : set_after params around items ≡ Ok set
   pub shallow : items_depth set.items ≤ MAX_DEPTH
   pub short : length (nodes_of (items_in (innermost around))) + length (nodes_of set.items) ≤ MAX_ITEMS
   pub nest : after ≡ with_lines around (innermost around) (Ok set)
-  pub lines : told.lines ≡ set.lines
-  pub pass : told.pass ≡ set.pass
-  pub overhang : told.overhang ≡ set.overhang
-  pub demerits : told.demerits ≡ set.demerits
+  pub lines : figures.lines ≡ set.lines
+  pub pass : figures.pass ≡ set.pass
+  pub overhang : figures.overhang ≡ set.overhang
+  pub demerits : figures.demerits ≡ set.demerits
 
 -- Why it was not.
 abbrev pub IsRefused : Params → (around : List OpenList) → Items → UnappendedLines → Type 0

@@ -12,7 +12,7 @@ ghost use Rattle.job_machine.specs.Runs.{LeavesRest};
 
 use super::JobState;
 use crate::registers::sizes_of;
-use job_lists::open_lists::{room_for_box, room_for_items};
+use job_lists::open_lists::{space_for_box, space_for_items};
 use job_machine::{Answer, AppendBox, Refusal, Register, Reply, Splitting, Transfer, Unboxing};
 use node_core::BoxNode;
 use node_core::limits::MAX_ITEMS;
@@ -34,7 +34,7 @@ impl JobState {
         let Some(box_node) = self.registers.get(taken.register) else {
             return Ok(Ok(Answer::Added(0)));
         };
-        let count = match room_for_box(innermost, box_node, &self.params) {
+        let count = match space_for_box(innermost, box_node, &self.params) {
             Ok(count) => count,
             Err(refusal) => return Ok(Err(refusal)),
         };
@@ -93,7 +93,7 @@ impl JobState {
             return Ok(Err(Refusal::NoOpenList));
         };
         let held = self.registers.get(taken.register);
-        let count = match room_for_items(innermost, taken.kind, held) {
+        let count = match space_for_items(innermost, taken.kind, held) {
             Ok(count) => count,
             Err(refusal) => return Ok(Err(refusal)),
         };
@@ -104,7 +104,7 @@ impl JobState {
         Ok(Ok(Answer::Added(count)))
     }
 
-    /// Moves the items of the box of a register to the end of the innermost list, which has room for them. The box is put back if memory is refused.
+    /// Moves the items of the box of a register to the end of the innermost list, which has space for them. The box is put back if memory is refused.
     fn move_items(&mut self, register: Register) -> Result<(), AllocError>
         requires { length (nodes_of (items_in (innermost self.old.nest))) + length (nodes_in (held_in self.old.registers register)) ≤ MAX_ITEMS }
         ensures ok { OnOk result (before_shipping self.new ≡ with_unboxed (before_shipping self.old) Transfer.Move register
@@ -124,7 +124,7 @@ impl JobState {
         }
     }
 
-    /// Appends copies of the items of the box of a register to the innermost list, which has room for them.
+    /// Appends copies of the items of the box of a register to the innermost list, which has space for them.
     fn copy_items(&mut self, register: Register) -> Result<(), AllocError>
         requires { length (nodes_of (items_in (innermost self.old.nest))) + length (nodes_in (held_in self.old.registers register)) ≤ MAX_ITEMS }
         ensures ok { OnOk result (before_shipping self.new ≡ with_unboxed (before_shipping self.old) Transfer.Copy register

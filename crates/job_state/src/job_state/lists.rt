@@ -14,11 +14,11 @@ ghost use Rattle.job_machine.specs.Runs.{early_checks};
 
 use super::JobState;
 use crate::registers::sizes_of;
-use job_lists::open_lists::room_for_box;
+use job_lists::open_lists::space_for_box;
 use job_machine::{Answer, ListPurpose, Opening, Refusal, Register, Reply};
 use node_core::BoxNode;
 use node_core::limits::{MAX_DEPTH, MAX_ITEMS, MAX_OPEN_LISTS};
-use pack_core::Packed;
+use pack_core::PackedBox;
 use std::alloc::AllocError;
 
 impl JobState {
@@ -69,7 +69,7 @@ impl JobState {
         let Some(packed) = self.nest.pack(&self.params) else {
             return Ok(Err(Refusal::DimensionTooLarge));
         };
-        let Packed { box_node, badness } = packed;
+        let PackedBox { box_node, badness } = packed;
         if let Some(refusal) = self.refusal_of(&into, &box_node) {
             self.nest.refill(box_node.list);
             return Ok(Err(refusal));
@@ -93,7 +93,7 @@ impl JobState {
         let Some(around) = self.nest.around() else {
             return Some(Refusal::NoOpenList);
         };
-        room_for_box(around, box_node, &self.params).err()
+        space_for_box(around, box_node, &self.params).err()
     }
 
     /// Closes the innermost list, and puts its box into a register or at the end of the enclosing list. If memory is refused, the list is open

@@ -3,7 +3,7 @@ use Rattle.std.specs.Prelude.{◌+ℤ◌, ◌-ℤ◌, ℤ, List, [], ◌∷◌, 
 use Rattle.std.specs.List.{list_all}
 use Rattle.node_core.specs.declared.tree.Node.{Node}
 use Rattle.node_core.specs.Items.{Items}
-use Rattle.pack_core.specs.declared.pack.Packed.{Packed}
+use Rattle.pack_core.specs.declared.pack.PackedBox.{PackedBox}
 use Rattle.pack_core.specs.declared.pack.TooLarge.{TooLarge}
 use Rattle.pack_core.specs.declared.pack.Shell.{Shell}
 use Rattle.pack_core.specs.declared.orders.OrderAmounts.{OrderAmounts}
@@ -28,6 +28,6 @@ unfoldable pub vtop_shell : Shell → (height : ℤ) → Shell
 vtop_shell shell height = record shell { height = height; depth = (shell.depth +ℤ shell.height) -ℤ height }
 
 -- The list in its box, or the list itself if there is no box for it.
-unfoldable pub boxed_list : Items → Option Shell → Result Packed TooLarge
+unfoldable pub boxed_list : Items → Option Shell → Result PackedBox TooLarge
 boxed_list items None = Err (record { list = items })
 boxed_list items (Some shell) = Ok (packed_of items shell)

@@ -5,8 +5,8 @@ use Rattle.node_core.specs.declared.tree.BoxNode.{BoxNode}
 use Rattle.node_core.specs.declared.tree.Node.TheVariants as nodes
 use Rattle.page_core.specs.Marks.{right_at, down_at, points_and_sizes}
 use Rattle.page_core.specs.declared.placing.Point.{Point}
-use Rattle.page_core.specs.Pictures.{Picture}
-use Rattle.page_core.specs.Placing.{fitting_point, strokes_of}
+use Rattle.page_core.specs.DrawnPages.{DrawnPage}
+use Rattle.page_core.specs.Placing.{fitting_point, marked_of}
 
 -- Whether an item is independent of the glue setting: every item but glue.
 abbrev pub is_rigid : Node → Bool
@@ -43,6 +43,6 @@ abbrev pub numbers_between : BoxNode → (h v place next : ℤ) → Node → Lis
 numbers_between b h v place next x =
     points_and_sizes b (right_at b.kind h place) (down_at b.kind v place) (right_at b.kind h next) (down_at b.kind v next) x
 
--- The marks of an item at a place of the list, before a picture.
-abbrev pub strokes_at : BoxNode → (h v place : ℤ) → Node → Picture → Picture
-strokes_at b h v place x rest = strokes_of b (right_at b.kind h place) (down_at b.kind v place) x rest
+-- The marks of an item at a place of the list, before what is drawn after.
+abbrev pub marked_at : BoxNode → (h v place : ℤ) → Node → DrawnPage → DrawnPage
+marked_at b h v place x rest = marked_of b (right_at b.kind h place) (down_at b.kind v place) x rest

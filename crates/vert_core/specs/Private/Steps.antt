@@ -7,7 +7,7 @@ use Rattle.node_core.specs.declared.tree.Glue.{Glue}
 use Rattle.node_core.specs.declared.tree.Node.{Node}
 use Rattle.node_core.specs.declared.tree.Node.TheVariants as nodes
 use Rattle.node_core.specs.Nodes.{items_of}
-use Rattle.pack_core.specs.declared.pack.Packed.{Packed}
+use Rattle.pack_core.specs.declared.pack.PackedBox.{PackedBox}
 use Rattle.pack_core.specs.Boxes.{packed_of}
 use Rattle.vert_core.specs.declared.trials.Trial.{Trial}
 use Rattle.vert_core.specs.declared.plan.SplitRest.{SplitRest}
@@ -49,7 +49,7 @@ left_items None items = []
 left_items (Some rest) items = rest_list rest items
 
 -- The rest in the box that was found for it.
-abbrev pub packed_left : Option SplitRest → List Node → Option Packed
+abbrev pub packed_left : Option SplitRest → List Node → Option PackedBox
 packed_left None items = None
 packed_left (Some rest) items = Some (packed_of (items_of (rest_list rest items)) rest.shell)
 

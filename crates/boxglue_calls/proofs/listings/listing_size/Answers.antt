@@ -3,17 +3,18 @@ use Rattle.std.proofs.Common.{◌≡◌, ◌+◌, [], false, List, ℕ, ap, arit
 use Rattle.boxglue_calls.proofs.listings.listing_size.Goals as goal
 
 pub loop-piece-init : goal.loop-piece-init
-loop-piece-init c = record { room = c.requires.room; some = c.requires.ahead; begun = λ text first. (text, omega arith, first); all = λ text all. all }
+loop-piece-init c = record
+    { space = c.requires.space; some = c.requires.remaining; begun = λ text first. (text, omega arith, first); all = λ text all. all }
 
 pub loop-piece-preserved : goal.loop-piece-preserved
 loop-piece-preserved c =
     let held = c.loop-piece.invariant in
     let next = c.next_piece.ensures in
     let (all, lines) = held.some in
-    let (left, split, ahead) = next.all all lines in
+    let (left, split, remaining) = next.all all lines in
     record {
-      room = omega (arith, held.room, next.capacity);
-      some = (left, ahead);
+      space = omega (arith, held.space, next.capacity);
+      some = (left, remaining);
       begun = λ text first.
           (let (rest, counted, now) = held.begun text first in
           let (later, split, after) = next.all rest now in
@@ -32,12 +33,12 @@ returns-clause-size c = λ text first.
 pub returns-clause-all_lines : goal.returns-clause-all_lines
 returns-clause-all_lines c = λ text all. c.next_piece.ensures.all_lines text (c.loop-piece.invariant.all text all)
 
-pub returns-in_err-size-clause-ahead : goal.returns-in_err-size-clause-ahead
-returns-in_err-size-clause-ahead c =
+pub returns-in_err-size-clause-remaining : goal.returns-in_err-size-clause-remaining
+returns-in_err-size-clause-remaining c =
     let (all, lines) = c.loop-piece.invariant.some in
-    let (left, split, ahead) = c.next_piece.ensures.all all lines in (left, ahead)
+    let (left, split, remaining) = c.next_piece.ensures.all all lines in (left, remaining)
 
-pub returns-clause-ahead : goal.returns-clause-ahead
-returns-clause-ahead c =
+pub returns-clause-remaining : goal.returns-clause-remaining
+returns-clause-remaining c =
     let (all, lines) = c.loop-piece.invariant.some in
-    let (left, split, ahead) = c.next_piece.ensures.all all lines in (left, ahead)
+    let (left, split, remaining) = c.next_piece.ensures.all all lines in (left, remaining)

@@ -13,23 +13,23 @@ piece_fits old mid done rest piece later whole count holds same split count_is f
     let long = same_length old mid done holds in omega arith
 
 pub loop-piece-init : goal.loop-piece-init
-loop-piece-init c = record { room = c.requires.room; begun = λ whole first fits. ([], whole, holds_none c.args.text.now, refl, refl, first) }
+loop-piece-init c = record { space = c.requires.space; begun = λ whole first fits. ([], whole, holds_none c.args.text.now, refl, refl, first) }
 
-pub next_piece-requires-clause-ahead : goal.next_piece-requires-clause-ahead
-next_piece-requires-clause-ahead c =
-    let (whole, first, fits) = c.requires.ahead in
+pub next_piece-requires-clause-remaining : goal.next_piece-requires-clause-remaining
+next_piece-requires-clause-remaining c =
+    let (whole, first, fits) = c.requires.remaining in
     let (done, rest, holds, same, count_is, now) = c.loop-piece.invariant.begun whole first fits in (rest, now)
 
 pub put_after-requires : goal.put_after-requires
 put_after-requires c =
-    let (whole, first, fits) = c.requires.ahead in
+    let (whole, first, fits) = c.requires.remaining in
     let (done, rest, holds, same, count_is, now) = c.loop-piece.invariant.begun whole first fits in
     let (later, split, after) = c.next_piece.ensures.all rest now in
     rw c.deref.ensures.value (piece_fits c.args.text.now c.loop-piece.text done rest c.next_piece.new.piece.items later whole c.loop-piece.count holds same split count_is fits)
 
 pub overflow_add-count : goal.overflow_add-count
 overflow_add-count c =
-    let (whole, first, fits) = c.requires.ahead in
+    let (whole, first, fits) = c.requires.remaining in
     let (done, rest, holds, same, count_is, now) = c.loop-piece.invariant.begun whole first fits in
     let (later, split, after) = c.next_piece.ensures.all rest now in
     let fit = piece_fits c.args.text.now c.loop-piece.text done rest c.next_piece.new.piece.items later whole c.loop-piece.count holds same split count_is fits in
@@ -42,7 +42,7 @@ loop-piece-preserved c =
     let piece = c.next_piece.new.piece.items in
     let written = rw c.deref.ensures.value at c.put_after.ensures in
     record {
-      room = omega (arith, held.room, next.capacity);
+      space = omega (arith, held.space, next.capacity);
       begun = λ whole first fits.
           (let (done, rest, holds, same, count_is, now) = held.begun whole first fits in
           let (later, split, after) = next.all rest now in

@@ -8,10 +8,11 @@ use Rattle.boxglue_calls.specs.Private.MarkRows.{CanBeWritten}
 use Rattle.boxglue_calls.proofs.RowSteps.{IsWriting}
 use Rattle.boxglue_calls.proofs.mark_rows.write_rows.Given as goal
 
-abbrev pub invariant-loop-sight : goal.invariant-loop-sight
-invariant-loop-sight l = (metrics : WidthsByName) (table : List Definition) (places : List ℕ) (all : List MarkedPage)
-    → CanBeWritten metrics table l.initial.sights (mark_outputs l.initial.pages l.initial.marks []) places all
-    → IsWriting metrics table l.initial.sights (mark_outputs l.initial.pages l.initial.marks []) (mark_outputs l.pages l.marks []) l.written places all l.sights
+abbrev pub invariant-loop-item : goal.invariant-loop-item
+invariant-loop-item l = (metrics : WidthsByName) (table : List Definition) (places : List ℕ) (all : List MarkedPage)
+    → CanBeWritten metrics table l.initial.seen_items (mark_outputs l.initial.pages l.initial.marks []) places all
+    → IsWriting metrics table l.initial.seen_items (mark_outputs l.initial.pages l.initial.marks []) (mark_outputs l.pages l.marks []) l.written
+    places all l.seen_items
 
-abbrev pub decreases-loop-sight : goal.decreases-loop-sight
-decreases-loop-sight l = l.sights.file.now.post - l.sights.at
+abbrev pub decreases-loop-item : goal.decreases-loop-item
+decreases-loop-item l = l.seen_items.file.now.post - l.seen_items.at

@@ -13,12 +13,13 @@ pub hand_over_rows-requires : goal.hand_over_rows-requires
 hand_over_rows-requires c =
     let files = c.deref.result.now in
     let opened = c.in-Ok.ensures in
-    let sights = c.in_ok-sights-in-Ok in (
+    let seen_items = c.in_ok-seen_items-in-Ok in (
       files,
       c.args.dvi.now,
       c.in-Ok.opened.pages,
-      opened_checked files c.args.dvi.now c.in-Ok.opened c.units-units.result sights.sights opened.ok opened.units opened.bytes opened.widths opened.room opened.texts c.units-units.ensures.value sights.ensures.ahead
-          sights.ensures.all sights.ensures.place sights.ensures.file,
+      opened_checked files c.args.dvi.now c.in-Ok.opened c.units-units.result seen_items.seen_items opened.ok opened.units opened.bytes opened.widths
+          opened.space opened.texts c.units-units.ensures.value seen_items.ensures.remaining
+          seen_items.ensures.all seen_items.ensures.place seen_items.ensures.file,
     )
 
 pub returns-in-Ok-clause-handed : goal.returns-in-Ok-clause-handed
@@ -26,10 +27,11 @@ returns-in-Ok-clause-handed c =
     let files = c.deref.result.now in
     let same : files ≡ files_of c.args.fonts.now = c.deref.ensures.value ∙ c.in_ok-files.ensures in
     let opened = c.in-Ok.ensures in
-    let sights = c.in_ok-sights-in-Ok in
+    let seen_items = c.in_ok-seen_items-in-Ok in
     let checked =
-    opened_checked files c.args.dvi.now c.in-Ok.opened c.units-units.result sights.sights opened.ok opened.units opened.bytes opened.widths opened.room opened.texts c.units-units.ensures.value sights.ensures.ahead
-    sights.ensures.all sights.ensures.place sights.ensures.file in
+    opened_checked files c.args.dvi.now c.in-Ok.opened c.units-units.result seen_items.seen_items opened.ok opened.units opened.bytes opened.widths
+    opened.space opened.texts c.units-units.ensures.value seen_items.ensures.remaining
+    seen_items.ensures.all seen_items.ensures.place seen_items.ensures.file in
     subst
     (λ (fs : List NamedBytes).
     HandsOverFully fs c.args.dvi.now (mark_outputs c.args.pages.now c.args.marks.now c.args.text.now) (mark_outputs c.hand_over_rows.new.pages c.hand_over_rows.new.marks c.args.text.now)

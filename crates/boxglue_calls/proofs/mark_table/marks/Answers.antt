@@ -1,7 +1,7 @@
--- The tables, as they are handed over, and the rooms that suffice.
+-- The tables, as they are handed over, and the buffers that suffice.
 use Rattle.std.proofs.Common.{◌≡◌, inr, rules, true}
 use Rattle.boxglue_calls.specs.Fonts.{are_named}
-use Rattle.boxglue_calls.proofs.MarkTableLaws.{handed_loud, rooms_suffice}
+use Rattle.boxglue_calls.proofs.MarkTableLaws.{handed_loud, spaces_suffice}
 use Rattle.boxglue_calls.proofs.mark_table.marks.Goals as goal
 
 pub returns-in-Ok-clause-named : goal.returns-in-Ok-clause-named
@@ -13,7 +13,7 @@ pub returns-in-Ok-clause-done : goal.returns-in-Ok-clause-done
 returns-in-Ok-clause-done c = inr (inr c.in-Ok.ensures.handed.0)
 
 pub returns-in-Ok-clause-enough : goal.returns-in-Ok-clause-enough
-returns-in-Ok-clause-enough c = rooms_suffice _ _ _ _ _ _ c.in-Ok.ensures.handed
+returns-in-Ok-clause-enough c = spaces_suffice _ _ _ _ _ _ c.in-Ok.ensures.handed
 
 pub returns-in-Ok-clause-pages : goal.returns-in-Ok-clause-pages
 returns-in-Ok-clause-pages c = λ silent. absurd (handed_loud _ _ _ _ _ _ c.in-Ok.ensures.handed silent)

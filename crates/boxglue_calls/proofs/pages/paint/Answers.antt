@@ -3,7 +3,7 @@ use Rattle.std.proofs.Common.{Err, ap, subst, sym}
 use Rattle.boxglue_calls.specs.Fonts.{files_of}
 use Rattle.boxglue_print.proofs.PrintLemmas.{has_page}
 use Rattle.boxglue_print.specs.Outputs.{LacksPage}
-use Rattle.raster_core.specs.Sheets.{Sheet}
+use Rattle.raster_core.specs.PaintOptions.{PaintOptionsView}
 use Rattle.boxglue_calls.proofs.PageLaws.{handed_status, not_silent}
 use Rattle.boxglue_calls.proofs.pages.paint.Goals as goal
 
@@ -13,8 +13,8 @@ returns-in-Ok-clause-found c =
     let files = files_of c.args.fonts.now in
     let same = c.in-Some.ensures.1 in
     λ lacks named range.
-    absurd (has_page files c.args.dvi.now c.in-Some.sheet output.text.items output.accepted c.in-Ok.ensures.ok
-    (subst (λ (sheet : Sheet). LacksPage files c.args.dvi.now sheet.page) (sym same) lacks))
+    absurd (has_page files c.args.dvi.now c.in-Some.options output.text.items output.accepted c.in-Ok.ensures.ok
+    (subst (λ (options : PaintOptionsView). LacksPage files c.args.dvi.now options.page) (sym same) lacks))
 
 pub returns-in-Ok-clause-size : goal.returns-in-Ok-clause-size
 returns-in-Ok-clause-size c =
@@ -24,4 +24,4 @@ pub returns-in-Err-NoSuchPage-clause-lacking : goal.returns-in-Err-NoSuchPage-cl
 returns-in-Err-NoSuchPage-clause-lacking c =
     let same = c.in-Some.ensures.1 in
     let missing = c.in-Err-NoSuchPage.ensures.missing (ap (λ fault. Err fault) c.in-Err-NoSuchPage.field-0-is) in
-    λ five. subst (λ (sheet : Sheet). LacksPage (files_of c.args.fonts.now) c.args.dvi.now sheet.page) same missing
+    λ five. subst (λ (options : PaintOptionsView). LacksPage (files_of c.args.fonts.now) c.args.dvi.now options.page) same missing

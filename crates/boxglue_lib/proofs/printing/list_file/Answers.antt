@@ -28,8 +28,8 @@ returns-in-Err-clause-listed g c =
       written,
     )
 
-pub write_listing-requires-clause-ahead : goal.write_listing-requires-clause-ahead
-write_listing-requires-clause-ahead g c = (listing c.in-Ok.opened.pages, c.in_ok-lines.ensures.ahead)
+pub write_listing-requires-clause-remaining : goal.write_listing-requires-clause-remaining
+write_listing-requires-clause-remaining g c = (listing c.in-Ok.opened.pages, c.in_ok-lines.ensures.remaining)
 
 pub returns-in_err-write_listing-clause-unwritten : goal.returns-in_err-write_listing-clause-unwritten
 returns-in_err-write_listing-clause-unwritten g c said =
@@ -37,7 +37,7 @@ returns-in_err-write_listing-clause-unwritten g c said =
       listing pages,
       true,
       inl (record { pages = pages; file = c.in-Ok.ensures.ok; text_is = refl; accepted_is = refl }),
-      c.in_err-write_listing.ensures.front (listing pages) c.in_ok-lines.ensures.ahead,
+      c.in_err-write_listing.ensures.front (listing pages) c.in_ok-lines.ensures.remaining,
     )
 
 pub returns-clause-listed : goal.returns-clause-listed
@@ -45,7 +45,7 @@ returns-clause-listed g c =
     let pages = c.in-Ok.opened.pages in (
       listing pages,
       inl (record { pages = pages; file = c.in-Ok.ensures.ok; text_is = refl; accepted_is = refl }),
-      c.in_ok-write_listing.ensures.all (listing pages) c.in_ok-lines.ensures.ahead,
+      c.in_ok-write_listing.ensures.all (listing pages) c.in_ok-lines.ensures.remaining,
     )
 
 pub returns-in_err-piece-clause-silent : goal.returns-in_err-piece-clause-silent

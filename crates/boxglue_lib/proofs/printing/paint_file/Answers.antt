@@ -1,4 +1,4 @@
--- A picture that was made is of a page that is there; where memory is refused, nothing was written.
+-- A bitmap that was made is of a page that is there; where memory is refused, nothing was written.
 use Rattle.std.proofs.Common.{◌≡◌, ◌⊎◌, inl, inr, Ok, Err}
 use Rattle.std.specs.Prelude.{Result}
 use Rattle.boxglue_lib.proofs.EndLemmas.{keeps_same}

@@ -10,10 +10,10 @@ loop-writer-preserved g c =
     let written = rw c.deref.ensures.value at c.in_ok-write_text.ensures.all in
     let piece = c.next_piece.new.piece.items in
     let (all, lines) = c.loop-writer.invariant.some in
-    let (left, split, ahead) = c.next_piece.ensures.all all lines in
+    let (left, split, remaining) = c.next_piece.ensures.all all lines in
     record {
-      room = omega (arith, c.loop-writer.invariant.room, c.next_piece.ensures.capacity);
-      some = (left, ahead);
+      space = omega (arith, c.loop-writer.invariant.space, c.next_piece.ensures.capacity);
+      some = (left, remaining);
       begun = λ text first.
           (let (taken, rest, before, same, now) = c.loop-writer.invariant.begun text first in
           let (later, split, next) = c.next_piece.ensures.all rest now in (

@@ -20,5 +20,6 @@ returns-in_err-read_trailing_definitions-clause-bad c =
 pub returns-clause-ok : goal.returns-clause-ok
 returns-clause-ok c =
     let front = c.in_ok-ending.field-0 in
-    defines c.args.dvi.now front (units_of front.ending.stop.units) c.new-known.result c.read_trailing_definitions.new.known (map definition c.into_all.result.items) refl c.new-known.ensures c.in_ok-ending.ensures.ok
+    defines c.args.dvi.now front (units_of front.ending.postamble.units) c.new-known.result c.read_trailing_definitions.new.known
+    (map definition c.into_all.result.items) refl c.new-known.ensures c.in_ok-ending.ensures.ok
     c.in_ok-read_trailing_definitions.ensures.ok c.into_all.ensures

@@ -18,10 +18,11 @@ pub returns-clause-ok : goal.returns-clause-ok
 returns-clause-ok c =
     let pages = c.in-Ok.opened.pages in
     let page = c.in_ok-page.page in
-    let here : slice_get pages (c.args.sheet.page - 1) ≡ Some (marked_page page) = sym (ap (λ (n : ℕ). slice_get pages (n - 1)) c.page.ensures.value) ∙ c.in_ok-page.ensures in
-    paints c.args.files.now c.args.dvi.now c.args.sheet pages (units_of c.units.result) (marked_page page) c.in_ok-bitmap.bitmap c.in-Ok.ensures.ok
+    let here : slice_get pages (c.args.options.page - 1) ≡ Some (marked_page page) =
+    sym (ap (λ (n : ℕ). slice_get pages (n - 1)) c.page.ensures.value) ∙ c.in_ok-page.ensures in
+    paints c.args.files.now c.args.dvi.now c.args.options pages (units_of c.units.result) (marked_page page) c.in_ok-bitmap.bitmap c.in-Ok.ensures.ok
     (λ f. c.units.ensures.value ∙ c.in-Ok.ensures.units f) here c.in_ok-bitmap.ensures
 
 pub returns-clause-found : goal.returns-clause-found
 returns-clause-found c =
-    λ lacks. absurd (has_page c.args.files.now c.args.dvi.now c.args.sheet (pbm c.in_ok-bitmap.bitmap) true (inl (returns-clause-ok c)) lacks)
+    λ lacks. absurd (has_page c.args.files.now c.args.dvi.now c.args.options (pbm c.in_ok-bitmap.bitmap) true (inl (returns-clause-ok c)) lacks)

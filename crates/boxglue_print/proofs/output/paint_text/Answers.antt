@@ -7,10 +7,10 @@ use Rattle.boxglue_print.proofs.output.paint_text.Goals as goal
 
 pub returns-in-Refusal-clause-ok : goal.returns-in-Refusal-clause-ok
 returns-in-Refusal-clause-ok c =
-    inr (subst (λ (p : Painting). IsPainting c.args.files.now c.args.dvi.now c.args.sheet p) c.in-Refusal.is c.in_ok-painting.ensures.ok)
+    inr (subst (λ (p : Painting). IsPainting c.args.files.now c.args.dvi.now c.args.options p) c.in-Refusal.is c.in_ok-painting.ensures.ok)
 
 pub returns-clause-ok : goal.returns-clause-ok
 returns-clause-ok c =
-    let text_is : c.write_pbm.new.out.items ≡ pbm c.in-Picture.bitmap = search rules in
-    inl (subst (λ (text : List ℕ). Paints c.args.files.now c.args.dvi.now c.args.sheet text true) (sym text_is)
-    (subst (λ (p : Painting). IsPainting c.args.files.now c.args.dvi.now c.args.sheet p) c.in-Picture.is c.in_ok-painting.ensures.ok))
+    let text_is : c.write_pbm.new.out.items ≡ pbm c.in-Painted.bitmap = search rules in
+    inl (subst (λ (text : List ℕ). Paints c.args.files.now c.args.dvi.now c.args.options text true) (sym text_is)
+    (subst (λ (p : Painting). IsPainting c.args.files.now c.args.dvi.now c.args.options p) c.in-Painted.is c.in_ok-painting.ensures.ok))

@@ -22,7 +22,8 @@ returns-in_ok-reserve-in-Command-clause-ok g c =
     let fits : vec_len c.reserve.new.self + 512 * length c.from_ref.result.now ≤ vec_capacity c.reserve.new.self =
     omega (arith, c.from_ref.ensures.len, c.in_ok-reserve-in-Command.ensures.ok) in (
       answer,
-      appended c.args.answers.now.items c.reserve.new.self.items c.run_lines-run.new.answers.items answer c.in_ok-reserve-in-Command.ensures.items (ran.3 (run.room fits)),
+      appended c.args.answers.now.items c.reserve.new.self.items c.run_lines-run.new.answers.items answer c.in_ok-reserve-in-Command.ensures.items
+          (ran.3 (run.space fits)),
       command_answered c.args.job.now c.run_lines-run.new.job c.args.before c.args.line.now (record { number = c.args.before + 1; command = c.in-Command.command }) c.from_ref.result.now ran.0 c.run_lines-run.result.outcome c.is_accepting.result says refl c.from_ref.ensures.value ran.1 ran.2 ran.5 c.is_accepting.ensures
           run.goes_on,
     )

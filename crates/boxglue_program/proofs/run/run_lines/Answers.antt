@@ -49,7 +49,8 @@ loop-line-preserved g c =
       begun = begun_further start now new (answer_line line.number reply) push.result c.loop-line.invariant.begun (λ given. (push.ensures.ok given).1) push.ensures.cut;
       short = omega (arith, c.loop-line.invariant.short, push.ensures.short);
       grown = omega (arith, c.loop-line.invariant.grown, push.ensures.grown);
-      room = λ fits. push.ensures.room (c.loop-line.invariant.room fits) (omega (arith, fits, c.loop-line.invariant.short, c.loop-line.invariant.grown, c.loop-line-test.true));
+      space = λ fits. push.ensures.space (c.loop-line.invariant.space fits)
+          (omega (arith, fits, c.loop-line.invariant.short, c.loop-line.invariant.grown, c.loop-line-test.true));
       idle = λ over.
           let same = c.loop-line.invariant.idle over in
           c.step-reply.ensures.idle (ap (λ (job : JobView). job.state.over) same ∙ over) ∙ same;

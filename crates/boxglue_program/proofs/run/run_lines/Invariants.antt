@@ -15,7 +15,7 @@ invariant-loop-line g l = record {
   begun : (more : List ℕ) × (l.answers.items ≡ l.initial.answers.items ++ more);
   short : vec_len l.answers ≤ vec_len l.initial.answers + 512 * l.line-index;
   grown : vec_capacity l.initial.answers ≤ vec_capacity l.answers;
-  room : vec_len l.initial.answers + 512 * length l.lines ≤ vec_capacity l.initial.answers → l.kept ≡ true;
+  space : vec_len l.initial.answers + 512 * length l.lines ≤ vec_capacity l.initial.answers → l.kept ≡ true;
   idle : l.initial.job.state.over ≡ true → l.job ≡ l.initial.job;
   goes_on : GoesOn (writing_of l.initial.job) (writing_of l.job);
 }

@@ -1,7 +1,9 @@
 -- How a session ended, by what it had done before.
 use Rattle.std.proofs.Common.{◌∙◌, ap}
 use Rattle.dvi_device.specs.Pasts.{Past}
-use Rattle.boxglue_program.proofs.SessionCalls.{began_stays, err_at, finished_or_refused, ok_at, other_fault, returned_silent, run_ended, run_lacks_room, run_lost_input, run_not_begun, run_not_ended, run_unfinished, session_begins, session_goes_on}
+use Rattle.boxglue_program.proofs.SessionCalls.{began_stays, err_at, finished_or_refused, ok_at, other_fault, returned_silent, run_ended}
+use Rattle.boxglue_program.proofs.SessionCalls.{run_lacks_space, run_lost_input, run_not_begun, run_not_ended, run_unfinished, session_begins}
+use Rattle.boxglue_program.proofs.SessionCalls.{session_goes_on}
 use Rattle.boxglue_program.proofs.session.run_session.Goals as goal
 
 pub returns-in-Err-clause-memory : goal.returns-in-Err-clause-memory
@@ -42,7 +44,8 @@ returns-in-Ok-End-clause-unreadable g c = λ is.
 
 pub returns-in-Err-exchange-clause-memory : goal.returns-in-Err-exchange-clause-memory
 returns-in-Err-exchange-clause-memory g c =
-    run_lacks_room c.args.files.now (g.D.Device.failed c.args.device) (g.D.Device.failed c.stop.result.device) c.in-Ok.session c.loop.session c.exchange.new.self
+    run_lacks_space c.args.files.now (g.D.Device.failed c.args.device) (g.D.Device.failed c.stop.result.device) c.in-Ok.session c.loop.session
+    c.exchange.new.self
     (g.R.Read.remaining c.args.reader.now) (g.R.Read.remaining c.loop.reader) (g.R.Read.remaining c.exchange.new.reader)
     (g.W.Write.contents c.args.writer.now) (g.W.Write.contents c.loop.writer) (g.W.Write.contents c.exchange.new.writer)
     (g.D.Device.bytes_written c.stop.result.device) c.stop.result.outcome c.in-Err-exchange.fault c.stop.result.written c.in-Ok.ensures.new c.loop.invariant

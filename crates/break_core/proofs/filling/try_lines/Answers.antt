@@ -144,14 +144,14 @@ loop-index-preserved g c =
     let next_over = kept_over live.over overfull width in
     let kept : Live = record { group = group; over = next_over; best = live.best } in
     let marked : c.keep_over.new.lives.items ≡ set items index kept = c.keep_over.ensures live at_index in
-    let stands : slice_get c.keep_over.new.lives.items index ≡ Some kept =
+    let present : slice_get c.keep_over.new.lives.items index ≡ Some kept =
     ap (λ xs. slice_get xs index) marked ∙ get-set_same items index kept live at_index in
     let old = take c.loop-index.kept items in
     let new = take c.keep_group-kept.result c.keep_group-kept.new.lives.items in
     let same_front : take c.loop-index.kept c.keep_over.new.lives.items ≡ old =
     ap (take c.loop-index.kept) marked ∙ take-set-le c.loop-index.kept items index kept inv.kept_bounded in
     let made : new ≡ cond c.stops_after-stopped.result old (old ++ kept ∷ []) =
-    c.keep_group-kept.ensures.front kept stands ∙ ap (λ xs. cond c.stops_after-stopped.result xs (xs ++ kept ∷ [])) same_front in
+    c.keep_group-kept.ensures.front kept present ∙ ap (λ xs. cond c.stops_after-stopped.result xs (xs ++ kept ∷ [])) same_front in
     record {
       wide = c.offer_line-judgement.ensures.wide;
       facts = c.try_line-sums.ensures.facts ∙ inv.facts;

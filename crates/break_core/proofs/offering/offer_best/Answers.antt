@@ -14,8 +14,10 @@ returns-then-is_beaten-clause-row c =
     let live = c.args.live.now in
     let best = c.index-table-live.result in
     let held = c.index.result.now in
-    let stands = slice_get_read table (length table) live.best best refl (omega (arith, c.requires.best.high, c.requires.best.within)) c.index-table-live.is in
+    let present = slice_get_read table (length table) live.best best refl (omega (arith, c.requires.best.high, c.requires.best.within))
+    c.index-table-live.is in
     let here = slice_get_read row (length row) c.class_index.result held refl (omega (arith, c.class_index.ensures.rank_bounded, c.requires.wide)) c.index.ensures in
     let line = c.args.line.now in
-    beaten_offered table c.args.params.now live.group line.place line.alone line.least live.best best held row c.requires.least c.requires.entries c.requires.best stands
+    beaten_offered table c.args.params.now live.group line.place line.alone line.least live.best best held row c.requires.least c.requires.entries
+    c.requires.best present
     (ap (slice_get row) (sym c.class_index.ensures.rank) ∙ here) (c.is_beaten.ensures c.if-is_beaten.true)

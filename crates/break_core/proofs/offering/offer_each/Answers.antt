@@ -21,23 +21,23 @@ pub offer-requires-clause-counted : goal.offer-requires-clause-counted
 offer-requires-clause-counted c =
     let table = c.args.table.now in
     let e = c.index-table-index.result in
-    let stands = slice_get_read table (length table) c.loop-index.index e refl (omega (arith, c.requires.can.within)) c.index-table-index.is in
+    let present = slice_get_read table (length table) c.loop-index.index e refl (omega (arith, c.requires.can.within)) c.index-table-index.is in
     subst (λ n. e.end.lines ≤ n) (sym c.get-cut.ensures.value)
-    (c.requires.can.entries c.loop-index.index e c.loop-index.invariant.low c.loop-index-test.true stands).1
+    (c.requires.can.entries c.loop-index.index e c.loop-index.invariant.low c.loop-index-test.true present).1
 
 pub offer-requires-clause-later : goal.offer-requires-clause-later
 offer-requires-clause-later c =
     let table = c.args.table.now in
     let e = c.index-table-index.result in
-    let stands = slice_get_read table (length table) c.loop-index.index e refl (omega (arith, c.requires.can.within)) c.index-table-index.is in
-    omega (arith, (c.requires.can.entries c.loop-index.index e c.loop-index.invariant.low c.loop-index-test.true stands).0, c.requires.can.earlier)
+    let present = slice_get_read table (length table) c.loop-index.index e refl (omega (arith, c.requires.can.within)) c.index-table-index.is in
+    omega (arith, (c.requires.can.entries c.loop-index.index e c.loop-index.invariant.low c.loop-index-test.true present).0, c.requires.can.earlier)
 
 pub loop-index-preserved : goal.loop-index-preserved
 loop-index-preserved c =
     let table = c.args.table.now in
     let e = c.index-table-index.result in
-    let stands = slice_get_read table (length table) c.loop-index.index e refl (omega (arith, c.requires.can.within)) c.index-table-index.is in
-    let place = (c.requires.can.entries c.loop-index.index e c.loop-index.invariant.low c.loop-index-test.true stands).0 in
+    let present = slice_get_read table (length table) c.loop-index.index e refl (omega (arith, c.requires.can.within)) c.index-table-index.is in
+    let place = (c.requires.can.entries c.loop-index.index e c.loop-index.invariant.low c.loop-index-test.true present).0 in
     let penalty : to_z w32 (of_z w32 c.args.tried.now.penalty) ≡ c.args.tried.now.penalty = omega (arith, ints) in
     let p = to_z w32 (of_z w32 c.args.tried.now.penalty) in
     let rules = c.args.rules.now in
@@ -50,7 +50,8 @@ loop-index-preserved c =
       low = omega (arith, c.loop-index.invariant.low);
       wide = c.offer.ensures.wide ∙ ap slots c.get-cut.ensures.value;
       row = λ p cut late line_fit is.
-          c.offer.ensures.row p table (cut ∙ sym c.get-cut.ensures.value) stands (subst (λ x. last_forced_below p c.args.tried.now.place ≤ x) (sym place) late) (line_fit e.end place ∙ sym line)
+          c.offer.ensures.row p table (cut ∙ sym c.get-cut.ensures.value) present
+          (subst (λ x. last_forced_below p c.args.tried.now.place ≤ x) (sym place) late) (line_fit e.end place ∙ sym line)
           (c.loop-index.invariant.row p cut late line_fit is);
     }
 

@@ -22,7 +22,7 @@ returns c = λ e at.
     let table = c.args.table.now in
     let params = c.args.params.now in
     let x = c.index-table-index.result in
-    let stands = slice_get_read table (length table) c.args.index x refl c.requires.index_bounded c.index-table-index.is in
+    let present = slice_get_read table (length table) c.args.index x refl c.requires.index_bounded c.index-table-index.is in
     c.with_line.ensures
     ∙ ap (extended_entry 0 x c.args.index c.args.place) (c.line_after-line.ensures.value ∙ ap (λ s. line_after params s.class c.args.alone.now) c.end.ensures.end)
-    ∙ ap (λ y. offer_from params y c.args.index c.args.place c.args.alone.now) (same_Some x e (sym stands ∙ at))
+    ∙ ap (λ y. offer_from params y c.args.index c.args.place c.args.alone.now) (same_Some x e (sym present ∙ at))

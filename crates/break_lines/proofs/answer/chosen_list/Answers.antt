@@ -17,25 +17,26 @@ returns-in_default c = λ p same is.
 pub offset_bounds-table-index : goal.offset_bounds-table-index
 offset_bounds-table-index c =
     let within : c.in-Some.index < length c.args.table.now =
-    slice_get_within c.args.table.now c.in-Some.index c.in-Some.ensures.entry c.in-Some.ensures.stands in
+    slice_get_within c.args.table.now c.in-Some.index c.in-Some.ensures.entry c.in-Some.ensures.present in
     search rules
 
 pub bounds-table-index : goal.bounds-table-index
-bounds-table-index c = slice_get_within c.args.table.now c.in-Some.index c.in-Some.ensures.entry c.in-Some.ensures.stands
+bounds-table-index c = slice_get_within c.args.table.now c.in-Some.index c.in-Some.ensures.entry c.in-Some.ensures.present
 
 pub read_back-requires-clause-index_bounded : goal.read_back-requires-clause-index_bounded
-read_back-requires-clause-index_bounded c = slice_get_within c.args.table.now c.in-Some.index c.in-Some.ensures.entry c.in-Some.ensures.stands
+read_back-requires-clause-index_bounded c = slice_get_within c.args.table.now c.in-Some.index c.in-Some.ensures.entry c.in-Some.ensures.present
 
 pub returns : goal.returns
 returns c = λ p same is.
     let table = c.args.table.now in
     let e = c.index-table-index.result in
     let best = c.in-Some.ensures in
-    let stands = slice_get_read table (length table) c.in-Some.index e refl (slice_get_within table c.in-Some.index best.entry best.stands) c.index-table-index.is in
+    let present = slice_get_read table (length table) c.in-Some.index e refl (slice_get_within table c.in-Some.index best.entry best.present)
+    c.index-table-index.is in
     answered p c.args.places table c.in-Some.index e
     (record {
       ends = c.in_ok-ends.ends;
       overhang = to_z w64 (of_z w64 c.overhang.result);
       demerits = to_z w64 (of_z w64 c.demerits.result);
     })
-    same c.requires.has_places is best stands c.in_ok-ends.ensures (omega (arith, ints)) (omega (arith, ints))
+    same c.requires.has_places is best present c.in_ok-ends.ensures (omega (arith, ints)) (omega (arith, ints))

@@ -15,17 +15,19 @@ loop-index-init c =
 pub loop-index-smaller : goal.loop-index-smaller
 loop-index-smaller c =
     let table = c.args.table.now in
-    let stands = slice_get_read table (length table) c.loop-index.index c.index-table-index.result refl c.loop-index.invariant.within c.index-table-index.is in
-    let best = c.requires.table.2.best c.loop-index.index c.index-table-index.result (omega (arith, c.loop-index-test.true)) stands in
+    let present = slice_get_read table (length table) c.loop-index.index c.index-table-index.result refl c.loop-index.invariant.within
+    c.index-table-index.is in
+    let best = c.requires.table.2.best c.loop-index.index c.index-table-index.result (omega (arith, c.loop-index-test.true)) present in
     omega (arith, best.earlier, c.index-index.ensures)
 
 pub loop-index-preserved : goal.loop-index-preserved
 loop-index-preserved c =
     let table = c.args.table.now in
     let e = c.index-table-index.result in
-    let stands = slice_get_read table (length table) c.loop-index.index e refl c.loop-index.invariant.within c.index-table-index.is in
-    let best = c.requires.table.2.best c.loop-index.index e (omega (arith, c.loop-index-test.true)) stands in
-    let more = read_more table c.args.at c.loop-index.index e c.loop-index.ends.items (omega (arith, c.loop-index-test.true)) stands c.loop-index.invariant.read in
+    let present = slice_get_read table (length table) c.loop-index.index e refl c.loop-index.invariant.within c.index-table-index.is in
+    let best = c.requires.table.2.best c.loop-index.index e (omega (arith, c.loop-index-test.true)) present in
+    let more = read_more table c.args.at c.loop-index.index e c.loop-index.ends.items (omega (arith, c.loop-index-test.true)) present
+    c.loop-index.invariant.read in
     let items : c.push.new.self.items ≡ c.loop-index.ends.items ++ e.end ∷ [] =
     c.in_ok-push.ensures.items ∙ ap (λ s. c.loop-index.ends.items ++ s ∷ []) c.end.ensures.end in
     record {

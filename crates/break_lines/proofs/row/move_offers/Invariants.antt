@@ -7,5 +7,5 @@ invariant-loop-index l = record {
   table : l.table.items ≡ l.initial.table.items ++ row_entries (take l.index l.initial.row.items);
   row : l.row.items ≡ replicate l.index None ++ drop l.index l.initial.row.items;
   wide : length l.row.items ≡ length l.initial.row.items;
-  room : vec_len l.table + vec_len l.initial.row ≤ vec_capacity l.table + l.index;
+  space : vec_len l.table + vec_len l.initial.row ≤ vec_capacity l.table + l.index;
 }

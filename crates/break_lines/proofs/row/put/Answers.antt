@@ -13,7 +13,7 @@ returns-then-replaces-clause-put c =
     let was = slice_get_read row (length row) c.slot-slot.result c.index.result.now refl (omega (arith, c.slot-slot.ensures.slot_bounded, c.requires.wide)) c.index.ensures in
     record {
       held = c.index.result.now;
-      stood = ap (slice_get row) (sym here) ∙ was;
+      was_present = ap (slice_get row) (sym here) ∙ was;
       kept = o;
       is_kept = c.replaces.ensures.yes c.if-replaces.true;
       is = ap (λ s. set row s (Some o)) here;
@@ -28,7 +28,7 @@ returns-else-replaces-clause-put c =
     let stays = c.replaces.ensures.no c.if-replaces.false in
     record {
       held = c.index.result.now;
-      stood = ap (slice_get row) (sym here) ∙ was;
+      was_present = ap (slice_get row) (sym here) ∙ was;
       kept = stays.0;
       is_kept = stays.2;
       is = sym (set-get_same row (slot o.end) (Some stays.0) (ap (slice_get row) (sym here) ∙ was ∙ ap Some stays.1));

@@ -19,7 +19,7 @@ loop-sent-preserved g c =
       within = omega (arith, within.1, length-drop s xs);
       taken = taken ∙ (ap (λ bytes_written. written_then bytes_written (take n (drop s xs))) c.loop-sent.invariant.taken ∙ grown_more _ xs s n);
       past = met_again _ before after s n c.loop-sent.invariant.past (met_by _ before.left _ n before after refl c.in_ok-sent.ensures.past);
-      stands = c.in_ok-sent.ensures.stands ∙ c.loop-sent.invariant.stands;
+      no_failure = c.in_ok-sent.ensures.no_failure ∙ c.loop-sent.invariant.no_failure;
     }
 
 pub returns-in_err-sent-clause-past : goal.returns-in_err-sent-clause-past

@@ -6,6 +6,6 @@ use Rattle.dvi_ops.proofs.run_spelling.append_plain.Given as goal
 
 abbrev pub invariant-loop-index : goal.invariant-loop-index
 invariant-loop-index l = record {
-  room : vec_len l.out + (length l.codes - l.index) ≤ vec_capacity l.out;
+  space : vec_len l.out + (length l.codes - l.index) ≤ vec_capacity l.out;
   bytes : l.out.items ≡ l.initial.out.items ++ bytes_of (characters (take l.index l.codes));
 }

@@ -5,5 +5,5 @@ use Rattle.dvi_ops.proofs.spelling.append_coded.Given as goal
 abbrev pub invariant-loop-digit : goal.invariant-loop-digit
 invariant-loop-digit l = record {
   bytes : l.out.items ≡ l.initial.out.items ++ take l.digit-index l.digits;
-  room : vec_len l.out + length l.digits ≤ vec_capacity l.out + l.digit-index;
+  space : vec_len l.out + length l.digits ≤ vec_capacity l.out + l.digit-index;
 }

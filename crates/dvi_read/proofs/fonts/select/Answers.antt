@@ -1,6 +1,6 @@
 use Rattle.std.proofs.Common.{List, Some, sym, subst, ℕ}
 use Rattle.dvi_scan.proofs.FirstDefinitionLemmas.{defined_all}
-use Rattle.dvi_scan.proofs.RefusalLemmas.{handed_on, widths_room}
+use Rattle.dvi_scan.proofs.RefusalLemmas.{handed_on, widths_space}
 use Rattle.dvi_ops.specs.Fonts.{IsFontSize}
 use Rattle.dvi_ops.specs.Instruction.{Definition}
 use Rattle.dvi_ops.specs.View.{definition}
@@ -17,7 +17,8 @@ use Rattle.dvi_read.proofs.fonts.select.Goals as goal
 pub returns-then-choose-clause-ok : goal.returns-then-choose-clause-ok
 returns-then-choose-clause-ok c =
     let (place, there, is) = c.choose.ensures.yes c.if-choose.true in
-    selects_read (file_widths c.args.source.now.files.now) c.args.source.now.ahead.now.keys c.args.known.now c.args.number.value place c.args.fonts.now c.choose.new.self c.requires.sound
+    selects_read (file_widths c.args.source.now.files.now) c.args.source.now.after_post.now.keys c.args.known.now c.args.number.value place
+    c.args.fonts.now c.choose.new.self c.requires.sound
     c.in-Some.ensures.font_defined.0 there is
 
 pub read_font-requires : goal.read_font-requires
@@ -26,20 +27,20 @@ read_font-requires c = defined_all (λ (d : Definition). IsFontSize d.size) c.ar
 pub returns-in_err-file-clause-bad : goal.returns-in_err-file-clause-bad
 returns-in_err-file-clause-bad c =
     let files = c.args.source.now.files.now in
-    let ahead = c.args.source.now.ahead.now.keys in
+    let after_post = c.args.source.now.after_post.now.keys in
     let known = c.args.known.now in
     let fonts = c.args.fonts.now in
     let f = c.args.number.value in
     let d = definition c.in-Some.font.now in
     let refusal = c.in_err-file.field-0.0 in
     let there = c.in-Some.ensures.font_defined in
-    handed_on (IsSelectFault files ahead known fonts f) c.from_residual.result (Refused refusal) c.from_residual.ensures.1
-    (refused_font files ahead known fonts f d there.0 there.1 refusal c.in_err-file.ensures.none)
+    handed_on (IsSelectFault files after_post known fonts f) c.from_residual.result (Refused refusal) c.from_residual.ensures.1
+    (refused_font files after_post known fonts f d there.0 there.1 refusal c.in_err-file.ensures.none)
 
 pub returns-in_err-read-clause-bad : goal.returns-in_err-read-clause-bad
 returns-in_err-read-clause-bad c =
     let files = c.args.source.now.files.now in
-    let ahead = c.args.source.now.ahead.now.keys in
+    let after_post = c.args.source.now.after_post.now.keys in
     let known = c.args.known.now in
     let fonts = c.args.fonts.now in
     let f = c.args.number.value in
@@ -48,15 +49,15 @@ returns-in_err-read-clause-bad c =
     let there = c.in-Some.ensures.font_defined in
     let file = c.in_ok-file.file.now in
     let broken = subst (λ (bytes : List ℕ). IsReadRefusal bytes (Some d.size) fault) c.bytes.ensures c.in_err-read.ensures.bad in
-    handed_on (IsSelectFault files ahead known fonts f) c.from_residual-in_err-read.result (of_read fault)
+    handed_on (IsSelectFault files after_post known fonts f) c.from_residual-in_err-read.result (of_read fault)
     c.from_residual-in_err-read.ensures.1
-    (not_read_from files ahead known fonts f d there.0 there.1 file fault (c.choose.ensures.no c.if-choose.false).0
+    (not_read_from files after_post known fonts f d there.0 there.1 file fault (c.choose.ensures.no c.if-choose.false).0
     c.in_ok-file.ensures.found broken)
 
 pub returns-in_err-add-clause-bad : goal.returns-in_err-add-clause-bad
 returns-in_err-add-clause-bad c =
     let files = c.args.source.now.files.now in
-    let ahead = c.args.source.now.ahead.now.keys in
+    let after_post = c.args.source.now.after_post.now.keys in
     let known = c.args.known.now in
     let fonts = c.args.fonts.now in
     let f = c.args.number.value in
@@ -65,14 +66,14 @@ returns-in_err-add-clause-bad c =
     let file = c.in_ok-file.file.now in
     let read = c.in_ok-read.read in
     let widths = given_by files d file read c.in_ok-file.ensures.found c.bytes.ensures c.in_ok-read.ensures.ok in
-    handed_on (IsSelectFault files ahead known fonts f) c.from_residual-in_err-add.result OutOfMemory c.from_residual-in_err-add.ensures.1
-    (lacks_memory files ahead known fonts f d there.0 there.1 (c.choose.ensures.no c.if-choose.false).0
-    (widths_room files d (width_at read) widths))
+    handed_on (IsSelectFault files after_post known fonts f) c.from_residual-in_err-add.result OutOfMemory c.from_residual-in_err-add.ensures.1
+    (lacks_memory files after_post known fonts f d there.0 there.1 (c.choose.ensures.no c.if-choose.false).0
+    (widths_space files d (width_at read) widths))
 
 pub returns-clause-ok : goal.returns-clause-ok
 returns-clause-ok c =
     let files = c.args.source.now.files.now in
-    let ahead = c.args.source.now.ahead.now.keys in
+    let after_post = c.args.source.now.after_post.now.keys in
     let known = c.args.known.now in
     let f = c.args.number.value in
     let d = definition c.in-Some.font.now in
@@ -84,6 +85,6 @@ returns-clause-ok c =
     let sound = subst (λ (fonts : ReadFonts). AreSound (file_widths files) known fonts) (sym same) c.requires.sound in
     let widths = given_by files d file read c.in_ok-file.ensures.found c.bytes.ensures c.in_ok-read.ensures.ok in
     let selects =
-    selects_new files ahead known d f c.choose.new.self c.add.new.self read sound add.places add.all there.0 there.1 add.current widths
+    selects_new files after_post known d f c.choose.new.self c.add.new.self read sound add.places add.all there.0 there.1 add.current widths
     c.in_ok-read.ensures.bytes in
-    subst (λ (fonts : ReadFonts). Selects (file_widths files) ahead known f fonts c.add.new.self) same selects
+    subst (λ (fonts : ReadFonts). Selects (file_widths files) after_post known f fonts c.add.new.self) same selects

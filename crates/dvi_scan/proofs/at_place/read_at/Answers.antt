@@ -1,14 +1,14 @@
 use Rattle.std.proofs.Common.{◌≤◌, ◌-◌, ℕ, inl, get_or, drop, slice_index, sym, subst, take, arith}
 use Rattle.dvi_ops.specs.View.{view}
 use Rattle.std.proofs.lemmas.Int.{ints}
-use Rattle.dvi_scan.proofs.PlaceLemmas.{first_between, nothing_stands, one_byte, some_between, some_size, spelled_between}
+use Rattle.dvi_scan.proofs.PlaceLemmas.{first_between, nothing_spelled, one_byte, some_between, some_size, spelled_between}
 use Rattle.dvi_scan.proofs.at_place.read_at.Goals as goal
 
 pub returns-in-Ok-clause-after : goal.returns-in-Ok-clause-after
 returns-in-Ok-clause-after c = let some = some_size (view c.in-Ok.op) c.in-Ok.size _ c.in-Ok.ensures.found in omega arith
 
 pub returns-in-Err-clause-none : goal.returns-in-Err-clause-none
-returns-in-Err-clause-none c = nothing_stands c.args.bytes.now c.args.place c.args.bound c.in-Err.ensures.none
+returns-in-Err-clause-none c = nothing_spelled c.args.bytes.now c.args.place c.args.bound c.in-Err.ensures.none
 
 pub returns-in-Err-clause-first : goal.returns-in-Err-clause-first
 returns-in-Err-clause-first c = λ e. some_between c.args.bytes.now c.args.place c.args.bound (c.in-Err.ensures.opcode.0 e)

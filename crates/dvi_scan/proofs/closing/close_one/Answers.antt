@@ -10,6 +10,8 @@ pub returns-in-Err-define-clause-bad : goal.returns-in-Err-define-clause-bad
 returns-in-Err-define-clause-bad c =
     let known = c.args.known.now in
     let d = definition c.in-FontDef.font in
-    let stands = read_found c.args.bytes.now c.args.at c.in-Ok.found.1 c.args.to (view c.in-Ok.found.0) (Do (FontDef d)) c.in-Ok.ensures.after c.in-Ok.ensures.end_bounded c.in-Ok.ensures.found (ap view c.in-FontDef.is) in
+    let spelled_at = read_found c.args.bytes.now c.args.at c.in-Ok.found.1 c.args.to (view c.in-Ok.found.0) (Do (FontDef d)) c.in-Ok.ensures.after
+    c.in-Ok.ensures.end_bounded c.in-Ok.ensures.found (ap view c.in-FontDef.is) in
     subst (λ (fault : FrameFault). IsFaultAt c.args.bytes.now c.args.at c.args.to known c.define.new.known fault) (sym c.at.ensures)
-    (definition_fault c.args.bytes.now c.args.at c.args.to known c.define.new.known d c.in-Err-define.fault c.in-Err-define.ensures.err stands c.in-Err-define.ensures.bad)
+    (definition_fault c.args.bytes.now c.args.at c.args.to known c.define.new.known d c.in-Err-define.fault c.in-Err-define.ensures.err spelled_at
+    c.in-Err-define.ensures.bad)

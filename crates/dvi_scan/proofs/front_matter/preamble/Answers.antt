@@ -11,16 +11,22 @@ use Rattle.dvi_scan.proofs.front_matter.preamble.Goals as goal
 
 pub returns-in_default-clause-bad : goal.returns-in_default-clause-bad
 returns-in_default-clause-bad c =
-    record { place = refl; cause = refl; none = λ comment stands positive. c.in_default.ensures.none (Pre 2 (units c.args.ending.now.stop.units) comment) stands }
+    record {
+      place = refl;
+      cause = refl;
+      none =
+          λ comment spelled_at positive. c.in_default.ensures.none (Pre 2 (units c.args.ending.now.postamble.units) comment) spelled_at;
+    }
 
 pub returns-in_default-op-clause-bad : goal.returns-in_default-op-clause-bad
 returns-in_default-op-clause-bad c =
     record {
       place = refl;
       cause = refl;
-      none = λ comment stands positive.
-          no_pre c.in-Ok.op c.in_default-op.not-Pre 2 (units c.args.ending.now.stop.units) comment
-          (one_spelled c.args.bytes.now 0 c.args.ending.now.post (view c.in-Ok.op) (Pre 2 (units c.args.ending.now.stop.units) comment) (c.in-Ok.after - 0) c.in-Ok.ensures.found stands);
+      none = λ comment spelled_at positive.
+          no_pre c.in-Ok.op c.in_default-op.not-Pre 2 (units c.args.ending.now.postamble.units) comment
+          (one_spelled c.args.bytes.now 0 c.args.ending.now.post (view c.in-Ok.op) (Pre 2 (units c.args.ending.now.postamble.units) comment)
+          (c.in-Ok.after - 0) c.in-Ok.ensures.found spelled_at);
     }
 
 -- A preamble that was read.
@@ -36,9 +42,10 @@ returns-then-id-ne-FORMAT-clause-bad c =
     record {
       place = refl;
       cause = refl;
-      none = λ comment stands positive. (
-          let wanted = units c.args.ending.now.stop.units in
-          let e = one_spelled c.args.bytes.now 0 c.args.ending.now.post (view c.in-Ok.op) (Pre 2 wanted comment) (c.in-Ok.after - 0) c.in-Ok.ensures.found stands in
+      none = λ comment spelled_at positive. (
+          let wanted = units c.args.ending.now.postamble.units in
+          let e = one_spelled c.args.bytes.now 0 c.args.ending.now.post (view c.in-Ok.op) (Pre 2 wanted comment) (c.in-Ok.after - 0)
+          c.in-Ok.ensures.found spelled_at in
           let same = same_pre c.in-Ok.op c.in-Pre.id 2 c.in-Pre.units wanted c.in-Pre.comment comment c.in-Pre.is e in
           let two : c.in-Pre.id ≡ 2 = same.0 in
           c.if-id-ne-FORMAT.true two);
@@ -50,9 +57,10 @@ returns-then-not-are_same-clause-bad c =
     record {
       place = refl;
       cause = refl;
-      none = λ comment stands positive. (
-          let wanted = units c.args.ending.now.stop.units in
-          let e = one_spelled c.args.bytes.now 0 c.args.ending.now.post (view c.in-Ok.op) (Pre 2 wanted comment) (c.in-Ok.after - 0) c.in-Ok.ensures.found stands in
+      none = λ comment spelled_at positive. (
+          let wanted = units c.args.ending.now.postamble.units in
+          let e = one_spelled c.args.bytes.now 0 c.args.ending.now.post (view c.in-Ok.op) (Pre 2 wanted comment) (c.in-Ok.after - 0)
+          c.in-Ok.ensures.found spelled_at in
           let same = same_pre c.in-Ok.op c.in-Pre.id 2 c.in-Pre.units wanted c.in-Pre.comment comment c.in-Pre.is e in
           c.are_same.ensures.no no same.1);
     }
@@ -64,7 +72,8 @@ returns-clause-ok c =
     let positive : c.are_positive.result ≡ true = search rules in
     record {
       comment = c.in-Pre.comment.now;
-      spelled = pre_spelled c.args.bytes.now c.in-Ok.after c.in-Ok.op c.in-Pre.id c.in-Pre.units (units c.args.ending.now.stop.units) c.in-Pre.comment c.in-Pre.is version (c.are_same.ensures.yes yes) c.in-Ok.ensures.found;
+      spelled = pre_spelled c.args.bytes.now c.in-Ok.after c.in-Ok.op c.in-Pre.id c.in-Pre.units (units c.args.ending.now.postamble.units)
+          c.in-Pre.comment c.in-Pre.is version (c.are_same.ensures.yes yes) c.in-Ok.ensures.found;
       within = c.in-Ok.ensures.end_bounded;
       units = c.are_positive.ensures.yes positive;
     }

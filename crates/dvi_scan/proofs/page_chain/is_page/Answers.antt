@@ -13,6 +13,7 @@ returns-in_default-op c =
     record {
       bop_found = λ e. absurd cc;
       low = λ e. absurd cc;
-      none = λ e counts before stands. no_bop c.in-Ok.op c.in_default-op.not-Bop counts before
-          (one_spelled c.args.bytes.now c.args.place c.args.bound (view c.in-Ok.op) (Bop counts before) (c.in-Ok.field-0-1 - c.args.place) c.in-Ok.ensures.found stands);
+      none = λ e counts before spelled_at. no_bop c.in-Ok.op c.in_default-op.not-Bop counts before
+          (one_spelled c.args.bytes.now c.args.place c.args.bound (view c.in-Ok.op) (Bop counts before) (c.in-Ok.field-0-1 - c.args.place)
+          c.in-Ok.ensures.found spelled_at);
     }

@@ -30,7 +30,8 @@ returns-in-Ok-clause-keeps g c =
     let is = sym c.box_in.ensures ∙ ap option_copied c.in-Some.is in
     let same = page_is (before_shipping kept) c.counts.result.now c.offsets.result b c.counts.ensures c.offsets.ensures in
     shipped kept c.args.writer.now c.args.register b page is same c.empty.new.self c.page.new.self c.fonts.result.now c.empty.ensures c.in-Ok.ensures.kept c.requires.running
-    c.in-Ok.ensures.running c.in-Ok.ensures.may c.pages.result c.pages.ensures c.in-Ok.ensures.stands c.page.ensures.goes_on (rw c.fonts.ensures at c.in-Ok.ensures.written)
+    c.in-Ok.ensures.running c.in-Ok.ensures.may c.pages.result c.pages.ensures c.in-Ok.ensures.no_failure c.page.ensures.goes_on
+    (rw c.fonts.ensures at c.in-Ok.ensures.written)
 
 pub returns-in-Ok-clause-sound : goal.returns-in-Ok-clause-sound
 returns-in-Ok-clause-sound g c =

@@ -1,4 +1,5 @@
-use Rattle.move_core.proofs.SameBody.{plain_forest, reused_meaning, reused_places, reused_nests, reused_length, reused_order, reused_fits, reused_full, reused_uses, reused_ahead}
+use Rattle.move_core.proofs.SameBody.{plain_forest, reused_meaning, reused_places, reused_nests, reused_length, reused_order, reused_fits}
+use Rattle.move_core.proofs.SameBody.{reused_full, reused_uses, reused_before}
 use Rattle.move_core.proofs.laws.reused_means_the_same.Goals as goal
 
 pub returns : goal.returns
@@ -11,5 +12,5 @@ returns c = record {
   writable = reused_fits;
   full = reused_full;
   held = λ body axis plain. reused_uses axis body (plain_forest body plain);
-  ahead = λ body axis plain. reused_ahead axis body (plain_forest body plain);
+  set_before_use = λ body axis plain. reused_before axis body (plain_forest body plain);
 }

@@ -3,8 +3,10 @@ use Rattle.std.specs.List.{AllByRecursion}
 use Rattle.dvi_ops.specs.Instruction.{Axis}
 use Rattle.dvi_ops.specs.Layout.{IsWritable, bytes_of}
 use Rattle.dvi_ops.specs.View.{body_view}
-use Rattle.move_core.specs.SamePage.{HasNoHollow, MeansTheSame, NestsNoDeeper, PassesThroughNoOther, SetsAhead, UsesStored, leaves_in_order, unset_registers}
-use Rattle.move_core.proofs.SameBody.{are_bodies, are_lists, gives_reused, if_ok, reused_ahead, reused_fits, reused_full, reused_length, reused_meaning, reused_nests, reused_order, reused_places, reused_uses}
+use Rattle.move_core.specs.SamePage.{HasNoHollow, MeansTheSame, NestsNoDeeper, PassesThroughNoOther, SetsBeforeUse, UsesStored, leaves_in_order}
+use Rattle.move_core.specs.SamePage.{unset_registers}
+use Rattle.move_core.proofs.SameBody.{are_bodies, are_lists, gives_reused, if_ok, reused_before, reused_fits, reused_full, reused_length}
+use Rattle.move_core.proofs.SameBody.{reused_meaning, reused_nests, reused_order, reused_places, reused_uses}
 use Rattle.move_core.proofs.page.reuse.Goals as goal
 
 pub returns-clause-meaning : goal.returns-clause-meaning
@@ -37,10 +39,12 @@ returns-clause-held c =
     (λ written writes. are_bodies (λ f g. (axis : Axis) → UsesStored axis unset_registers g) (map body_view c.args.ops.items) (map body_view c.in_ok-trimmed.trimmed.items) (map body_view written.items) (λ f plain axis. reused_uses axis f plain) c.requires c.in_ok-trimmed.ensures writes)
     c.with_registers.ensures
 
-pub returns-clause-ahead : goal.returns-clause-ahead
-returns-clause-ahead c =
+pub returns-clause-set_before_use : goal.returns-clause-set_before_use
+returns-clause-set_before_use c =
     if_ok _ _ c.with_registers.result
-    (λ written writes. are_bodies (λ f g. (axis : Axis) → SetsAhead axis unset_registers g) (map body_view c.args.ops.items) (map body_view c.in_ok-trimmed.trimmed.items) (map body_view written.items) (λ f plain axis. reused_ahead axis f plain) c.requires c.in_ok-trimmed.ensures writes)
+    (λ written writes. are_bodies (λ f g. (axis : Axis) → SetsBeforeUse axis unset_registers g) (map body_view c.args.ops.items)
+    (map body_view c.in_ok-trimmed.trimmed.items) (map body_view written.items) (λ f plain axis. reused_before axis f plain) c.requires
+    c.in_ok-trimmed.ensures writes)
     c.with_registers.ensures
 
 pub returns-clause-bytes : goal.returns-clause-bytes

@@ -12,11 +12,13 @@ use Rattle.pack_core.specs.Cursors.{sums_after, one_more, place_at}
 use Rattle.pack_core.proofs.Walks.{reached-more}
 use Rattle.std.specs.Prelude.{ℤ, List, Some, slice_get, true, false, is_some, ◌==◌}
 use Rattle.page_core.specs.Marks.{right_at, down_at, item_h, item_v, list_v, numbers_after}
-use Rattle.page_core.specs.Pictures.{Picture, blank, picture_after}
+use Rattle.page_core.specs.DrawnPages.{DrawnPage, blank, drawn_after}
 use Rattle.page_core.specs.Placing.{reference_h, reference_v}
-use Rattle.page_core.specs.Private.Placing.{strokes_at, point_in}
+use Rattle.page_core.specs.Private.Placing.{marked_at, point_in}
 use Rattle.page_core.specs.declared.placing.Point.{Point}
-use Rattle.page_core.proofs.Places.{numbers_left, inside, numbers_inside, picture_left, fits_more, picture_more, item_fits, item_strokes, inner_begin, inner_numbers, inner_picture, inner_depth, leaf_numbers, no_numbers, special_picture, rest_of_and, first_false, second_false, few_passed, reached-none, item_at, item_is, leaf_picture}
+use Rattle.page_core.proofs.Places.{numbers_left, inside, numbers_inside, drawn_left, fits_more, drawn_more, item_fits, item_marks, inner_begin}
+use Rattle.page_core.proofs.Places.{inner_numbers, inner_drawn, inner_depth, leaf_numbers, no_numbers, special_drawn, rest_of_and, first_false}
+use Rattle.page_core.proofs.Places.{second_false, few_passed, reached-none, item_at, item_is, leaf_drawn}
 use Rattle.page_core.proofs.Walked.{told, told_on, told_index}
 use Rattle.page_core.proofs.list_drawing.+draw_items.Goals as goal
 use Rattle.page_core.proofs.list_drawing.+draw_items.Goals.{draw_items-in-Box+in-Some-inner+in_ok-draw_group-in-Box+else-not-branch, draw_items-in-Box+in_default-inner, draw_items-in-Special+in-Some-text+in_ok-draw_special-in-Special, draw_items-in-Special+in_default-text, draw_items-in_default-item}
@@ -38,7 +40,7 @@ draw_items-loop-next-init g t c =
       cursor = c.new-walk.ensures.cursor ∙ reached-none b.kind b.setting;
       here = c.new-walk.ensures.here;
       left = refl;
-      marks = refl {a = g.S.MarkSink.drawn_with b.kind c.args.sink.now (picture_after b h v [] items)};
+      marks = refl {a = g.S.MarkSink.drawn_with b.kind c.args.sink.now (drawn_after b h v [] items)};
     }
 
 pub draw_items-draw_item-requires-clause-items_bounded : goal.draw_items-draw_item-requires-clause-items_bounded
@@ -137,13 +139,15 @@ draw_items-loop-next-preserved g t c =
     let within_list : i < length xs = omega (arith, c.if-index-items.false) in
     let left = told_index (λ n. list_all fits (numbers_left b h v xs n) ≡ list_all fits (numbers_left b h v xs c.loop-next.next)) _ i c.in-Some.is c.in_ok-index.ensures.left
     ∙ c.loop-next.invariant.left in
-    let marked_so_far = told_index (λ n. g.S.MarkSink.drawn_with b.kind c.draw_glyphs.new.sink (picture_left b h v xs n) ≡ g.S.MarkSink.drawn_with b.kind c.loop-next.sink (picture_left b h v xs c.loop-next.next)) _ i c.in-Some.is c.in_ok-index.ensures.marks
+    let marked_so_far = told_index
+    (λ n. g.S.MarkSink.drawn_with b.kind c.draw_glyphs.new.sink (drawn_left b h v xs n) ≡ g.S.MarkSink.drawn_with b.kind c.loop-next.sink
+    (drawn_left b h v xs c.loop-next.next)) _ i c.in-Some.is c.in_ok-index.ensures.marks
     ∙ c.loop-next.invariant.marks in
     let x = c.index-items-index.result in
     let at_i = c.index-items-index.is in
     let x_h = item_h b h (take i xs) in
     let x_v = item_v b v (take i xs) in
-    let later = picture_left b h v xs (i + 1) in
+    let later = drawn_left b h v xs (i + 1) in
     let own = inside b x_h x_v x later in
     let drawn = g.S.MarkSink.drawn_with b.kind in
     let first = c.draw_glyphs.new.sink in
@@ -152,13 +156,14 @@ draw_items-loop-next-preserved g t c =
     let shown : slice_get (nodes_of (g.B.BoxRef.box_node c.args.tree).list) i ≡ Some x = ap (λ (ys : List Node). slice_get ys i) read ∙ item_at xs i x within_list at_i in
     let here = item_fits b h v (take i xs) x c.draw_glyphs.new.walk.cursor _ walked (sym (ap is_some c.in-Some-2.is) ∙ c.in_ok-at.ensures.fits) in
     let place = place_at b.setting c.draw_glyphs.new.walk.cursor in
-    let seen = strokes_at b h v place x own in
-    let mark = item_strokes b h v (take i xs) x c.draw_glyphs.new.walk.cursor own seen walked refl in
+    let seen = marked_at b h v place x own in
+    let mark = item_marks b h v (take i xs) x c.draw_glyphs.new.walk.cursor own seen walked refl in
     let right = told (λ (p : Point ℤ). p.h ≡ reference_h b.kind (right_at b.kind h place) x) _ c.in-Some-2.at c.in-Some-2.is c.in_ok-at.ensures.h in
     let below = told (λ (p : Point ℤ). p.v ≡ reference_v b.kind (down_at b.kind v place) x) _ c.in-Some-2.at c.in-Some-2.is c.in_ok-at.ensures.v in
-    let marks_same = told_on ((rest : Picture) → drawn first (strokes_at b h v place x rest) ≡ drawn marked rest) _ c.in-Some-2.at c.in-Some-2.is c.in_ok-at.ensures.mark in
-    let so_far : drawn first (picture_left b h v xs i) ≡ drawn marked own =
-    ap (drawn first) (picture_more b h v xs i x within_list at_i ∙ sym mark) ∙ marks_same own in
+    let marks_same = told_on ((rest : DrawnPage) → drawn first (marked_at b h v place x rest) ≡ drawn marked rest) _ c.in-Some-2.at c.in-Some-2.is
+    c.in_ok-at.ensures.mark in
+    let so_far : drawn first (drawn_left b h v xs i) ≡ drawn marked own =
+    ap (drawn first) (drawn_more b h v xs i x within_list at_i ∙ sym mark) ∙ marks_same own in
     let within : (true ≡ list_all fits (numbers_inside b x_h x_v x)) × (drawn marked own ≡ drawn c.match-item.sink later) = elim c.match-item.branch [
       | draw_items-in-Box+in-Some-inner+in_ok-draw_group-in-Box+else-not-branch w ↦
           let inner = g.B.BoxRef.box_node w.in-Some-inner.inner in
@@ -168,7 +173,7 @@ draw_items-loop-next-preserved g t c =
           let begin = inner_begin b inner h v (take i xs) x found.0 c.draw_glyphs.new.walk.cursor c.in-Some-2.at.h c.in-Some-2.at.v w.point.result.h start_v
           walked is right below w.point.ensures.h (ap (list_v inner.kind inner.height) w.point.ensures.v) in
           let numbers = inner_numbers b inner x_h x_v found.0 w.point.result.h start_v x is begin in
-          let group = inner_picture b inner x_h x_v found.0 w.point.result.h start_v x later is begin in
+          let group = inner_drawn b inner x_h x_v found.0 w.point.result.h start_v x later is begin in
           let fit : w.in_ok-draw_group-in-Box.field-0 ≡ true = w.if-not-branch.false in (
             sym fit ∙ (w.in_ok-draw_group-in-Box.ensures.fits ∙ sym (ap (list_all fits) numbers)),
             ap (drawn marked) group ∙ (w.in_ok-draw_group-in-Box.ensures.marks fit b.kind later ∙ sym (ap (λ (s : _). drawn s later) w.sink-is)),
@@ -177,14 +182,15 @@ draw_items-loop-next-preserved g t c =
       | draw_items-in-Special+in-Some-text+in_ok-draw_special-in-Special w ↦
           let text = g.B.BoxRef.bytes w.in-Some-text.text in
           let is : x ≡ nodes.Special text = item_is xs i x _ within_list at_i (sym (ap (λ (ys : List Node). slice_get ys i) read) ∙ w.in-Some-text.ensures.some) in
-          let found = special_picture b h v (take i xs) x text c.draw_glyphs.new.walk.cursor c.in-Some-2.at.h c.in-Some-2.at.v later walked is right below in (
+          let found = special_drawn b h v (take i xs) x text c.draw_glyphs.new.walk.cursor c.in-Some-2.at.h c.in-Some-2.at.v later walked is
+          right below in (
             sym (ap (λ (y : Node). list_all fits (numbers_inside b x_h x_v y)) is),
             ap (drawn marked) found ∙ (w.in_ok-draw_special-in-Special.ensures.special b.kind later ∙ sym (ap (λ (s : _). drawn s later) w.sink-is)),
           )
       | draw_items-in-Special+in_default-text w ↦ absurd (w.text.ensures.none w.in_default-text.is _ (shown ∙ ap Some w.in-Special.is))
       | draw_items-in_default-item w ↦ (
         sym (ap (list_all fits) (leaf_numbers b x_h x_v x w.in_default-item.not-Box)),
-        ap (drawn marked) (leaf_picture b x_h x_v x later w.in_default-item.not-Box w.in_default-item.not-Special)
+        ap (drawn marked) (leaf_drawn b x_h x_v x later w.in_default-item.not-Box w.in_default-item.not-Special)
             ∙ sym (ap (λ (s : _). drawn s later) w.sink-is),
       )
     ] in
@@ -234,9 +240,9 @@ draw_items-returns-clause-marks g t c all =
     let i = c.loop-next.next in
     let drawn = g.S.MarkSink.drawn_with in
     let whole : items_of xs ≡ b.list = ap items_of c.as_slice-items.ensures.nodes ∙ items_of-nodes_of b.list in
-    let done = ap (λ after. drawn b.kind c.loop-next.sink (picture_after b h v (take i xs) (items_of after))) (drop_all i xs c.loop-next-test.false) in
-    sym (ap (λ (box : BoxNode). drawn box.kind c.args.sink.now (picture_after box h v [] box.list)) c.as_box-box_node.ensures)
-    ∙ (ap (λ items. drawn b.kind c.args.sink.now (picture_after b h v [] items)) (sym whole)
+    let done = ap (λ after. drawn b.kind c.loop-next.sink (drawn_after b h v (take i xs) (items_of after))) (drop_all i xs c.loop-next-test.false) in
+    sym (ap (λ (box : BoxNode). drawn box.kind c.args.sink.now (drawn_after box h v [] box.list)) c.as_box-box_node.ensures)
+    ∙ (ap (λ items. drawn b.kind c.args.sink.now (drawn_after b h v [] items)) (sym whole)
     ∙ (sym c.loop-next.invariant.marks ∙ (done ∙ ap (λ (box : BoxNode). drawn box.kind c.loop-next.sink blank) c.as_box-box_node.ensures)))
 
 pub draw_items-returns-then-index-items-clause-marks : goal.draw_items-returns-then-index-items-clause-marks
@@ -246,11 +252,14 @@ draw_items-returns-then-index-items-clause-marks g t c all =
     let v = c.args.begin.now.v in
     let xs = c.as_slice-items.result.now in
     let i = c.in-Some.index in
-    let marked_so_far = told_index (λ n. g.S.MarkSink.drawn_with b.kind c.draw_glyphs.new.sink (picture_left b h v xs n) ≡ g.S.MarkSink.drawn_with b.kind c.loop-next.sink (picture_left b h v xs c.loop-next.next)) _ i c.in-Some.is c.in_ok-index.ensures.marks
+    let marked_so_far = told_index
+    (λ n. g.S.MarkSink.drawn_with b.kind c.draw_glyphs.new.sink (drawn_left b h v xs n) ≡ g.S.MarkSink.drawn_with b.kind c.loop-next.sink
+    (drawn_left b h v xs c.loop-next.next)) _ i c.in-Some.is c.in_ok-index.ensures.marks
     ∙ c.loop-next.invariant.marks in
     let drawn = g.S.MarkSink.drawn_with in
     let whole : items_of xs ≡ b.list = ap items_of c.as_slice-items.ensures.nodes ∙ items_of-nodes_of b.list in
-    let done = ap (λ after. drawn b.kind c.draw_glyphs.new.sink (picture_after b h v (take i xs) (items_of after))) (drop_all i xs (omega (arith, c.if-index-items.true))) in
-    sym (ap (λ (box : BoxNode). drawn box.kind c.args.sink.now (picture_after box h v [] box.list)) c.as_box-box_node.ensures)
-    ∙ (ap (λ items. drawn b.kind c.args.sink.now (picture_after b h v [] items)) (sym whole)
+    let done = ap (λ after. drawn b.kind c.draw_glyphs.new.sink (drawn_after b h v (take i xs) (items_of after)))
+    (drop_all i xs (omega (arith, c.if-index-items.true))) in
+    sym (ap (λ (box : BoxNode). drawn box.kind c.args.sink.now (drawn_after box h v [] box.list)) c.as_box-box_node.ensures)
+    ∙ (ap (λ items. drawn b.kind c.args.sink.now (drawn_after b h v [] items)) (sym whole)
     ∙ (sym marked_so_far ∙ (done ∙ ap (λ (box : BoxNode). drawn box.kind c.draw_glyphs.new.sink blank) c.as_box-box_node.ensures)))

@@ -5,7 +5,7 @@ use Rattle.node_core.specs.Nodes.{items_of}
 use Rattle.scaled_core.specs.Dimensions.{fits}
 use Rattle.pack_core.specs.Cursors.{sums_after, place_at}
 use Rattle.page_core.specs.Marks.{numbers_after}
-use Rattle.page_core.specs.Pictures.{picture_after}
+use Rattle.page_core.specs.DrawnPages.{drawn_after}
 use Rattle.page_core.specs.Private.Placing.{point_in}
 use Rattle.page_core.proofs.list_drawing.+draw_items.Given as goal
 
@@ -21,7 +21,9 @@ invariant-draw_items-loop-next g l = record {
   cursor : l.walk.cursor ≡ sums_after l.box_node.kind l.box_node.setting (take l.next l.items);
   here : l.walk.here ≡ point_in l.box_node l.begin.h l.begin.v (place_at l.box_node.setting l.walk.cursor);
   left : list_all fits (numbers_after l.box_node l.begin.h l.begin.v (take l.next l.items) (items_of (drop l.next l.items))) ≡ list_all fits (numbers_after l.box_node l.begin.h l.begin.v [] (items_of l.items));
-  marks : g.S.MarkSink.drawn_with l.box_node.kind l.sink (picture_after l.box_node l.begin.h l.begin.v (take l.next l.items) (items_of (drop l.next l.items))) ≡ g.S.MarkSink.drawn_with l.box_node.kind l.initial.sink (picture_after l.box_node l.begin.h l.begin.v [] (items_of l.items));
+  marks : g.S.MarkSink.drawn_with l.box_node.kind l.sink
+      (drawn_after l.box_node l.begin.h l.begin.v (take l.next l.items) (items_of (drop l.next l.items))) ≡ g.S.MarkSink.drawn_with l.box_node.kind
+      l.initial.sink (drawn_after l.box_node l.begin.h l.begin.v [] (items_of l.items));
 }
 
 abbrev pub decreases-draw_items-loop-next : goal.decreases-draw_items-loop-next

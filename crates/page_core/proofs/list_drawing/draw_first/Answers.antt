@@ -4,7 +4,7 @@ use Rattle.node_core.specs.declared.tree.Kind.{Kind}
 use Rattle.node_core.specs.declared.tree.Node.TheVariants as nodes
 use Rattle.pack_core.specs.Cursors.{one_more, place_at}
 use Rattle.page_core.specs.Private.Placing.{level_with, point_in}
-use Rattle.page_core.proofs.Walked.{between-none, ends, glyph-fits, strokes-glyph, across-so}
+use Rattle.page_core.proofs.Walked.{between-none, ends, glyph-fits, marks-glyph, across-so}
 use Rattle.page_core.proofs.list_drawing.draw_first.Goals as goal
 
 pub draw_glyph-requires : goal.draw_glyph-requires
@@ -48,9 +48,11 @@ returns-clause-mark g c fit rest =
     let run = c.args.run.now in
     let place = place_at b.setting run.cursor in
     across-so (λ (kind : Kind). g.S.MarkSink.drawn_with kind c.args.sink.now) (λ (kind : Kind). g.S.MarkSink.drawn_with kind c.draw_glyph.new.self) b.kind _ _ rest
-    c.requires.kind (strokes-glyph b c.args.begin.now.h c.args.begin.now.v place (level_with run.v run.h) c.args.glyph.now rest c.requires.kind c.requires.at)
+    c.requires.kind (marks-glyph b c.args.begin.now.h c.args.begin.now.v place (level_with run.v run.h) c.args.glyph.now rest c.requires.kind
+    c.requires.at)
     (c.in_ok-draw_glyph.ensures.mark rest)
 
-pub returns-clause-stands : goal.returns-clause-stands
-returns-clause-stands g c fit =
-    subst (λ (slot : ℕ). g.S.MarkSink.Stands c.draw_glyph.new.self c.in-Some.end c.args.run.now.v slot) (sym c.requires.slot) c.in_ok-draw_glyph.ensures.stands
+pub returns-clause-is_at : goal.returns-clause-is_at
+returns-clause-is_at g c fit =
+    subst (λ (slot : ℕ). g.S.MarkSink.IsAt c.draw_glyph.new.self c.in-Some.end c.args.run.now.v slot) (sym c.requires.slot)
+    c.in_ok-draw_glyph.ensures.is_at

@@ -4,8 +4,8 @@ use Rattle.node_core.specs.declared.tree.Node.{Node}
 use Rattle.node_core.specs.declared.tree.Node.TheVariants as nodes
 use Rattle.pack_core.specs.Cursors.{one_more, place_at}
 use Rattle.pack_core.proofs.Walks.{reached-more}
-use Rattle.page_core.specs.Private.Placing.{strokes_at}
-use Rattle.page_core.proofs.Places.{picture_left, fits_more, picture_more, item_fits, item_strokes, rest_of_and, first_false, few_passed}
+use Rattle.page_core.specs.Private.Placing.{marked_at}
+use Rattle.page_core.proofs.Places.{drawn_left, fits_more, drawn_more, item_fits, item_marks, rest_of_and, first_false, few_passed}
 use Rattle.page_core.proofs.list_drawing.draw_glyphs.Goals as goal
 
 pub draw_first-requires-clause-items_bounded : goal.draw_first-requires-clause-items_bounded
@@ -56,12 +56,12 @@ returns-clause-marks g c =
     let i = c.args.left.from in
     let x : Node = nodes.Glyph c.in-Horizontal-Some-Glyph.glyph in
     let at_i = subst (λ (y : Node). y ≡ get_or xs i y) c.in-Horizontal-Some-Glyph.is-2 c.index-items-from.is in
-    let later = picture_left b h v xs (i + 1) in
+    let later = drawn_left b h v xs (i + 1) in
     let drawn = g.S.MarkSink.drawn_with b.kind in
     let first = c.args.sink.now in
     let marked = c.draw_first.new.sink in
-    let seen = strokes_at b h v (place_at b.setting c.args.walk.now.cursor) x later in
-    let mark = item_strokes b h v (take i xs) x c.args.walk.now.cursor later seen c.requires.cursor refl in
-    let so_far : drawn first (picture_left b h v xs i) ≡ drawn marked later =
-    ap (drawn first) (picture_more b h v xs i x c.requires.within at_i ∙ sym mark) ∙ c.in_ok-draw_first.ensures.mark c.if-not-branch.false later in
+    let seen = marked_at b h v (place_at b.setting c.args.walk.now.cursor) x later in
+    let mark = item_marks b h v (take i xs) x c.args.walk.now.cursor later seen c.requires.cursor refl in
+    let so_far : drawn first (drawn_left b h v xs i) ≡ drawn marked later =
+    ap (drawn first) (drawn_more b h v xs i x c.requires.within at_i ∙ sym mark) ∙ c.in_ok-draw_first.ensures.mark c.if-not-branch.false later in
     c.draw_run-next.ensures.marks ∙ sym so_far

@@ -3,7 +3,7 @@ use Rattle.std.specs.Prelude.{true}
 use Rattle.pack_core.specs.Cursors.{one_more, place_at}
 use Rattle.page_core.specs.Marks.{right_at, down_at}
 use Rattle.page_core.specs.Private.Placing.{is_blank}
-use Rattle.page_core.proofs.Walked.{blank-fits, blank-place, blank-strokes, point-is, reaches}
+use Rattle.page_core.proofs.Walked.{blank-fits, blank-place, blank-marks, point-is, reaches}
 use Rattle.page_core.proofs.list_drawing.draw_item.Goals as goal
 
 pub draw_at-requires : goal.draw_at-requires
@@ -25,7 +25,7 @@ returns-then-is_blank-clause-mark g c rest =
     let place = place_at b.setting c.args.walk.now.cursor in
     let yes : is_blank c.args.node.now ≡ true = sym c.is_blank.ensures ∙ c.if-is_blank.true in
     ap (g.S.MarkSink.drawn_with b.kind c.args.sink.now)
-    (blank-strokes b (right_at b.kind c.args.begin.now.h place) (down_at b.kind c.args.begin.now.v place) c.args.node.now rest yes)
+    (blank-marks b (right_at b.kind c.args.begin.now.h place) (down_at b.kind c.args.begin.now.v place) c.args.node.now rest yes)
 
 pub returns-then-is_blank-clause-h : goal.returns-then-is_blank-clause-h
 returns-then-is_blank-clause-h g c =

@@ -1,5 +1,5 @@
 use Rattle.std.proofs.Common.{refl}
-use Rattle.raster_core.specs.Pictures.{grid_of}
+use Rattle.raster_core.specs.PixelGrids.{grid_of}
 use Rattle.raster_core.proofs.DrawnPixels.{drawn_pixel, drawn_right, drawn_below}
 use Rattle.raster_core.proofs.laws.drawn_pixels.Goals as goal
 

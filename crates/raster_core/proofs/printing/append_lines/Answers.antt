@@ -9,9 +9,9 @@ loop-line-init c = record {
   capacity = omega arith;
 }
 
-pub append_line-requires-clause-room : goal.append_line-requires-clause-room
-append_line-requires-clause-room c =
-    omega (arith, c.requires.room, c.loop-line.invariant.len, c.loop-line.invariant.capacity, c.div_ceil-line-end.ensures, c.loop-line-test.true)
+pub append_line-requires-clause-space : goal.append_line-requires-clause-space
+append_line-requires-clause-space c =
+    omega (arith, c.requires.space, c.loop-line.invariant.len, c.loop-line.invariant.capacity, c.div_ceil-line-end.ensures, c.loop-line-test.true)
 
 pub loop-line-preserved : goal.loop-line-preserved
 loop-line-preserved c = record {

@@ -5,7 +5,14 @@ use Rattle.raster_core.proofs.printing.append_number.Goals as goal
 
 pub append_bytes-requires : goal.append_bytes-requires
 append_bytes-requires c = record {
-  room = omega (arith, c.requires.room, length-decimal-le 5 c.args.number (omega arith) (omega (arith, c.requires.number_bounded)) (omega (arith, c.requires.number_bounded)), c.as_bytes.ensures.len, ap length c.as_bytes.ensures.value, ap length c.format.ensures.text);
+  space = omega (
+    arith,
+    c.requires.space,
+    length-decimal-le 5 c.args.number (omega arith) (omega (arith, c.requires.number_bounded)) (omega (arith, c.requires.number_bounded)),
+    c.as_bytes.ensures.len,
+    ap length c.as_bytes.ensures.value,
+    ap length c.format.ensures.text,
+  );
 }
 
 pub returns-clause-len : goal.returns-clause-len

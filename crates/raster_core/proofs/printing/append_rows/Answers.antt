@@ -11,8 +11,8 @@ use Rattle.raster_core.proofs.printing.append_rows.Goals as goal
 abbrev one : (words : List ℕ) (stride width y : ℕ) → List ℕ
 one words stride width y = row_text width (λ x. in_rows words stride x y)
 
-pub append_row-requires-clause-room : goal.append_row-requires-clause-room
-append_row-requires-clause-room c =
+pub append_row-requires-clause-space : goal.append_row-requires-clause-space
+append_row-requires-clause-space c =
     omega (arith, c.requires, c.loop-y.invariant.len, c.loop-y.invariant.capacity, row_fits c.loop-y.y (row_size c.args.rows.width) c.args.rows.height (row_size c.args.rows.width) c.loop-y-test.true (omega arith))
 
 pub loop-y-preserved : goal.loop-y-preserved

@@ -41,11 +41,11 @@ returns-clause-ok c =
     let some : 0 < length list = search rules in
     let nodes : c.into_vec-nodes.result.items ≡ list = c.into_vec-nodes.ensures ∙ ap nodes_of c.replace.ensures.value in
     let items : c.into_vec-items.result.items ≡ nodes_of c.args.around.now = c.into_vec-items.ensures ∙ ap nodes_of c.replace-2.ensures.value in
-    appended_so c.append_items-told.result
+    appended_so c.append_items-figures.result
     (list_setting (finished_list c.into_vec-nodes.result.items params.par_fill_skip) params previous) (setting list params previous)
-    c.into_vec-items.result.items (nodes_of c.args.around.now) c.append_items-told.new.around.items (nodes_of c.from_vec-2.result)
+    c.into_vec-items.result.items (nodes_of c.args.around.now) c.append_items-figures.new.around.items (nodes_of c.from_vec-2.result)
     (ap (λ (l : List Node). list_setting (finished_list l params.par_fill_skip) params previous) nodes ∙ some_setting list params previous some)
-    items (sym c.from_vec-2.ensures.nodes) c.append_items-told.ensures.ok
+    items (sym c.from_vec-2.ensures.nodes) c.append_items-figures.ensures.ok
 
 pub returns-clause-refused : goal.returns-clause-refused
 returns-clause-refused c =
@@ -55,7 +55,7 @@ returns-clause-refused c =
     let some : 0 < length list = search rules in
     let nodes : c.into_vec-nodes.result.items ≡ list = c.into_vec-nodes.ensures ∙ ap nodes_of c.replace.ensures.value in
     let items : c.into_vec-items.result.items ≡ nodes_of c.args.around.now = c.into_vec-items.ensures ∙ ap nodes_of c.replace-2.ensures.value in
-    unappended_so c.append_items-told.result
+    unappended_so c.append_items-figures.result
     (list_setting (finished_list c.into_vec-nodes.result.items params.par_fill_skip) params previous) (setting list params previous)
     (IsUnsetList (finished_list c.into_vec-nodes.result.items params.par_fill_skip) params previous) (IsUnset list params previous)
     c.into_vec-items.result.items (nodes_of c.args.around.now)
@@ -63,14 +63,16 @@ returns-clause-refused c =
     items
     (λ fault is. unset_some list params previous fault some
     (subst (λ (l : List Node). IsUnsetList (finished_list l params.par_fill_skip) params previous fault) nodes is))
-    c.append_items-told.ensures.refused
+    c.append_items-figures.ensures.refused
 
 pub returns-clause-err : goal.returns-clause-err
 returns-clause-err c =
     let nodes : c.into_vec-nodes.result.items ≡ nodes_of c.args.list.now = c.into_vec-nodes.ensures ∙ ap nodes_of c.replace.ensures.value in
-    err_so c.append_items-told.result (λ same. c.from_vec.ensures.items ∙ (ap items_of (same ∙ nodes) ∙ items_of-nodes_of c.args.list.now)) c.append_items-told.ensures.err
+    err_so c.append_items-figures.result (λ same. c.from_vec.ensures.items ∙ (ap items_of (same ∙ nodes) ∙ items_of-nodes_of c.args.list.now))
+    c.append_items-figures.ensures.err
 
 pub returns-clause-same : goal.returns-clause-same
 returns-clause-same c =
     let items : c.into_vec-items.result.items ≡ nodes_of c.args.around.now = c.into_vec-items.ensures ∙ ap nodes_of c.replace-2.ensures.value in
-    err_so c.append_items-told.result (λ same. c.from_vec-2.ensures.items ∙ (ap items_of (same ∙ items) ∙ items_of-nodes_of c.args.around.now)) c.append_items-told.ensures.same
+    err_so c.append_items-figures.result (λ same. c.from_vec-2.ensures.items ∙ (ap items_of (same ∙ items) ∙ items_of-nodes_of c.args.around.now))
+    c.append_items-figures.ensures.same

@@ -5,7 +5,7 @@ use Rattle.vert_core.proofs.filling.copy_items.Given as goal
 abbrev pub invariant-loop-line : goal.invariant-loop-line
 invariant-loop-line l = record {
   copied : map (copied_line l.nodes) l.lines.items ++ reverse l.filled.items ≡ map (copied_line l.nodes) l.fn.lines.items;
-  room : vec_len l.filled + vec_len l.lines ≤ vec_capacity l.filled;
+  space : vec_len l.filled + vec_len l.lines ≤ vec_capacity l.filled;
 }
 
 abbrev pub decreases-loop-line : goal.decreases-loop-line

@@ -30,6 +30,6 @@ loop-line-preserved c =
     record {
       moving = subst (λ (xs : List Node). IsMoving list lines xs after c.push_reserved.new.self.items) (sym c.in-Ok.ensures.items)
           (subst (λ (ys : List PlannedLine). IsMoving list lines (take line.begin left) after ys) (sym filled_is) moving);
-      room = omega (arith, c.push_reserved.ensures.len, c.push_reserved.ensures.capacity, c.in-Some.ensures.len, c.loop-line.invariant.room);
+      space = omega (arith, c.push_reserved.ensures.len, c.push_reserved.ensures.capacity, c.in-Some.ensures.len, c.loop-line.invariant.space);
       capacity = c.split_off.ensures.capacity ∙ c.loop-line.invariant.capacity;
     }

@@ -5,7 +5,7 @@ use Rattle.vert_core.proofs.filling.move_items.Given as goal
 abbrev pub invariant-loop-line : goal.invariant-loop-line
 invariant-loop-line l = record {
   moving : IsMoving l.fn.nodes.items l.fn.lines.items l.nodes.items l.lines.items l.filled.items;
-  room : vec_len l.filled + vec_len l.lines ≤ vec_capacity l.filled;
+  space : vec_len l.filled + vec_len l.lines ≤ vec_capacity l.filled;
   capacity : vec_capacity l.nodes ≡ vec_capacity l.fn.nodes;
 }
 

@@ -3,7 +3,7 @@ use Rattle.node_core.specs.declared.tree.BoxNode.{BoxNode}
 use Rattle.node_core.specs.declared.tree.Node.{Node}
 use Rattle.node_core.specs.Nodes.{nodes_of}
 use Rattle.vert_core.specs.Private.Planned.{items_in}
-use Rattle.vert_core.proofs.Filled.{popped, popped_room, appended_ok}
+use Rattle.vert_core.proofs.Filled.{popped, popped_space, appended_ok}
 use Rattle.vert_core.proofs.filling.rejoin.Goals as goal
 
 pub loop-line-preserved : goal.loop-line-preserved
@@ -14,10 +14,10 @@ loop-line-preserved c =
     let after = c.pop.new.self.items in
     let split : before ≡ after ++ line ∷ [] = c.in-Some.ensures.items in
     let part : c.into_vec-part.result.items ≡ items_in line = c.into_vec-part.ensures ∙ ap (λ (b : BoxNode). nodes_of b.list) c.into_inner.ensures in
-    let room : vec_len nodes + vec_len c.into_vec-part.result ≤ vec_capacity nodes =
+    let space : vec_len nodes + vec_len c.into_vec-part.result ≤ vec_capacity nodes =
     omega (
       arith,
-      popped_room items_in nodes.items before after line split,
+      popped_space items_in nodes.items before after line split,
       ap length c.loop-line.invariant.whole,
       length-append c.args.nodes.now.items (flat_map items_in (reverse c.args.lines.items)),
       c.requires,
@@ -28,7 +28,8 @@ loop-line-preserved c =
       c.args.nodes.now.ok.0,
     ) in
     let more : c.append.new.self.items ≡ nodes.items ++ items_in line =
-    appended_ok c.append.result nodes.items c.into_vec-part.result.items c.append.new.self.items (c.append.ensures.succeeds room) c.append.ensures.items
+    appended_ok c.append.result nodes.items c.into_vec-part.result.items c.append.new.self.items (c.append.ensures.succeeds space)
+    c.append.ensures.items
     ∙ ap (λ (xs : List Node). nodes.items ++ xs) part in
     record {
       whole = popped items_in nodes.items c.append.new.self.items before after line split more ∙ c.loop-line.invariant.whole;

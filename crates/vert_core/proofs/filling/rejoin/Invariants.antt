@@ -2,7 +2,7 @@ use Rattle.std.proofs.Common.{◌≡◌, ◌≤◌, ◌++◌, reverse, flat_map,
 use Rattle.vert_core.specs.Private.Planned.{items_in}
 use Rattle.vert_core.proofs.filling.rejoin.Given as goal
 
--- What is back and what is still in lines make the whole, for which there is room.
+-- What is back and what is still in lines make the whole, for which there is space.
 abbrev pub invariant-loop-line : goal.invariant-loop-line
 invariant-loop-line l = record {
   whole : l.nodes.items ++ flat_map items_in (reverse l.lines.items) ≡ l.fn.nodes.items ++ flat_map items_in (reverse l.fn.lines.items);

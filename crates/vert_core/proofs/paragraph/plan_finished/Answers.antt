@@ -19,4 +19,5 @@ returns-in_err-plan-clause-refused c =
     handed_on (IsUnsetList list params previous) c.from_residual-in_err-plan.result (unstacked_by fault)
     c.from_residual-in_err-plan.ensures.1
     (unplanned_list list params previous c.in_ok-breaks.breaks fault c.in_ok-breaks.ensures.fits c.in_ok-breaks.ensures.broken
-    (λ told. ap (λ (ends : List LineEnd). lines_fit (broken_list list ends params previous)) (sym c.deref.ensures.value) ∙ c.in_err-plan.ensures.fault told))
+    (λ figures. ap (λ (ends : List LineEnd). lines_fit (broken_list list ends params previous)) (sym c.deref.ensures.value)
+    ∙ c.in_err-plan.ensures.fault figures))

@@ -20,7 +20,7 @@ returns-in_default-clause-fault c =
     let p : BrokenParagraph = broken_list c.args.broken.now.nodes.now c.args.broken.now.ends.now c.args.broken.now.params.now c.args.previous_depth in
     let line : ℕ = c.loop-line.line in
     let below : line < length p.places = omega (arith, count_places c.args.broken.now.ends.now) in
-    λ told. all_but (line_fits p) (length p.places) line below
+    λ figures. all_but (line_fits p) (length p.places) line below
     (fits_one p line c.loop-line.depth false c.loop-line.invariant.depth (sym c.measure_line.ensures.fits ∙ ap is_some c.in_default.is))
 
 pub loop-line-preserved : goal.loop-line-preserved
@@ -39,7 +39,7 @@ loop-line-preserved c =
           ∙ (ap (λ (x : PlannedLine). map (plan_of_line p) (up_to line) ++ x ∷ []) one ∙ sym (map_more (plan_of_line p) line)));
       count = omega (arith, c.loop-line.invariant.count, c.items_of_line-count.ensures.count, count_more c.loop-line.lines.items c.push_reserved.new.self.items c.in_ok-planned.planned c.push_reserved.ensures.items);
       few = omega (arith, c.loop-line.invariant.few, c.items_of_line-count.ensures.few);
-      room = omega (arith, c.loop-line.invariant.room, c.push_reserved.ensures.len);
+      space = omega (arith, c.loop-line.invariant.space, c.push_reserved.ensures.len);
       capacity = omega (arith, c.loop-line.invariant.capacity, c.push_reserved.ensures.capacity);
       depth = depth_after_line p line shell.depth (sym (measured_depth (items_of (line_items p line)) shell) ∙ ap (λ (b : BoxNode). b.depth) c.in-Some.ensures.packed);
       fit = all_more (line_fits p) line c.loop-line.invariant.fit

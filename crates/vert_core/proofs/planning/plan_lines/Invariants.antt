@@ -10,7 +10,7 @@ invariant-loop-line l = record {
   lines : l.lines.items ≡ map (plan_of_line (broken_list l.broken.nodes.now l.broken.ends.now l.broken.params.now l.fn.previous_depth)) (up_to l.line);
   count : l.count ≡ length (flat_map stacked_nodes l.lines.items);
   few : l.count ≤ 3 * l.line;
-  room : vec_len l.lines ≡ l.line;
+  space : vec_len l.lines ≡ l.line;
   capacity : length l.broken.ends.now ≤ vec_capacity l.lines;
   depth : l.depth ≡ depth_before (broken_list l.broken.nodes.now l.broken.ends.now l.broken.params.now l.fn.previous_depth) l.line;
   fit : list_all (line_fits (broken_list l.broken.nodes.now l.broken.ends.now l.broken.params.now l.fn.previous_depth)) (up_to l.line) ≡ true;

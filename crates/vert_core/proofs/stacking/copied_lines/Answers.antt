@@ -15,8 +15,8 @@ stack_lines-requires-clause-plain c = λ on.
     (plain_copied c.args.broken.now.nodes.now c.in_ok-plan.plan.lines.items
     (known_plain c.any_has_content.result c.args.broken.now.nodes.now c.any_has_content.ensures on))
 
-pub stack_lines-requires-clause-room : goal.stack_lines-requires-clause-room
-stack_lines-requires-clause-room c =
+pub stack_lines-requires-clause-space : goal.stack_lines-requires-clause-space
+stack_lines-requires-clause-space c =
     omega (
       arith,
       c.in_ok-nodes.ensures.len,

@@ -16,7 +16,7 @@ loop-at-preserved g c =
     let line = c.index-lines-at.result in
     let reply = c.step-reply.result in
     let before = c.loop-at.invariant.ran in
-    let room = c.requires in
+    let space = c.requires in
     let within = c.loop-at-test.true in
     let taken : take (i + 1) lines ≡ take i lines ++ line ∷ [] =
     take_more lines i line within ∙ ap (λ (x : Line). take i lines ++ x ∷ []) (sym c.index-lines-at.is) in
@@ -26,7 +26,8 @@ loop-at-preserved g c =
         before.0 ++ reply ∷ [],
         ran_one_more c.args.job.now c.loop-at.job c.step-reply.new.self (take i lines) (take (i + 1) lines) line before.0 reply taken before.1 c.step-reply.ensures.keeps,
         length_more (take i lines) (take (i + 1) lines) line before.0 reply taken before.2,
-        row_put c.args.rows.now c.loop-at.rows (take i lines) (take (i + 1) lines) line before.0 reply i c.reply_row.result taken before.2 size (omega (arith, room, within)) c.reply_row.ensures before.3,
+        row_put c.args.rows.now c.loop-at.rows (take i lines) (take (i + 1) lines) line before.0 reply i c.reply_row.result taken before.2 size
+            (omega (arith, space, within)) c.reply_row.ensures before.3,
         status_one_more c.loop-at.status c.reply_status.result c.max-status.result before.0 reply before.4 c.reply_status.ensures c.max-status.ensures,
       );
       idle = λ over.

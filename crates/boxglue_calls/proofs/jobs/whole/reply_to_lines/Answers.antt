@@ -24,8 +24,9 @@ returns c =
     end.ensures.finished end.ensures.file end.ensures.end end.ensures.count end.ensures.part in
     let start : 0 ≡ c.in-Ok.job.failed = sym (c.in-Ok.ensures.made.failed ∙ ap (λ (m : MemoryState). m.failures) c.new.ensures) in
     let rows : List ReplyRow = reply_rows (line_numbers lines) ran.0 in
-    let room : length c.deref_mut.result.now ≡ length rows = c.deref_mut.ensures.len ∙ (c.in_ok-rows.ensures.len ∙ sym (length_rows lines ran.0 ran.2)) in
-    let put : each.new.rows ≡ rows = filled c.deref_mut.result.now each.new.rows rows room each.auto.rows ran.3 in
+    let space : length c.deref_mut.result.now ≡ length rows = c.deref_mut.ensures.len
+    ∙ (c.in_ok-rows.ensures.len ∙ sym (length_rows lines ran.0 ran.2)) in
+    let put : each.new.rows ≡ rows = filled c.deref_mut.result.now each.new.rows rows space each.auto.rows ran.3 in
     let kept = with_items_is c.in_ok-rows.rows each.new.rows (each.auto.rows ∙ c.deref_mut.ensures.len) in (
       ran.0,
       end.result,

@@ -22,13 +22,14 @@ returns-in_err-answer-clause-stopped g c =
     let now = c.loop-rest.dialog in
     let start = outbox_of c.args.self.now.waiting.items c.args.self.now.reads in
     let held = outbox_of c.loop-rest.self.waiting.items c.loop-rest.self.reads in
-    let room = outbox_of c.make_room.new.self.waiting.items c.make_room.new.self.reads in
+    let space = outbox_of c.make_space.new.self.waiting.items c.make_space.new.self.reads in
     let before = c.loop-rest.invariant.done in
     on_any_err c.from_residual.result (
       before.0,
       stops_after c.args.text.now c.loop-rest.rest.now before.0 old now c.answer.new.self before.1 c.in_err-answer.ensures.unchanged,
-      sends_no_line start held room (g.W.Write.contents c.args.writer.now) (g.W.Write.contents c.loop-rest.writer) (g.W.Write.contents c.make_room.new.writer) before.0 c.answer.new.answers.items before.2
-          c.make_room.ensures.sent c.in_err-answer.ensures.cut,
+      sends_no_line start held space (g.W.Write.contents c.args.writer.now) (g.W.Write.contents c.loop-rest.writer)
+          (g.W.Write.contents c.make_space.new.writer) before.0 c.answer.new.answers.items before.2
+          c.make_space.ensures.sent c.in_err-answer.ensures.cut,
     )
 
 pub returns-clause-ok : goal.returns-clause-ok
@@ -45,7 +46,7 @@ loop-rest-preserved g c =
     let new = c.answer.new.self in
     let start = outbox_of c.args.self.now.waiting.items c.args.self.now.reads in
     let held = outbox_of c.loop-rest.self.waiting.items c.loop-rest.self.reads in
-    let room = outbox_of c.make_room.new.self.waiting.items c.make_room.new.self.reads in
+    let space = outbox_of c.make_space.new.self.waiting.items c.make_space.new.self.reads in
     let before = c.loop-rest.invariant.done in
     let line = c.in_ok-answer.ensures.ok in
     let some : 0 < length c.loop-rest.rest.now = grind (arith, nat_tests) in
@@ -53,8 +54,9 @@ loop-rest-preserved g c =
       done = (
         before.0 ++ line.0,
         up_to_more c.args.text.now c.loop-rest.rest.now c.first_line.result.0.now c.first_line.result.1.now before.0 line.0 old now new some before.1 c.first_line.ensures.split line.2,
-        sends_line start held room (g.W.Write.contents c.args.writer.now) (g.W.Write.contents c.loop-rest.writer) (g.W.Write.contents c.make_room.new.writer) before.0 line.0 c.answer.new.answers.items before.2
-            c.make_room.ensures.sent line.1,
+        sends_line start held space (g.W.Write.contents c.args.writer.now) (g.W.Write.contents c.loop-rest.writer)
+            (g.W.Write.contents c.make_space.new.writer) before.0 line.0 c.answer.new.answers.items before.2
+            c.make_space.ensures.sent line.1,
       );
       counted = omega (arith, c.loop-rest.invariant.counted, c.first_line.ensures.shorter, c.in_ok-answer.ensures.counted);
     }

@@ -1,7 +1,7 @@
 -- What one reading brought, and what was run of it.
 use Rattle.std.proofs.Common.{◌-◌, [], Ok, take, ap, sym, ◌∙◌, vec_len}
 use Rattle.boxglue_program.specs.Private.Dialogs.{session_of}
-use Rattle.boxglue_program.proofs.PieceLaws.{nothing_exchanged, piece_comes, piece_exchanged, room_lacked}
+use Rattle.boxglue_program.proofs.PieceLaws.{nothing_exchanged, piece_comes, piece_exchanged, space_lacked}
 use Rattle.boxglue_program.proofs.RunLaws.{on_err, on_ok}
 use Rattle.boxglue_program.proofs.SessionCalls.{none_consumed}
 use Rattle.boxglue_program.proofs.session.Session.exchange.Goals as goal
@@ -42,7 +42,7 @@ returns-then-is_err-clause-memory g c =
     λ is. (
       take c.in-Some.count c.deref.result.now,
       came.consumed,
-      room_lacked c.args.self.now (session_of inside.dialog inside.outbox.reads inside.kept.items inside.left)
+      space_lacked c.args.self.now (session_of inside.dialog inside.outbox.reads inside.kept.items inside.left)
           (session_of now.dialog now.outbox.reads c.clear.new.self.items (inside.left - c.in-Some.count)) (take c.in-Some.count c.deref.result.now)
           (g.W.Write.contents c.args.writer.now) (g.W.Write.contents now.writer) c.self.view_is
           (on_err c.take_piece-ran.result (sym c.is_err.ensures.value ∙ c.if-is_err.true) c.take_piece-ran.ensures.stopped) c.clear.ensures.items came.left_is,

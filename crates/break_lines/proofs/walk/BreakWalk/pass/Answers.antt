@@ -76,7 +76,8 @@ returns-clause-goes_on c goes =
     let penalty = to_z-of_z w32 c.penalty_at.result fits ∙ c.penalty_at.ensures in
     let mark : MeasuredBreak = record { position = i; begin = w.begin; penalty = to_z w32 (of_z w32 c.penalty_at.result); from_position = c.add_item-2.new.sums; from_begin = c.line_start.result.now } in
     let here : mark ≡ measured_break list i = cc (old.begin, penalty, sums, first) in
-    let items : c.push_reserved.new.self.items ≡ w.marks.items ++ mark ∷ [] = c.push_reserved.ensures.items ∙ ap (λ ms. ms ++ mark ∷ []) c.in_ok-make_room.ensures.items in
+    let items : c.push_reserved.new.self.items ≡ w.marks.items ++ mark ∷ [] = c.push_reserved.ensures.items
+    ∙ ap (λ ms. ms ++ mark ∷ []) c.in_ok-make_space.ensures.items in
     let long : c.len.result ≡ length w.marks.items = search rules in
     record {
       marks = marks_more list i w.marks.items c.push_reserved.new.self.items mark _ legal here items old.marks;

@@ -11,7 +11,8 @@ invariant_of-self g c =
     let none = rw (c.deref.ensures.value, take_rest) at (sym c.if-is_empty.true ∙ c.is_empty.ensures) in
     let all = all_met sent met c.self.invariant.0.within none in (
       passed c.write.result _ _ _ sent c.args.piece.now met c.write.ensures.taken c.write.ensures.none_taken c.self.invariant.0 all,
-      still_countable c.write.result failed _ c.self.inside.failures c.write.ensures.stands c.write.ensures.counted (rw (← c.self.view_is) at c.requires.countable),
+      still_countable c.write.result failed _ c.self.inside.failures c.write.ensures.no_failure c.write.ensures.counted
+          (rw (← c.self.view_is) at c.requires.countable),
     )
 
 pub returns-then-is_empty-clause-taken : goal.returns-then-is_empty-clause-taken

@@ -13,9 +13,9 @@ invariant_of-self-2 c =
     let runs = c.args.self.now in
     let place : c.len.result ≡ length runs.codes.items = omega (arith, c.len.ensures) in
     let places : c.push_reserved.new.self.items ≡ runs.places.items ++ length runs.codes.items ∷ [] =
-    c.push_reserved.ensures.items ∙ ap₂ (λ (ns : List ℕ) (n : ℕ). ns ++ n ∷ []) c.make_room.ensures.items place in
+    c.push_reserved.ensures.items ∙ ap₂ (λ (ns : List ℕ) (n : ℕ). ns ++ n ∷ []) c.make_space.ensures.items place in
     let ops : c.push_reserved-2.new.self.items ≡ runs.ops.items ++ c.args.op ∷ [] =
-    c.push_reserved-2.ensures.items ∙ ap (λ (os : List BodyOp). os ++ c.args.op ∷ []) c.make_room-2.ensures.items in
+    c.push_reserved-2.ensures.items ∙ ap (λ (os : List BodyOp). os ++ c.args.op ∷ []) c.make_space-2.ensures.items in
     record {
       paired =
           ap length places
@@ -31,9 +31,9 @@ returns-clause-ok c =
     let runs = c.args.self.now in
     let place : c.len.result ≡ length runs.codes.items = omega (arith, c.len.ensures) in
     let places : c.push_reserved.new.self.items ≡ runs.places.items ++ length runs.codes.items ∷ [] =
-    c.push_reserved.ensures.items ∙ ap₂ (λ (ns : List ℕ) (n : ℕ). ns ++ n ∷ []) c.make_room.ensures.items place in
+    c.push_reserved.ensures.items ∙ ap₂ (λ (ns : List ℕ) (n : ℕ). ns ++ n ∷ []) c.make_space.ensures.items place in
     let ops : map body_view c.push_reserved-2.new.self.items ≡ map body_view runs.ops.items ++ body_view c.args.op ∷ [] =
-    ap (map body_view) (c.push_reserved-2.ensures.items ∙ ap (λ (os : List BodyOp). os ++ c.args.op ∷ []) c.make_room-2.ensures.items)
+    ap (map body_view) (c.push_reserved-2.ensures.items ∙ ap (λ (os : List BodyOp). os ++ c.args.op ∷ []) c.make_space-2.ensures.items)
     ∙ map-append body_view runs.ops.items (c.args.op ∷ []) in
     ap₂ (λ (ns : List ℕ) (is : List Instruction). woven_instructions 0 runs.codes.items ns is) places ops
     ∙ woven-op 0 runs.codes.items runs.places.items (map body_view runs.ops.items) (body_view c.args.op) (length runs.codes.items) (omega arith)

@@ -1,7 +1,7 @@
 use Rattle.std.proofs.Common.{rules, ◌≡◌, false, min}
 use Rattle.dvi_scan.proofs.RefusalLemmas.{handed_on}
-use Rattle.dvi_ops.specs.View.{postamble}
-use Rattle.dvi_read.specs.Stops.{IsWalkFault, page_bytes}
+use Rattle.dvi_ops.specs.View.{view_postamble}
+use Rattle.dvi_read.specs.WalkFaults.{IsWalkFault, page_bytes}
 use Rattle.dvi_read.specs.Walks.{read_in}
 use Rattle.dvi_read.proofs.HeldLemmas.{fault_held, walked_next, walked_same}
 use Rattle.dvi_read.proofs.WalkLemmas.{known_sizes, walked_first}
@@ -12,36 +12,42 @@ pub loop-at-init : goal.loop-at-init
 loop-at-init c =
     let source = c.args.source.now in (
       c.requires.low,
-      walked_first (file_widths source.files.now) source.ahead.now.keys source.bytes.now (postamble source.ending.now.stop) c.args.left.now c.args.from c.walk_start-walk.result c.walk_start-walk.ensures c.requires.reached,
+      walked_first (file_widths source.files.now) source.after_post.now.keys source.bytes.now (view_postamble source.ending.now.postamble)
+          c.args.left.now c.args.from c.walk_start-walk.result c.walk_start-walk.ensures c.requires.reached,
     )
 
 pub read_step-requires-clause-sizes : goal.read_step-requires-clause-sizes
 read_step-requires-clause-sizes c =
     let source = c.args.source.now in
     let metrics = file_widths source.files.now in
-    let stop = postamble source.ending.now.stop in
+    let postamble = view_postamble source.ending.now.postamble in
     let fact : c.pass_character.result ≡ false = search rules in
     let walk = c.pass_character.new.walk in
-    let walked = walked_same metrics source.ahead.now.keys source.bytes.now stop c.args.left.now c.loop-at.at c.loop-at.walk walk (c.pass_character.ensures.same fact) c.loop-at.invariant.1 in
-    known_sizes metrics source.ahead.now.keys source.bytes.now stop c.args.left.now c.loop-at.at (read_in walked.pass walked.selected walk) walked.reached
+    let walked = walked_same metrics source.after_post.now.keys source.bytes.now postamble c.args.left.now c.loop-at.at c.loop-at.walk walk
+    (c.pass_character.ensures.same fact) c.loop-at.invariant.1 in
+    known_sizes metrics source.after_post.now.keys source.bytes.now postamble c.args.left.now c.loop-at.at (read_in walked.pass walked.selected walk)
+    walked.reached
 
 pub returns-in_err-at-clause-bad : goal.returns-in_err-at-clause-bad
 returns-in_err-at-clause-bad c =
     let source = c.args.source.now in
     let metrics = file_widths source.files.now in
-    let stop = postamble source.ending.now.stop in
+    let postamble = view_postamble source.ending.now.postamble in
     let fact : c.pass_character.result ≡ false = search rules in
     let walk = c.pass_character.new.walk in
-    let walked = walked_same metrics source.ahead.now.keys source.bytes.now stop c.args.left.now c.loop-at.at c.loop-at.walk walk (c.pass_character.ensures.same fact) c.loop-at.invariant.1 in
-    handed_on (IsWalkFault source.files.now source.ahead.now.keys source.bytes.now stop c.args.left.now source.ending.now.post) c.from_residual.result c.in_err-at.field-0.0
+    let walked = walked_same metrics source.after_post.now.keys source.bytes.now postamble c.args.left.now c.loop-at.at c.loop-at.walk walk
+    (c.pass_character.ensures.same fact) c.loop-at.invariant.1 in
+    handed_on (IsWalkFault source.files.now source.after_post.now.keys source.bytes.now postamble c.args.left.now source.ending.now.post)
+    c.from_residual.result c.in_err-at.field-0.0
     c.from_residual.ensures.1 (
       c.loop-at.at,
       record {
         before = c.loop-at-test.true;
         seen = read_in walked.pass walked.selected walk;
         reached = walked.reached;
-        stops = fault_held source.files.now (page_bytes source.ahead.now.keys source.bytes.now (min 1024 stop.stack_depth) source.ending.now.post) c.loop-at.at
-            walked.pass walked.selected walk c.in_err-at.field-0.0 walked.stand (c.in_err-at.ensures.bad walked.selected walked.read);
+        fault_is = fault_held source.files.now
+            (page_bytes source.after_post.now.keys source.bytes.now (min 1024 postamble.stack_depth) source.ending.now.post) c.loop-at.at
+            walked.pass walked.selected walk c.in_err-at.field-0.0 walked.pass_state (c.in_err-at.ensures.bad walked.selected walked.read);
       },
     )
 
@@ -49,13 +55,15 @@ pub loop-at-preserved : goal.loop-at-preserved
 loop-at-preserved c =
     let source = c.args.source.now in
     let metrics = file_widths source.files.now in
-    let stop = postamble source.ending.now.stop in
+    let postamble = view_postamble source.ending.now.postamble in
     let fact : c.pass_character.result ≡ false = search rules in
     let walk = c.pass_character.new.walk in
-    let walked = walked_same metrics source.ahead.now.keys source.bytes.now stop c.args.left.now c.loop-at.at c.loop-at.walk walk (c.pass_character.ensures.same fact) c.loop-at.invariant.1 in
+    let walked = walked_same metrics source.after_post.now.keys source.bytes.now postamble c.args.left.now c.loop-at.at c.loop-at.walk walk
+    (c.pass_character.ensures.same fact) c.loop-at.invariant.1 in
     let reads = c.in_ok-at.ensures.ok in
     let release = c.release.ensures in (
       reads.within,
-      walked_next metrics source.ahead.now.keys source.bytes.now stop c.args.left.now c.loop-at.at source.ending.now.post c.in_ok-at.at walk c.read_step.new.walk c.release.new.walk
-          c.requires.high walked reads release.stand release.selected release.fonts release.known release.left,
+      walked_next metrics source.after_post.now.keys source.bytes.now postamble c.args.left.now c.loop-at.at source.ending.now.post c.in_ok-at.at walk
+          c.read_step.new.walk c.release.new.walk
+          c.requires.high walked reads release.pass_state release.selected release.fonts release.known release.left,
     )

@@ -11,7 +11,7 @@ use Rattle.dvi_scan.specs.Drawing.{constant_width, reached_position}
 use Rattle.dvi_scan.specs.Private.Drawing.{Draws}
 use Rattle.dvi_scan.specs.Pass.{Inside, with_marks}
 use Rattle.dvi_scan.specs.Execution.{TurnsPage}
-use Rattle.dvi_scan.specs.View.{mark_of, spot_position, standing_state}
+use Rattle.dvi_scan.specs.View.{mark_of, spot_position, dvi_state}
 use Rattle.dvi_scan.proofs.TurnLemmas.{idle_turns, leaf_turns}
 use Rattle.dvi_scan.proofs.executing.OpenPage.take.Goals as goal
 
@@ -20,14 +20,16 @@ returns-in-SetChar-clause-turns c = λ pages.
     let page = c.args.self.now in
     let same : to_z w32 (of_z w32 c.in-SetChar.code) ≡ c.in-SetChar.code = search (rules, ints) in
     leaf_turns c.args.width c.args.most c.args.op.now (ops.Body (bodies.SetChar c.in-SetChar.code)) (SetChar c.in-SetChar.code) pages page c.set_char.new.self c.set_char.result (c.in-Body.is ∙ ap ops.Body c.in-SetChar.is) refl
-    (subst (λ (code : ℤ). Draws (instruction_acts (constant_width c.args.width) (SetChar code) (standing_state page.state)) pages page c.set_char.new.self c.set_char.result) same (c.set_char.ensures.turns pages))
+    (subst (λ (code : ℤ). Draws (instruction_acts (constant_width c.args.width) (SetChar code) (dvi_state page.state)) pages page c.set_char.new.self
+    c.set_char.result) same (c.set_char.ensures.turns pages))
 
 pub returns-in-PutChar-clause-turns : goal.returns-in-PutChar-clause-turns
 returns-in-PutChar-clause-turns c = λ pages.
     let page = c.args.self.now in
     let same : to_z w32 (of_z w32 c.in-PutChar.code) ≡ c.in-PutChar.code = search (rules, ints) in
     leaf_turns c.args.width c.args.most c.args.op.now (ops.Body (bodies.PutChar c.in-PutChar.code)) (PutChar c.in-PutChar.code) pages page c.put_char.new.self c.put_char.result (c.in-Body.is ∙ ap ops.Body c.in-PutChar.is) refl
-    (subst (λ (code : ℤ). Draws (instruction_acts (constant_width c.args.width) (PutChar code) (standing_state page.state)) pages page c.put_char.new.self c.put_char.result) same (c.put_char.ensures.turns pages))
+    (subst (λ (code : ℤ). Draws (instruction_acts (constant_width c.args.width) (PutChar code) (dvi_state page.state)) pages page c.put_char.new.self
+    c.put_char.result) same (c.put_char.ensures.turns pages))
 
 pub returns-in-SetRule-clause-turns : goal.returns-in-SetRule-clause-turns
 returns-in-SetRule-clause-turns c = λ pages.
@@ -35,8 +37,10 @@ returns-in-SetRule-clause-turns c = λ pages.
     let height : to_z w32 (of_z w32 c.in-SetRule.height) ≡ c.in-SetRule.height = search (rules, ints) in
     let width : to_z w32 (of_z w32 c.in-SetRule.width) ≡ c.in-SetRule.width = search (rules, ints) in
     leaf_turns c.args.width c.args.most c.args.op.now (ops.Body (bodies.SetRule c.in-SetRule.height c.in-SetRule.width)) (SetRule c.in-SetRule.height c.in-SetRule.width) pages page c.set_rule.new.self c.set_rule.result (c.in-Body.is ∙ ap ops.Body c.in-SetRule.is) refl
-    (subst (λ (h : ℤ). Draws (instruction_acts (constant_width c.args.width) (SetRule h c.in-SetRule.width) (standing_state page.state)) pages page c.set_rule.new.self c.set_rule.result) height
-    (subst (λ (w : ℤ). Draws (instruction_acts (constant_width c.args.width) (SetRule (to_z w32 (of_z w32 c.in-SetRule.height)) w) (standing_state page.state)) pages page c.set_rule.new.self c.set_rule.result) width
+    (subst (λ (h : ℤ). Draws (instruction_acts (constant_width c.args.width) (SetRule h c.in-SetRule.width) (dvi_state page.state)) pages page
+    c.set_rule.new.self c.set_rule.result) height
+    (subst (λ (w : ℤ). Draws (instruction_acts (constant_width c.args.width) (SetRule (to_z w32 (of_z w32 c.in-SetRule.height)) w)
+    (dvi_state page.state)) pages page c.set_rule.new.self c.set_rule.result) width
     (c.set_rule.ensures.turns (constant_width c.args.width) pages)))
 
 pub returns-in-PutRule-clause-turns : goal.returns-in-PutRule-clause-turns
@@ -45,8 +49,10 @@ returns-in-PutRule-clause-turns c = λ pages.
     let height : to_z w32 (of_z w32 c.in-PutRule.height) ≡ c.in-PutRule.height = search (rules, ints) in
     let width : to_z w32 (of_z w32 c.in-PutRule.width) ≡ c.in-PutRule.width = search (rules, ints) in
     leaf_turns c.args.width c.args.most c.args.op.now (ops.Body (bodies.PutRule c.in-PutRule.height c.in-PutRule.width)) (PutRule c.in-PutRule.height c.in-PutRule.width) pages page c.put_rule.new.self c.put_rule.result (c.in-Body.is ∙ ap ops.Body c.in-PutRule.is) refl
-    (subst (λ (h : ℤ). Draws (instruction_acts (constant_width c.args.width) (PutRule h c.in-PutRule.width) (standing_state page.state)) pages page c.put_rule.new.self c.put_rule.result) height
-    (subst (λ (w : ℤ). Draws (instruction_acts (constant_width c.args.width) (PutRule (to_z w32 (of_z w32 c.in-PutRule.height)) w) (standing_state page.state)) pages page c.put_rule.new.self c.put_rule.result) width
+    (subst (λ (h : ℤ). Draws (instruction_acts (constant_width c.args.width) (PutRule h c.in-PutRule.width) (dvi_state page.state)) pages page
+    c.put_rule.new.self c.put_rule.result) height
+    (subst (λ (w : ℤ). Draws (instruction_acts (constant_width c.args.width) (PutRule (to_z w32 (of_z w32 c.in-PutRule.height)) w)
+    (dvi_state page.state)) pages page c.put_rule.new.self c.put_rule.result) width
     (c.put_rule.ensures.turns (constant_width c.args.width) pages)))
 
 pub returns-in-Push-clause-turns : goal.returns-in-Push-clause-turns
@@ -122,9 +128,11 @@ returns-in-FontNum-clause-turns c = λ pages.
     let page = c.args.self.now in
     let marks = map mark_of page.marks.items in
     let stack = reverse (map spot_position page.stack.items) in
-    let kept : kept_in (state_without_mark (record { place = spot_position page.state.place; font = Some c.in-FontNum.font })) ≡ state_without_mark (standing_state c.with_font-self.result) = search (rules, ints) in
+    let kept : kept_in (state_without_mark (record { place = spot_position page.state.place; font = Some c.in-FontNum.font })) ≡ state_without_mark
+    (dvi_state c.with_font-self.result) = search (rules, ints) in
     leaf_turns c.args.width c.args.most c.args.op.now (ops.Body (bodies.FontNum c.in-FontNum.font)) (FontNum c.in-FontNum.font) pages page (record page { state = c.with_font-self.result }) (Ok tt) (c.in-Body.is ∙ ap ops.Body c.in-FontNum.is) refl
-    (ap (with_marks pages page.counts marks stack) kept ∙ ap (λ (ms : List Mark). Some (Inside pages page.counts ms stack (standing_state c.with_font-self.result))) (append-nil marks))
+    (ap (with_marks pages page.counts marks stack) kept
+    ∙ ap (λ (ms : List Mark). Some (Inside pages page.counts ms stack (dvi_state c.with_font-self.result))) (append-nil marks))
 
 pub returns-in-Nop-clause-turns : goal.returns-in-Nop-clause-turns
 returns-in-Nop-clause-turns c = λ pages.
@@ -142,56 +150,56 @@ returns-in-Xxx-clause-turns c = λ pages.
     leaf_turns c.args.width c.args.most c.args.op.now (ops.Body (bodies.Xxx c.in-Xxx.text)) (Xxx c.in-Xxx.text.now) pages page c.put_special.new.self c.put_special.result (c.in-Body.is ∙ ap ops.Body c.in-Xxx.is) refl
     (c.put_special.ensures.turns (constant_width c.args.width) pages)
 
-pub returns-in-SetChar-clause-room : goal.returns-in-SetChar-clause-room
-returns-in-SetChar-clause-room c = c.set_char.ensures.room c.args.most
+pub returns-in-SetChar-clause-space : goal.returns-in-SetChar-clause-space
+returns-in-SetChar-clause-space c = c.set_char.ensures.space c.args.most
 
-pub returns-in-PutChar-clause-room : goal.returns-in-PutChar-clause-room
-returns-in-PutChar-clause-room c = c.put_char.ensures.room c.args.most
+pub returns-in-PutChar-clause-space : goal.returns-in-PutChar-clause-space
+returns-in-PutChar-clause-space c = c.put_char.ensures.space c.args.most
 
-pub returns-in-SetRule-clause-room : goal.returns-in-SetRule-clause-room
-returns-in-SetRule-clause-room c = c.set_rule.ensures.room c.args.most
+pub returns-in-SetRule-clause-space : goal.returns-in-SetRule-clause-space
+returns-in-SetRule-clause-space c = c.set_rule.ensures.space c.args.most
 
-pub returns-in-PutRule-clause-room : goal.returns-in-PutRule-clause-room
-returns-in-PutRule-clause-room c = c.put_rule.ensures.room c.args.most
+pub returns-in-PutRule-clause-space : goal.returns-in-PutRule-clause-space
+returns-in-PutRule-clause-space c = c.put_rule.ensures.space c.args.most
 
-pub returns-in-Pop-clause-room : goal.returns-in-Pop-clause-room
-returns-in-Pop-clause-room c = c.pop.ensures.room c.args.most
+pub returns-in-Pop-clause-space : goal.returns-in-Pop-clause-space
+returns-in-Pop-clause-space c = c.pop.ensures.space c.args.most
 
-pub returns-in-Right-clause-room : goal.returns-in-Right-clause-room
-returns-in-Right-clause-room c = c.go.ensures.room c.args.most
+pub returns-in-Right-clause-space : goal.returns-in-Right-clause-space
+returns-in-Right-clause-space c = c.go.ensures.space c.args.most
 
-pub returns-in-W0-clause-room : goal.returns-in-W0-clause-room
-returns-in-W0-clause-room c = c.go-in-W0.ensures.room c.args.most
+pub returns-in-W0-clause-space : goal.returns-in-W0-clause-space
+returns-in-W0-clause-space c = c.go-in-W0.ensures.space c.args.most
 
-pub returns-in-W-clause-room : goal.returns-in-W-clause-room
-returns-in-W-clause-room c = c.go-in-W.ensures.room c.args.most
+pub returns-in-W-clause-space : goal.returns-in-W-clause-space
+returns-in-W-clause-space c = c.go-in-W.ensures.space c.args.most
 
-pub returns-in-X0-clause-room : goal.returns-in-X0-clause-room
-returns-in-X0-clause-room c = c.go-in-X0.ensures.room c.args.most
+pub returns-in-X0-clause-space : goal.returns-in-X0-clause-space
+returns-in-X0-clause-space c = c.go-in-X0.ensures.space c.args.most
 
-pub returns-in-X-clause-room : goal.returns-in-X-clause-room
-returns-in-X-clause-room c = c.go-in-X.ensures.room c.args.most
+pub returns-in-X-clause-space : goal.returns-in-X-clause-space
+returns-in-X-clause-space c = c.go-in-X.ensures.space c.args.most
 
-pub returns-in-Down-clause-room : goal.returns-in-Down-clause-room
-returns-in-Down-clause-room c = c.go-in-Down.ensures.room c.args.most
+pub returns-in-Down-clause-space : goal.returns-in-Down-clause-space
+returns-in-Down-clause-space c = c.go-in-Down.ensures.space c.args.most
 
-pub returns-in-Y0-clause-room : goal.returns-in-Y0-clause-room
-returns-in-Y0-clause-room c = c.go-in-Y0.ensures.room c.args.most
+pub returns-in-Y0-clause-space : goal.returns-in-Y0-clause-space
+returns-in-Y0-clause-space c = c.go-in-Y0.ensures.space c.args.most
 
-pub returns-in-Y-clause-room : goal.returns-in-Y-clause-room
-returns-in-Y-clause-room c = c.go-in-Y.ensures.room c.args.most
+pub returns-in-Y-clause-space : goal.returns-in-Y-clause-space
+returns-in-Y-clause-space c = c.go-in-Y.ensures.space c.args.most
 
-pub returns-in-Z0-clause-room : goal.returns-in-Z0-clause-room
-returns-in-Z0-clause-room c = c.go-in-Z0.ensures.room c.args.most
+pub returns-in-Z0-clause-space : goal.returns-in-Z0-clause-space
+returns-in-Z0-clause-space c = c.go-in-Z0.ensures.space c.args.most
 
-pub returns-in-Z-clause-room : goal.returns-in-Z-clause-room
-returns-in-Z-clause-room c = c.go-in-Z.ensures.room c.args.most
+pub returns-in-Z-clause-space : goal.returns-in-Z-clause-space
+returns-in-Z-clause-space c = c.go-in-Z.ensures.space c.args.most
 
-pub returns-in-Nop-clause-room : goal.returns-in-Nop-clause-room
-returns-in-Nop-clause-room c = c.go-in-Nop.ensures.room c.args.most
+pub returns-in-Nop-clause-space : goal.returns-in-Nop-clause-space
+returns-in-Nop-clause-space c = c.go-in-Nop.ensures.space c.args.most
 
-pub returns-in-FontDef-clause-room : goal.returns-in-FontDef-clause-room
-returns-in-FontDef-clause-room c = c.go-in-FontDef.ensures.room c.args.most
+pub returns-in-FontDef-clause-space : goal.returns-in-FontDef-clause-space
+returns-in-FontDef-clause-space c = c.go-in-FontDef.ensures.space c.args.most
 
-pub returns-in-Xxx-clause-room : goal.returns-in-Xxx-clause-room
-returns-in-Xxx-clause-room c = c.put_special.ensures.room c.args.most
+pub returns-in-Xxx-clause-space : goal.returns-in-Xxx-clause-space
+returns-in-Xxx-clause-space c = c.put_special.ensures.space c.args.most

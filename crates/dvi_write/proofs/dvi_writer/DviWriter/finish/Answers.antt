@@ -2,7 +2,7 @@ use Rattle.std.proofs.Common.{◌≢◌, ap, sym, ◌∙◌, length, arith}
 use Rattle.dvi_write.specs.Writing.{Writing}
 use Rattle.dvi_write.proofs.Files.{file_shows}
 use Rattle.dvi_write.proofs.ClosedFiles.{file_closes}
-use Rattle.dvi_write.proofs.Rooms.{small}
+use Rattle.dvi_write.proofs.Spaces.{small}
 use Rattle.dvi_write.proofs.Writings.{ended_all, ended_count, ended_none, ended_size, none_ended, past_all, past_lost, past_none, written_small}
 use Rattle.dvi_write.proofs.dvi_writer.DviWriter.finish.Goals as goal
 
@@ -29,8 +29,8 @@ returns-then-pages-eq0-clause-size g c =
     rw (← c.self.view_is)
     (λ before pages written. none_ended c.args.fonts.now before _ pages written (sym (sym c.if-pages-eq0.true ∙ c.pages-pages.ensures)))
 
-pub last_bytes-requires-clause-room : goal.last_bytes-requires-clause-room
-last_bytes-requires-clause-room g c = small c.self.inside.progress c.self.invariant.0
+pub last_bytes-requires-clause-space : goal.last_bytes-requires-clause-space
+last_bytes-requires-clause-space g c = small c.self.inside.progress c.self.invariant.0
 
 pub returns-in_err-send-clause-past_lost : goal.returns-in_err-send-clause-past_lost
 returns-in_err-send-clause-past_lost g c is =

@@ -5,22 +5,22 @@ use Rattle.page_core.specs.declared.placing.Point.{Point}
 use Rattle.page_core.specs.Pages.{page_at}
 use Rattle.dvi_write.specs.Limits.{IsWithinLimits, limit_of}
 use Rattle.dvi_write.specs.Shippable.{IsRightPage}
-use Rattle.dvi_write.proofs.Rooms.{few_text, room_next}
+use Rattle.dvi_write.proofs.Spaces.{few_text, space_next}
 use Rattle.dvi_write.specs.Writing.{Writing, RefusesPage, refusal_of}
 use Rattle.dvi_write.proofs.Writings.{may_go, refused_by}
 use Rattle.dvi_write.proofs.dvi_writer.DviWriter.prepare.Goals as goal
 
-pub next_page-requires-clause-room : goal.next_page-requires-clause-room
-next_page-requires-clause-room g c =
+pub next_page-requires-clause-space : goal.next_page-requires-clause-space
+next_page-requires-clause-space g c =
     let page = page_at c.args.counts.now c.point_of-at.result.h c.point_of-at.result.v c.args.box_node.now in
-    room_next c.args.fonts.now c.self.inside.progress page c.can_be_defined.ensures c.requires c.told-counts
+    space_next c.args.fonts.now c.self.inside.progress page c.can_be_defined.ensures c.requires c.told-counts
     (c.in_ok-load.ensures.ok c.args.counts.now c.point_of-at.result.h c.point_of-at.result.v) c.self.invariant.0
 
-pub returns-clause-room : goal.returns-clause-room
-returns-clause-room g c =
+pub returns-clause-space : goal.returns-clause-space
+returns-clause-space g c =
     let page = page_at c.args.counts.now c.point_of-at.result.h c.point_of-at.result.v c.args.box_node.now in
     subst IsWithinLimits (sym c.in_ok-next.ensures.after)
-    (room_next c.args.fonts.now c.self.inside.progress page c.can_be_defined.ensures c.requires c.told-counts
+    (space_next c.args.fonts.now c.self.inside.progress page c.can_be_defined.ensures c.requires c.told-counts
     (c.in_ok-load.ensures.ok c.args.counts.now c.point_of-at.result.h c.point_of-at.result.v) c.self.invariant.0)
 
 pub returns-clause-right : goal.returns-clause-right

@@ -27,7 +27,8 @@ returns-clause-finished g c =
     rw (← c.self.view_is)
     (finished old _ _ (may_finish old.state running (sym c.is_open.ensures ∙ c.if-is_open.false))
     (stopped c.self.inside.kept c.self.inside.writer c.finish.new.self c.finish.ensures.so_far c.in-Ok.ensures.over)
-    (λ m holds. c.in-Ok.ensures.pages _ m.pages (has_written_by old m c.fonts.result.now holds running c.fonts.ensures)) c.in-Ok.ensures.stands (c.finish.ensures.goes_on.more, c.finish.ensures.goes_on.grows)
+    (λ m holds. c.in-Ok.ensures.pages _ m.pages (has_written_by old m c.fonts.result.now holds running c.fonts.ensures)) c.in-Ok.ensures.no_failure
+    (c.finish.ensures.goes_on.more, c.finish.ensures.goes_on.grows)
     (λ m holds.
     sent_by old m c.fonts.result.now c.finish.new.self.bytes_written holds c.fonts.ensures (c.in-Ok.ensures.whole _ m.pages (has_written_by old m c.fonts.result.now holds running c.fonts.ensures)))
     (λ m holds.

@@ -28,5 +28,5 @@ loop-command-preserved g c =
           let same = c.loop-command.invariant.idle over in
           c.step-reply.ensures.idle (ap (λ (job : JobView). job.state.over) same ∙ over) ∙ same;
       goes_on = goes_further _ _ _ c.loop-command.invariant.goes_on c.step-reply.ensures.goes_on;
-      room = omega (arith, c.in-Ok.ensures.len, c.in-Ok.ensures.capacity);
+      space = omega (arith, c.in-Ok.ensures.len, c.in-Ok.ensures.capacity);
     }

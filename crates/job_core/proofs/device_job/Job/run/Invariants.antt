@@ -10,5 +10,5 @@ invariant-loop-command g l = record {
   ran : (added : List Reply) × (l.replies.items ≡ l.initial.replies.items ++ added) × RunsTo l.initial.self (take l.command-index l.commands) added l.self;
   idle : l.initial.self.state.over ≡ true → l.self ≡ l.initial.self;
   goes_on : GoesOn (writing_of l.initial.self) (writing_of l.self);
-  room : vec_len l.replies + (length l.commands - l.command-index) ≤ vec_capacity l.replies;
+  space : vec_len l.replies + (length l.commands - l.command-index) ≤ vec_capacity l.replies;
 }

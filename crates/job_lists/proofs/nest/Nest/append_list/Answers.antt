@@ -11,9 +11,9 @@ invariant_of-self-2 c =
     let nest : List OpenList = c.self.inside.lists.items in
     let l : OpenList = c.in-Some.innermost.now in
     let found : innermost nest ≡ Some l = c.in-Some.ensures.list_lent in
-    let room : length (nodes_of l.list) + length (nodes_of c.args.list.now) ≤ MAX_ITEMS =
+    let space : length (nodes_of l.list) + length (nodes_of c.args.list.now) ≤ MAX_ITEMS =
     omega (arith, c.requires, ap (λ (lists : List OpenList). length (nodes_of (items_in (innermost lists)))) c.self.view_is, ap (λ (o : Option OpenList). length (nodes_of (items_in o))) found) in
     let lists =
     one_changed nest (length nest - 1) (record l { list = c.append.new.self }) c.self.invariant.0 c.self.invariant.1
-    (more_fit c.append.result l.list c.append.new.self (nodes_of c.args.list.now) room c.append.ensures.ok c.append.ensures.err) in
+    (more_fit c.append.result l.list c.append.new.self (nodes_of c.args.list.now) space c.append.ensures.ok c.append.ensures.err) in
     (lists.0, lists.1, c.self.invariant.2)

@@ -6,7 +6,7 @@ use Rattle.node_core.specs.Nodes.{nodes_of}
 use Rattle.job_machine.specs.declared.OpenList.{OpenList}
 use Rattle.job_machine.specs.FontSlots.{character_in, character_shaped}
 use Rattle.job_machine.specs.State.{innermost, items_in}
-use Rattle.job_machine.specs.Checks.{character_checks, length_checks, room_checks, first_refusal}
+use Rattle.job_machine.specs.Checks.{character_checks, length_checks, count_checks, first_refusal}
 use Rattle.job_machine.specs.Answers.{answer_of}
 use Rattle.job_machine.specs.Effects.{with_nodes, state_after_command}
 use Rattle.job_lists.specs.EmptiedNest.{refilled_nest}
@@ -56,9 +56,9 @@ returns-clause-state c =
     ap (λ (t : JobStateView). record (before_shipping t) { nest = c.refill.new.self }) c.self.view_is
     ∙ character_state s slot loaded refl current font free c.refill.new.self c.args.code (length taken) count
     (put_more nest bare c.refill.new.self taken c.append_character-reply.new.items.items found.items
-    (first_refusal (room_checks (length taken) found.items)) c.take_items-items.ensures.emptied
+    (first_refusal (count_checks (length taken) found.items)) c.take_items-items.ensures.emptied
     c.take_items-items.ensures.items are (c.refill.ensures ∙ ap (λ (i : Items). refilled_nest bare i (innermost bare)) c.from_vec.ensures.items)
-    ∙ ap (λ (n : List OpenList). state_by (first_refusal (room_checks (length taken) found.items)) n (with_nodes n found.items (innermost n))) same))
+    ∙ ap (λ (n : List OpenList). state_by (first_refusal (count_checks (length taken) found.items)) n (with_nodes n found.items (innermost n))) same))
     c.append_character-reply.ensures.items
 
 pub returns-clause-err : goal.returns-clause-err

@@ -4,7 +4,7 @@ use Rattle.std.proofs.lemmas.List.{with_items_is}
 use Rattle.dvi_ops.specs.View.{units as units_of}
 use Rattle.dvi_scan.specs.View.{mark_of}
 use Rattle.raster_core.specs.Pixels.{is_covered, scale_of}
-use Rattle.raster_core.specs.Pictures.{painted_picture}
+use Rattle.raster_core.specs.PixelGrids.{painted_grid}
 use Rattle.raster_core.proofs.DrawnPixels.{repainted}
 use Rattle.raster_core.proofs.painting.Bitmap.paint.Goals as goal
 
@@ -28,4 +28,4 @@ returns c =
     c.new-scale.ensures
     c.deref.ensures.value
     c.paint_marks.ensures
-    ∙ ap (painted_picture (is_covered (scale_of (units_of c.args.units) c.args.dpi) (map mark_of c.args.page.now.marks.items))) c.self.view_is
+    ∙ ap (painted_grid (is_covered (scale_of (units_of c.args.units) c.args.dpi) (map mark_of c.args.page.now.marks.items))) c.self.view_is

@@ -2,8 +2,8 @@
 use Rattle.std.proofs.Common.{◌++◌, ◌+◌, List, ℕ, ap, sym, ◌∙◌, arith}
 use Rattle.raster_core.specs.Words.{in_rows}
 use Rattle.raster_core.specs.PlainText.{header_text}
-use Rattle.raster_core.specs.TextAhead.{rows_from}
-use Rattle.raster_core.proofs.AheadLemmas.{after_header, row_moved}
+use Rattle.raster_core.specs.TextLeft.{rows_from}
+use Rattle.raster_core.proofs.TextLeftLemmas.{after_header, row_moved}
 use Rattle.raster_core.proofs.text.PbmText.fill.Goals as goal
 
 pub loop-self-preserved : goal.loop-self-preserved

@@ -1,12 +1,12 @@
 -- The bytes so far and the rest are the whole.
 use Rattle.std.proofs.Common.{◌≡◌, ◌++◌, ◌-◌, ◌≤◌, true, vec_capacity}
 use Rattle.raster_core.specs.Private.RowPieces.{row_size}
-use Rattle.raster_core.specs.TextAhead.{pbm_text_ahead}
+use Rattle.raster_core.specs.TextLeft.{pbm_text_left}
 use Rattle.raster_core.proofs.text.PbmText.fill.Given as goal
 
 abbrev pub invariant-loop-self : goal.invariant-loop-self
 invariant-loop-self l = record {
-  whole : l.piece.items ++ pbm_text_ahead l.self ≡ l.initial.piece.items ++ pbm_text_ahead l.initial.self;
+  whole : l.piece.items ++ pbm_text_left l.self ≡ l.initial.piece.items ++ pbm_text_left l.initial.self;
   begun : l.self.begun ≡ true;
   size : l.size ≡ row_size l.self.rows.width;
   capacity : vec_capacity l.initial.piece ≤ vec_capacity l.piece;

@@ -1,7 +1,7 @@
 use Rattle.std.proofs.Common.{◌++◌, List, ℕ, ap}
 use Rattle.raster_core.specs.Words.{in_rows}
 use Rattle.raster_core.specs.PlainText.{header_text}
-use Rattle.raster_core.proofs.AheadLemmas.{all_rows}
+use Rattle.raster_core.proofs.TextLeftLemmas.{all_rows}
 use Rattle.raster_core.proofs.text.PbmText.new.Goals as goal
 
 pub returns : goal.returns

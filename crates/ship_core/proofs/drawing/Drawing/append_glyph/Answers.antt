@@ -4,8 +4,8 @@ use Rattle.std.specs.Option.{option_map}
 use Rattle.node_core.specs.declared.tree.Kind.TheVariants.{Horizontal}
 use Rattle.dvi_ops.specs.Runs.{instructions_of}
 use Rattle.dvi_ops.specs.Instruction.{Across, Downward, SetChar, Instruction, Do}
-use Rattle.page_core.specs.declared.placing.MarkKind.TheVariants as ink
-use Rattle.ship_core.specs.Private.Inking.{movement}
+use Rattle.page_core.specs.declared.placing.MarkKind.TheVariants as mark_kind
+use Rattle.ship_core.specs.Private.MarkInstructions.{movement}
 use Rattle.ship_core.proofs.Drawings.{drawn_mark, selected_ops, chosen}
 use Rattle.ship_core.proofs.drawing.Drawing.append_glyph.Goals as goal
 
@@ -16,7 +16,7 @@ returns-clause-ops c rest =
     let glyph = c.args.glyph in
     let current = option_map pos self.font in
     let moved = (instructions_of self.ops ++ movement Across (at.h -ℤ self.h)) ++ movement Downward (at.v -ℤ self.v) in
-    let mark = ink.Glyph glyph.slot glyph.code in
+    let mark = mark_kind.Glyph glyph.slot glyph.code in
     let chose : instructions_of c.select.new.self.ops ≡ moved ++ chosen current mark =
     selected_ops _ _ moved (option_map pos c.move_to.new.self.font) current glyph.slot glyph.code mark refl (ap (option_map pos) c.in_ok-move_to.ensures.font)
     c.in_ok-move_to.ensures.ops c.in_ok-select.ensures.ops in

@@ -11,6 +11,8 @@ returns-clause-ops c was rest =
     let at = c.args.at in
     let glyph = c.args.glyph in
     let font = ap (option_map pos) c.requires.font in
-    drawn_next (instructions_of self.ops) (instructions_of c.push_in_room.new.self) self.h self.v (option_map pos self.font) (option_map pos self.font) at.h at.v
-    glyph.width c.args.end self.v glyph.slot glyph.code rest (c.push_in_room.ensures.pushed c.if-not-push_in_room.false) c.requires.end c.requires.h c.requires.v
+    drawn_next (instructions_of self.ops) (instructions_of c.push_in_space.new.self) self.h self.v (option_map pos self.font)
+    (option_map pos self.font) at.h at.v
+    glyph.width c.args.end self.v glyph.slot glyph.code rest (c.push_in_space.ensures.pushed c.if-not-push_in_space.false) c.requires.end
+    c.requires.h c.requires.v
     font font c.requires.v

@@ -3,7 +3,7 @@ use Rattle.std.specs.Prelude.{pos, ◌-ℤ◌}
 use Rattle.std.specs.Option.{option_map}
 use Rattle.dvi_ops.specs.Runs.{instructions_of}
 use Rattle.dvi_ops.specs.Instruction.{Across, Downward, Xxx, Instruction, Do}
-use Rattle.ship_core.specs.Private.Inking.{movement}
+use Rattle.ship_core.specs.Private.MarkInstructions.{movement}
 use Rattle.ship_core.proofs.Drawings.{noted_mark}
 use Rattle.ship_core.proofs.drawing.Drawing.append_special.Goals as goal
 

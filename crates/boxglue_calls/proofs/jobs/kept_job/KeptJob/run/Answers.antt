@@ -1,4 +1,4 @@
--- The piece that was run, or refused, or for whose rows there is no room.
+-- The piece that was run, or refused, or for whose rows there is no space.
 use Rattle.std.proofs.Common.{◌≡◌, ℕ, length, inl, rules, subst}
 use Rattle.boxglue_calls.specs.Replies.{RepliesToPiece}
 use Rattle.boxglue_calls.proofs.jobs.kept_job.KeptJob.run.Goals as goal

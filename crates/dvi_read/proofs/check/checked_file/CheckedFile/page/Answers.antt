@@ -5,8 +5,8 @@ use Rattle.dvi_read.specs.Private.OnePage.{HasRestAt}
 use Rattle.dvi_read.proofs.OnePageLemmas.{page_opened}
 use Rattle.dvi_read.proofs.check.checked_file.CheckedFile.page.Goals as goal
 
-pub draw_page-requires-clause-ahead : goal.draw_page-requires-clause-ahead
-draw_page-requires-clause-ahead c =
+pub draw_page-requires-clause-remaining : goal.draw_page-requires-clause-remaining
+draw_page-requires-clause-remaining c =
     let (pages, shows) = c.requires.shown in
     let begin = c.page_start-begin.result in
     let (before, size, rest) = c.page_start-begin.ensures pages shows in

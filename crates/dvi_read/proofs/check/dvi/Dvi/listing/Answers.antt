@@ -1,6 +1,6 @@
 -- Memory is refused only where there is a page.
 use Rattle.std.proofs.Common.{◌∙◌}
-use Rattle.dvi_scan.proofs.AheadLemmas.{on_any}
+use Rattle.dvi_scan.proofs.AfterPostLemmas.{on_any}
 use Rattle.dvi_read.proofs.NextLines.{pages_listed}
 use Rattle.dvi_read.proofs.check.dvi.Dvi.listing.Goals as goal
 

@@ -9,18 +9,18 @@ use Rattle.dvi_read.proofs.check.dvi.Dvi.push_lines.Goals as goal
 pub loop-part-init : goal.loop-part-init
 loop-part-init c =
     let text = c.args.text.now.items in
-    record { whole = (listing c.args.self.now.pages, refl, c.in_ok-lines.ensures.ahead); front = take_all (length text) text (omega arith) }
+    record { whole = (listing c.args.self.now.pages, refl, c.in_ok-lines.ensures.remaining); front = take_all (length text) text (omega arith) }
 
 pub next-requires : goal.next-requires
-next-requires c = let (rest, same, ahead) = c.loop-part.invariant.whole in (rest, ahead)
+next-requires c = let (rest, same, remaining) = c.loop-part.invariant.whole in (rest, remaining)
 
 pub loop-part-preserved : goal.loop-part-preserved
 loop-part-preserved c =
-    let (rest, same, ahead) = c.loop-part.invariant.whole in
+    let (rest, same, remaining) = c.loop-part.invariant.whole in
     let text = c.loop-part.text.items in
     let part = c.next.new.part in
     let more : c.next.result ≡ true = search rules in
-    let (later, split, now) = c.next.ensures.next rest ahead more in
+    let (later, split, now) = c.next.ensures.next rest remaining more in
     let appended : c.extend_from_slice.new.self.items ≡ text ++ part =
     c.in_ok-extend_from_slice.ensures.items ∙ ap (λ (bs : List ℕ). text ++ bs) c.as_bytes.ensures.value in
     let old = c.args.text.now.items in
@@ -35,7 +35,7 @@ loop-part-preserved c =
 
 pub returns-clause-ok : goal.returns-clause-ok
 returns-clause-ok c =
-    let (rest, same, ahead) = c.loop-part.invariant.whole in
+    let (rest, same, remaining) = c.loop-part.invariant.whole in
     let text = c.loop-part.text.items in
     let fact : c.next.result ≡ false = search rules in
-    let (none, now) = c.next.ensures.none rest ahead fact in sym (append-nil text) ∙ (ap (λ (bs : List ℕ). text ++ bs) (sym none) ∙ same)
+    let (none, now) = c.next.ensures.none rest remaining fact in sym (append-nil text) ∙ (ap (λ (bs : List ℕ). text ++ bs) (sym none) ∙ same)

@@ -1,6 +1,6 @@
 -- One more line is appended, or none is left.
 use Rattle.std.proofs.Common.{◌≡◌, [], ◌++◌, List, ℕ, length, vec_items, arith, ap, inl, inr, refl, sym, ◌∙◌}
-use Rattle.dvi_read.specs.SeenAhead.{lines_left}
+use Rattle.dvi_read.specs.ItemsLeft.{lines_left}
 use Rattle.dvi_read.proofs.LineLemmas.{below, not_above, nothing_filled, the_other, whole_next}
 use Rattle.dvi_read.proofs.listings.lines.Lines.fill.Goals as goal
 
@@ -20,8 +20,9 @@ loop-self-preserved c =
     record {
       some = (left, now);
       whole = λ lines first.
-          (let (rest, same, ahead) = held.whole lines first in
-          let (later, split, now) = next.next rest ahead refl in (later, whole_next c.args.text.now.items text c.extend_from_slice.new.self.items part rest later lines appended split same, now));
+          (let (rest, same, remaining) = held.whole lines first in
+          let (later, split, now) = next.next rest remaining refl in
+          (later, whole_next c.args.text.now.items text c.extend_from_slice.new.self.items part rest later lines appended split same, now));
       grown = omega (arith, grown, c.in-Ok.ensures.len);
       capacity = omega (arith, held.capacity, c.in-Ok.ensures.capacity);
       less = not_above _ _ fewer;
@@ -31,13 +32,13 @@ loop-self-preserved c =
 
 pub returns-else-next-clause-all : goal.returns-else-next-clause-all
 returns-else-next-clause-all c = λ lines first.
-    let (rest, same, ahead) = c.loop-self.invariant.whole lines first in
-    let (none, now) = c.if-next.ensures.none rest ahead refl in ([], ap (λ (bs : List ℕ). c.loop-self.text.items ++ bs) (sym none) ∙ same, now)
+    let (rest, same, remaining) = c.loop-self.invariant.whole lines first in
+    let (none, now) = c.if-next.ensures.none rest remaining refl in ([], ap (λ (bs : List ℕ). c.loop-self.text.items ++ bs) (sym none) ∙ same, now)
 
 pub returns-else-next-clause-filled : goal.returns-else-next-clause-filled
-returns-else-next-clause-filled c = λ lines first room some.
-    let (rest, same, ahead) = c.loop-self.invariant.whole lines first in
-    let (none, now) = c.if-next.ensures.none rest ahead refl in
+returns-else-next-clause-filled c = λ lines first space some.
+    let (rest, same, remaining) = c.loop-self.invariant.whole lines first in
+    let (none, now) = c.if-next.ensures.none rest remaining refl in
     let whole = ap (λ (bs : List ℕ). c.loop-self.text.items ++ bs) (sym none) ∙ same in
     (the_other c.loop-self.invariant.begun
     (λ text_is. nothing_filled c.args.text.now.items lines (ap (λ v. vec_items v ++ []) (sym text_is) ∙ whole) some)).0

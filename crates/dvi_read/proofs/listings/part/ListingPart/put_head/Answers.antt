@@ -23,7 +23,7 @@ returns c =
     let free : length c.args.self.now + 56 ≤ 256 = c.requires in
     let size : length c.args.self.now ≡ 256 - inside.begin =
     sym (ap length c.self.view_is) ∙ (length-drop inside.begin inside.bytes ∙ ap (λ (n : ℕ). n - inside.begin) c.self.told) in
-    let room : 56 ≤ inside.begin = omega (arith, free, size, c.self.invariant.within) in
-    last_written inside.bytes ys inside.begin 56 head.size room (omega (arith, c.self.invariant.within, c.self.told))
-    (omega (arith, room, c.self.invariant.within, c.self.told, c.copy_from_slice.ensures.len)) head.short
+    let space : 56 ≤ inside.begin = omega (arith, free, size, c.self.invariant.within) in
+    last_written inside.bytes ys inside.begin 56 head.size space (omega (arith, c.self.invariant.within, c.self.told))
+    (omega (arith, space, c.self.invariant.within, c.self.told, c.copy_from_slice.ensures.len)) head.short
     ∙ ap₂ (λ (u v : List ℕ). u ++ v) (ap (drop (56 - head.size)) c.copy_from_slice.ensures.after ∙ head.text) c.self.view_is

@@ -1,5 +1,0 @@
-use Rattle.dvi_ops.proofs.KnownFiles.{two_page_is_file}
-use Rattle.dvi_ops.proofs.dvi_file.two_page_file_is_a_file.Goals as goal
-
-pub returns : goal.returns
-returns c = two_page_is_file

@@ -1,5 +1,0 @@
-use Rattle.dvi_ops.proofs.Forests.{one_forest}
-use Rattle.dvi_ops.proofs.page_body.one_body.Goals as goal
-
-pub returns : goal.returns
-returns c = one_forest

@@ -1,5 +1,0 @@
-use Rattle.dvi_ops.proofs.Forests.{walked_forest}
-use Rattle.dvi_ops.proofs.page_body.passed_is_body.Goals as goal
-
-pub returns : goal.returns
-returns c = walked_forest

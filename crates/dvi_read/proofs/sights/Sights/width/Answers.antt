@@ -1,5 +1,0 @@
--- The codes are bytes, as in each walk over a checked file.
-use Rattle.dvi_read.proofs.sights.Sights.width.Goals as goal
-
-pub width_by-requires : goal.width_by-requires
-width_by-requires c = let (seen, ahead) = c.requires in ahead.rest.codes

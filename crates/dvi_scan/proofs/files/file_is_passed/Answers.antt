@@ -1,5 +1,0 @@
-use Rattle.dvi_scan.proofs.PassedLemmas.{file_passed}
-use Rattle.dvi_scan.proofs.files.file_is_passed.Goals as goal
-
-pub returns : goal.returns
-returns c = λ metrics bytes post after last stop chain pages framed f. file_passed bytes post after last stop chain framed metrics pages f

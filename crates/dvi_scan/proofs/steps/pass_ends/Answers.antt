@@ -1,5 +1,0 @@
-use Rattle.dvi_scan.proofs.ReachedLemmas.{reached_end}
-use Rattle.dvi_scan.proofs.steps.pass_ends.Goals as goal
-
-pub returns : goal.returns
-returns c = reached_end

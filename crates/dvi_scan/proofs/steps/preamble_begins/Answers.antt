@@ -1,5 +1,0 @@
-use Rattle.dvi_scan.proofs.ReachedLemmas.{reached_first}
-use Rattle.dvi_scan.proofs.steps.preamble_begins.Goals as goal
-
-pub returns : goal.returns
-returns c = reached_first

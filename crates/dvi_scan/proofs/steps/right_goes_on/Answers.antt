@@ -1,5 +1,0 @@
-use Rattle.dvi_scan.proofs.ReachedLemmas.{reached_next}
-use Rattle.dvi_scan.proofs.steps.right_goes_on.Goals as goal
-
-pub returns : goal.returns
-returns c = reached_next

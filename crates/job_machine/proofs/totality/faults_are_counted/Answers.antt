@@ -1,5 +1,0 @@
-use Rattle.job_machine.proofs.Refusals.{counted_fault}
-use Rattle.job_machine.proofs.totality.faults_are_counted.Goals as goal
-
-pub returns : goal.returns
-returns c = counted_fault
