@@ -27,7 +27,8 @@ without proofs. They compare it with the first --program.
 
 With --gate, which needs those three, a case is skipped only where a tool is missing that docs/internal/GATE.md lists: every other skip is a failure.
 
-The parts `callers`, `claims`, `damaged_files`, `definitions`, `documents`, `english`, `header`, `known_devices`, `known_files`, `known_growths`, `library`, `names`, `outside_tools`, `placed` and `rooms` run no program.
+The parts `callers`, `claims`, `damaged_files`, `definitions`, `documents`, `english`, `header`, `known_devices`, `known_files`,
+`known_growths`, `layers`, `library`, `names`, `outside_tools` and `placed` run no program.
 
 A line is printed for each part: ok, FAILED or skipped, its seconds, how many of its cases passed; and a line at least every ten seconds.
 The last line is `N passed, M failed, K skipped`. The status is 0 where nothing failed, 1 where something did, 2 where the words are wrong."""

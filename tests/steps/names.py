@@ -8,20 +8,45 @@ from functools import partial
 
 from steps.reached import DECLARED
 
-TITLE = "the names of code in documents and in each crate's README.md are in the sources, as the clauses that PROVED.md and these name, and definitions where documents place them; no comment writes the test attribute, no code has floating-point numbers; the job knows no crate of DVI; no export has a premise; no line of code is above 150 columns; no definition and no function is named by a bare participle"
+TITLE = (
+    "the names of code in documents and in each crate's README.md are in the sources, as the clauses that PROVED.md and these name, and "
+    "definitions where documents place them; no comment writes the test attribute, no code has floating-point numbers; the job knows no crate of "
+    "DVI; no export has a premise; no line of code is above 150 columns; no definition, no function and no type is named by a bare participle, "
+    "and none has a word for which another is in use")
 TRIES = False
 DOCUMENTS = ("docs/PROVED.md", "docs/TOUR.md", "docs/ARCHITECTURE.md", "docs/internal/*.md", "docs/DECISIONS.md", "docs/LIBRARY.md", "CHANGELOG.md", "bench/trials/README.md", "crates/*/README.md")
 SOURCES = ("crates/*/src/**/*.rt", "crates/*/specs/**/*.antt", "crates/*/proofs/**/*.antt", "crates/rows_scripts/stdin", "tests/steps/*.py", "bindings/python/boxglue/*.py", "bindings/rust/*/src/*.rs", "include/*.h", "crates.txt", "bench/items.py")
 # These crates know pages, and no crate of DVI.
 BEFORE_DVI = ("page_core", "job_machine", "job_lists", "job_state")
 WORD = re.compile(r"[A-Za-z_][A-Za-z_0-9]*")
+TYPE = re.compile(r"\s*(?:pub(?:\(crate\))? )?(?:struct|enum|trait|type) (\w+)")
 FUNCTION = re.compile(r"\s*(?:pub(?:\(crate\))? )?(?:(?:const|unsafe|extern \"C\") )*fn (\w+)")
 MOST_COLUMNS = 150
 # A definition, and the file or folder where a document places it.
 PLACED = re.compile(r"`(\w+)` \(`(crates/\w+/specs[\w/.]*)`\)")
 # A participle tells not what a thing is. Those that are also an infinitive, as read, set and cut, are left out, since a function may be called so.
 IRREGULAR = "broken built chosen drawn found given held hidden kept left lost made met said seen sent shown sought spoken struck taken thrown told woven written".split()
-PARTICIPLE = re.compile(rf"[A-Z]?[a-z]*[^e]ed|{'|'.join(f'[{it[0].upper()}{it[0]}]{it[1:]}' for it in IRREGULAR)}")
+PARTICIPLE = re.compile(rf"[A-Z]?[a-z]*[^e]ed|[Uu]n(?:read|set|split)|{'|'.join(f'[{it[0].upper()}{it[0]}]{it[1:]}' for it in IRREGULAR)}")
+# Words that stood for several things, or for what has a term: each with what is written now.
+GONE = {
+    "room": "a layer, a buffer, space or capacity",
+    "ahead": "after_post, what is left, or before",
+    "sight": "an item that is seen",
+    "told": "what is reported, or its name",
+    "stand": "to be at a place, or a state",
+    "ink": "a mark or its kind",
+    "stroke": "a mark",
+    "picture": "a drawn page, a bitmap or a grid",
+    "sheet": "the options of paint",
+    "stop": "a postamble, a fault, or to end",
+}
+FORMS = {it: word for word in GONE for it in (word, f"{word}s", f"{word}ing", f"{word}ed")}
+FORMS |= {"stood": "stand", "stopped": "stop", "stopping": "stop"}
+PARTS = re.compile(r"[A-Z]+(?![a-z])|[A-Z]?[a-z]+")
+# Where a stop is one: trying lines from a place stops; a session or a machine stops before its end; `stop_flag` is TFtoPL's.
+STOPS = ("break_lines", "break_core", "vert_core", "boxglue_program", "job_machine", "tfm_core")
+# What is no code: comments and texts.
+NO_CODE = re.compile(r"(?m)\"(?:\\.|[^\"\\])*\"|//.*$|(?:^|(?<=\s))--(?:\s.*)?$")
 # Adjectives of numbers: which of two is meant. TeX says `scaled`.
 NUMBER_WORDS = ("rounded", "scaled", "signed")
 # `rt ci` knows a crate with tests by this attribute, wherever it is.
@@ -112,12 +137,26 @@ def long_lines(root):
     return f"lines above {MOST_COLUMNS} columns: {', '.join(wrong)}" if wrong else None
 
 
+def gone(root):
+    """Names in sources and definitions that have a word for which another one is in use."""
+    found = {}
+    for path in sorted(glob.glob(f"{root}/crates/*/specs/**/*.antt", recursive=True) + glob.glob(f"{root}/crates/*/src/**/*.rt", recursive=True)):
+        crate = os.path.relpath(path, root).split("/")[1]
+        for name in set(WORD.findall(NO_CODE.sub("", read(path)))):
+            words = {FORMS[it.lower()] for it in PARTS.findall(name) if it.lower() in FORMS}
+            for word in words - ({"stop"} if crate in STOPS else set()):
+                found.setdefault((crate, name), word)
+    return "; ".join(f"{crate}: {name}, in place of {word} write {GONE[word]}" for (crate, name), word in sorted(found.items())) or None
+
+
 def participles(root):
-    """Definitions and functions that a single word names, and this is a participle. Fields of records, cases of data and labels of clauses are none of both."""
+    """Definitions, functions and types that a single word names, and this is a participle. Fields of records, cases of data and labels of clauses
+    are none of them."""
     found = []
     for path in sorted(glob.glob(f"{root}/crates/*/specs/**/*.antt", recursive=True) + glob.glob(f"{root}/crates/*/src/**/*.rt", recursive=True)):
         lines = read(path).split("\n")
-        names = [it[1] for it in map(DECLARED.match, lines) if it] if path.endswith(".antt") else [it[1] for it in map(FUNCTION.match, lines) if it]
+        patterns = (DECLARED,) if path.endswith(".antt") else (FUNCTION, TYPE)
+        names = [it[1] for pattern in patterns for it in map(pattern.match, lines) if it]
         found += [f"{os.path.relpath(path, root)}: {it}" for it in names if PARTICIPLE.fullmatch(it) and it not in NUMBER_WORDS]
     return f"bare participles: {', '.join(found)}" if found else None
 
@@ -172,3 +211,4 @@ def cases(_programs, root):
     yield "job_before_dvi", partial(job_before_dvi, root)
     yield "long_lines", partial(long_lines, root)
     yield "participles", partial(participles, root)
+    yield "words_that_are_gone", partial(gone, root)

@@ -13,11 +13,11 @@ use Rattle.break_lines.specs.declared.cost.LineFit.{LineFit}
 use Rattle.break_lines.specs.declared.cost.Bound.{Bound}
 use Rattle.break_lines.specs.declared.cost.Bound.TheVariants.{Any, AtMost}
 
--- The class of a stretched line, by its badness.
+-- The class of a stretched line, by its badness (TeX: The Program, part 38, §852).
 unfoldable pub stretched_class : (badness : ℕ) → Fitness
 stretched_class badness = if nat_lt 99 badness then VeryLoose else (if nat_lt 12 badness then Loose else Decent)
 
--- The class of a shrunk line, by its badness.
+-- The class of a shrunk line, by its badness (TeX: The Program, part 38, §853).
 unfoldable pub shrunk_class : (badness : ℕ) → Fitness
 shrunk_class badness = if nat_lt 12 badness then Tight else Decent
 
@@ -58,13 +58,14 @@ fit_by sums (negsuc n) = fit_long sums (pos (suc n))
 unfoldable pub line_fit : Sums → (size : ℤ) → LineFit
 line_fit sums size = fit_by sums (size -ℤ sums.width)
 
--- The demerits of a line for its badness: the square of the badness plus linepenalty, and at most 10 ^ 8.
+-- The demerits of a line for its badness: the square of the sum of its badness and linepenalty, and 10 ^ 8 where this sum is 10000 or more
+-- (TeX: The Program, part 38, §859).
 unfoldable pub base_demerits : Params → (badness : ℕ) → ℤ
 base_demerits params badness =
     if nat_le 10000 (unsigned_abs (params.line_penalty +ℤ pos badness)) then pos 100000000
     else (params.line_penalty +ℤ pos badness) *ℤ (params.line_penalty +ℤ pos badness)
 
--- The demerits of a break for its penalty: its square, subtracted if the penalty is below 0, and none if the break is forced.
+-- The demerits of a break for its penalty: the square of the penalty, subtracted if the penalty is below 0, and none if the break is forced.
 unfoldable pub penalty_demerits : (penalty : ℤ) → ℤ
 penalty_demerits penalty =
     if int_lt (pos 0) penalty then penalty *ℤ penalty

@@ -1,4 +1,4 @@
-//! Scaled arithmetic: dimensions and their texts, badness, and exact fractions; and the sizes of a box and the number of counts of a page.
+//! Scaled arithmetic: dimensions and their texts, badness, and exact fractions; and what all crates above share.
 //!
 //! All quantities are whole numbers of scaled points (sp); 65,536 sp make a printer's point.
 #![tactic(auto)]

@@ -149,8 +149,8 @@ impl ListingPart {
         self.bytes[self.begin..end].copy_from_slice(bytes);
     }
 
-    /// Writes the beginning of the line of a glyph before the others. The bytes before it are copied too, since a copy of a size that is known to the
-    /// compiler is faster.
+    /// Writes the beginning of the line of a glyph before the bytes of the part. All bytes of the array of `head` are copied, of which the last
+    /// ones are this beginning, since a copy of a size that is known to the compiler is faster. The others come where the part does not begin yet.
     fn put_head(&mut self, head: &GlyphHead)
         requires { length self.old + HEAD ≤ PART }
         ensures { self.new ≡ head_text head.now.font head.now.code ++ self.old }
