@@ -18,6 +18,7 @@ HEADER = "include/boxglue.h"
 EXPORTS = "crates/boxglue_c/src/lib.rt"
 CALLS = "crates/boxglue_calls/src"
 JOBS = f"{CALLS}/jobs"
+COUNTS = "crates/scaled_core/src/counts.rt"
 REFUSALS = "crates/boxglue_program/src/refusals.rt"
 STATUSES_OF_PYTHON = "bindings/python/boxglue/_status.py"
 RUST = "bindings/rust/boxglue-sys/src/lib.rs"
@@ -120,9 +121,10 @@ def structs(root):
     """What is wrong with the structs."""
     sources = "".join(read(root, f"{CALLS}/{it}.rt") for it in ("runs", "given", "font_table", "mark_table"))
     sources += "".join(read(root, f"{JOBS}/{it}.rt") for it in ("handle", "rows", "whole"))
+    counts = re.search(r"const COUNTS: usize = (\d+);", read(root, COUNTS))[1]
     wanted = {}
     for name, fields in re.findall(r"#\[repr\(C\)\]\s+(?:#\[derive\([^)]*\)\]\s+)?pub struct (\w+)(?:<'a>)? \{(.*?)\n\}", sources, flags=re.S):
-        plain = re.sub(r"///.*|(pub )?ghost .*", "", fields).replace("pub ", "")
+        plain = re.sub(r"///.*|(pub )?ghost .*", "", fields).replace("pub ", "").replace("COUNTS", counts)
         wanted[c_type(name)] = c_list(plain)
     found = {name: [it.strip() for it in fields.split(";") if it.strip()] for name, fields in re.findall(r"(struct boxglue_\w+) \{([^}]*)\};", declared(root))}
     return None if wanted and found == wanted else f"the header has {found}, and the calls have {wanted}"
