@@ -1,5 +1,6 @@
 -- What the lines of an input say.
-use Rattle.std.proofs.Common.{◌≡◌, inl, inr, ℕ, ◌+◌, Bool, true, false, List, [], ◌∷◌, ◌++◌, Result, Ok, Err, IsOk, IfOk, OnErr, refl, ap, sym, ◌∙◌, subst, append_assoc}
+use Rattle.std.proofs.Common.{◌≡◌, inl, inr, ℕ, ◌+◌, Bool, true, false, List, [], ◌∷◌, ◌++◌, Result, Ok, Err, IsOk, IfOk, OnErr, refl, ap, sym, ◌∙◌}
+use Rattle.std.proofs.Common.{subst, append_assoc}
 use Rattle.std.specs.Str.Lines.{lines}
 use Rattle.job_machine.specs.declared.command.Command.{Command as ACommand}
 use Rattle.boxglue_script.specs.declared.cause.Cause.{Cause}

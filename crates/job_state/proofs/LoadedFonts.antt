@@ -110,7 +110,8 @@ pub widths-loaded : (files : List NamedBytes) (loaded : LoadedFont) → IsLoaded
 widths-loaded files loaded is = widths_in (file_named loaded.name files) loaded.font.size loaded.font is.read
 
 -- The codes of the characters of a loaded font are bytes.
-code_read : (bytes : List ℕ) (read : Result MetricFile TfmCause) (size : Option ℤ) (font : SizedFont) (code : ℕ) (glyph : Sizes) → metric_file bytes ≡ read
+code_read : (bytes : List ℕ) (read : Result MetricFile TfmCause) (size : Option ℤ) (font : SizedFont) (code : ℕ) (glyph : Sizes)
+    → metric_file bytes ≡ read
     → sized_font read size ≡ Ok font → glyph_of font code ≡ Some glyph → code < 256
 code_read bytes (Err cause) size font code glyph at is found = cc
 code_read bytes (Ok file) size font code glyph at is found =
@@ -122,6 +123,7 @@ code_in : (file : Option NamedBytes) (size : Option ℤ) (font : SizedFont) (cod
 code_in None size font code glyph is found = cc
 code_in (Some file) size font code glyph is found = code_read file.bytes (metric_file file.bytes) size font code glyph refl is found
 
-pub code_small : (files : List NamedBytes) (loaded : LoadedFont) (code : ℕ) (size : Sizes) → IsLoaded files loaded → glyph_of loaded.font code ≡ Some size
+pub code_small : (files : List NamedBytes) (loaded : LoadedFont) (code : ℕ) (size : Sizes) → IsLoaded files loaded
+    → glyph_of loaded.font code ≡ Some size
     → code < 256
 code_small files loaded code size is found = code_in (file_named loaded.name files) (Some loaded.font.size) loaded.font code size is.read found

@@ -27,7 +27,8 @@ nothing_found : (o : Option LigKernStep) → is_some o ≡ false → o ≡ None
 nothing_found None e = refl
 nothing_found (Some step) e = absurd (cc)
 
-alone_if_there : (font : SizedFont) (code following : ℕ) (glyph : Option Sizes) → glyph ≡ glyph_of font code → step_of font code following ≡ None → IfSome glyph (λ size. (glyph_of font code ≡ Some size) × (step_of font code following ≡ None))
+alone_if_there : (font : SizedFont) (code following : ℕ) (glyph : Option Sizes) → glyph ≡ glyph_of font code → step_of font code following ≡ None
+    → IfSome glyph (λ size. (glyph_of font code ≡ Some size) × (step_of font code following ≡ None))
 alone_if_there font code following None at after = tt
 alone_if_there font code following (Some size) at after = (sym at, after)
 

@@ -1,6 +1,7 @@
 use Rattle.std.proofs.Common.{◌≡◌, Err, sym, ◌∙◌}
 use Rattle.tfm_core.specs.Rules.{metric_file}
-use Rattle.tfm_core.proofs.ReadingLemmas.{held_tables, KeepsRules-from_none, metric_file-front, IsMetricFile-from_read, IsFirstBroken-from_read, no_record}
+use Rattle.tfm_core.proofs.ReadingLemmas.{held_tables, KeepsRules-from_none, metric_file-front, IsMetricFile-from_read, IsFirstBroken-from_read}
+use Rattle.tfm_core.proofs.ReadingLemmas.{no_record}
 use Rattle.tfm_core.proofs.tfm.Tfm.read.Goals as goal
 
 pub returns-in-Some-clause-bad : goal.returns-in-Some-clause-bad
