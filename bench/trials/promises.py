@@ -16,16 +16,20 @@ from steps.placed import roots as contract_roots  # noqa: E402 (after the path, 
 from steps.public_items import Sources, impl_of  # noqa: E402
 from steps.reached import Name, Tree, imports, models_of, read  # noqa: E402
 
-ABOUT = """Compares, clause by clause, the contracts of the public functions of two revisions, and the definitions that these contracts reach, after the names of
-the first one were replaced by those of the second one. It prints what stands in one of them alone.
+ABOUT = """Compares, clause by clause, the contracts of the public functions of two revisions, and the definitions that these contracts reach, after
+the names of the first one were replaced by those of the second one. It prints what stands in one of them alone.
 
-TABLE has lines `crate OLD NEW`, `moved CRATE NAME NEW_CRATE`, `definition CRATE MODULE OLD NEW`, `function CRATE TYPE::OLD NEW`, `type CRATE OLD NEW`, in the
-order of the changes; crates are those of the second revision.
+TABLE has lines `crate OLD NEW`, `moved CRATE NAME NEW_CRATE`, `definition CRATE MODULE OLD NEW`, `function CRATE TYPE::OLD NEW`,
+`ghost CRATE TYPE::OLD NEW` of a ghost member, `type CRATE OLD NEW`, in the order of the changes; and `word CRATE OLD NEW` of a label, field, case,
+argument or bound name, which is replaced where a clause or definition differs, if the second revision's has NEW and the first one's does not.
+Crates are those of the second revision. An alias is shown as its type.
 
-A name is compared by what it stands for: a definition by its crate and its name, what std has by its name, a bound name, a field and a label as they are written.
-So a definition may move between modules, and a clause between lines. Crates that only test are left out."""
+A name is compared by what it stands for: a definition by its crate and its name, what std has by its name, a bound name, a field and a label as they
+are written. So a definition may move between modules, and a clause between lines. Crates that only test are left out."""
 TOKEN = re.compile(r"\"(?:\\.|[^\"\\])*\"|[^\W\d][\w'×-]*(?:\.[^\W\d][\w'×-]*)*|\d[\w]*|\S")
 TESTS = ("tests_", "rows_", "examples_")
+# A word that stands for no definition or type.
+LOCAL = r"(?<![\w'×-])(?<!::){}(?![\w'×-]|::)"
 # A definition that nothing is asked of.
 PLAIN = re.compile(r"^(?:(?:unfoldable|abbrev|pub|total) )+")
 
@@ -34,21 +38,23 @@ class Names:
     """The names of the first revision in the words of the second one. A line of the table counts where the second one has its new name."""
 
     def __init__(self, path, after):
-        self.crates, self.definitions, self.functions, self.moved, self.types = {}, [], {}, {}, {}
+        self.crates, self.definitions, self.functions, self.moved, self.types, self.words = {}, [], {}, {}, aliases(after), []
         for line in open(path, encoding="utf-8") if path else ():
             kind, *rest = line.split("#")[0].split() or [""]
             if kind == "crate":
                 self.crates[rest[0]] = rest[1]
             elif kind == "definition" and rest[3] in defined(after, rest[0]):
                 self.definitions.append(tuple(rest))
-            elif kind == "function" and rest[2] in called(after, rest[0]):
-                self.functions[rest[0], rest[1]] = rest[2]
+            elif kind in ("function", "ghost") and rest[2] in called(after, rest[0]):
+                self.functions[rest[0], rest[1], "fn" if kind == "function" else kind] = rest[2]
             elif kind == "moved":
                 of_type = after.type_file(rest[2], self.types.get(rest[1], rest[1]))
-                if of_type or rest[1] in defined(after, rest[2]) | called(after, rest[2]):
+                if of_type or rest[1] in defined(after, rest[2]) | called(after, rest[2]) | constants(after, rest[2]):
                     self.moved[rest[0], rest[1]] = rest[2]
             elif kind == "type" and after.type_file(rest[0], rest[2]):
                 self.types[rest[1]] = rest[2]
+            elif kind == "word":
+                self.words.append(tuple(rest))
 
     def crate(self, crate, name=""):
         """The new crate of one, or of a name of it that went elsewhere."""
@@ -63,12 +69,28 @@ class Names:
                 name = new
         return name
 
-    def function(self, crate, name):
-        return self.functions.get((self.crate(crate), name), name)
+    def function(self, crate, name, kind):
+        return self.functions.get((self.crate(crate), name, kind), name)
 
     def typed(self, text):
-        """A text with the new names of types."""
-        return re.sub(rf"\b({'|'.join(self.types)})\b", lambda it: self.types[it[0]], text) if self.types else text
+        """A text with the new names of types. What stands after a point is a case, and a name after a crate is new already."""
+        return re.sub(rf"(?<!\.)(?<!::)\b({'|'.join(self.types)})\b", lambda it: self.types[it[0]], text) if self.types else text
+
+    def typed_enum(self, text):
+        """An enum with the new names of the types in its cases. A case stands in the outer braces alone, after a comma or the brace."""
+        found, depth, last = [], 0, ""
+        for it in text.split(" "):
+            depth += (it in "({[") - (it in ")}]")
+            found.append(it if depth == 1 and last in "{," else self.typed(it))
+            last = it
+        return " ".join(found)
+
+    def worded(self, crate, old, new):
+        """A text of the first revision with the words of the table that stand in the second one's text of this item, and not yet in it."""
+        for at, word, then in self.words:
+            if at == crate and re.search(LOCAL.format(re.escape(then)), new) and not re.search(LOCAL.format(re.escape(then)), old):
+                old = re.sub(LOCAL.format(re.escape(word)), then, old)
+        return old
 
 
 @functools.lru_cache(None)
@@ -81,6 +103,19 @@ def defined(tree, crate):
 def called(tree, crate):
     """The names of all public functions of a crate."""
     return {*Sources(tree.root, crate).names()}
+
+
+@functools.lru_cache(None)
+def constants(tree, crate):
+    """The names of all public constants of a crate."""
+    return {name for it in tree.files(crate) for name in re.findall(r"(?m)^pub const (\w+)", read(it))}
+
+
+@functools.lru_cache(None)
+def aliases(tree):
+    """The types that are another name of one."""
+    files = (it for crate in tree.crates() for it in tree.files(crate))
+    return {name: of for it in files for name, of in re.findall(r"(?m)^(?:pub )?type (\w+) = (\w+);", read(it))}
 
 
 class Revision:
@@ -128,14 +163,15 @@ class Revision:
             it = match[0]
             is_field = re.match(r"\s+(?::|=)\s", text[match.end():]) and it != declares
             is_word = it[0].isalpha() or it[0] == "_"
-            found.append(self.resolved(it, own, names, modules, crate, module) if is_word and not is_field and it.partition(".")[0] not in bound else it)
+            is_named = is_word and not is_field and it.partition(".")[0] not in bound
+            found.append(self.resolved(it, own, names, modules, crate, module) if is_named else it)
         return " ".join(found).replace("; }", "}")
 
     def clause(self, text, names, modules, crate):
         """A clause: its kind and its label, and what it says."""
         match = re.match(r"(?:requires|ensures)\s*\*?\s*\w*\s*(?=\{)", text)
         head = re.sub(r"\s+", " ", match[0]) if match else ""
-        return head + self.text(text[len(match[0]) if match else 0:], {}, names, modules, crate, "")
+        return head + self.names.typed(self.text(text[len(match[0]) if match else 0:], {}, names, modules, crate, ""))
 
     def contracts(self):
         """The clauses of each public function, with its signature."""
@@ -147,14 +183,19 @@ class Revision:
                 uses = [*sources.files[module], *(block.inner if block else [])]
                 names, modules = imports("\n".join(whole[it.places[0][0]:it.places[0][1]] for it in uses if it.kind == "use"))
                 trait, kind = (impl_of(block) if block.kind == "impl" else (None, block.name)) if block else (None, "")
+                place = self.names.crate(self.names.crate(crate, kind), item.name)
                 kind = self.names.typed(kind)
-                name = f"{kind}::{item.name}" if kind else item.name
-                name = self.names.function(crate, name) if item.kind == "fn" else name
-                key = f"{self.names.crate(crate, item.name)}::{f'<{trait}> ' if trait else ''}{name}{' (ghost)' if item.kind == 'ghost' else ''}"
+                name = self.names.function(crate, f"{kind}::{item.name}" if kind else item.name, item.kind)
+                key = f"{place}::{f'<{trait}> ' if trait else ''}{name}{' (ghost)' if item.kind == 'ghost' else ''}"
                 clauses = [self.clause(whole[a:b], names, modules, crate) for a, b in item.places]
                 if item.kind == "fn":
-                    clauses.append("signature " + re.sub(r",?\s*(?=\))|(?<=\()\s+", "", re.sub(r"\s+", " ", self.names.typed(item.head))).strip())
-                found.setdefault(key, collections.Counter()).update(clauses)
+                    head = re.sub(r"\bSelf\b(?!::)", kind, item.head) if block and block.kind == "impl" else item.head
+                    clauses.append("signature " + re.sub(r",?\s*(?=\))|(?<=\()\s+", "", re.sub(r"\s+", " ", self.names.typed(head))).strip())
+                # The methods of types that became one are one.
+                if place == self.names.crate(crate):
+                    found.setdefault(key, collections.Counter()).update(clauses)
+                else:
+                    found[key] = found.get(key, collections.Counter()) | collections.Counter(clauses)
         return found
 
     def definitions(self):
@@ -163,7 +204,8 @@ class Revision:
         found = {}
         for it in self.tree.order(roots):
             if it.is_type:
-                found[f"{self.word(it)} (type)" if not it.module else self.word(it)] = self.type_text(it)
+                if it.module or not re.match(r"(?:pub )?type \w+ = \w+;", self.tree.definition(it).text.strip()):
+                    found[f"{self.word(it)} (type)" if not it.module else self.word(it)] = self.type_text(it)
                 continue
             own, (names, modules) = self.tree.module(it.crate, it.module)
             text = own[it.name].text
@@ -180,7 +222,8 @@ class Revision:
         views = [(read(file), model) for file in self.tree.files(it.crate) for model in models_of(read(file), it.name)]
         if not views:
             body = re.sub(r"(?m)^\s*(?:///.*|//.*|#\[.*\]|ghost use .*;)$", "", self.tree.definition(it).text)
-            return self.names.typed(self.text(body, {}, *imports(read(path)), it.crate, ""))
+            text = self.text(body, {}, *imports(read(path)), it.crate, "")
+            return self.names.typed_enum(text) if re.match(r"(?:pub )?enum\b", text) else self.names.typed(text)
         shown = []
         for whole, model in views:
             names, modules = imports(whole)
@@ -207,6 +250,14 @@ def declared(text):
     for part in filter(str.strip, parts):
         if match := re.match(r"(?:(?:unfoldable|abbrev|pub|total) )*pub (?:(?:total|record|data) )*([^\s:(]+)", part):
             yield match[1], part
+
+
+def worded(names, crate, old, new):
+    """The clauses or the definition of the first revision with the words of the second one."""
+    if isinstance(old, str):
+        return names.worded(crate, old, new)
+    gone, come = old - new, "\n".join(new - old)
+    return old - gone + collections.Counter(names.worded(crate, clause, come) for clause in gone.elements())
 
 
 def show(title, old, new, is_text):
@@ -244,6 +295,9 @@ def main():
             trees.append(Tree(place))
         before, after = (Revision(tree, Names(table, trees[1])) for tree, table in zip(trees, (words.table, None)))
         found = [(it.contracts(), it.definitions()) for it in (before, after)]
+        for old, new in zip(*found):
+            for key in set(old) & set(new):
+                old[key] = worded(before.names, key.partition("::")[0], old[key], new[key])
     show("contracts", found[0][0], found[1][0], False)
     show("definitions", found[0][1], found[1][1], True)
 
