@@ -11,7 +11,7 @@ use std::alloc::AllocError;
 use tfm_core::{FontReadFault, TfmCause};
 use thiserror::Error;
 
-/// Why an instruction is not accepted.
+/// Why the walk over all pages does not accept an instruction: as in a pass over a page, or a font has no widths.
 #[derive(Clone, Copy, Debug, PartialEq, Eq, Error)]
 pub enum StepFault<'a> {
     /// A growth of memory was refused.

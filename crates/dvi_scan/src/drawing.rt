@@ -1,7 +1,7 @@
 //! The effect of an instruction of a body in an open page: the place and the font after it, and the mark that it makes (DVItype, 14 and 15).
 
 ghost use Rattle.std.specs.Prelude.{◌≡◌, [], List, Some, option_map, ℕ};
-ghost use Rattle.dvi_ops.specs.Body.{Position as Spot, Widths, instruction_acts, glyph as seen_glyph, kept_in, state_without_mark, place_after};
+ghost use Rattle.dvi_ops.specs.Body.{Position as PositionView, Widths, instruction_acts, glyph as seen_glyph, kept_in, state_without_mark, place_after};
 ghost use Rattle.dvi_ops.specs.Body.{rule_at};
 ghost use Rattle.scaled_core.specs.Mark.{Special};
 ghost use Rattle.dvi_ops.specs.File.{MarkedPage};
@@ -95,7 +95,7 @@ impl<'a> OpenPage<'a> {
         mark: Option<Mark<'a>>,
         place: Option<Position>,
     ) -> Result<(), PassFault>
-        ensures turns { (pages : List MarkedPage) (to : Spot) → option_map spot_position place ≡ reached_position to
+        ensures turns { (pages : List MarkedPage) (to : PositionView) → option_map spot_position place ≡ reached_position to
             → Draws (meaning_towards (marks_in mark.entry) to self.old) pages self.old self.new result }
         ensures space { (most : ℕ) → KeepsSpace most self.old self.new result }
     {
@@ -113,7 +113,7 @@ impl<'a> OpenPage<'a> {
     /// Moves to a place; the fault is Range where there is none.
     #[inline(always)]
     pub(crate) fn go(&mut self, place: Option<Position>) -> Result<(), PassFault>
-        ensures turns { (pages : List MarkedPage) (to : Spot) → option_map spot_position place ≡ reached_position to
+        ensures turns { (pages : List MarkedPage) (to : PositionView) → option_map spot_position place ≡ reached_position to
             → Draws (meaning_towards [] to self.old) pages self.old self.new result }
         ensures space { (most : ℕ) → KeepsSpace most self.old self.new result }
     {

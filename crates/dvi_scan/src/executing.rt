@@ -37,7 +37,7 @@ pub enum PassState<'a> {
     Inside(OpenPage<'a>),
 }
 
-/// Why an instruction is not accepted.
+/// Why the pass over a page does not accept an instruction, or a font definition is not kept.
 #[derive(Clone, Copy, Debug, PartialEq, Eq, Error)]
 pub enum PassFault {
     /// A growth of memory was refused.

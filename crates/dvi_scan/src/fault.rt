@@ -54,7 +54,7 @@ pub struct BadDvi {
     pub cause: DviCause,
 }
 
-/// Why the places of the pages were not found.
+/// Why the end of a file, its chain of pages or the definitions after post are not accepted.
 #[derive(Clone, Copy, Debug, PartialEq, Eq, Error)]
 pub enum FrameFault {
     /// A growth of memory was refused.

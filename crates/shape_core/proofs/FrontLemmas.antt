@@ -102,15 +102,15 @@ missing-start sizes steps (c ∷ front) some = refl
 
 pub front-items : (slot : ℕ) (sizes : ℕ → Option Sizes) (steps : ℕ → ℕ → Option Step) (until_space : Bool) (text : List ℕ)
     → 0 < length (front_of until_space text)
-        → shaped_items slot sizes steps (front_of until_space text) ≡ items_from slot sizes steps (get_or text 0 0)
-            (drop 1 (front_of until_space text))
+    → shaped_items slot sizes steps (front_of until_space text) ≡ items_from slot sizes steps (get_or text 0 0)
+    (drop 1 (front_of until_space text))
 front-items slot sizes steps until_space text some =
     items-start slot sizes steps (front_of until_space text) some
     ∙ ap (λ c. items_from slot sizes steps c (drop 1 (front_of until_space text))) (sym (front-head until_space text some))
 
 pub front-missing : (sizes : ℕ → Option Sizes) (steps : ℕ → ℕ → Option Step) (until_space : Bool) (text : List ℕ)
     → 0 < length (front_of until_space text)
-        → shaped_missing sizes steps (front_of until_space text) ≡ missing_from sizes steps (get_or text 0 0) (drop 1 (front_of until_space text))
+    → shaped_missing sizes steps (front_of until_space text) ≡ missing_from sizes steps (get_or text 0 0) (drop 1 (front_of until_space text))
 front-missing sizes steps until_space text some =
     missing-start sizes steps (front_of until_space text) some
     ∙ ap (λ c. missing_from sizes steps c (drop 1 (front_of until_space text))) (sym (front-head until_space text some))

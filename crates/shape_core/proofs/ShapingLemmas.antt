@@ -18,30 +18,30 @@ use Rattle.shape_core.specs.Shaping.{Shaping, empty, missing, alone, kern, ligat
 -- One step of the loop.
 items_from-drop : (slot : ℕ) (sizes : ℕ → Option Sizes) (steps : ℕ → ℕ → Option Step) (c : ℕ) (rest word : List ℕ) (d : ℕ) → rest ≡ d ∷ word
     → items_from slot sizes steps c rest ≡ outcome_items slot c (outcome_at sizes steps c (Some d)) ++ items_from slot sizes steps
-        (outcome_next d (outcome_at sizes steps c (Some d))) word
+    (outcome_next d (outcome_at sizes steps c (Some d))) word
 items_from-drop slot sizes steps c rest word d e = ap (items_from slot sizes steps c) e
 
 pub items_from-turn : (slot : ℕ) (sizes : ℕ → Option Sizes) (steps : ℕ → ℕ → Option Step) (c : ℕ) (word : List ℕ) (i : ℕ) → i < length word
     → items_from slot sizes steps c (drop i word) ≡ outcome_items slot c (outcome_at sizes steps c (Some (get_or word i 0))) ++ items_from slot sizes
-        steps (outcome_next (get_or word i 0) (outcome_at sizes steps c (Some (get_or word i 0)))) (drop (i + 1) word)
+    steps (outcome_next (get_or word i 0) (outcome_at sizes steps c (Some (get_or word i 0)))) (drop (i + 1) word)
 items_from-turn slot sizes steps c word i h =
     items_from-drop slot sizes steps c (drop i word) (drop (i + 1) word) (get_or word i 0) (drop_more word i 0 h)
 
 pub missing_from-turn : (sizes : ℕ → Option Sizes) (steps : ℕ → ℕ → Option Step) (c : ℕ) (word : List ℕ) (i : ℕ) → i < length word
     → missing_from sizes steps c (drop i word) ≡ outcome_missing (outcome_at sizes steps c (Some (get_or word i 0))) + missing_from sizes steps
-        (outcome_next (get_or word i 0) (outcome_at sizes steps c (Some (get_or word i 0)))) (drop (i + 1) word)
+    (outcome_next (get_or word i 0) (outcome_at sizes steps c (Some (get_or word i 0)))) (drop (i + 1) word)
 missing_from-turn sizes steps c word i h = ap (missing_from sizes steps c) (drop_more word i 0 h)
 
 pub turn-items : (slot : ℕ) (sizes : ℕ → Option Sizes) (steps : ℕ → ℕ → Option Step) (c : ℕ) (word : List ℕ) (i : ℕ) (all held new : List Node)
     (o : Outcome) (n : ℕ) → i < length word → all ≡ held ++ items_from slot sizes steps c (drop i word)
-        → o ≡ outcome_at sizes steps c (Some (get_or word i 0)) → new ≡ held ++ outcome_items slot c o → n ≡ outcome_next (get_or word i 0) o
-            → all ≡ new ++ items_from slot sizes steps n (drop (i + 1) word)
+    → o ≡ outcome_at sizes steps c (Some (get_or word i 0)) → new ≡ held ++ outcome_items slot c o → n ≡ outcome_next (get_or word i 0) o
+    → all ≡ new ++ items_from slot sizes steps n (drop (i + 1) word)
 turn-items slot sizes steps c word i all held new o n h e eo en em =
     rw (en, em, eo) (e ∙ ap (λ xs. held ++ xs) (items_from-turn slot sizes steps c word i h) ∙ sym (append_assoc held _ _))
 
 pub turn-missing : (sizes : ℕ → Option Sizes) (steps : ℕ → ℕ → Option Step) (c : ℕ) (word : List ℕ) (i all held m n : ℕ) (o : Outcome)
     → i < length word → all ≡ held + missing_from sizes steps c (drop i word) → o ≡ outcome_at sizes steps c (Some (get_or word i 0))
-        → m ≡ outcome_missing o → n ≡ outcome_next (get_or word i 0) o → all ≡ held + m + missing_from sizes steps n (drop (i + 1) word)
+    → m ≡ outcome_missing o → n ≡ outcome_next (get_or word i 0) o → all ≡ held + m + missing_from sizes steps n (drop (i + 1) word)
 turn-missing sizes steps c word i all held m n o h e eo em en = rw (em, en, eo) (omega (arith, e, missing_from-turn sizes steps c word i h))
 
 -- A character that stands alone before the next one becomes its glyph.
@@ -57,7 +57,7 @@ outcome-alone sizes steps c d size at after = here (is_some (sizes d)) refl
 -- The end of the word.
 pub end-items : (slot : ℕ) (sizes : ℕ → Option Sizes) (steps : ℕ → ℕ → Option Step) (c : ℕ) (word : List ℕ) (i : ℕ) (all held new : List Node)
     (o : Outcome) → length word ≤ i → all ≡ held ++ items_from slot sizes steps c (drop i word) → o ≡ outcome_at sizes steps c None
-        → new ≡ held ++ outcome_items slot c o → new ≡ all
+    → new ≡ held ++ outcome_items slot c o → new ≡ all
 end-items slot sizes steps c word i all held new o past e eo en =
     en ∙ (ap (λ o. held ++ outcome_items slot c o) eo ∙ (sym (ap (λ xs. held ++ items_from slot sizes steps c xs) (drop_of_length-le word past)) ∙ sym e))
 
@@ -82,13 +82,13 @@ some_added old now (x ∷ items) rest all front e some = λ none.
 -- Memory is refused where a character becomes items.
 pub turn-some : (slot : ℕ) (sizes : ℕ → Option Sizes) (steps : ℕ → ℕ → Option Step) (c : ℕ) (word : List ℕ) (i : ℕ) (old now all : List Node)
     (o : Outcome) → i < length word → take (length old) now ≡ old → old ++ all ≡ now ++ items_from slot sizes steps c (drop i word)
-        → o ≡ outcome_at sizes steps c (Some (get_or word i 0)) → outcome_items slot c o ≢ [] → all ≢ []
+    → o ≡ outcome_at sizes steps c (Some (get_or word i 0)) → outcome_items slot c o ≢ [] → all ≢ []
 turn-some slot sizes steps c word i old now all o h front e eo some =
     some_added old now (outcome_items slot c o) (items_from slot sizes steps (outcome_next (get_or word i 0) o) (drop (i + 1) word)) all front (rw eo (e ∙ ap (λ xs. now ++ xs) (items_from-turn slot sizes steps c word i h))) some
 
 pub end-some : (slot : ℕ) (sizes : ℕ → Option Sizes) (steps : ℕ → ℕ → Option Step) (c : ℕ) (word : List ℕ) (i : ℕ) (old now all : List Node)
     (o : Outcome) → length word ≤ i → take (length old) now ≡ old → old ++ all ≡ now ++ items_from slot sizes steps c (drop i word)
-        → o ≡ outcome_at sizes steps c None → outcome_items slot c o ≢ [] → all ≢ []
+    → o ≡ outcome_at sizes steps c None → outcome_items slot c o ≢ [] → all ≢ []
 end-some slot sizes steps c word i old now all o past front e eo some =
     some_added old now (outcome_items slot c o) [] all front
     (e ∙ ap (λ xs. now ++ items_from slot sizes steps c xs) (drop_of_length-le word past) ∙ ap (λ o. now ++ outcome_items slot c o) (sym eo) ∙ ap (λ xs. now ++ xs) (sym (append-nil (outcome_items slot c o)))) some
@@ -96,10 +96,10 @@ end-some slot sizes steps c word i old now all o past front e eo some =
 -- What a character becomes, by the cases of its shaping.
 Shaping-case : (slot : ℕ) (sizes : ℕ → Option Sizes) (steps : ℕ → ℕ → Option Step) (c d : ℕ) (word : List ℕ) (size : Option Sizes)
     (step : Option Step) → sizes c ≡ size → step_to sizes steps c (Some d) ≡ step
-        → ((e : ℕ) → Shaping slot sizes steps (e ∷ word) (items_from slot sizes steps e word) (missing_from sizes steps e word))
-            → Shaping slot sizes steps (c ∷ d ∷ word)
-                (outcome_items slot c (outcome_of size step) ++ items_from slot sizes steps (outcome_next d (outcome_of size step)) word)
-                    (outcome_missing (outcome_of size step) + missing_from sizes steps (outcome_next d (outcome_of size step)) word)
+    → ((e : ℕ) → Shaping slot sizes steps (e ∷ word) (items_from slot sizes steps e word) (missing_from sizes steps e word))
+    → Shaping slot sizes steps (c ∷ d ∷ word)
+    (outcome_items slot c (outcome_of size step) ++ items_from slot sizes steps (outcome_next d (outcome_of size step)) word)
+    (outcome_missing (outcome_of size step) + missing_from sizes steps (outcome_next d (outcome_of size step)) word)
 Shaping-case slot sizes steps c d word None step at after later =
     subst (λ n. Shaping slot sizes steps (c ∷ d ∷ word) (items_from slot sizes steps d word) n) (omega arith) (missing at (later d))
 Shaping-case slot sizes steps c d word (Some size) None at after later =
@@ -130,30 +130,30 @@ Shaping-shaped slot sizes steps (c ∷ word) = Shaping-from slot sizes steps c w
 -- The first character of a word that is shaped.
 shaped-missing : (slot : ℕ) (sizes : ℕ → Option Sizes) (steps : ℕ → ℕ → Option Step) (c : ℕ) (word : List ℕ) → sizes c ≡ None
     → (shaped_items slot sizes steps (c ∷ word) ≡ shaped_items slot sizes steps word)
-        × (shaped_missing sizes steps (c ∷ word) ≡ shaped_missing sizes steps word + 1)
+    × (shaped_missing sizes steps (c ∷ word) ≡ shaped_missing sizes steps word + 1)
 unfolding outcome_at
 shaped-missing slot sizes steps c [] at = (rw at refl, rw at refl)
 shaped-missing slot sizes steps c (d ∷ word) at = (rw at refl, rw at (omega arith))
 
 shaped-alone : (slot : ℕ) (sizes : ℕ → Option Sizes) (steps : ℕ → ℕ → Option Step) (c : ℕ) (size : Sizes) (word : List ℕ) → sizes c ≡ Some size
     → step_to sizes steps c (slice_get word 0) ≡ None
-        → (shaped_items slot sizes steps (c ∷ word) ≡ glyph_node slot c size ∷ shaped_items slot sizes steps word)
-            × (shaped_missing sizes steps (c ∷ word) ≡ shaped_missing sizes steps word)
+    → (shaped_items slot sizes steps (c ∷ word) ≡ glyph_node slot c size ∷ shaped_items slot sizes steps word)
+    × (shaped_missing sizes steps (c ∷ word) ≡ shaped_missing sizes steps word)
 unfolding outcome_at
 shaped-alone slot sizes steps c size [] at after = (rw at refl, rw at refl)
 shaped-alone slot sizes steps c size (d ∷ word) at after = (rw (at, after) refl, rw (at, after) (omega arith))
 
 shaped-kern : (slot : ℕ) (sizes : ℕ → Option Sizes) (steps : ℕ → ℕ → Option Step) (c : ℕ) (size : Sizes) (width : ℤ) (word : List ℕ)
     → sizes c ≡ Some size → step_to sizes steps c (slice_get word 0) ≡ Some (Kern width)
-        → (shaped_items slot sizes steps (c ∷ word) ≡ glyph_node slot c size ∷ FontKern width ∷ shaped_items slot sizes steps word)
-            × (shaped_missing sizes steps (c ∷ word) ≡ shaped_missing sizes steps word)
+    → (shaped_items slot sizes steps (c ∷ word) ≡ glyph_node slot c size ∷ FontKern width ∷ shaped_items slot sizes steps word)
+    × (shaped_missing sizes steps (c ∷ word) ≡ shaped_missing sizes steps word)
 unfolding outcome_at
 shaped-kern slot sizes steps c size width [] at after = absurd (cc)
 shaped-kern slot sizes steps c size width (d ∷ word) at after = (rw (at, after) refl, rw (at, after) (omega arith))
 
 shaped-ligature : (slot : ℕ) (sizes : ℕ → Option Sizes) (steps : ℕ → ℕ → Option Step) (c d e : ℕ) (size : Sizes) (word : List ℕ) → sizes c ≡ Some size
     → step_to sizes steps c (Some d) ≡ Some (Ligature e) → (shaped_items slot sizes steps (c ∷ d ∷ word) ≡ shaped_items slot sizes steps (e ∷ word))
-        × (shaped_missing sizes steps (c ∷ d ∷ word) ≡ shaped_missing sizes steps (e ∷ word))
+    × (shaped_missing sizes steps (c ∷ d ∷ word) ≡ shaped_missing sizes steps (e ∷ word))
 unfolding outcome_at
 shaped-ligature slot sizes steps c d e size word at after = (rw (at, after) refl, rw (at, after) (omega arith))
 
@@ -191,7 +191,7 @@ Shaping-is slot sizes steps word items n =
 -- The appended items are a shaping.
 pub Shaping-grown : (slot : ℕ) (sizes : ℕ → Option Sizes) (steps : ℕ → ℕ → Option Step) (word : List ℕ) (old new : List Node) (n : ℕ)
     → new ≡ old ++ shaped_items slot sizes steps word → n ≡ shaped_missing sizes steps word → (items : List Node) × (new ≡ old ++ items)
-        × Shaping slot sizes steps word items n
+    × Shaping slot sizes steps word items n
 Shaping-grown slot sizes steps word old new n e f =
     (shaped_items slot sizes steps word, e, Shaping-at slot sizes steps word (shaped_items slot sizes steps word) n refl f)
 

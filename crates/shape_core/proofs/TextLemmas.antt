@@ -137,7 +137,7 @@ part_of-word (c ∷ text) h e = ap (λ b. cond b spaces (word (c ∷ text))) (ne
 
 pub text_items-turn : (slot : ℕ) (sizes : ℕ → Option Sizes) (steps : ℕ → ℕ → Option Step) (blank : Glue) (text : List ℕ) → 0 < length text
     → text_items slot sizes steps blank text ≡ part_items slot sizes steps blank (part_of (take (part_length text) text)) ++ text_items slot sizes
-        steps blank (drop (part_length text) text)
+    steps blank (drop (part_length text) text)
 unfolding text_items
 text_items-turn slot sizes steps blank text h = ap (flat_map (part_items slot sizes steps blank)) (parts_of-front text h)
 
@@ -149,7 +149,7 @@ text_items-none slot sizes steps blank (c ∷ text) h = absurd (omega arith)
 
 pub text_missing-turn : (sizes : ℕ → Option Sizes) (steps : ℕ → ℕ → Option Step) (text : List ℕ) → 0 < length text
     → text_missing sizes steps text ≡ part_missing sizes steps (part_of (take (part_length text) text)) + text_missing sizes steps
-        (drop (part_length text) text)
+    (drop (part_length text) text)
 unfolding text_missing
 text_missing-turn sizes steps text h =
     ap (sum_by (part_missing sizes steps)) (parts_of-front text h) ∙ sum_by-cons (part_missing sizes steps) (part_of (take (part_length text) text)) (parts_of (drop (part_length text) text))
@@ -164,8 +164,8 @@ pub ruleset turns = (text_items-turn, text_items-none, text_missing-turn, text_m
 -- One step of the loop.
 pub text_items-part : (slot : ℕ) (sizes : ℕ → Option Sizes) (steps : ℕ → ℕ → Option Step) (blank : Glue) (text part rest : List ℕ) (k : ℕ)
     (all nodes new : List Node) → 0 < length text → k ≡ part_length text → part ≡ take k text → rest ≡ drop k text
-        → new ≡ nodes ++ part_items slot sizes steps blank (part_of part) → all ≡ nodes ++ text_items slot sizes steps blank text
-            → all ≡ new ++ text_items slot sizes steps blank rest
+    → new ≡ nodes ++ part_items slot sizes steps blank (part_of part) → all ≡ nodes ++ text_items slot sizes steps blank text
+    → all ≡ new ++ text_items slot sizes steps blank rest
 text_items-part slot sizes steps blank text part rest k all nodes new h l p r e f =
     let turned : text_items slot sizes steps blank text ≡ part_items slot sizes steps blank (part_of part) ++ text_items slot sizes steps blank rest =
     rw (p, r, l) (text_items-turn slot sizes steps blank text h) in
@@ -174,7 +174,7 @@ text_items-part slot sizes steps blank text part rest k all nodes new h l p r e 
 
 pub text_missing-part : (sizes : ℕ → Option Sizes) (steps : ℕ → ℕ → Option Step) (text part rest : List ℕ) (k all n m : ℕ) → 0 < length text
     → k ≡ part_length text → part ≡ take k text → rest ≡ drop k text → m ≡ part_missing sizes steps (part_of part)
-        → all ≡ n + text_missing sizes steps text → all ≡ (n + m) + text_missing sizes steps rest
+    → all ≡ n + text_missing sizes steps text → all ≡ (n + m) + text_missing sizes steps rest
 text_missing-part sizes steps text part rest k all n m h l p r e f =
     let turned : text_missing sizes steps text ≡ part_missing sizes steps (part_of part) + text_missing sizes steps rest =
     rw (p, r, l) (text_missing-turn sizes steps text h) in
@@ -183,7 +183,7 @@ text_missing-part sizes steps text part rest k all n m h l p r e f =
 -- Memory is refused where a part has items.
 pub text_items-some : (slot : ℕ) (sizes : ℕ → Option Sizes) (steps : ℕ → ℕ → Option Step) (blank : Glue) (text part : List ℕ) (k : ℕ)
     (old now all : List Node) → 0 < length text → k ≡ part_length text → part ≡ take k text → take (length old) now ≡ old
-        → old ++ all ≡ now ++ text_items slot sizes steps blank text → part_items slot sizes steps blank (part_of part) ≢ [] → all ≢ []
+    → old ++ all ≡ now ++ text_items slot sizes steps blank text → part_items slot sizes steps blank (part_of part) ≢ [] → all ≢ []
 text_items-some slot sizes steps blank text part k old now all h l p front e some =
     some_added old now (part_items slot sizes steps blank (part_of part)) (text_items slot sizes steps blank (drop k text)) all front
     (rw (p, l) (e ∙ ap (λ xs. now ++ xs) (text_items-turn slot sizes steps blank text h))) some
