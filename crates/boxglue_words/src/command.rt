@@ -1,7 +1,7 @@
 //! The command line, built for clap.
 
 ghost use Rattle.std.specs.Prelude.{◌≡◌, ◌≤◌, false, pos, IfOk};
-ghost use Rattle.clap.specs.Words.{app_of, rule_of};
+ghost use Rattle.clap.specs.Words.{app_of, new_app, rule_of};
 ghost use Rattle.clap.specs.declared.builder.Command.TheViews.{out-Command};
 ghost use Rattle.clap.specs.declared.builder.value_parser.ValueParser.TheVariants.{Signed};
 ghost use Rattle.boxglue_words.specs.CommandLine.{plain_program, boxglue, fonts_rule, lists, names_fonts, number_rule, paint, path_rule, session};
@@ -73,16 +73,26 @@ fn number<'a>(alloc: Global, id: &'static str, most: u32, help: &'static str) ->
         .required(true)
 }
 
+/// A subcommand without arguments, whose help ends by what to read next.
+fn subcommand<'a>(alloc: Global, name: &'static str, about: &'static str) -> Command<'a>
+    ensures shape { app_of result ≡ new_app name.now }
+    ensures local { (out-Command result).has_globals ≡ false }
+{
+    Command::new(alloc, name).about(about).after_help(READ_NEXT)
+}
+
 /// The subcommand `typeset`.
 fn typeset<'a>(alloc: Global) -> Result<Command<'a>, AllocError>
     ensures shape { IfOk result (λ command. app_of command ≡ typeset) }
     ensures local { IfOk result (λ command. (out-Command command).has_globals ≡ false) }
 {
-    Command::new(alloc, "typeset")
-        .about("runs the script of standard input and writes the DVI file")
-        .after_help(READ_NEXT)
-        .arg(path(alloc, "OUT", "the DVI file that is written"))?
-        .arg(fonts(alloc))
+    subcommand(
+        alloc,
+        "typeset",
+        "runs the script of standard input and writes the DVI file",
+    )
+    .arg(path(alloc, "OUT", "the DVI file that is written"))?
+    .arg(fonts(alloc))
 }
 
 /// The subcommand `session`.
@@ -90,11 +100,13 @@ fn session<'a>(alloc: Global) -> Result<Command<'a>, AllocError>
     ensures shape { IfOk result (λ command. app_of command ≡ session) }
     ensures local { IfOk result (λ command. (out-Command command).has_globals ≡ false) }
 {
-    Command::new(alloc, "session")
-        .about("runs the lines of standard input as they come and writes the DVI file")
-        .after_help(READ_NEXT)
-        .arg(path(alloc, "OUT", "the DVI file that is written"))?
-        .arg(fonts(alloc))
+    subcommand(
+        alloc,
+        "session",
+        "runs the lines of standard input as they come and writes the DVI file",
+    )
+    .arg(path(alloc, "OUT", "the DVI file that is written"))?
+    .arg(fonts(alloc))
 }
 
 /// The subcommand `list`.
@@ -102,11 +114,13 @@ fn lists<'a>(alloc: Global) -> Result<Command<'a>, AllocError>
     ensures shape { IfOk result (λ command. app_of command ≡ lists) }
     ensures local { IfOk result (λ command. (out-Command command).has_globals ≡ false) }
 {
-    Command::new(alloc, "list")
-        .about("prints the pages of a DVI file and their marks")
-        .after_help(READ_NEXT)
-        .arg(path(alloc, "DVI", "the DVI file that is read"))?
-        .arg(fonts(alloc))
+    subcommand(
+        alloc,
+        "list",
+        "prints the pages of a DVI file and their marks",
+    )
+    .arg(path(alloc, "DVI", "the DVI file that is read"))?
+    .arg(fonts(alloc))
 }
 
 /// The subcommand `fonts`.
@@ -114,10 +128,12 @@ fn names_fonts<'a>(alloc: Global) -> Result<Command<'a>, AllocError>
     ensures shape { IfOk result (λ command. app_of command ≡ names_fonts) }
     ensures local { IfOk result (λ command. (out-Command command).has_globals ≡ false) }
 {
-    Command::new(alloc, "fonts")
-        .about("prints the units of a DVI file and the fonts that it defines")
-        .after_help(READ_NEXT)
-        .arg(path(alloc, "DVI", "the DVI file that is read"))
+    subcommand(
+        alloc,
+        "fonts",
+        "prints the units of a DVI file and the fonts that it defines",
+    )
+    .arg(path(alloc, "DVI", "the DVI file that is read"))
 }
 
 /// The subcommand `paint`.
@@ -125,15 +141,17 @@ fn paint<'a>(alloc: Global) -> Result<Command<'a>, AllocError>
     ensures shape { IfOk result (λ command. app_of command ≡ paint) }
     ensures local { IfOk result (λ command. (out-Command command).has_globals ≡ false) }
 {
-    Command::new(alloc, "paint")
-        .about("prints a page of a DVI file as a bitmap in plain PBM")
-        .after_help(READ_NEXT)
-        .arg(number(alloc, "page", u32::MAX, "the page, from 1 on"))?
-        .arg(number(alloc, "dpi", 10_000, "pixels an inch"))?
-        .arg(number(alloc, "width", 10_000, "pixels across"))?
-        .arg(number(alloc, "height", 10_000, "pixels down"))?
-        .arg(path(alloc, "DVI", "the DVI file that is read"))?
-        .arg(fonts(alloc))
+    subcommand(
+        alloc,
+        "paint",
+        "prints a page of a DVI file as a bitmap in plain PBM",
+    )
+    .arg(number(alloc, "page", u32::MAX, "the page, from 1 on"))?
+    .arg(number(alloc, "dpi", 10_000, "pixels an inch"))?
+    .arg(number(alloc, "width", 10_000, "pixels across"))?
+    .arg(number(alloc, "height", 10_000, "pixels down"))?
+    .arg(path(alloc, "DVI", "the DVI file that is read"))?
+    .arg(fonts(alloc))
 }
 
 /// The command line without its subcommands.
