@@ -1,7 +1,8 @@
 //! The effect of an instruction of a body in an open page: the place and the font after it, and the mark that it makes (DVItype, 14 and 15).
 
 ghost use Rattle.std.specs.Prelude.{◌≡◌, [], List, Some, option_map, ℕ};
-ghost use Rattle.dvi_ops.specs.Body.{Position as PositionView, Widths, instruction_acts, glyph as seen_glyph, kept_in, state_without_mark, place_after};
+ghost use Rattle.dvi_ops.specs.Body.{Position as PositionView, Widths, instruction_acts, glyph as seen_glyph, kept_in, state_without_mark};
+ghost use Rattle.dvi_ops.specs.Body.{place_after};
 ghost use Rattle.dvi_ops.specs.Body.{rule_at};
 ghost use Rattle.scaled_core.specs.Mark.{Special};
 ghost use Rattle.dvi_ops.specs.File.{MarkedPage};
