@@ -1,10 +1,11 @@
 //! Boxglue: a typesetter of command scripts with TeX's model of boxes and glue.
 #![tactic(auto)]
 
+mod blocking_stream;
 mod later_words;
 mod system_host;
-mod waiting;
 
+use blocking_stream::BlockingStream;
 use boxglue_lib::{program, refuse_memory, write_text};
 use later_words::LaterWords;
 use std::fs::{File, OpenOptions};
@@ -12,7 +13,6 @@ use std::io::ErrorKind;
 use std::os::fd::AsRawFd;
 use std::process::ExitCode;
 use system_host::SystemHost;
-use waiting::Waiting;
 
 /// The text for a word that is not UTF-8. It is that of `clap`, which never gets such a word.
 const NO_TEXT: &str = "\
@@ -63,8 +63,8 @@ fn main(rt: HostRuntime) -> ExitCode {
     let _input = placeholder(&rt);
     let _output = placeholder(&rt);
     let _errors = placeholder(&rt);
-    let mut output = Waiting::new(&rt, rt.stdout());
-    let mut errors = Waiting::new(&rt, rt.stderr());
+    let mut output = BlockingStream::new(&rt, rt.stdout());
+    let mut errors = BlockingStream::new(&rt, rt.stderr());
     let words: Vec<String> = match std::env::args(&LaterWords::of(&rt)) {
         Ok(words) => match words.collect(alloc) {
             Ok(words) => words,

@@ -2,7 +2,7 @@
 
 ghost use Rattle.std.specs.Prelude.{None};
 
-use crate::waiting::Waiting;
+use crate::blocking_stream::BlockingStream;
 use boxglue_lib::{
     CreatedPaths, FailureCount, FileHost, Host, HostFault, HostParts, StandardInput, read_all,
     write_some,
@@ -36,7 +36,7 @@ impl<'a> SystemFiles<'a> {
 /// The host of a real program. A session waits for its standard input.
 #[derive(Drop)]
 pub struct SystemHost<'a> {
-    input: Waiting<'a, Stdin>,
+    input: BlockingStream<'a, Stdin>,
     files: SystemFiles<'a>,
 }
 
@@ -44,13 +44,13 @@ impl<'a> SystemHost<'a> {
     /// The host of a runtime.
     pub fn new(rt: &'a HostRuntime) -> SystemHost<'a> {
         SystemHost {
-            input: Waiting::new(rt, rt.stdin()),
+            input: BlockingStream::new(rt, rt.stdin()),
             files: SystemFiles::new(rt),
         }
     }
 }
 
-impl StandardInput for Waiting<'_, Stdin> {
+impl StandardInput for BlockingStream<'_, Stdin> {
     /// An input that has nothing yet is not waited for: this reading fails.
     fn read_whole(self, alloc: Global) -> Result<Vec<u8>, HostFault> {
         read_all(alloc, &mut self.into_stream())
@@ -60,7 +60,7 @@ impl StandardInput for Waiting<'_, Stdin> {
 impl<'a> Host for SystemHost<'a> {
     ghost use Rattle.std.specs.Prelude.{None};
 
-    type Input = Waiting<'a, Stdin>;
+    type Input = BlockingStream<'a, Stdin>;
 
     type Files = SystemFiles<'a>;
 
@@ -68,7 +68,7 @@ impl<'a> Host for SystemHost<'a> {
 
     ghost files = { λ host. host.files };
 
-    fn into_parts(self) -> HostParts<Waiting<'a, Stdin>, SystemFiles<'a>> {
+    fn into_parts(self) -> HostParts<BlockingStream<'a, Stdin>, SystemFiles<'a>> {
         HostParts {
             input: self.input,
             files: self.files,

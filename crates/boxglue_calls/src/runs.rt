@@ -34,17 +34,17 @@ pub struct Lengths {
 
 /// The answers of a script, the device with the bytes of its DVI file, and the status.
 #[derive(Drop)]
-struct Ran {
+struct ScriptRun {
     answers: Vec<u8>,
     device: Memory,
     status: u32,
 }
 
 /// Runs the lines of a script with these font files on a device in memory, and ends the job.
-fn run_job(alloc: Global, lines: LineBlocks, files: &[FontFile]) -> Result<Ran, AllocError>
-    ensures { IfOk result (λ ran. (replies : List Reply) × (end : Result Summary Refusal)
-        × WasRunAndSent files.now 0 (commands_of (lines_of lines)) replies end ran.device.failures (Some ran.device.bytes)
-        × (ran.answers.items ≡ answers_text (line_numbers (lines_of lines)) replies end) × (ran.status ≡ run_status replies end)) }
+fn run_job(alloc: Global, lines: LineBlocks, files: &[FontFile]) -> Result<ScriptRun, AllocError>
+    ensures { IfOk result (λ run. (replies : List Reply) × (end : Result Summary Refusal)
+        × WasRunAndSent files.now 0 (commands_of (lines_of lines)) replies end run.device.failures (Some run.device.bytes)
+        × (run.answers.items ≡ answers_text (line_numbers (lines_of lines)) replies end) × (run.status ≡ run_status replies end)) }
 {
     let whole = match run_whole(alloc, lines, files, Memory::new(alloc)) {
         Ok(whole) => whole,
@@ -56,7 +56,7 @@ fn run_job(alloc: Global, lines: LineBlocks, files: &[FontFile]) -> Result<Ran, 
         device,
     } = whole;
     match answers {
-        Some(answers) => Ok(Ran {
+        Some(answers) => Ok(ScriptRun {
             answers,
             device,
             status: outcome_status(outcome),
@@ -66,12 +66,12 @@ fn run_job(alloc: Global, lines: LineBlocks, files: &[FontFile]) -> Result<Ran, 
 }
 
 /// The run of a bad script: its one line, and no bytes.
-fn refused_run(alloc: Global, line: usize, cause: Cause) -> Result<Ran, AllocError>
-    ensures text { IfOk result (λ ran. ran.answers.items ≡ script_refusal_text line cause) }
-    ensures device { IfOk result (λ ran. ran.device.bytes ≡ []) }
-    ensures status { IfOk result (λ ran. ran.status ≡ 1) }
+fn refused_run(alloc: Global, line: usize, cause: Cause) -> Result<ScriptRun, AllocError>
+    ensures text { IfOk result (λ run. run.answers.items ≡ script_refusal_text line cause) }
+    ensures device { IfOk result (λ run. run.device.bytes ≡ []) }
+    ensures status { IfOk result (λ run. run.status ≡ 1) }
 {
-    Ok(Ran {
+    Ok(ScriptRun {
         answers: script_refusal_text(alloc, line, cause)?,
         device: Memory::new(alloc),
         status: REFUSED,
@@ -79,9 +79,9 @@ fn refused_run(alloc: Global, line: usize, cause: Cause) -> Result<Ran, AllocErr
 }
 
 /// Runs a script with these fonts, which have names, on a device in memory.
-fn run_on_memory(alloc: Global, script: &[u8], fonts: &[Font<'_>]) -> Result<Ran, AllocError>
+fn run_on_memory(alloc: Global, script: &[u8], fonts: &[Font<'_>]) -> Result<ScriptRun, AllocError>
     requires { are_named fonts.now ≡ true }
-    ensures { IfOk result (λ ran. IsRun written_bytes script.now (files_of fonts.now) ran.answers.items ran.device.bytes ran.status) }
+    ensures { IfOk result (λ run. IsRun written_bytes script.now (files_of fonts.now) run.answers.items run.device.bytes run.status) }
 {
     let files = font_files(alloc, fonts)?;
     match read_blocks(alloc, script) {
@@ -115,14 +115,14 @@ pub fn run(
     if !are_named(fonts) {
         return BAD_FONT_NAME;
     }
-    let ran = match run_on_memory(alloc, script, fonts) {
-        Ok(ran) => ran,
+    let results = match run_on_memory(alloc, script, fonts) {
+        Ok(results) => results,
         Err(_) => return OUT_OF_MEMORY,
     };
-    let bytes = ran.device.bytes();
+    let bytes = results.device.bytes();
     *lengths = Lengths {
-        answers: ran.answers.len(),
+        answers: results.answers.len(),
         dvi: bytes.len(),
     };
-    hand_over_both(&ran.answers, answers, bytes, dvi, ran.status)
+    hand_over_both(&results.answers, answers, bytes, dvi, results.status)
 }

@@ -42,8 +42,8 @@ holds_of_file Holds begun failures back file opened counted kept used holds =
     (failures, subst (λ (bytes : Option (List ℕ)). Holds failures (written_to_file file.created bytes)) (sym kept) at_open, counted, used)
 
 -- The whole input was run.
-abbrev pub Ran : (input left : Option (List ℕ)) → List NamedBytes → (reads : Bool) → (old new : Option (List ℕ)) → (k : ℕ) → Option (List ℕ) → Bool → Type 0
-Ran input left files reads old new k bytes accepted =
+abbrev pub SessionRun : (input left : Option (List ℕ)) → List NamedBytes → (reads : Bool) → (old new : Option (List ℕ)) → (k : ℕ) → Option (List ℕ) → Bool → Type 0
+SessionRun input left files reads old new k bytes accepted =
     (text answer : List ℕ) × Consumes input left text × IsAtEnd left × (length text ≤ READ_LIMIT) × RanSession written_bytes text files 0 k bytes answer accepted
     × IsSent true reads old new answer
 
@@ -60,7 +60,7 @@ Loses input left files reads old new k bytes =
 -- How a session ended, by its outcome.
 pub session_ends : (input left : Option (List ℕ)) (files : List NamedBytes) (outcome : Result Bool SessionFault) (reads : Bool) (end : TaskEnd) (old new : Option (List ℕ))
     (k : ℕ) (bytes : Option (List ℕ)) (file : OutFile)
-    → IsSessionEnd outcome reads end → IfOk outcome (Ran input left files reads old new k bytes)
+    → IsSessionEnd outcome reads end → IfOk outcome (SessionRun input left files reads old new k bytes)
     → (outcome ≡ Err RefusesMemory → Lacks input left files reads old new k bytes)
     → (outcome ≡ Err LosesInput → Loses input left files reads old new k bytes)
     → ((Holds : ℕ → Option (List ℕ) → Type 0) → Holds k bytes → HoldsOfFile Holds file) → EndsSession written_bytes input files file end old new

@@ -13,7 +13,7 @@ pub type Fail = std::alloc::AllocError;
 
 /// The result of a run of the program: its status, its output, its errors, and its files.
 #[derive(Drop)]
-pub struct Ran<F> {
+pub struct CommandRun<F> {
     pub status: u8,
     pub output: Vec<u8>,
     pub errors: Vec<u8>,
@@ -59,7 +59,11 @@ pub fn host_of(alloc: Global, input: &str, files: &[(&str, &str)]) -> Result<Mem
 }
 
 /// Runs the program with these words.
-pub fn run<H: Host + Drop>(alloc: Global, words: &[&str], host: H) -> Result<Ran<H::Files>, Fail> {
+pub fn run<H: Host + Drop>(
+    alloc: Global,
+    words: &[&str],
+    host: H,
+) -> Result<CommandRun<H::Files>, Fail> {
     let mut owned = Vec::new(alloc);
     for word in words {
         owned.push(String::from_str(alloc, word)?)?;
@@ -67,7 +71,7 @@ pub fn run<H: Host + Drop>(alloc: Global, words: &[&str], host: H) -> Result<Ran
     let mut output = Vec::new(alloc);
     let mut errors = Vec::new(alloc);
     let (status, files) = program(alloc, &owned, host, &mut output, &mut errors);
-    Ok(Ran {
+    Ok(CommandRun {
         status,
         output,
         errors,

@@ -6,7 +6,7 @@ ghost use Rattle.boxglue_calls.specs.Jobs.{KeptState};
 ghost use Rattle.boxglue_calls.specs.Private.KeptCode.{coded_kept};
 
 use crate::jobs::kept_job::KeptJob;
-use crate::jobs::loose::Loose;
+use crate::jobs::raw_box::RawBox;
 use std::alloc::Global;
 use std::marker::Model;
 use std::{mem, ptr};
@@ -46,23 +46,23 @@ impl JobHandle {
     }
 
     /// Keeps the place of a box.
-    fn of_loose(loose: Loose<KeptJob, Global>) -> JobHandle
-        ensures { result.value ≡ Some loose.value }
+    fn of_raw(raw: RawBox<KeptJob, Global>) -> JobHandle
+        ensures { result.value ≡ Some raw.value }
     {
-        let Loose { at, alloc: _alloc } = loose;
+        let RawBox { at, alloc: _alloc } = raw;
         JobHandle { at: at as *mut u8 }
     }
 
     /// The place of the job, if there is one.
-    fn into_loose(self, alloc: Global) -> Option<Loose<KeptJob, Global>>
-        ensures value_returned { IfSome result (λ loose. self.value ≡ Some loose.value) }
+    fn into_raw(self, alloc: Global) -> Option<RawBox<KeptJob, Global>>
+        ensures value_returned { IfSome result (λ raw. self.value ≡ Some raw.value) }
         ensures none { result ≡ None → self.value ≡ None }
     {
         let JobHandle { at } = self;
         if at == ptr::null_mut() {
             return None;
         }
-        Some(Loose {
+        Some(RawBox {
             at: at as *mut KeptJob,
             alloc,
         })
@@ -73,8 +73,8 @@ impl JobHandle {
         ensures value_returned { IfSome result (λ kept. self.value ≡ Some kept.value) }
         ensures none { result ≡ None → self.value ≡ None }
     {
-        match self.into_loose(alloc) {
-            Some(loose) => Some(loose.into_box()),
+        match self.into_raw(alloc) {
+            Some(raw) => Some(raw.into_box()),
             None => None,
         }
     }
@@ -94,7 +94,7 @@ pub(crate) fn put(alloc: Global, handle: &mut JobHandle, value: Box<KeptJob>)
     requires { handle.old.value ≡ None }
     ensures { handle.new.value ≡ Some value.value }
 {
-    let before = mem::replace(handle, JobHandle::of_loose(Loose::of(value)));
+    let before = mem::replace(handle, JobHandle::of_raw(RawBox::of(value)));
     if before.into_box(alloc).is_some() {
         unreachable!()
     }

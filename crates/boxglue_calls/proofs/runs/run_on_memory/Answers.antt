@@ -8,6 +8,6 @@ use Rattle.boxglue_calls.proofs.runs.run_on_memory.Goals as goal
 pub returns-in-Ok : goal.returns-in-Ok
 returns-in-Ok c =
     if_ok c.run_job.result
-    (λ ran facts. ran_script c.args.script.now (files_of c.args.fonts.now) c.deref.result.now (lines_of c.in-Ok.lines) (lines_of c.in-Ok.lines) facts.0 facts.1 ran.device.failures ran.answers.items
-    ran.device.bytes ran.status c.in-Ok.ensures.lines refl (c.deref.ensures.value ∙ c.in_ok-files.ensures) facts.2 facts.3 facts.4)
+    (λ run facts. ran_script c.args.script.now (files_of c.args.fonts.now) c.deref.result.now (lines_of c.in-Ok.lines) (lines_of c.in-Ok.lines) facts.0 facts.1 run.device.failures run.answers.items
+    run.device.bytes run.status c.in-Ok.ensures.lines refl (c.deref.ensures.value ∙ c.in_ok-files.ensures) facts.2 facts.3 facts.4)
     c.run_job.ensures

@@ -11,15 +11,15 @@ const PAUSE: u64 = 1;
 /// A stream that is waited for. Whoever opened it may have set it not to wait (`O_NONBLOCK`), and then a write for which there is no space fails, and
 /// so does a reading where nothing has come yet. Here such a call returns a moment later as an interrupted one, so the caller makes it again.
 #[derive(Drop)]
-pub struct Waiting<'a, W> {
+pub struct BlockingStream<'a, W> {
     rt: &'a HostRuntime,
     stream: W,
 }
 
-impl<'a, W> Waiting<'a, W> {
+impl<'a, W> BlockingStream<'a, W> {
     /// Wraps a stream.
-    pub fn new(rt: &'a HostRuntime, stream: W) -> Waiting<'a, W> {
-        Waiting { rt, stream }
+    pub fn new(rt: &'a HostRuntime, stream: W) -> BlockingStream<'a, W> {
+        BlockingStream { rt, stream }
     }
 
     /// The stream, which is no longer waited for.
@@ -28,14 +28,14 @@ impl<'a, W> Waiting<'a, W> {
     }
 }
 
-/// What a caller is told of a call that would have had to wait: that it was interrupted, after a moment. So it makes the call again.
+/// The error that a caller gets, after a moment, of a call that would have had to wait: it was interrupted. So the caller makes the call again.
 fn interruption(rt: &HostRuntime) -> Error {
     sleep(rt, Duration::from_millis(PAUSE));
     Error::from(ErrorKind::Interrupted)
 }
 
-impl<R: Read> Read for Waiting<'_, R> {
-    ghost remaining = { λ waiting. R.remaining waiting.stream };
+impl<R: Read> Read for BlockingStream<'_, R> {
+    ghost remaining = { λ blocking. R.remaining blocking.stream };
 
     fn read(&mut self, buf: &mut [u8]) -> Result<usize> {
         match self.stream.read(buf) {
@@ -45,7 +45,7 @@ impl<R: Read> Read for Waiting<'_, R> {
     }
 }
 
-impl<W: Write> Write for Waiting<'_, W> {
+impl<W: Write> Write for BlockingStream<'_, W> {
     fn write(&mut self, piece: &[u8]) -> Result<usize> {
         match self.stream.write(piece) {
             Err(fault) if fault.kind() == ErrorKind::WouldBlock => Err(interruption(self.rt)),

@@ -1,4 +1,4 @@
--- `into_loose` compares the pointer with null. Assumes `Logic`.
+-- `into_raw` compares the pointer with null. Assumes `Logic`.
 use Rattle.std.proofs.Common.{◌≡◌, List, [], ◌∷◌, ◌++◌, refl, sym, subst, lit<}
 use mathlib.Core.Bool.{◌&&◌, true}
 use mir.Syntax.{Fn, impl, tnil, dnil}
@@ -34,26 +34,26 @@ use Rattle.std_alloc.proofs.VecSteps.Element.{Some-of, none_of}
 use Rattle.std_alloc.specs.Box.Ownership.{box_owns}
 use Rattle.boxglue_calls.specs.Private.Owned.{token}
 use Rattle.boxglue_calls.proofs.Handles.{word, tested, handle_out}
-use Rattle.boxglue_calls.proofs.Values.{both, loose_good, loose_in}
+use Rattle.boxglue_calls.proofs.Values.{both, raw_good, raw_in}
 use Rattle.boxglue_calls.specs.contracts.jobs.kept_job.KeptJob.{the_row as K}
-use Rattle.boxglue_calls.specs.contracts.jobs.loose.Loose as loose
+use Rattle.boxglue_calls.specs.contracts.jobs.raw_box.RawBox as raw
 use Rattle.boxglue_calls.specs.contracts.jobs.handle.JobHandle as handle
-use Rattle.boxglue_calls.specs.contracts.jobs.handle.JobHandle.into_loose.{ended, clauses}
-use Rattle.boxglue_calls.specs.contracts.jobs.handle.JobHandle.into_loose.Key.{name as #self}
-use Rattle.boxglue_calls.proofs.jobs.handle.JobHandle.into_loose.Statement.{statement}
-use Rattle.boxglue_calls.proofs.jobs.handle.JobHandle.into_loose.Code as code
+use Rattle.boxglue_calls.specs.contracts.jobs.handle.JobHandle.into_raw.{ended, clauses}
+use Rattle.boxglue_calls.specs.contracts.jobs.handle.JobHandle.into_raw.Key.{name as #self}
+use Rattle.boxglue_calls.proofs.jobs.handle.JobHandle.into_raw.Statement.{statement}
+use Rattle.boxglue_calls.proofs.jobs.handle.JobHandle.into_raw.Code as code
 
 abbrev heap : Al
 heap = record { row = Z; laws = LZ; g = ghosts; d = impl [] tnil dnil; drops = impl [] tnil dnil }
 
 abbrev L : RattleType
-L = loose.the_row K Z ghosts
+L = raw.the_row K Z ghosts
 
 some_is_not_none : {A : Type 0} (x : A) (B : Type 0) → Some x ≡ None → B
 some_is_not_none x B e = cc
 
-pub into_loose_spec : {M : Type 1} → statement M
-into_loose_spec 𝓤 𝓛 𝓜 𝓡 wired =
+pub into_raw_spec : {M : Type 1} → statement M
+into_raw_spec 𝓤 𝓛 𝓜 𝓡 wired =
     let H = 𝓛.H in let 𝓣 = tables 𝓤 H 𝓜 𝓡 𝓡.env in let c = clauses 𝓛 𝓜.mem 𝓡.returns in let fn : Fn = code.function in
     let hs : Stays ended.signature.params ended.kept = (stay_dropped (plain (λ _. handle.the_row)) ended.kept.0, (stay_dropped (plain (λ _. Z)) ended.kept.1.0, tt)) in
     proved_at 𝓛 ended hs c 𝓜 𝓡 (Goes-blank 𝓛 0 (plain (λ _. handle.the_row)) ended.kept.0 (λ κs x f. tt), (Goes-blank 𝓛 0 (plain (λ _. Z)) ended.kept.1.0 (λ κs x f. tt), tt))
@@ -85,11 +85,11 @@ into_loose_spec 𝓤 𝓛 𝓜 𝓡 wired =
     sets ! (bin ! (get ! refl) (lit ! tt) (tests_null (block_ptr b o) may)) refl (tt, tt) $
     first ! $ branches ! (get ! refl) (λ yes. absurd yes)
     (λ no. skips ! $ exec ! 𝓣.C 𝓣.Λ (env code.Mir.locals l) code.Mir.t-4 (at_ret _ Post) $
-    let good = loose_good K Z LZ ghosts b o h fits in let made : L.Denot = record { at = block_ptr b o; alloc = a; value = x } in let r : Option L.Denot = Some made in
+    let good = raw_good K Z LZ ghosts b o h fits in let made : L.Denot = record { at = block_ptr b o; alloc = a; value = x } in let r : Option L.Denot = Some made in
     sets ! (of_opd ! (get ! refl)) refl (tt, tt) $
     sets ! (agg ! (and_then ! (get ! refl) (and_then ! (get ! refl) (no_more !)))) refl good $
     sets ! (agg ! (and_then ! (lit ! tt) (and_then ! (get ! refl) (no_more !)))) refl (and_tt (has_ty (layout Z) h && true) good.0, (record { fits = lit< tt }, (good.1, tt))) $
-    loose_in K Z LZ ghosts ! b o h a x $
+    raw_in K Z LZ ghosts ! b o h a x $
     returns ! (look_at ! 0 refl) $ free_all ! refl $
     use1 𝓛 (‵ ((option.the_row L).own_val r (live 1 (of_list (both (vptr b o) h ∷ [])) ∷ []))) (Some-of 𝓛 L made (both (vptr b o) h)) $
     use0 𝓛 (raw (fact 𝓤 (Silent r))) (fact_i 𝓤 (Silent r) (emp 𝓤) (λ q. some_is_not_none made (d.value ≡ None) q)) $
