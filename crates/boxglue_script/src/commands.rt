@@ -20,8 +20,8 @@ use crate::line_content::{LineContent, content_of};
 use crate::name::Name;
 use crate::parameter::{names_first_lines, number_name, size_name, skip_name};
 use job_machine::{
-    AppendBox, BoxForm, Command, CountNumber, Counting, FontLoad, FontName, FontSize, Opening,
-    Parameter, Register, Splitting, Target, Transfer, Unboxing,
+    AppendBox, BoxForm, Command, CountNumber, Counting, FontLoad, FontName, FontSize, HeapFontLoad,
+    Opening, Parameter, Register, Splitting, Target, Transfer, Unboxing,
 };
 use node_core::{FirstLines, Glue, IntParameter, Kind, Rule, RuleSize};
 use scaled_core::Dimen;
@@ -58,7 +58,7 @@ impl<'a> Fields<'a> {
         Ok(FontWords { slot, name, size })
     }
 
-    /// The command of what follows `font`. The error is a refused growth, for the name, so only where there is such a command.
+    /// The command of what follows `font`. The error is a refused growth, for the name or its place, so only where there is such a command.
     fn font(&mut self, alloc: Global) -> Result<LineContent, AllocError>
         ensures read { IfOk result (λ content. content ≡ content_of (font_of (fields_of self.old.rest.now))) }
         ensures memory { OnErr result (IsOk (font_of (fields_of self.old.rest.now))) }
@@ -348,19 +348,20 @@ struct FontWords<'a> {
 }
 
 impl<'a> FontWords<'a> {
-    /// The command's data, with a copy of the name.
-    fn load(&self, alloc: Global) -> Result<FontLoad, AllocError>
+    /// The command's data, with a copy of the name, on the heap.
+    fn load(&self, alloc: Global) -> Result<HeapFontLoad, AllocError>
         requires { IsFontName self.now.name.now }
         ensures { IfOk result (λ load. load ≡ record { slot = self.now.slot; name = self.now.name.now; size = self.now.size }) }
     {
         let Some(name) = FontName::try_new(self.name.to_vec(alloc)?) else {
             unreachable!()
         };
-        Ok(FontLoad {
+        let load = FontLoad {
             slot: self.slot,
             name,
             size: self.size,
-        })
+        };
+        HeapFontLoad::new(alloc, load)
     }
 }
 

@@ -26,7 +26,7 @@ pub fn run_one_rule_page<W: Write>(alloc: Global, output: &mut W) -> Result<()> 
 /// Makes a page of the paragraph `c c`. The answer is to the end of the paragraph.
 pub fn run_text_page<W: Write>(alloc: Global, output: &mut W) -> Result<()> {
     let files = [FontFile::new(tiny_name(alloc)?, tiny(alloc)?)];
-    let commands = text_commands(tiny_name(alloc)?, Vec::from_slice(alloc, b"c c")?);
+    let commands = text_commands(alloc, tiny_name(alloc)?, Vec::from_slice(alloc, b"c c")?)?;
     let (memory, replies) = text_page(alloc, &files, &commands)?;
     if let Some(Ok(paragraph)) = replies.get(5) {
         print_page(output, "text_page", paragraph, memory.bytes().len())?;

@@ -1,13 +1,17 @@
 //! A page of text is made by a job.
 
 use job_core::{
-    BoxForm, Characters, Command, FontFile, FontLoad, FontName, Job, Memory, Opening, Refusal,
-    Register, Reply, Target,
+    BoxForm, Characters, Command, FontFile, FontLoad, FontName, HeapFontLoad, Job, Memory, Opening,
+    Refusal, Register, Reply, Target,
 };
-use std::alloc::Global;
+use std::alloc::{AllocError, Global};
 
 /// The commands of a page with a paragraph of text, in the font of this name.
-pub fn text_commands(name: FontName, text: Vec<u8>) -> [Command; 8] {
+pub fn text_commands(
+    alloc: Global,
+    name: FontName,
+    text: Vec<u8>,
+) -> Result<[Command; 8], AllocError> {
     let load = FontLoad {
         slot: 0,
         name,
@@ -18,8 +22,8 @@ pub fn text_commands(name: FontName, text: Vec<u8>) -> [Command; 8] {
         target: Target::Natural,
         into: Some(Register::FIRST),
     };
-    [
-        Command::LoadFont(load),
+    Ok([
+        Command::LoadFont(HeapFontLoad::new(alloc, load)?),
         Command::UseFont(0),
         Command::Open(opening),
         Command::Paragraph,
@@ -27,7 +31,7 @@ pub fn text_commands(name: FontName, text: Vec<u8>) -> [Command; 8] {
         Command::End, // Answer::Paragraph { lines, pass, overhang, demerits }
         Command::End,
         Command::Ship(Register::FIRST),
-    ]
+    ])
 }
 
 /// The DVI file of the pages that these commands ship, and the reply to each command. The fonts are those of these files.

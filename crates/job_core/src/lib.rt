@@ -10,7 +10,7 @@ mod whole_job;
 pub use device_job::Job;
 pub use dvi_device::{Device, DeviceFault, Fuse, Memory, Rest};
 pub use job_machine::{
-    Answer, AppendBox, BoxForm, Characters, Command, CountNumber, Counting, FontLoad,
+    Answer, AppendBox, BoxForm, Characters, Command, CountNumber, Counting, FontLoad, HeapFontLoad,
     NumberParameter, Opening, Parameter, Refusal, Register, Reply, SizeParameter, Sizes,
     SkipParameter, Summary, Transfer, Unboxing, run_laws, totality_laws,
 };

@@ -1,6 +1,6 @@
 //! The commands of a job.
 
-ghost use Rattle.std.specs.Prelude.{◌≡◌, ◌<◌};
+ghost use Rattle.std.specs.Prelude.{◌≡◌, ◌<◌, IfOk};
 ghost use Rattle.std.specs.Option.{SomeIff};
 ghost use Rattle.job_machine.specs.BoxForms.{kind_of};
 
@@ -9,7 +9,9 @@ use node_core::limits::REGISTERS;
 use node_core::{Glue, IntParameter, Kind, Rule};
 use pack_core::Target;
 use scaled_core::{COUNTS, Dimen};
+use std::alloc::{AllocError, Global};
 use std::marker::Model;
+use std::ops::Deref;
 use tfm_core::{FontName, FontSize};
 
 /// The number of a box register: 0 to 32767.
@@ -138,6 +140,44 @@ pub struct FontLoad {
     pub size: Option<FontSize>,
 }
 
+/// The data of a font command on the heap, so that a line of a script takes 40 bytes in place of 56. In contracts its value is the `FontLoad`: a
+/// clause sees no pointer.
+#[derive(Debug, Drop)]
+pub struct HeapFontLoad {
+    content: Box<FontLoad>,
+}
+
+impl Model for HeapFontLoad {
+    ghost use Rattle.job_machine.specs.declared.command.FontLoad.{FontLoad};
+
+    ghost Value = { FontLoad };
+
+    ghost view = { λ load. load.content.value };
+}
+
+impl HeapFontLoad {
+    /// Moves a `FontLoad` to the heap. The error is a refused growth.
+    pub fn new(alloc: Global, load: FontLoad) -> Result<HeapFontLoad, AllocError>
+        ensures { IfOk result (λ heap. heap ≡ load) }
+    {
+        let content = Box::new(alloc, load)?;
+        Ok(HeapFontLoad { content })
+    }
+}
+
+impl Deref for HeapFontLoad {
+    type Target = FontLoad;
+
+    ghost deref_gives = { λ heap load. load ≡ heap };
+
+    #[inline]
+    fn deref(&self) -> &FontLoad
+        ensures { result.now ≡ self.now }
+    {
+        &self.content
+    }
+}
+
 /// The form of the box that an open list becomes.
 #[derive(Clone, Copy, Debug, PartialEq, Eq)]
 pub enum BoxForm {
@@ -215,7 +255,7 @@ pub struct Counting {
 #[derive(Debug, Drop)]
 pub enum Command {
     /// `font`: reads a font file into a slot that has no font.
-    LoadFont(FontLoad),
+    LoadFont(HeapFontLoad),
     /// `use`: chooses the font of a slot as the current one.
     UseFont(u8),
     /// `hbox`, `vbox` and `vtop`: opens a list, which becomes a box at its end.

@@ -19,8 +19,8 @@ ghost use Rattle.std.specs.Prelude.{◌≡◌};
 ghost use Rattle.job_machine.specs.OpenLists.{kind_by};
 
 pub use command::{
-    AppendBox, BoxForm, Characters, Command, CountNumber, Counting, FontLoad, Opening, Register,
-    Splitting, Transfer, Unboxing,
+    AppendBox, BoxForm, Characters, Command, CountNumber, Counting, FontLoad, HeapFontLoad,
+    Opening, Register, Splitting, Transfer, Unboxing,
 };
 use node_core::{Kind, NodeList};
 pub use pack_core::Target;
