@@ -2,6 +2,7 @@ pub mod LineLemmas
 pub mod PlainTexts
 pub mod FieldLemmas
 pub mod Numbers
+pub mod ShortNumbers
 pub mod CountNumbers
 pub mod FieldLaws
 pub mod AmountLaws

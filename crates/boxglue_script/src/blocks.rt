@@ -41,7 +41,12 @@ impl LineBlocks {
         if self.last.len() >= most {
             self.begin_block(most)?;
         }
-        Ok(self.last.push(line)?)
+        // `Vec::push` would call a function that tests the space again.
+        if self.last.len() == self.last.capacity() {
+            self.last.reserve(1)?;
+        }
+        self.last.push_reserved(line);
+        Ok(())
     }
 
     /// Begins a block, with space for `most` lines at once. The space is taken before a block moves, so that no line is lost where memory is refused.

@@ -1,12 +1,15 @@
 //! The value of one field: a number in its range, the name of a font, a size.
 
-ghost use Rattle.std.specs.Prelude.{◌≡◌, ℤ, Ok, Err, IfNone, IfSome, IsTrue, FitsSigned};
+ghost use Rattle.std.specs.Prelude.{◌≡◌, ◌≤◌, ℤ, Ok, Err, IfNone, IfSome, IsTrue, FitsSigned, length};
 ghost use Rattle.std.specs.Int.{w64};
 ghost use Rattle.std.specs.List.{list_all};
+ghost use Rattle.std.specs.Option.{SomeIff};
+ghost use Rattle.std.specs.Str.Parse.{IsNumeral, digits_value};
 ghost use Rattle.tfm_core.specs.NamedBytes.{IsFontName};
 ghost use Rattle.boxglue_script.specs.Grammar.{register_count, slot_count, counter_count, first_lines_count, IsInteger, is_name_byte};
 ghost use Rattle.boxglue_script.specs.Private.Reading.{number_among, number_of, count_value, count_of, size_of_font, is_short, is_name, size_of};
 ghost use Rattle.boxglue_script.specs.Private.Reading.{penalty_of};
+ghost use Rattle.boxglue_script.specs.declared.values.TheConstants.{MAX_SHORT_DIGITS};
 
 use crate::cause::Cause;
 use job_machine::{CountNumber, FontSize, Register};
@@ -178,9 +181,31 @@ pub(crate) fn penalty_of(field: &[u8]) -> Option<IntParameter>
     }
 }
 
-/// The whole number of signed 64 bits that a field writes with an optional sign and digits. All numbers of a script are read here.
+/// How many digits `short_number` reads at most: their number is below 10^9, so that no sum overflows.
+const MAX_SHORT_DIGITS: usize = 9;
+
+/// The number that 1 to 9 digits write, tested and read in one walk. None of every other text, which may still write a number: with a sign, or a
+/// longer one.
+#[tactic(auto, using(crate::proofs::ShortNumbers::short_numbers))]
+fn short_number(field: &[u8]) -> Option<u32>
+    ensures { SomeIff result (IsNumeral 10 field.now × length field.now ≤ MAX_SHORT_DIGITS) (digits_value 10 field.now) }
+{
+    if field.is_empty() || field.len() > MAX_SHORT_DIGITS {
+        return None;
+    }
+    let mut number = 0;
+    for byte in field {
+        if !byte.is_ascii_digit() {
+            return None;
+        }
+        number = 10 * number + u32::from(*byte - b'0');
+    }
+    Some(number)
+}
+
+/// The whole number of signed 64 bits that a field writes, by the standard library.
 #[tactic(auto, using(crate::proofs::Numbers::integers))]
-pub(crate) fn integer_of(field: &[u8]) -> Option<i64>
+fn parsed_integer(field: &[u8]) -> Option<i64>
     ensures integer_read { IfSome result (λ number. IsInteger field.now number) }
     ensures none { IfNone result ((number : ℤ) → IsInteger field.now number → FitsSigned w64 number → ⊥) }
 {
@@ -191,4 +216,16 @@ pub(crate) fn integer_of(field: &[u8]) -> Option<i64>
         return None;
     };
     Some(number)
+}
+
+/// The whole number of signed 64 bits that a field writes with an optional sign and digits. All numbers of a script are read here.
+#[tactic(auto, using(crate::proofs::ShortNumbers::unsigned_integer))]
+pub(crate) fn integer_of(field: &[u8]) -> Option<i64>
+    ensures integer_read { IfSome result (λ number. IsInteger field.now number) }
+    ensures none { IfNone result ((number : ℤ) → IsInteger field.now number → FitsSigned w64 number → ⊥) }
+{
+    match short_number(field) {
+        Some(number) => Some(i64::from(number)),
+        None => parsed_integer(field),
+    }
 }
