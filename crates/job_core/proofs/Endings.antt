@@ -1,5 +1,5 @@
 -- The end of a job and of its machine.
-use Rattle.std.proofs.Common.{◌+◌, ◌≡◌, ◌≢◌, inl, inr, ℕ, Bool, true, false, List, [], length, Option, Some, None, Ok, Err, refl, ap, subst, sym, ◌∙◌}
+use Rattle.std.proofs.Common.{◌+◌, ◌≡◌, ◌≢◌, ◌⊎◌, inl, inr, ℕ, Bool, true, false, List, [], length, Option, Some, None, Ok, Err, refl, ap, subst, sym, ◌∙◌}
 use Rattle.std.specs.Prelude.{◌==◌, not, map, IfSome}
 use Rattle.std.proofs.lemmas.Option.{IfSome_then}
 use Rattle.job_machine.specs.declared.replies.Refusal.TheVariants.{OutOfMemory, Device, JobOver, ListsOpen}
@@ -14,6 +14,7 @@ use Rattle.dvi_ops.specs.File.{IsFileOfPages}
 use Rattle.page_core.specs.Marks.{read_page}
 use Rattle.dvi_write.specs.Shippable.{GivesFonts}
 use Rattle.dvi_write.specs.declared.fault.WriteFault.{WriteFault}
+use Rattle.dvi_write.specs.declared.fault.WriteFault.TheVariants as faults
 use Rattle.dvi_write.specs.Writing.{Writing, HasWritten, MayFail}
 use Rattle.job_machine.specs.State.{State}
 use Rattle.job_machine.specs.Checks.{first_refusal}
@@ -25,7 +26,7 @@ use Rattle.job_state.specs.Private.Loaded.{AreLoaded}
 use Rattle.job_state.proofs.LoadedFonts.{loaded_in, widths-loaded}
 use Rattle.tfm_core.specs.NamedBytes.{NamedBytes}
 use Rattle.job_core.specs.Jobs.{JobView, writing_of, IsProperFrontOf, due_bytes, Represents, FinishesTo}
-use Rattle.job_core.specs.Private.Sound.{view_of}
+use Rattle.job_core.specs.Private.Sound.{view_of, write_refusal}
 use Rattle.job_core.specs.Shown.{GivesFiles}
 use Rattle.job_core.proofs.FreshDevices.{before_writing, said, said_part, writer_has}
 use Rattle.job_core.proofs.Moves.{stops, due_landed}
@@ -150,6 +151,18 @@ losing old new may running some goes fails grows part keeps m holds = (
   stops old new m m.flight holds goes grows (IfSome_then new.bytes_written (part m holds) (λ bytes front. inl (none_flies old m holds may, inr front)))
       (ended_past old new m holds may (keeps m holds)),
 )
+
+by_fault : (old new : JobView) (fault : WriteFault) → (fault ≡ faults.OutOfMemory) ⊎ (fault ≡ faults.Device) → (fault ≢ faults.Device → FinishesTo old (Err OutOfMemory) new)
+    → (fault ≡ faults.Device → FinishesTo old (Err Device) new) → FinishesTo old (Err (write_refusal fault)) new
+by_fault old new fault (inl is) memory lost =
+    subst (λ (f : WriteFault). FinishesTo old (Err (write_refusal f)) new) (sym is) (memory (λ device. absurd (cc)))
+by_fault old new fault (inr is) memory lost = subst (λ (f : WriteFault). FinishesTo old (Err (write_refusal f)) new) (sym is) (lost is)
+
+-- The end of a file that is not over fails for want of memory or by the device.
+pub unfinished : (old new : JobView) (w : Writing) (fault : WriteFault) → w.over ≡ false → MayFail w fault → (fault ≢ faults.Device → FinishesTo old (Err OutOfMemory) new)
+    → (fault ≡ faults.Device → FinishesTo old (Err Device) new) → FinishesTo old (Err (write_refusal fault)) new
+unfinished old new w fault running (inl h) memory lost = absurd (true_and_false h.0 running)
+unfinished old new w fault running (inr h) memory lost = by_fault old new fault h.2 memory lost
 
 -- A job whose writer has ended is stopped.
 pub stopped : (kept : JobStateView) (w now : Writing) → now.so_far ≡ w.so_far → now.over ≡ true → (view_of kept now).state ≡ record ((view_of kept w).state) { over = true }

@@ -22,7 +22,7 @@ use std::alloc::{AllocError, Global};
 use std::marker::Model;
 use tfm_core::FontFile;
 
-/// The refusal of a job if its writer does not take a page.
+/// The refusal of a job if its writer does not take a page, or does not finish the file.
 fn write_refusal(fault: WriteFault) -> Refusal
     ensures { result ≡ write_refusal fault }
 {
@@ -204,8 +204,7 @@ impl<D: Device> Job<D> {
         }
         let summary = match self.writer.finish(self.alloc, self.kept.fonts()) {
             Ok(summary) => summary,
-            Err(WriteFault::Device) => return Err(Refusal::Device),
-            Err(_) => return Err(Refusal::OutOfMemory),
+            Err(fault) => return Err(write_refusal(fault)),
         };
         Ok(summary)
     }

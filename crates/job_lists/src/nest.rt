@@ -107,7 +107,8 @@ impl Nest {
         Ok(())
     }
 
-    /// Appends a node to the innermost list. Where memory is refused, nothing changes.
+    /// Appends a node to the innermost list. If no list is open, nothing changes, as `with_nodes` says: the machine refuses every such command with
+    /// `NoOpenList`, and callers have tested that before. If memory is refused, nothing changes either.
     #[tactic(auto, using(job_machine::proofs::States::same_innermost))]
     pub fn append(&mut self, node: Node) -> Result<(), AllocError>
         requires { length (nodes_of (items_in (innermost self.old))) < MAX_ITEMS }
@@ -125,7 +126,7 @@ impl Nest {
     }
 
     /// Appends a rule to the innermost list. No glue is computed for a box after a rule, so the previous depth is then ignored.
-    /// Where memory is refused, nothing changes.
+    /// If no list is open, nothing changes, as in `append`, or if memory is refused.
     #[tactic(auto, using(job_machine::proofs::States::same_innermost))]
     pub fn append_rule(&mut self, rule: Rule) -> Result<(), AllocError>
         requires { length (nodes_of (items_in (innermost self.old))) < MAX_ITEMS }

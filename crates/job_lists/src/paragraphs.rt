@@ -1,6 +1,6 @@
 //! Paragraphs are opened inside vertical lists, and end as lines in the list around them.
 
-ghost use Rattle.std.specs.Prelude.{◌≡◌, ◌++◌, ◌∷◌, [], None, Ok, IfOk, OnOk, OnErr};
+ghost use Rattle.std.specs.Prelude.{◌≡◌, ◌++◌, ◌∷◌, [], None, Some, Ok, IfOk, OnOk, OnErr};
 ghost use Rattle.vert_core.specs.Paragraphs.{SetParagraph};
 ghost use Rattle.job_lists.specs.Private.EndedParagraphs.{refusal_of};
 ghost use Rattle.job_machine.specs.State.{innermost, outer, items_in};
@@ -43,26 +43,28 @@ fn answer_of(figures: &AppendedParagraph) -> Answer
     }
 }
 
-/// The refusal of a paragraph that is not set. None where memory was refused, which is no refusal of the machine's table.
-fn paragraph_refusal(fault: ParagraphFault) -> Option<Refusal>
-    ensures { result ≡ paragraph_refusal fault }
+/// The refusal of a paragraph that is not set. The error is a refused growth, which the machine's table does not have.
+fn paragraph_refusal(fault: ParagraphFault) -> Result<Refusal, AllocError>
+    ensures refusal { IfOk result (λ refusal. paragraph_refusal fault ≡ Some refusal) }
+    ensures memory { OnErr result (paragraph_refusal fault ≡ None) }
 {
     match fault {
-        ParagraphFault::InfiniteShrink => Some(Refusal::InfiniteShrink),
-        ParagraphFault::TooManyBreaks => Some(Refusal::TooManyBreaks),
-        ParagraphFault::DimensionTooLarge => Some(Refusal::DimensionTooLarge),
-        ParagraphFault::OutOfMemory => None,
+        ParagraphFault::InfiniteShrink => Ok(Refusal::InfiniteShrink),
+        ParagraphFault::TooManyBreaks => Ok(Refusal::TooManyBreaks),
+        ParagraphFault::DimensionTooLarge => Ok(Refusal::DimensionTooLarge),
+        ParagraphFault::OutOfMemory => Err(AllocError),
     }
 }
 
-/// The refusal of lines that are not appended. None where memory was refused.
-fn refusal_of(unappended: UnappendedLines) -> Option<Refusal>
-    ensures { result ≡ refusal_of unappended }
+/// The refusal of lines that are not appended. The error is a refused growth.
+fn lines_refusal(unappended: UnappendedLines) -> Result<Refusal, AllocError>
+    ensures refusal { IfOk result (λ refusal. refusal_of unappended ≡ Some refusal) }
+    ensures memory { OnErr result (refusal_of unappended ≡ None) }
 {
     match unappended {
         UnappendedLines::Unset(fault) => paragraph_refusal(fault),
-        UnappendedLines::TooDeep => Some(Refusal::TooDeep),
-        UnappendedLines::TooLong => Some(Refusal::ListTooLong),
+        UnappendedLines::TooDeep => Ok(Refusal::TooDeep),
+        UnappendedLines::TooLong => Ok(Refusal::ListTooLong),
     }
 }
 
@@ -111,10 +113,7 @@ impl Nest {
         }
         match self.append_paragraph(params) {
             Ok(figures) => Ok(Ok(answer_of(&figures))),
-            Err(unappended) => match refusal_of(unappended) {
-                Some(refusal) => Ok(Err(refusal)),
-                None => Err(AllocError),
-            },
+            Err(unappended) => Ok(Err(lines_refusal(unappended)?)),
         }
     }
 }

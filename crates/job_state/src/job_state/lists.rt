@@ -1,6 +1,6 @@
 //! Lists and paragraphs are opened, and end as boxes or lines.
 
-ghost use Rattle.std.specs.Prelude.{◌≡◌, ◌≤◌, None, IfOk, OnOk, OnErr, length};
+ghost use Rattle.std.specs.Prelude.{◌≡◌, ◌≤◌, None, Some, IfOk, IfErr, OnOk, OnErr, length};
 ghost use Rattle.job_machine.specs.declared.command.Command.TheVariants as commands;
 ghost use Rattle.job_state.specs.JobStateView.{before_shipping};
 ghost use Rattle.node_core.specs.Nodes.{nodes_of};
@@ -70,7 +70,7 @@ impl JobState {
             return Ok(Err(Refusal::DimensionTooLarge));
         };
         let PackedBox { box_node, badness } = packed;
-        if let Some(refusal) = self.refusal_of(&into, &box_node) {
+        if let Err(refusal) = self.check_place(&into, &box_node) {
             self.nest.refill(box_node.list);
             return Ok(Err(refusal));
         }
@@ -79,21 +79,24 @@ impl JobState {
         Ok(Ok(Answer::Packed(sizes, badness)))
     }
 
-    /// Why the box of the innermost list may not go into its register or to the end of the enclosing list; None if it may. Depth is checked
-    /// only at `end`, here and for the lines of a paragraph, so each box in a register, a list or a page is at most `MAX_DEPTH` deep.
-    fn refusal_of(&self, into: &Option<Register>, box_node: &BoxNode) -> Option<Refusal>
-        ensures { result ≡ first_refusal (place_checks self.now.params (outer self.now.nest) into.now box_node.now) }
+    /// Whether the box of the innermost list may go into its register or to the end of the enclosing list; the error says why it may not. Depth is
+    /// checked only at `end`, here and for the lines of a paragraph, so each box in a register, a list or a page is at most `MAX_DEPTH` deep.
+    fn check_place(&self, into: &Option<Register>, box_node: &BoxNode) -> Result<(), Refusal>
+        ensures ok { OnOk result (first_refusal (place_checks self.now.params (outer self.now.nest) into.now box_node.now) ≡ None) }
+        ensures err { IfErr result
+            (λ refusal. first_refusal (place_checks self.now.params (outer self.now.nest) into.now box_node.now) ≡ Some refusal) }
     {
         if box_node.depth() > MAX_DEPTH {
-            return Some(Refusal::TooDeep);
+            return Err(Refusal::TooDeep);
         }
         if into.is_some() {
-            return None;
+            return Ok(());
         }
         let Some(around) = self.nest.around() else {
-            return Some(Refusal::NoOpenList);
+            return Err(Refusal::NoOpenList);
         };
-        space_for_box(around, box_node, &self.params).err()
+        space_for_box(around, box_node, &self.params)?;
+        Ok(())
     }
 
     /// Closes the innermost list, and puts its box into a register or at the end of the enclosing list. If memory is refused, the list is open

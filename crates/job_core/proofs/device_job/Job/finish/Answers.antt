@@ -1,5 +1,9 @@
-use Rattle.std.proofs.Common.{ap, sym, subst, ◌∙◌, Err, map}
+use Rattle.std.proofs.Common.{◌≡◌, ap, sym, subst, ◌∙◌, Err, map}
 use Rattle.dvi_write.specs.declared.fault.WriteFault.{WriteFault}
+use Rattle.dvi_write.specs.Writing.{Writing}
+use Rattle.job_machine.specs.declared.replies.Refusal.{Refusal}
+use Rattle.job_machine.specs.declared.replies.Refusal.TheVariants.{OutOfMemory, Device}
+use Rattle.job_core.specs.Jobs.{FinishesTo}
 use Rattle.dvi_device.proofs.PastLaws.{keeps_taken}
 use Rattle.tfm_core.specs.Slots.{Slots}
 use Rattle.dvi_write.specs.Closing.{IsClosedFor}
@@ -9,8 +13,9 @@ use Rattle.page_core.specs.Marks.{read_page}
 use Rattle.dvi_write.specs.Shippable.{GivesFonts}
 use Rattle.job_core.specs.Private.Sound.{view_of}
 use Rattle.job_core.proofs.FreshDevices.{said}
-use Rattle.job_core.proofs.Endings.{over_refused, open_refused, may_finish, has_written_by, fonts_are, sent_by, part_by, kept_by, some_where, finished, losing, stopped, filed, count_by, size_by}
+use Rattle.job_core.proofs.Endings.{over_refused, open_refused, may_finish, has_written_by, fonts_are, sent_by, part_by, kept_by, some_where, finished, wanting, losing, unfinished, stopped, filed, count_by, size_by}
 use Rattle.job_core.proofs.BoundedFiles.{small_file}
+use Rattle.job_core.proofs.Ships.{is_lost, is_other}
 use Rattle.job_core.proofs.device_job.Job.finish.Goals as goal
 
 pub returns-then-is_over-clause-finished : goal.returns-then-is_over-clause-finished
@@ -89,27 +94,42 @@ returns-clause-small g c =
     let kept = c.self.inside.kept in
     small_file kept.files kept.fonts c.fonts.result.now c.self.inside.writer _ c.fonts.ensures c.self.invariant.0.fonts (c.self.invariant.1 (sym c.is_over.ensures ∙ c.if-is_over.false)) c.in-Ok.ensures.size
 
-pub returns-in-Err-Device-clause-finished : goal.returns-in-Err-Device-clause-finished
-returns-in-Err-Device-clause-finished g c =
+pub returns-in-Err-clause-finished : goal.returns-in-Err-clause-finished
+returns-in-Err-clause-finished g c =
     let running = sym c.is_over.ensures ∙ c.if-is_over.false in
-    let old = view_of c.self.inside.kept c.self.inside.writer in
-    let lost = c.in-Err-Device.is ∙ ap (λ (f : WriteFault). Err f) c.in-Err-Device.field-0-is in
-    let more = c.finish.ensures.failed lost in
+    let kept = c.self.inside.kept in
+    let w = c.self.inside.writer in
+    let now = c.finish.new.self in
+    let old = view_of kept w in
+    let fonts = c.fonts.result.now in
+    let may = may_finish old.state running (sym c.is_open.ensures ∙ c.if-is_open.false) in
+    let some = some_where w c.in-Err.fault running c.in-Err.ensures.refused in
     rw (← c.self.view_is)
-    (losing old _ (may_finish old.state running (sym c.is_open.ensures ∙ c.if-is_open.false)) running
-    (some_where c.self.inside.writer _ running c.in-Err-Device.ensures.refused)
-    (stopped c.self.inside.kept c.self.inside.writer c.finish.new.self c.finish.ensures.so_far (c.finish.ensures.lost lost)) more (c.finish.ensures.goes_on.more, c.finish.ensures.goes_on.grows)
+    (subst (λ (x : Refusal). FinishesTo old (Err x) (view_of kept now)) (sym c.write_refusal.ensures)
+    (unfinished old (view_of kept now) w c.in-Err.fault running c.in-Err.ensures.refused
+    (λ other. subst (λ (v : Writing). FinishesTo old (Err OutOfMemory) (view_of kept v)) (sym (c.in-Err.ensures.same other)) (wanting old may running some))
+    (λ is.
+    let lost = c.in-Err.is ∙ ap (λ (f : WriteFault). Err f) is in
+    losing old (view_of kept now) may running some (stopped kept w now c.finish.ensures.so_far (c.finish.ensures.lost lost)) (c.finish.ensures.failed lost)
+    (c.finish.ensures.goes_on.more, c.finish.ensures.goes_on.grows)
+    (λ m holds. part_by old m fonts now.bytes_written holds running c.fonts.ensures some (c.finish.ensures.since lost))
     (λ m holds.
-    part_by old m c.fonts.result.now c.finish.new.self.bytes_written holds running c.fonts.ensures (some_where c.self.inside.writer _ running c.in-Err-Device.ensures.refused) (c.finish.ensures.since lost))
-    (λ m holds.
-    kept_by old m c.fonts.result.now old.began c.finish.new.self.began c.finish.new.self.past holds c.fonts.ensures c.finish.ensures.goes_on.began
-    (c.finish.ensures.past_lost lost _ m.pages (has_written_by old m c.fonts.result.now holds running c.fonts.ensures))))
+    kept_by old m fonts old.began now.began now.past holds c.fonts.ensures c.finish.ensures.goes_on.began
+    (c.finish.ensures.past_lost lost _ m.pages (has_written_by old m fonts holds running c.fonts.ensures))))))
 
-pub returns-in-Err-Device-clause-part : goal.returns-in-Err-Device-clause-part
-returns-in-Err-Device-clause-part g c is =
+pub returns-in-Err-clause-same : goal.returns-in-Err-clause-same
+returns-in-Err-clause-same g c = λ other.
+    rw (← c.self.view_is)
+    (ap (λ (w : Writing). view_of c.self.inside.kept w) (c.in-Err.ensures.same (is_other c.in-Err.fault (λ lost. other (c.write_refusal.ensures ∙ lost)))))
+
+pub returns-in-Err-clause-part : goal.returns-in-Err-clause-part
+returns-in-Err-clause-part g c = λ replied.
     let running = sym c.is_over.ensures ∙ c.if-is_over.false in
     let old = view_of c.self.inside.kept c.self.inside.writer in
-    let lost = c.in-Err-Device.is ∙ ap (λ (f : WriteFault). Err f) c.in-Err-Device.field-0-is in
+    let device : c.write_refusal.result ≡ Device = cc (replied) in
+    let is = is_lost c.in-Err.fault (Err c.write_refusal.result) (ap (λ (x : Refusal). Err x) c.write_refusal.ensures) (ap (λ (x : Refusal). Err x) device) in
+    let lost = c.in-Err.is ∙ ap (λ (f : WriteFault). Err f) is in
     rw (← c.self.view_is)
     (λ m holds.
-    part_by old m c.fonts.result.now c.finish.new.self.bytes_written holds running c.fonts.ensures (some_where c.self.inside.writer _ running c.in-Err-Device.ensures.refused) (c.finish.ensures.since lost))
+    part_by old m c.fonts.result.now c.finish.new.self.bytes_written holds running c.fonts.ensures (some_where c.self.inside.writer c.in-Err.fault running c.in-Err.ensures.refused)
+    (c.finish.ensures.since lost))

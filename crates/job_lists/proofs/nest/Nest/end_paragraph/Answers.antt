@@ -7,10 +7,10 @@ use Rattle.job_machine.specs.Paragraphs.{set_after, paragraph_answer}
 use Rattle.job_lists.proofs.ParagraphEnds.{refused_so}
 use Rattle.job_lists.proofs.nest.Nest.end_paragraph.Goals as goal
 
-pub returns-in-Some-clause-reply : goal.returns-in-Some-clause-reply
-returns-in-Some-clause-reply c =
+pub returns-in_ok-lines_refusal-in-Err-clause-reply : goal.returns-in_ok-lines_refusal-in-Err-clause-reply
+returns-in_ok-lines_refusal-in-Err-clause-reply c =
     let around = outer c.args.self.now in
     let items = items_in (innermost c.args.self.now) in
     let some : is_none (innermost around) ≡ false = search rules in
     sym (ap (λ (refusal : Option Refusal). reply_by refusal (paragraph_answer (set_after c.args.params.now around items)))
-    (refused_so c.args.params.now around items c.in-Err.unappended c.in-Some.refusal some c.in-Err.ensures.refused (sym c.refusal_of.ensures ∙ c.in-Some.is)))
+    (refused_so c.args.params.now around items c.in-Err.unappended _ some c.in-Err.ensures.refused c.in_ok-lines_refusal-in-Err.ensures.refusal))
