@@ -40,3 +40,7 @@ IsReadableFile contents = IfSome contents (λ file. (bytes : List ℕ) × (file 
 -- A reader lost at least so many bytes and at most so many, all from the front of those that it had, where these are known.
 abbrev pub LosesFront : (least most : ℕ) → (old new : Option (List ℕ)) → Type 0
 LosesFront least most old new = (lost : List ℕ) × Consumes old new lost × (least ≤ length lost) × (length lost ≤ most)
+
+-- The greatest number of bytes that one call of a reader brings.
+abbrev pub one_call : ℕ
+one_call = 16384

@@ -3,7 +3,7 @@
 ghost use Rattle.std.specs.Prelude.{◌≡◌, ◌≢◌, ◌≤◌, ◌<◌, ◌+◌, ◌++◌, length, Err, IfOk, IfErr, OnOk};
 ghost use Rattle.std.specs.Io.KnownBytes.{Consumes, IsAtEnd};
 ghost use Rattle.std.specs.IoError.{error_kind};
-ghost use Rattle.boxglue_words.specs.Readings.{LosesFront};
+ghost use Rattle.boxglue_words.specs.Readings.{LosesFront, one_call};
 ghost use Rattle.boxglue_words.specs.declared.host.TheConstants.{READ_LIMIT};
 
 use crate::host::{HostFault, READ_LIMIT};
@@ -11,7 +11,7 @@ use std::alloc::Global;
 use std::io::{Error, ErrorKind, Read};
 
 /// How many bytes one call asks for.
-const BUFFER: usize = 65_536;
+const BUFFER: usize = 16_384;
 
 /// Reads all bytes that a reader has left, as `read_within` does, within `READ_LIMIT` bytes and as many calls.
 pub fn read_all<R: Read>(alloc: Global, reader: &mut R) -> Result<Vec<u8>, HostFault>
@@ -19,7 +19,7 @@ pub fn read_all<R: Read>(alloc: Global, reader: &mut R) -> Result<Vec<u8>, HostF
     ensures end { IfOk result (λ bytes. IsAtEnd (R.remaining reader.new)) }
     ensures length_bounded { IfOk result (λ bytes. length bytes.items ≤ READ_LIMIT) }
     ensures memory { result ≡ Err HostFault.OutOfMemory → LosesFront 1 READ_LIMIT (R.remaining reader.old) (R.remaining reader.new) }
-    ensures failed { result ≡ Err HostFault.Failed → LosesFront 0 (READ_LIMIT + 65536) (R.remaining reader.old) (R.remaining reader.new) }
+    ensures failed { result ≡ Err HostFault.Failed → LosesFront 0 (READ_LIMIT + one_call) (R.remaining reader.old) (R.remaining reader.new) }
 {
     read_within(alloc, reader, READ_LIMIT)
 }
@@ -38,7 +38,7 @@ pub fn read_within<R: Read>(
     ensures end { IfOk result (λ bytes. IsAtEnd (R.remaining reader.new)) }
     ensures length_bounded { IfOk result (λ bytes. length bytes.items ≤ limit) }
     ensures memory { result ≡ Err HostFault.OutOfMemory → LosesFront 1 limit (R.remaining reader.old) (R.remaining reader.new) }
-    ensures failed { result ≡ Err HostFault.Failed → LosesFront 0 (limit + 65536) (R.remaining reader.old) (R.remaining reader.new) }
+    ensures failed { result ≡ Err HostFault.Failed → LosesFront 0 (limit + one_call) (R.remaining reader.old) (R.remaining reader.new) }
 {
     let mut bytes = Vec::new(alloc);
     let mut buffer = [0u8; BUFFER];

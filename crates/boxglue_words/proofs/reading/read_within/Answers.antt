@@ -13,5 +13,5 @@ returns-in_err-push_piece-in-Ok-clause-memory g c = λ wants.
 pub returns-in_err-push_piece-in-Ok-clause-failed : goal.returns-in_err-push_piece-in-Ok-clause-failed
 returns-in_err-push_piece-in-Ok-clause-failed g c = λ failed.
     let bound = c.in-Ok.ensures.bound in
-    loses_piece 0 (c.args.limit + 65536) _ _ _ c.loop.bytes.items (take c.in-Ok.count c.read.new.buf) c.loop.invariant.all c.in-Ok.ensures.bytes.0 (omega arith)
+    loses_piece 0 (c.args.limit + 16384) _ _ _ c.loop.bytes.items (take c.in-Ok.count c.read.new.buf) c.loop.invariant.all c.in-Ok.ensures.bytes.0 (omega arith)
     (omega (arith, c.loop.invariant.within, bound.0, bound.1, c.read.auto.buf))
