@@ -20,7 +20,7 @@
  * - The stack has room. Boxes 200 deep, the deepest there are, ran with 256 KiB left, and most calls need far less.
  * - No call comes from a signal handler, or from the child of a process with threads after fork.
  *
- * Each function but boxglue_version and boxglue_job_free returns a status, one of enum boxglue_status. Its comment names the statuses that it can return.
+ * Each function but boxglue_version, boxglue_proved and boxglue_job_free returns a status, one of enum boxglue_status. Its comment names the statuses that it can return.
  * Every input has a status: what a script, a DVI file or a font file holds may be any bytes.
  */
 #ifndef BOXGLUE_H
@@ -33,10 +33,10 @@
 extern "C" {
 #endif
 
-/* What boxglue_version returns for the library that this header describes, 1.1.0: 10,000 times the first number, 100 times the second, and the third.
- * From 1.1.0 on, the second number rises where calls, statuses and structs are added; none of those that are there changes before the first number does. So a program
- * runs with each library that has its first number and is not older than its header. */
-#define BOXGLUE_VERSION 10100
+/* What boxglue_version returns for the library that this header describes, 1.2.0: 10,000 times the first number, 100 times the second, and the third.
+ * The second number rises where calls, statuses and structs are added. From 1.2.0 on, none of those that are there changes before the first number does, so a program
+ * runs with each library that has its first number and is not older than its header. In 1.2.0 struct boxglue_dvi_font got two fields. */
+#define BOXGLUE_VERSION 10200
 
 enum boxglue_status {
     /* All was accepted. The outputs are written. */
@@ -207,8 +207,11 @@ uint32_t boxglue_marks(const uint8_t *dvi, size_t dvi_size,
 /* Returns the version of the library, as BOXGLUE_VERSION counts it. A program compares the two. */
 uint32_t boxglue_version(void);
 
-/* In a library that was built without proofs this is a text, "UNPROVED, with run-time checks". Else its address is null, so `if (boxglue_unproved)` asks for it.
- * In such a library a fault of its own ends the program by a trap. */
+/* Returns 1 if the library is proved, and 0 if it was built without proofs: then a fault of its own ends the program by a trap. */
+uint32_t boxglue_proved(void);
+
+/* In a library that was built without proofs this is a text, "UNPROVED, with run-time checks". Else its address is null. The linker may
+ * fix that address when it links the program, so ask boxglue_proved, which the library answers that runs. */
 #if defined(__GNUC__) || defined(__clang__)
 extern const char boxglue_unproved[] __attribute__((weak));
 #endif
@@ -428,7 +431,7 @@ void boxglue_job_free(struct boxglue_job *job);
 /* What is below is for C and C++ alone, and not in the library: texts of the statuses, and calls by the names above.
  *
  * A call passes an address of its own where a size, a count or a room is 0, so that the pointer beside it may be null. (boxglue_run)(..) in parentheses calls the
- * library itself, and so does each call where BOXGLUE_NO_INLINE is defined before this header. */
+ * library itself, and so does each call where BOXGLUE_NO_INLINE is defined before this header. Strict C89 has no inline functions, and needs BOXGLUE_NO_INLINE. */
 #ifndef BOXGLUE_NO_INLINE
 
 /* A status in a few words, as for a message. */

@@ -21,6 +21,8 @@ PLACES = [
     ("docs/boxglue.1", rf'(?<=\.BR "boxglue ){DOTTED}'),
     ("bindings/python/boxglue/__init__.py", rf'(?<=__version__ = "){DOTTED}'),
     ("bindings/rust/Cargo.toml", rf'(?<=\nversion = "){DOTTED}'),
+    ("bindings/rust/boxglue/Cargo.toml", rf'(?<="../boxglue-sys", version = "){DOTTED}'),
+    *(("bindings/rust/Cargo.lock", rf'(?<=\nname = "{name}"\nversion = "){DOTTED}') for name in ("boxglue", "boxglue-sys")),
     *((f"tests/program/{name}/stdout", rf"(?<=boxglue ){DOTTED}") for name in ("version", "version_before_other_words", "version_by_its_short_option")),
 ]
 

@@ -1,6 +1,8 @@
 """include/boxglue.h: the functions, structs, statuses and the version that it declares are those of the exports, and each function that has a pointer with a size has
 a call that takes a null pointer where the size is 0. What bindings/rust and bindings/python declare is what the header does.
+tests/interface.tsv lists by version what a program can see, so a call that is added to a released version raises its number.
 Only texts are compared: names, numbers, the order and the width of parameters and fields. No program is built, and Python loads no library."""
+import hashlib
 import json
 import os
 import re
@@ -23,6 +25,11 @@ REFUSALS = "crates/boxglue_program/src/refusals.rt"
 STATUSES_OF_PYTHON = "bindings/python/boxglue/_status.py"
 RUST = "bindings/rust/boxglue-sys/src/lib.rs"
 CALLS_OF_C = "#ifndef BOXGLUE_NO_INLINE"
+# The calls, structs and numbers of the header, each with the version that added it. A version that CHANGELOG.md dates is released, and has a row with the
+# digest of its rows. A row that is gone goes with a first number. One struct got fields before that was tested, as the header and CHANGELOG.md say.
+INTERFACE, DIGEST, GONE = "tests/interface.tsv", "sha256 ", "gone "
+CHANGED = ("1.2.0", "struct boxglue_dvi_font { int32_t number; int32_t size; size_t name_start; size_t name_size; };")
+RELEASED = r"(?m)^## (\d+\.\d+\.\d+), \d+ \w+ \d{4}$"
 TYPES = {"u8": "uint8_t", "u32": "uint32_t", "u64": "uint64_t", "i32": "int32_t", "i64": "int64_t", "usize": "size_t", "": "void", "*mut u8": "void *",
          "JobHandle": "struct boxglue_job", "DviPage": "struct boxglue_page", "DviMark": "struct boxglue_mark", "ReplyRow": "struct boxglue_reply"}
 NAMES = {"box_sizes": "box"}  # what Rust does not take as a name
@@ -270,7 +277,76 @@ def new_version(root):
         return "; ".join(wrong) or (None if (tools_version.number(room), tools_version.dotted(room)) == (12304, "1.23.4") else "the header has another version")
 
 
+def interface_of(text):
+    """What a program can see of a header: its calls, its structs and the numbers of its enums."""
+    structs_of = re.findall(r"struct boxglue_\w+ \{[^}]*\};", text)
+    enums = re.findall(r"enum (boxglue_\w+) \{([^}]*)\}", text)
+    return [*functions_of(text), *structs_of, *(f"enum {name} {it};" for name, body in enums for it in re.findall(r"BOXGLUE_\w+ = \d+", body))]
+
+
+def digest_of(lines):
+    """The digest of the rows of a version."""
+    return DIGEST + hashlib.sha256("".join(f"{it}\n" for it in sorted(lines)).encode()).hexdigest()
+
+
+def listed(root):
+    """The rows of the list by version."""
+    rows = {}
+    for line in read(root, INTERFACE).splitlines():
+        number, _, what = line.partition("\t")
+        rows.setdefault(number, []).append(what)
+    return rows
+
+
+def first_number(number):
+    """The first number of a version."""
+    return int(number.partition(".")[0])
+
+
+def gone_wrong(rows):
+    """Rows that are gone, and stood in a version with the same first number."""
+    gone = [(number, it.removeprefix(GONE)) for number, its in rows.items() for it in its if it.startswith(GONE)]
+    stood = lambda what, first: any(what in its and first_number(it) == first for it, its in rows.items())
+    return [what for number, what in gone if (number, what) != CHANGED and stood(what, first_number(number))]
+
+
+def interface_wrong(text, rows, number, released):
+    """What is wrong with the header of a version and the list by version."""
+    lines = [it for its in rows.values() for it in its if not it.startswith(DIGEST)]
+    found, here = sorted(interface_of(text)), sorted(it for it in lines if not it.startswith(GONE) and GONE + it not in lines)
+    if found != here:
+        return f"{INTERFACE} and the header differ in {sorted({*found} ^ {*here})}: a row has the version that added it, and a released version keeps its rows"
+    if gone_wrong(rows):
+        return f"{gone_wrong(rows)} can be gone only where the first number rises"
+    wrong = [it for it in released if digest_of([line for line in rows.get(it, []) if not line.startswith(DIGEST)]) not in rows.get(it, [])]
+    late = [it for it in rows if [*map(int, it.split("."))] > [*map(int, number.split("."))]]
+    return f"{INTERFACE} has other rows for {', '.join(wrong + late)} than when it was released: raise the number by tools/version.py" if wrong + late else None
+
+
+def interface(root):
+    """What is wrong with the header and the list by version."""
+    return interface_wrong(declared(root), listed(root), tools_version.dotted(root), re.findall(RELEASED, read(root, "CHANGELOG.md")))
+
+
+def new_call(root):
+    """Whether a call is found that is added without a new number, whatever row it has; and one that is gone."""
+    text, rows, number = declared(root), listed(root), tools_version.dotted(root)
+    call, released = "uint32_t boxglue_new(void);", re.findall(RELEASED, read(root, "CHANGELOG.md"))
+    longer = f"{call} {text}"
+    with_row = lambda its, at, what=call: {**its, at: [*its.get(at, []), what]}
+    frozen, old = with_row(rows, number, digest_of(rows[number])), functions_of(text)[0]
+    refused = {
+        "no row": interface_wrong(longer, rows, number, released),
+        "a released version": interface_wrong(longer, with_row(rows, released[0]), number, released),
+        "a later version": interface_wrong(longer, with_row(rows, "99.0.0"), number, released),
+        "this version, once it is released": interface_wrong(longer, with_row(frozen, number), number, [*released, number]),
+        "a call that is gone": interface_wrong(text.replace(old, ""), with_row(rows, number, GONE + old), number, released)}
+    allowed = interface_wrong(longer, with_row(rows, number), number, released)
+    return allowed or "; ".join(f"{name} is not found" for name, wrong in refused.items() if not wrong) or None
+
+
 def cases(_programs, root):
     """A case for each kind of declaration."""
-    for check in (functions, null_calls, structs, statuses, reply_kinds, numbers_of_replies, status_texts, rust, python, version, new_version):
+    for check in (functions, null_calls, structs, statuses, reply_kinds, numbers_of_replies, status_texts, rust, python, version, new_version, interface,
+                  new_call):
         yield check.__name__, partial(check, root)

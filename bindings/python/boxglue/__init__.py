@@ -21,12 +21,14 @@ A `Job` is kept between calls, and takes a script piece by piece:
         job.finish().check()
         open("page.dvi", "wb").write(job.take())
 
-It calls the shared object libboxglue.so. That is looked for where the variable BOXGLUE_LIBRARY names a file; else in the folder of this package, where a wheel has
-it; else in crates/boxglue_c/out of the repository, where `bindings/build` makes it.
+It calls the shared object libboxglue.so: the file that the variable BOXGLUE_LIBRARY names; else that in the folder of this package, where a wheel has it;
+else libboxglue.so.1 of the system. In the repository `bindings/build` makes one, for BOXGLUE_LIBRARY. `proved()` asks the one that is loaded.
 
 Scripts and answers are those of docs/FORMATS.md, and the commands those of docs/COMMANDS.md. Fonts are a mapping from names to the bytes of metric files
 (TFM), as a `FontFolder` is, or pairs of both; of several with one name the first counts. A `str` is handed over as UTF-8. A dimension is a whole number of scaled
-points; `points` and `scaled_points` turn one into a text and back. Calls may run in several threads at once; those on one job wait for each other.
+points; `points` and `scaled_points` turn one into a text and back.
+
+Calls may run in several threads at once, and release the GIL while the library works; those on one job wait for each other. Nothing relies on the GIL.
 A KeyboardInterrupt comes at the end of a call that is under way.
 """
 from ._dimensions import points, scaled_points
@@ -45,4 +47,4 @@ __all__ = [
     "ReplyKind", "Rule", "Run", "Shipped", "Sizes", "Special", "Split", "Status", "Units", "fonts", "listing", "marks", "paint", "points", "proved", "run",
     "scaled_points", "version",
 ]
-__version__ = "1.1.0"
+__version__ = "1.2.0"

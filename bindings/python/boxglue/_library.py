@@ -15,6 +15,8 @@ Data = bytes | bytearray | memoryview
 Text = str | Data
 Fonts = Mapping[str, Data] | Mapping[bytes, Data] | Iterable[tuple[Text, Data]]
 
+# The name of the library that the system's loader looks for.
+SYSTEM_LIBRARY = "libboxglue.so.1"
 # The sizes of the first buffers. Where an output needs more, the call is made again with what it needs.
 TEXT_ROOM, DVI_ROOM, FONT_ROOM = 1 << 14, 1 << 16, 64
 
@@ -66,6 +68,7 @@ _INPUT, _OUTPUT, _SIZE = [c_char_p, c_size_t], [POINTER(c_char), c_size_t], [POI
 _GIVEN, _REPLIES = [POINTER(Font), c_size_t], [POINTER(ReplyRow), c_size_t]
 _CALLS = {
     "version": [],
+    "proved": [],
     "run_replies": [*_INPUT, *_GIVEN, *_REPLIES, *_OUTPUT, POINTER(ReplySizes)],
     "list": [*_INPUT, *_GIVEN, *_OUTPUT, *_SIZE],
     "paint": [*_INPUT, *_GIVEN, *[c_uint32] * 4, *_OUTPUT, *_SIZE],
@@ -80,13 +83,10 @@ _CALLS = {
 
 
 def library_path() -> str:
-    """Where the shared object is."""
-    here = os.path.dirname(os.path.abspath(__file__))
+    """Where the shared object is: the file that BOXGLUE_LIBRARY names; else that of this package; else the name by which the system finds its own."""
     named = os.environ.get("BOXGLUE_LIBRARY")
-    for path in (named, f"{here}/libboxglue.so", f"{here}/../../../crates/boxglue_c/out/libboxglue.so"):
-        if path and (os.path.exists(path) or path == named):
-            return os.path.abspath(path)
-    raise BoxglueError("there is no libboxglue.so: make it with bindings/build, or with bindings/build --unproved in a minute, or name it in BOXGLUE_LIBRARY")
+    own = os.path.join(os.path.dirname(os.path.abspath(__file__)), "libboxglue.so")
+    return os.path.abspath(named) if named else own if os.path.exists(own) else SYSTEM_LIBRARY
 
 
 def shown_version(number: int) -> str:
@@ -103,6 +103,9 @@ def library() -> Any:
         found.boxglue_version.argtypes, found.boxglue_version.restype = [], c_uint32
         number = found.boxglue_version()
     except (OSError, AttributeError) as error:
+        if path == SYSTEM_LIBRARY and isinstance(error, OSError):
+            why = "there is no libboxglue.so in this package, and the system has none: install the wheel, or name one in BOXGLUE_LIBRARY"
+            raise BoxglueError(f"{why} ({error})") from error
         raise BoxglueError(f"{path} is no library of boxglue: {error}") from error
     if number // 10_000 != 1:
         raise BoxglueError(f"{path} has version {shown_version(number)}, and this package is for 1.x")
@@ -117,13 +120,14 @@ def library() -> Any:
 
 
 def version() -> str:
-    """The version of the library that is loaded, such as "1.1.0"."""
+    """The version of the library that is loaded, such as "1.2.0"."""
     return shown_version(library().boxglue_version())
 
 
 def proved() -> bool:
-    """Whether the library that is loaded was proved. One that was not (`./install --unproved`) has run-time checks, and a fault of its own ends the process."""
-    return not hasattr(library(), "boxglue_unproved")
+    """Whether the library that is loaded is proved: it says so itself. One that is not (`./install --unproved`) has run-time checks, and a fault of its own
+    ends the process."""
+    return bool(library().boxglue_proved())
 
 
 def data_of(given: Data, what: str, kinds: str = "bytes") -> bytes:

@@ -1,1 +1,1 @@
-"""Tests of the package: python3 -m unittest in the folder above this one, once `bindings/build` has made the shared object."""
+"""Tests of the package: python3 -m unittest in the folder above this one, with the shared object that `bindings/build` made named in BOXGLUE_LIBRARY."""

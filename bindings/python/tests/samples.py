@@ -5,7 +5,9 @@ import re
 
 import boxglue
 
-EXAMPLES = f"{os.path.dirname(os.path.abspath(__file__))}/../../../examples"
+# The source distribution has the examples beside this file.
+HERE = os.path.dirname(os.path.abspath(__file__))
+EXAMPLES = next(it for it in (f"{HERE}/examples", f"{HERE}/../../../examples") if os.path.isdir(it))
 RULE = "hbox into 0\nrule 1pt 1pt 0pt\nend\nship 0\n"
 ANSWERS = "1: ok\n2: ok\n3: packed 1.0pt 1.0pt 0.0pt badness 0\n4: shipped 1\nend: pages 1 bytes 116\n"
 TEXT = "font 0 plain\nfont 7 plain at 5pt\nuse 0\nhbox into 0\ntext a b\nuse 7\ntext c\nend\nship 0\n"

@@ -30,19 +30,27 @@ class Versions(unittest.TestCase):
             self.assertRaisesRegex(boxglue.BoxglueError, "is no library of boxglue", _library.library.__wrapped__)
 
     def test_place(self):
-        """A file that BOXGLUE_LIBRARY names is the library, or there is none."""
+        """A file that BOXGLUE_LIBRARY names is the library; else one in the package; else the system's."""
         with mock.patch.dict(os.environ, BOXGLUE_LIBRARY="no such file"):
             self.assertEqual(_library.library_path(), os.path.abspath("no such file"))
-        with mock.patch.dict(os.environ), mock.patch("os.path.exists", lambda _: False):
-            os.environ.pop("BOXGLUE_LIBRARY", None)
-            self.assertRaisesRegex(boxglue.BoxglueError, "there is no libboxglue.so", _library.library_path)
+        with mock.patch.dict(os.environ, BOXGLUE_LIBRARY=""):
+            for is_there, place in ((True, f"{os.path.dirname(_library.__file__)}/libboxglue.so"), (False, "libboxglue.so.1")):
+                with mock.patch("os.path.exists", lambda _: is_there):
+                    self.assertEqual(_library.library_path(), place)
+
+    def test_no_library(self):
+        absent = mock.patch("ctypes.CDLL", side_effect=OSError("no file"))
+        with mock.patch.dict(os.environ, BOXGLUE_LIBRARY=""), mock.patch("os.path.exists", lambda _: False), absent:
+            self.assertRaisesRegex(boxglue.BoxglueError, "there is no libboxglue.so in this package, and the system has none", _library.library.__wrapped__)
 
 
 class Proofs(unittest.TestCase):
     def test_proved(self):
-        """A library that was built without proofs has a symbol that says so."""
-        with open(_library.library_path(), "rb") as it:
-            self.assertEqual(boxglue.proved(), b"boxglue_unproved" not in it.read())
+        """The library is asked each time. One that was built without proofs has a symbol, too."""
+        self.assertEqual(boxglue.proved(), not hasattr(_library.library(), "boxglue_unproved"))
+        for answer in (0, 1):
+            with mock.patch.object(_library, "library", lambda: types.SimpleNamespace(boxglue_proved=lambda: answer)):
+                self.assertIs(boxglue.proved(), bool(answer))
 
 
 class Texts(unittest.TestCase):

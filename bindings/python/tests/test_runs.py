@@ -59,7 +59,9 @@ class Runs(unittest.TestCase):
         self.assertEqual(found, [boxglue.run(RULE)] * 800)
 
     def test_version(self):
-        self.assertEqual(boxglue.version(), boxglue.__version__)
+        more = "" if boxglue.__version__ == boxglue.version() else ".dev0+unproved"  # as in the wheel of a library that is not proved
+        self.assertEqual(boxglue.__version__, boxglue.version() + more)
+        self.assertFalse(more and boxglue.proved())
 
 
 class Fonts(unittest.TestCase):

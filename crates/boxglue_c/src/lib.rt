@@ -125,9 +125,17 @@ pub extern "C" fn boxglue_marks(
 /// The version of the library: 10,000 times the first of its three numbers, 100 times the second, and the third.
 #[unsafe(no_mangle)]
 pub extern "C" fn boxglue_version() -> u32
-    ensures { result ≡ 10100 }
+    ensures { result ≡ 10200 }
 {
     boxglue_calls::version()
+}
+
+/// 1 in a library that is proved, and 0 in one that was built without proofs.
+#[unsafe(no_mangle)]
+pub extern "C" fn boxglue_proved() -> u32
+    ensures { result ≡ 1 }
+{
+    if boxglue_calls::is_proved() { 1 } else { 0 }
 }
 
 /// Makes a job with these fonts, and keeps it in a handle that is null.

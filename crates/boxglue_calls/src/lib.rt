@@ -18,7 +18,7 @@ pub mod run_status;
 mod runs;
 pub mod status;
 
-pub use edition::version;
+pub use edition::{is_proved, version};
 pub use font_table::{DviFont, FontSizes, fonts};
 pub use given::{Font, are_named, font_files};
 pub use mark_table::{DviMark, DviPage, MarkSizes, marks};

@@ -4,7 +4,7 @@ use crate::fonts::NamedPath;
 use raster_core::PaintOptions;
 
 /// The line that `--version` prints: the program, its version, and the logic of the kit that proves it. No other place in the code has them.
-pub const VERSION_LINE: &str = "boxglue 1.1.0 (rattle logic dac8208d650f15bf)\n";
+pub const VERSION_LINE: &str = "boxglue 1.2.0 (rattle logic dac8208d650f15bf)\n";
 
 /// The task that a command line asks for.
 #[derive(Debug, Drop)]

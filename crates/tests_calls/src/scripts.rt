@@ -86,5 +86,5 @@ fn an_empty_name_is_refused(rt: HostRuntime) {
 
 #[test]
 fn the_version_is_a_number(rt: HostRuntime) {
-    assert_eq!(rt; version(), 10_100);
+    assert_eq!(rt; version(), 10_200);
 }

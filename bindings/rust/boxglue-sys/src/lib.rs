@@ -4,8 +4,9 @@
 #![no_std]
 #![allow(non_camel_case_types)]
 
-/// Whether the library that was there when this crate was built was proved.
-pub const IS_PROVED: bool = env!("BOXGLUE_UNPROVED").as_bytes()[0] == b'0';
+/// False, since a constant cannot ask the library that runs.
+#[deprecated(since = "1.2.0", note = "ask the library that runs, by `boxglue_proved`")]
+pub const IS_PROVED: bool = false;
 
 pub const BOXGLUE_ACCEPTED: u32 = 0;
 pub const BOXGLUE_REFUSED: u32 = 1;
@@ -243,6 +244,7 @@ extern "C" {
         sizes: *mut boxglue_mark_sizes,
     ) -> u32;
     pub fn boxglue_version() -> u32;
+    pub fn boxglue_proved() -> u32;
     pub fn boxglue_job_new(job: *mut boxglue_job, fonts: *const boxglue_font, font_count: usize) -> u32;
     pub fn boxglue_job_commands(job: *mut boxglue_job, script: *const u8, script_size: usize) -> u32;
     pub fn boxglue_job_answers(job: *mut boxglue_job, text: *mut u8, text_room: usize, size: *mut usize) -> u32;

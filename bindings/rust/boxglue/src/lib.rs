@@ -29,8 +29,9 @@ pub use replies::{run_replies, Answer, BoxKind, BoxSizes, RepliedRun, Reply};
 use boxglue_sys as sys;
 use buffers::{buffer, given, one_text, text, DVI_ROOM, FONT_ROOM, TEXT_ROOM};
 
-/// Whether the library that this crate was built with was proved. One that was not has run-time checks, and a fault of its own ends the program.
-pub const IS_PROVED: bool = sys::IS_PROVED;
+/// False, since a constant cannot ask the library that runs.
+#[deprecated(since = "1.2.0", note = "ask the library that runs, by `is_proved`")]
+pub const IS_PROVED: bool = false;
 
 /// A font: the name by which scripts and DVI files mean it, 1 to 255 bytes, and the bytes of its metric file (TFM).
 #[derive(Clone, Copy, Debug)]
@@ -245,7 +246,7 @@ pub fn points(dimension: i32) -> String {
     }
 }
 
-/// The version of the library, such as "1.1.0".
+/// The version of the library, such as "1.2.0".
 ///
 /// ```
 /// assert_eq!(boxglue::version().split('.').next(), Some("1"));
@@ -254,4 +255,14 @@ pub fn version() -> String {
     // SAFETY: the call takes nothing.
     let number = unsafe { sys::boxglue_version() };
     format!("{}.{}.{}", number / 10_000, number / 100 % 100, number % 100)
+}
+
+/// Whether the library that runs is proved: it says so itself. One that was built without proofs has run-time checks, and a fault of its own ends the program.
+///
+/// ```
+/// println!("boxglue {}, {}", boxglue::version(), if boxglue::is_proved() { "proved" } else { "unproved" });
+/// ```
+pub fn is_proved() -> bool {
+    // SAFETY: the call takes nothing.
+    unsafe { sys::boxglue_proved() == 1 }
 }
