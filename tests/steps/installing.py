@@ -18,8 +18,13 @@ TRIES = False
 LIMIT = 60
 MODES = {"bin/boxglue": 0o755, "share/man/man1/boxglue.1": 0o644, "share/bash-completion/completions/boxglue": 0o644,
          "share/zsh/site-functions/_boxglue": 0o644, "share/fish/vendor_completions.d/boxglue.fish": 0o644}
-# The files of the library, below the prefix; the version stands for itself.
-LIBRARY = {"include/boxglue.h", "lib/libboxglue.so.VERSION", "lib/libboxglue.so.1", "lib/libboxglue.so", "lib/libboxglue.a", "lib/pkgconfig/boxglue.pc"}
+# The list of all files, which says what is proved.
+LIST = "share/boxglue/installed.tsv"
+# The files of the library, below the prefix; the version stands for itself, and LIBDIR for the folder of libraries.
+SHARED, STATIC, WHEEL_FILE, CARGO = "LIBDIR/libboxglue.so.1", "LIBDIR/libboxglue.a", "share/boxglue/python/boxglue-1-py3-none-any.whl", "share/boxglue/rust/Cargo.toml"
+LIBRARY = {"include/boxglue.h", "LIBDIR/libboxglue.so.VERSION", SHARED, "LIBDIR/libboxglue.so", STATIC, "LIBDIR/pkgconfig/boxglue.pc",
+           "LIBDIR/cmake/boxglue/boxglue-config.cmake", "LIBDIR/cmake/boxglue/boxglue-config-version.cmake", WHEEL_FILE, CARGO,
+           "share/boxglue/rust/boxglue-sys/libdir"}
 # Answers an empty script, as boxglue does.
 ANSWERS = "#!/bin/sh\necho end: pages 0 bytes 0\n"
 # Stands in for `rt`. `all check` takes each crate of crates.txt that has no library; one in the file `bad` is refused, and one in `slow` takes long.
@@ -55,15 +60,17 @@ BUILD = """#!/bin/sh
 [ "$1" = --static ] && shift
 cat "$1" > "$2"
 """
-WHEEL = """import shutil, sys
-shutil.copy(sys.argv[1], sys.argv[2] + "/boxglue-1-py3-none-any.whl")
-print(sys.argv[2] + "/boxglue-1-py3-none-any.whl")
+WHEEL = f"""import shutil, sys
+name = f"boxglue-1{{'.dev0+unproved' if b'{SAYS}' in open(sys.argv[1], 'rb').read() else ''}}-py3-none-any.whl"
+shutil.copy(sys.argv[1], f"{{sys.argv[2]}}/{{name}}")
+print(f"{{sys.argv[2]}}/{{name}}")
 """
 # A repository of four crates, and two that the program does not use.
 CRATES = "# NAME: what it uses\nleft:\nother: left\nright: left itoa\nupper: left right\nboxglue: upper clap\nboxglue_c staticlib: upper\n"
 NAMES = ["left", "right", "upper", "boxglue"]
 COPIED = ["install", "docs/boxglue.1", "completions/boxglue.bash", "completions/_boxglue", "completions/boxglue.fish", "include/boxglue.h", "tools/version.py",
-          "tools/commands.py", "tools/crates.py", "tools/machine.py", "tools/progress.py", "tools/side_by_side.py", "bindings/boxglue.pc.in"]
+          "tools/commands.py", "tools/crates.py", "tools/machine.py", "tools/progress.py", "tools/side_by_side.py", "bindings/boxglue.pc.in", "bindings/boxglue-config.cmake.in",
+          "bindings/boxglue-config-version.cmake.in"]
 
 
 def write(path, text, mode=0o644):
@@ -89,8 +96,8 @@ def sources(root, program):
 def placed(prefix, root, program):
     """What is wrong with the installed files, or None."""
     found = {os.path.relpath(f"{folder}/{name}", prefix) for folder, _, names in os.walk(prefix) for name in names}
-    if found != {*MODES}:
-        return f"these files are there or not there: {sorted(found ^ {*MODES})}"
+    if found != {*MODES, LIST}:
+        return f"these files are there or not there: {sorted(found ^ {*MODES, LIST})}"
     for name, source in sources(root, program).items():
         if read(f"{prefix}/{name}") != read(source) or os.stat(f"{prefix}/{name}").st_mode & 0o777 != MODES[name]:
             return f"{name} is not the file that it should be"
@@ -298,7 +305,7 @@ def builds_unproved(root):
         status, output, errors = install(top, ["--unproved", "--prefix", f"{room}/here"], room, path)
         if status != 0 or errors or recorded(room) != ["unproved "]:
             return f"the status is {status}, what was called {recorded(room)}: {(errors or output)[-200:]!r}"
-        if files_below(f"{room}/here") != {*MODES} or SAYS.encode() not in read(f"{room}/here/bin/boxglue"):
+        if files_below(f"{room}/here") != {*MODES, LIST} or SAYS.encode() not in read(f"{room}/here/bin/boxglue"):
             return f"these files are there: {sorted(files_below(f'{room}/here'))}"
         last = output.splitlines()[-2:]
         return None if "UNPROVED" in last[0] and last[1].endswith(f": ./install --prefix {room}/here") else f"the last lines are {last}"
@@ -318,6 +325,12 @@ def keeps_what_is_proved(root):
         return None if found == wanted else f"statuses, whether the program is unproved, and whether --replace is named, are {found}"
 
 
+def wrong_files(folder, libdir):
+    """The files below a folder that should not be there with the library in a folder, and those that are missing."""
+    found = {re.sub(r"so\.\d+\.\d+\.\d+", "so.VERSION", it) for it in files_below(folder)}
+    return found ^ {*MODES, LIST, *(it.replace("LIBDIR", libdir) for it in LIBRARY)}
+
+
 def puts_the_library(root):
     """The library is proved beside the program, and its files go below DESTDIR. A crate that both use is proved once, and an old wheel goes."""
     with tempfile.TemporaryDirectory(prefix="boxglue-install-") as room:
@@ -327,13 +340,103 @@ def puts_the_library(root):
         ran = subprocess.run([f"{top}/install", "--library", "--prefix", "/usr"], cwd=room, env=env, stdin=subprocess.DEVNULL, capture_output=True, text=True, timeout=LIMIT)
         if ran.returncode != 0 or recorded(room)[1:] != ["run boxglue", "lib boxglue_c"] or recorded(room, "proofs") != [*NAMES, "boxglue_c"]:
             return f"the status is {ran.returncode}, rt was called as {recorded(room)}: {ran.stderr[-200:]!r}"
-        found = {re.sub(r"so\.\d+\.\d+\.\d+", "so.VERSION", it) for it in files_below(f"{room}/stage/usr")}
-        wanted = {*MODES, *LIBRARY, "share/boxglue/python/boxglue-1-py3-none-any.whl", "share/boxglue/rust/Cargo.toml"}
-        if found != wanted:
-            return f"these files are there or not there: {sorted(found ^ wanted)}"
-        if "prefix=/usr\n" not in read(f"{room}/stage/usr/lib/pkgconfig/boxglue.pc").decode() or os.listdir(f"{room}/stage") != ["usr"]:
-            return "boxglue.pc does not name the prefix alone"
+        if wrong_files(f"{room}/stage/usr", "lib"):
+            return f"these files are there or not there: {sorted(wrong_files(f'{room}/stage/usr', 'lib'))}"
+        found = read(f"{room}/stage/usr/lib/pkgconfig/boxglue.pc")
+        if not found.startswith(b"prefix=${pcfiledir}/../..\n") or os.listdir(f"{room}/stage") != ["usr"]:
+            return "boxglue.pc does not find the prefix by its own place, or a file is not below the prefix"
         return None if "pip install /usr/share/boxglue/python/boxglue-1-py3-none-any.whl\n" in ran.stdout else f"it prints {ran.stdout[-300:]!r}"
+
+
+def puts_the_library_elsewhere(root):
+    """With --libdir the library is in another folder below the prefix, which its files and the crates find by their places; a folder elsewhere is refused."""
+    with tempfile.TemporaryDirectory(prefix="boxglue-install-") as room:
+        top, path = made_repository(root, room)
+        words = ["--program", f"{room}/boxglue", "--library", f"{room}/boxglue", "--prefix", f"{room}/here", "--libdir"]
+        for wrong in ("../lib", "/lib", "."):
+            if install(top, [*words, wrong], room, path)[0] != 1 or os.path.exists(f"{room}/here"):
+                return f"--libdir {wrong} is not refused"
+        for libdir in ("lib/some-linux", f"{room}/here/lib/some-linux"):
+            status, _, errors = install(top, [*words, libdir], room, path)
+            wrong = sorted(wrong_files(f"{room}/here", "lib/some-linux"))
+            if status or wrong:
+                return f"the status is {status}, these files are there or not there: {wrong}: {errors[-200:]!r}"
+        config, lines = (read(f"{room}/here/lib/some-linux/{it}").decode() for it in ("cmake/boxglue/boxglue-config.cmake", "pkgconfig/boxglue.pc"))
+        found = *lines.splitlines()[0:3:2], read(f"{room}/here/share/boxglue/rust/boxglue-sys/libdir").decode()
+        wanted = "prefix=${pcfiledir}/../../..", "libdir=${prefix}/lib/some-linux", "../../../../lib/some-linux\n"
+        is_named = "/../../../..\"" in config and "lib/some-linux/libboxglue.a" in config
+        return None if found == wanted and is_named else f"the files name {found}, and CMake's {config}"
+
+
+def needs_no_rt(root):
+    """Where program and archive are built already, no `rt` is asked for."""
+    with tempfile.TemporaryDirectory(prefix="boxglue-install-") as room:
+        top, path = made_repository(root, room)
+        os.remove(f"{room}/bin/rt")
+        words = ["--program", f"{room}/boxglue", "--library", f"{room}/boxglue", "--prefix", f"{room}/here"]
+        status, _, errors = install(top, words, room, without_rt(path, f"{room}/tools"))
+        return f"the status is {status}: {errors[-200:]!r}" if status or wrong_files(f"{room}/here", "lib") else None
+
+
+def without_rt(path, folder):
+    """A path on which there is no `rt`: links to the commands of each of its folders that has one stand in its place."""
+    kept = []
+    for at, place in enumerate(path.split(":")):
+        if os.path.exists(f"{place}/rt"):
+            os.makedirs(f"{folder}/{at}")
+            for name in os.listdir(place):
+                if name != "rt":
+                    os.symlink(f"{place}/{name}", f"{folder}/{at}/{name}")
+            place = f"{folder}/{at}"
+        kept.append(place)
+    return ":".join(kept)
+
+
+def keeps_what_is_proved_of_the_library(root):
+    """Each file of a proved library, its wheel and its crates stay without --replace, even where no other is left; a proved one takes the place of any."""
+    with tempfile.TemporaryDirectory(prefix="boxglue-install-") as room:
+        top, path = made_repository(root, room)
+        write(f"{room}/unproved.a", f"{SAYS}\n")
+        write(f"{room}/proved.a", "proved\n")
+        prefix, words = f"{room}/here", ["--program", f"{room}/boxglue", "--prefix", f"{room}/here", "--library"]
+        wrong = []
+        names = [it.replace("LIBDIR", "lib") for it in (SHARED, STATIC, WHEEL_FILE, CARGO)]
+        for kept in names:
+            status, _, errors = install(top, [*words, f"{room}/proved.a"], room, path)
+            wrong += [f"a proved library is not put in place: {errors[-200:]!r}"] if status else []
+            for it in {*names} - {kept}:
+                os.remove(f"{prefix}/{it}")
+            before = files_below(prefix)
+            status, _, errors = install(top, [*words, f"{room}/unproved.a"], room, path)
+            stays = (status, "--replace" in errors, files_below(prefix)) == (1, True, before)
+            wrong += [] if stays else [f"{kept} does not stay: the status is {status}"]
+            status, _, errors = install(top, [*words, f"{room}/unproved.a", "--replace"], room, path)
+            again = install(top, [*words, f"{room}/unproved.a"], room, path)[0]
+            wrong += [f"with --replace, and once more: {status} {again}: {errors[-200:]!r}"] if status or again else []
+            if f"unproved\t{kept}\n".replace("boxglue-1-", "boxglue-1.dev0+unproved-") not in read(f"{prefix}/{LIST}").decode():
+                wrong.append(f"the list does not say that {kept} is unproved")
+        return "; ".join(wrong) or None
+
+
+def removes(root):
+    """--uninstall removes all that was put in place and nothing else, once; a list that names a file outside is refused."""
+    with tempfile.TemporaryDirectory(prefix="boxglue-install-") as room:
+        top, path = made_repository(root, room)
+        write(f"{room}/here/bin/other", "kept\n")
+        words = ["--program", f"{room}/boxglue", "--prefix", f"{room}/here"]
+        for more in ([], ["--library", f"{room}/boxglue", "--libdir", "lib64"], ["--library", f"{room}/boxglue"]):
+            if install(top, [*words, *more], room, path)[0]:
+                return "the files are not put in place"
+        found = install(top, ["--uninstall", "--prefix", f"{room}/here"], room, path)
+        left = sorted(os.path.relpath(f"{place}/{it}", f"{room}/here") for place, *its in os.walk(f"{room}/here") for names in its for it in names)
+        again = install(top, ["--uninstall", "--prefix", f"{room}/here"], room, path)
+        if (found[0], left, again[0]) != (0, ["bin", "bin/other"], 1) or "installed.tsv is not there" not in again[2]:
+            return f"the status is {found[0]}, and then {again[0]}; these are left: {left}: {found[2][-200:]!r}"
+        write(f"{room}/here/{LIST}", "text\t../outside\n")
+        write(f"{room}/outside", "kept\n")
+        status, _, errors = install(top, ["--uninstall", "--prefix", f"{room}/here"], room, path)
+        is_kept = status == 1 and "is not below" in errors and os.path.exists(f"{room}/outside")
+        return None if is_kept else f"a list that names a file outside: {status} {errors[-200:]!r}"
 
 
 def cases(programs, root):
@@ -354,5 +457,9 @@ def cases(programs, root):
     yield "without proofs", partial(builds_unproved, root)
     yield "over a proved program", partial(keeps_what_is_proved, root)
     yield "the library", partial(puts_the_library, root)
+    yield "the library in another folder", partial(puts_the_library_elsewhere, root)
+    yield "the library without rt", partial(needs_no_rt, root)
+    yield "over a proved library, wheel and crates", partial(keeps_what_is_proved_of_the_library, root)
+    yield "all is removed", partial(removes, root)
     yield "the end of a terminal", partial(stops_when_told, root, signal.SIGHUP, ["4 crates", "left: proved"])
     yield "an end", partial(stops_when_told, root, signal.SIGTERM, ["4 crates", "left: proved"])
