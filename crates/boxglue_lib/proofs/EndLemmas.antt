@@ -4,7 +4,13 @@ use Rattle.std.proofs.Math.Seq.{take-append-add}
 use Rattle.std.proofs.lemmas.List.{take-append-le, length-append}
 use Rattle.std.specs.Borrow.{Bor}
 use Rattle.std.specs.Io.KnownBytes.{Appends, Keeps}
-use Rattle.std.specs.Prelude.{◌==◌, not, [], IfSome, IsSome}
+use Rattle.std.specs.Prelude.{◌==◌, not, [], codes, IfOk, IfSome, IsSome, MatchResult}
+use Rattle.std.specs.Result.{IsErrAnd}
+use Rattle.dvi_device.specs.Held.{MemoryState}
+use Rattle.boxglue_print.specs.declared.output.PaintFault.{PaintFault}
+use Rattle.boxglue_print.specs.declared.output.PaintFault.TheVariants as paints
+use Rattle.boxglue_program.specs.declared.run.RunFault.{RunFault}
+use Rattle.boxglue_program.specs.declared.run.RunFault.TheVariants as runs
 use Rattle.std.proofs.lemmas.Bool.{eq-eqb, eqb-true}
 use Rattle.boxglue_words.specs.Hosts.{AreFilesOf, IsUnread, begun_for, created_after, has_failed, written_to_file}
 use Rattle.std.specs.Coded.{Coded}
@@ -14,17 +20,19 @@ use Rattle.boxglue_words.specs.declared.font_files.FontFileFault.{FontFileFault}
 use Rattle.boxglue_words.specs.declared.font_files.FontFileFault.TheVariants.{OutOfMemory as WantsMemory, File}
 use Rattle.boxglue_words.specs.declared.fonts.NamedPath.{NamedPath}
 use Rattle.boxglue_lib.specs.Inputs.{IsUnreadDvi, IsUnreadScript}
-use Rattle.boxglue_lib.specs.Private.Parts.{end_of}
+use Rattle.boxglue_lib.specs.Faults.{of_font_file, of_paint, of_print, of_run}
+use Rattle.boxglue_lib.specs.declared.printing.PrintFault.{PrintFault}
+use Rattle.boxglue_lib.specs.declared.printing.PrintFault.TheVariants as prints
 use Rattle.boxglue_words.specs.Readings.{Files, IsFileReading, IsReadable, IsReading}
 use Rattle.boxglue_lib.specs.Printed.{LacksMemoryForDvi}
 use Rattle.boxglue_lib.specs.Views.{HostView, IsSame, Streams, view_of}
 use Rattle.boxglue_lib.specs.Typesets.{HasTypeset, IsLeftAlone, IsLeftToFile, IsToFile, IsUsed, LeavesHost, OutFile, TellsUnwritten, script_rules, typesetting_rules}
 use Rattle.boxglue_program.specs.Reports.{written_bytes}
-use Rattle.boxglue_program.specs.Runs.{IsUntouched, RanScript, RefusedScript, WritesFront, memory_line}
+use Rattle.boxglue_program.specs.Runs.{IsAnswerInMemory, IsLeftInMemory, IsUntouched, RanScript, RefusedScript, WritesFront, memory_line}
 use Rattle.boxglue_program.proofs.WritingLemmas.{appends_both, appends_keeps, keeps_appends, keeps_front}
-use Rattle.boxglue_lib.specs.Ends.{EndsOutput, EndsTask, TaskHasEnded, TaskRules, TakesText, TellsErrors, TellsOutput, status_of}
-use Rattle.boxglue_lib.specs.declared.task_end.TaskEnd.{TaskEnd}
-use Rattle.boxglue_lib.specs.declared.task_end.TaskEnd.TheVariants.{Printed, Unwritten, OutOfMemory, Unreadable, NoSuchPage}
+use Rattle.boxglue_lib.specs.Ends.{EndsOutput, EndsTask, TaskEnd, TaskHasEnded, TaskRules, TakesText, TellsErrors, TellsOutput, message_line, status_of}
+use Rattle.boxglue_lib.specs.declared.task_fault.TaskFault.{TaskFault}
+use Rattle.boxglue_lib.specs.declared.task_fault.TaskFault.TheVariants.{Unwritten, OutOfMemory, Unreadable, NoSuchPage}
 
 pub ok_then : {A E : Type 0} {P Q : Type 0} (r : Result A E) → OnOk r P → (P → Q) → OnOk r Q
 ok_then (Ok x) h f = f h
@@ -88,11 +96,11 @@ keeps_takes old mid new a h (inr front) = inr (keeps_front old mid new a h front
 -- What a task has printed, and what the output takes after it.
 pub output_then : (rules : TaskRules) (end : TaskEnd) (old mid new : Option (List ℕ))
     → EndsTask rules end old mid → TellsOutput end mid new → EndsOutput rules end old new
-output_then rules (Printed fine) old mid new ended reported = (ended.0, ended.1, appends_keeps old mid new ended.0 ended.2 reported)
-output_then rules Unwritten old mid new ended reported = (ended.0, ended.1, ended.2, front_keeps old mid new ended.0 ended.3 reported)
-output_then rules OutOfMemory old mid new ended reported = keeps_takes old mid new memory_line ended reported
-output_then rules (Unreadable path) old mid new ended reported = (ended.0, keeps_twice old mid new ended.1 reported)
-output_then rules NoSuchPage old mid new ended reported = (ended.0, keeps_twice old mid new ended.1 reported)
+output_then rules (Ok fine) old mid new ended reported = (ended.0, ended.1, appends_keeps old mid new ended.0 ended.2 reported)
+output_then rules (Err Unwritten) old mid new ended reported = (ended.0, ended.1, ended.2, front_keeps old mid new ended.0 ended.3 reported)
+output_then rules (Err OutOfMemory) old mid new ended reported = keeps_takes old mid new memory_line ended reported
+output_then rules (Err (Unreadable path)) old mid new ended reported = (ended.0, keeps_twice old mid new ended.1 reported)
+output_then rules (Err NoSuchPage) old mid new ended reported = (ended.0, keeps_twice old mid new ended.1 reported)
 
 -- What is known of a device that writes a file, in terms of a script that was typeset.
 pub answered_to_file : (text : List ℕ) (files : List NamedBytes) (start : ℕ) (begun : Bool) (failures : ℕ) (back : Option (List ℕ)) (Same Kept : Type 0) (answer : List ℕ) (fine : Bool) (file : OutFile)
@@ -134,7 +142,7 @@ left_to_file text files start begun failures back file fresh opened counted kept
 
 -- A task has ended, and its end was reported.
 pub has_ended : (rules : TaskRules) (end : TaskEnd) (mid : Option (List ℕ)) (before after : Streams) (status : ℕ)
-    → EndsTask rules end before.output mid → (end ≡ OutOfMemory → rules.LacksMemory) → TellsOutput end mid after.output → TellsErrors end before.errors after.errors
+    → EndsTask rules end before.output mid → (end ≡ Err OutOfMemory → rules.LacksMemory) → TellsOutput end mid after.output → TellsErrors end before.errors after.errors
     → status ≡ status_of end → TaskHasEnded rules before after status
 has_ended rules end mid before after status ended memory said reported is = record {
   end = end;
@@ -148,17 +156,17 @@ has_ended rules end mid before after status ended memory said reported is = reco
 pub ends_weaker : (rules weaker : TaskRules) (end : TaskEnd) (old new : Option (List ℕ))
     → ((text : List ℕ) (fine : Bool) → rules.IsAnswer text fine → weaker.IsAnswer text fine) → ((path : Bor (List ℕ)) → rules.IsUnread path → weaker.IsUnread path)
     → (rules.LacksPage → weaker.LacksPage) → EndsTask rules end old new → EndsTask weaker end old new
-ends_weaker rules weaker (Printed fine) old new f u l h = (h.0, f h.0 fine h.1, h.2)
-ends_weaker rules weaker Unwritten old new f u l h = (h.0, h.1, f h.0 h.1 h.2, h.3)
-ends_weaker rules weaker OutOfMemory old new f u l h = h
-ends_weaker rules weaker (Unreadable path) old new f u l h = (u path h.0, h.1)
-ends_weaker rules weaker NoSuchPage old new f u l h = (l h.0, h.1)
+ends_weaker rules weaker (Ok fine) old new f u l h = (h.0, f h.0 fine h.1, h.2)
+ends_weaker rules weaker (Err Unwritten) old new f u l h = (h.0, h.1, f h.0 h.1 h.2, h.3)
+ends_weaker rules weaker (Err OutOfMemory) old new f u l h = h
+ends_weaker rules weaker (Err (Unreadable path)) old new f u l h = (u path h.0, h.1)
+ends_weaker rules weaker (Err NoSuchPage) old new f u l h = (l h.0, h.1)
 
 -- Files that were not read, and the report of it.
 pub unread_output : {H : Type 0} (fonts : List NamedPath) (host back : HostView H) (file : OutFile) (fault : FontFileFault)
     (old new : Option (List ℕ))
-    → IsLeftAlone (IsSame host back) file → IsUnreadScript host.files host.input fonts fault → TellsOutput (end_of fault) old new
-    → EndsOutput (typesetting_rules written_bytes fonts host back file) (end_of fault) old new
+    → IsLeftAlone (IsSame host back) file → IsUnreadScript host.files host.input fonts fault → TellsOutput (Err (of_font_file fault)) old new
+    → EndsOutput (typesetting_rules written_bytes fonts host back file) (Err (of_font_file fault)) old new
 unread_output fonts host back file WantsMemory old new alone unread said = said
 unread_output fonts host back file (File path) old new alone unread said = ((unread, alone), said)
 
@@ -171,7 +179,7 @@ keeps_same (Some bytes) = refl
 pub typeset_ended : {H : Type 0} (fonts : List NamedPath) (out : List ℕ) (old new : HostView H) (file : OutFile)
     (text : List ℕ) (files : List NamedBytes) (end : TaskEnd) (mid between : Option (List ℕ)) (before after : Streams) (status : ℕ)
     → IsReading old.input text → AreFilesOf old.files fonts files → EndsTask (script_rules written_bytes text files (IsSame old new) file) end before.output mid
-    → (end ≡ OutOfMemory → IsLeftToFile written_bytes text files file) → LeavesHost out old new file → TellsUnwritten file.done out before.errors between
+    → (end ≡ Err OutOfMemory → IsLeftToFile written_bytes text files file) → LeavesHost out old new file → TellsUnwritten file.done out before.errors between
     → TellsOutput end mid after.output → TellsErrors end between after.errors → status ≡ status_of end → HasTypeset written_bytes out fonts old new before after status
 typeset_ended fonts out old new file text files end mid between before after status read filed ended left leaves unwritten said output_is is =
     record {
@@ -234,15 +242,15 @@ unread_dvi reported dvi bytes fonts (File path) read unread = inr ((bytes, read)
 
 -- What is known of the input of `typeset` if memory was refused for it.
 wanting_script : (reported : List ℕ → Option (Option (List ℕ))) (input : Option (List ℕ)) (fonts : List NamedPath) (fault : FontFileFault)
-    → end_of fault ≡ OutOfMemory → IsUnreadScript reported input fonts fault → IsUnreadScript reported input fonts WantsMemory
+    → of_font_file fault ≡ OutOfMemory → IsUnreadScript reported input fonts fault → IsUnreadScript reported input fonts WantsMemory
 wanting_script reported input fonts WantsMemory wants unread = unread
 wanting_script reported input fonts (File path) wants unread = absurd (cc)
 
 -- The input of `typeset` was not read, and that was reported.
 pub not_typeset : {H : Type 0} (known : H → Files) (created : H → List (List ℕ)) (written : H → Option (List ℕ)) (failures : H → ℕ) (input left : Option (List ℕ)) (host : H)
     (fonts : List NamedPath) (out : List ℕ) (fault : FontFileFault) (before after : Streams) (status : ℕ)
-    → IsUnreadScript (known host) input fonts fault → TellsOutput (end_of fault) before.output after.output → TellsErrors (end_of fault) before.errors after.errors
-    → status ≡ status_of (end_of fault)
+    → IsUnreadScript (known host) input fonts fault → TellsOutput (Err (of_font_file fault)) before.output after.output → TellsErrors (Err (of_font_file fault)) before.errors after.errors
+    → status ≡ status_of (Err (of_font_file fault))
     → HasTypeset written_bytes out fonts (view_of known created written failures input host) (view_of known created written failures left host) before after status
 not_typeset known created written failures input left host fonts out fault before after status unread said output_is is =
     let old = view_of known created written failures input host in
@@ -250,11 +258,11 @@ not_typeset known created written failures input left host fonts out fault befor
     let file : OutFile = record { created = false; done = true; written = written host } in
     let alone : IsLeftAlone (IsSame old new) file = record { same = refl; closed = refl; silent = refl } in
     record {
-      end = end_of fault;
+      end = Err (of_font_file fault);
       file = file;
       leaves = record { written = refl; placed = refl; untouched = λ _. refl; unchanged = λ _ _. refl; blamed = unfailed (failures host) };
       printed = unread_output fonts old new file fault before.output after.output alone unread said;
-      memory = λ wants. inl (alone, wanting_script (known host) input fonts fault wants unread);
+      memory = λ wants. inl (alone, wanting_script (known host) input fonts fault (cc) unread);
       reported = record { middle = before.errors; unwritten = keeps_same before.errors; ended = output_is };
       status_is = is;
     }
@@ -268,9 +276,10 @@ not_created true done (Some bytes) used fine reported empty = absurd (used refl 
 
 -- Inputs that were not read, for a task whose memory was refused.
 pub wanting_dvi : (reported : List ℕ → Option (Option (List ℕ))) (dvi : List ℕ) (fonts : List NamedPath) (fault : FontFileFault) (end : TaskEnd)
-    → IsUnreadDvi reported dvi fonts fault → end ≡ end_of fault → end ≡ OutOfMemory → LacksMemoryForDvi reported dvi fonts
-wanting_dvi reported dvi fonts WantsMemory end unread is wants = inl unread
-wanting_dvi reported dvi fonts (File path) end unread is wants = absurd (cc)
+    → IsUnreadDvi reported dvi fonts fault → IsErrAnd end (λ other. other ≡ of_font_file fault) → end ≡ Err OutOfMemory → LacksMemoryForDvi reported dvi fonts
+wanting_dvi reported dvi fonts WantsMemory end unread handed wants = inl unread
+wanting_dvi reported dvi fonts (File path) (Ok fine) unread handed wants = absurd handed
+wanting_dvi reported dvi fonts (File path) (Err other) unread handed wants = absurd (cc)
 
 -- Inputs that were read, before memory was refused.
 pub wanting_after : (reported : List ℕ → Option (Option (List ℕ))) (dvi bytes : List ℕ) (fonts : List NamedPath) (files : List NamedBytes)
@@ -284,6 +293,82 @@ was_readable (Some known) text read = rw (← read.all) read.within
 
 -- What is known of the inputs of a task whose memory was refused.
 pub ruleset memory = (wanting_dvi, wanting_after, was_readable)
+
+-- The message about a file that could not be read was written.
+pub tells_unreadable : (end : TaskEnd) (fault : TaskFault) (path : Bor (List ℕ)) (old new : Option (List ℕ)) → end ≡ Err fault → fault ≡ Unreadable path
+    → TakesText old new (message_line (codes "boxglue: cannot read ") path.now) → TellsErrors end old new
+tells_unreadable end fault path old new is unread text =
+    subst (λ (it : TaskEnd). TellsErrors it old new) (sym (is ∙ ap (λ (f : TaskFault). Err f) unread)) text
+
+-- What is known of a value that a call gave, where only its fault was mapped.
+pub mapped_ok : {A E D : Type 0} (P : A → Type 0) (r : Result A E) (m : Result A D) (x : A) → m ≡ Ok x → IfOk r P
+    → MatchResult r (λ y. m ≡ Ok y) (λ e. ⊥) → P x
+mapped_ok P (Ok y) m x is holds same = let back : y ≡ x = cc in subst P back holds
+mapped_ok P (Err e) m x is holds none = absurd none
+
+-- A fault that was handed on is the end of the task.
+pub handed_end : (end : TaskEnd) (fault : TaskFault) → IsErrAnd end (λ other. other ≡ fault) → end ≡ Err fault
+handed_end (Ok fine) fault handed = absurd handed
+handed_end (Err other) fault handed = ap Err handed
+
+-- A task whose input was not read.
+unread_ends : (rules : TaskRules) (fault : FontFileFault) (bytes : Option (List ℕ)) → ((path : Bor (List ℕ)) → fault ≡ File path → rules.IsUnread path)
+    → EndsTask rules (Err (of_font_file fault)) bytes bytes
+unread_ends rules WantsMemory bytes unread = keeps_same bytes
+unread_ends rules (File path) bytes unread = (unread path refl, keeps_same bytes)
+
+pub ends_unread : (rules : TaskRules) (fault : FontFileFault) (end : TaskEnd) (bytes : Option (List ℕ)) → IsErrAnd end (λ other. other ≡ of_font_file fault)
+    → ((path : Bor (List ℕ)) → fault ≡ File path → rules.IsUnread path) → EndsTask rules end bytes bytes
+ends_unread rules fault end bytes handed unread =
+    subst (λ (it : TaskEnd). EndsTask rules it bytes bytes) (sym (handed_end end (of_font_file fault) handed)) (unread_ends rules fault bytes unread)
+
+-- A task whose text was not printed.
+print_ends : (rules : TaskRules) (fault : PrintFault) (old new : Option (List ℕ))
+    → (fault ≡ prints.Unwritten → (text : List ℕ) × (fine : Bool) × rules.IsAnswer text fine × WritesFront old new text)
+    → (fault ≡ prints.OutOfMemory → Keeps old new) → (fault ≡ prints.NoSuchPage → rules.LacksPage × Keeps old new)
+    → EndsTask rules (Err (of_print fault)) old new
+print_ends rules prints.Unwritten old new front silent missing = front refl
+print_ends rules prints.OutOfMemory old new front silent missing = silent refl
+print_ends rules prints.NoSuchPage old new front silent missing = missing refl
+
+pub ends_unprinted : (rules : TaskRules) (fault : PrintFault) (end : TaskEnd) (old new : Option (List ℕ)) → IsErrAnd end (λ other. other ≡ of_print fault)
+    → (fault ≡ prints.Unwritten → (text : List ℕ) × (fine : Bool) × rules.IsAnswer text fine × WritesFront old new text)
+    → (fault ≡ prints.OutOfMemory → Keeps old new) → (fault ≡ prints.NoSuchPage → rules.LacksPage × Keeps old new) → EndsTask rules end old new
+ends_unprinted rules fault end old new handed front silent missing =
+    subst (λ (it : TaskEnd). EndsTask rules it old new) (sym (handed_end end (of_print fault) handed)) (print_ends rules fault old new front silent missing)
+
+-- A task whose script was run in memory, and not answered.
+run_ends : (rules : TaskRules) (text : List ℕ) (fault : RunFault MemoryState) (old new : Option (List ℕ))
+    → ((answer : List ℕ) (fine : Bool) → IsAnswerInMemory written_bytes text [] answer fine → rules.IsAnswer answer fine)
+    → IsLeftInMemory written_bytes text [] fault old new → EndsTask rules (Err (of_run fault)) old new
+run_ends rules text (runs.Memory memory) old new answers left = left.1
+run_ends rules text (runs.Answers memory) old new answers left = (left.0, left.1, answers left.0 left.1 (memory, left.2), left.3)
+
+pub ends_unrun : (rules : TaskRules) (text : List ℕ) (fault : RunFault MemoryState) (end : TaskEnd) (old new : Option (List ℕ))
+    → IsErrAnd end (λ other. other ≡ of_run fault)
+    → ((answer : List ℕ) (fine : Bool) → IsAnswerInMemory written_bytes text [] answer fine → rules.IsAnswer answer fine)
+    → IsLeftInMemory written_bytes text [] fault old new → EndsTask rules end old new
+ends_unrun rules text fault end old new handed answers left =
+    subst (λ (it : TaskEnd). EndsTask rules it old new) (sym (handed_end end (of_run fault) handed)) (run_ends rules text fault old new answers left)
+
+-- A page that was not painted.
+pub missing_page : (fault : PaintFault) (end : Result Bool PrintFault) → IsErrAnd end (λ other. other ≡ of_paint fault) → end ≡ Err prints.NoSuchPage
+    → fault ≡ paints.NoSuchPage
+missing_page fault (Ok fine) handed is = absurd handed
+missing_page paints.OutOfMemory (Err other) handed is = absurd (cc)
+missing_page paints.NoSuchPage (Err other) handed is = refl
+
+pub painting_is_written : (fault : PaintFault) (end : Result Bool PrintFault) → IsErrAnd end (λ other. other ≡ of_paint fault) → end ≡ Err prints.Unwritten → ⊥
+painting_is_written fault (Ok fine) handed is = absurd handed
+painting_is_written paints.OutOfMemory (Err other) handed is = cc
+painting_is_written paints.NoSuchPage (Err other) handed is = cc
+
+pub not_painted : {A : Type 0} (painted : Result A PaintFault) (fault : PaintFault) (end : Result Bool PrintFault) → painted ≡ Err fault
+    → IsErrAnd end (λ other. other ≡ of_paint fault) → (painted ≡ Err paints.NoSuchPage) ⊎ (painted ≡ Err paints.OutOfMemory)
+    → (end ≡ Err prints.NoSuchPage) ⊎ (end ≡ Err prints.OutOfMemory)
+not_painted painted fault (Ok fine) is handed found = absurd handed
+not_painted painted paints.NoSuchPage (Err other) is handed found = inl (ap Err handed)
+not_painted painted paints.OutOfMemory (Err other) is handed found = inr (ap Err handed)
 
 -- A device that took all has not failed.
 pub none_failed : (k : ℕ) (done : Bool) → done ≡ (k == 0) → done ≡ true → k ≡ 0

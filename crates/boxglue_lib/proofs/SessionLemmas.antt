@@ -12,14 +12,15 @@ use Rattle.boxglue_program.specs.Reports.{written_bytes}
 use Rattle.boxglue_program.specs.Sessions.{IsCutOff, IsSent, IsUnreadable, LacksSessionMemory, RanSession}
 use Rattle.boxglue_program.specs.declared.session.SessionFault.{SessionFault}
 use Rattle.boxglue_program.specs.declared.session.SessionFault.TheVariants.{OutOfMemory as RefusesMemory, Unreadable as LosesInput}
-use Rattle.boxglue_lib.specs.Ends.{TellsErrors, TellsOutput, status_of}
-use Rattle.boxglue_lib.specs.Private.Parts.{IsSessionEnd, end_of}
+use Rattle.boxglue_lib.specs.Ends.{TaskEnd, TellsErrors, TellsOutput, status_of}
+use Rattle.boxglue_lib.specs.Private.Parts.{IsSessionEnd}
+use Rattle.boxglue_lib.specs.Faults.{of_font_file}
 use Rattle.boxglue_lib.specs.Sessions.{EndsSession, HasSession, HoldsOfFile}
 use Rattle.boxglue_lib.specs.Typesets.{IsUsed, LeavesHost, OutFile, TellsUnwritten}
 use Rattle.boxglue_lib.specs.Views.{HostView, Streams, view_of}
 use Rattle.boxglue_words.specs.declared.fonts.NamedPath.{NamedPath}
-use Rattle.boxglue_lib.specs.declared.task_end.TaskEnd.{TaskEnd}
-use Rattle.boxglue_lib.specs.declared.task_end.TaskEnd.TheVariants.{Printed, Unwritten, OutOfMemory, Unreadable, NoSuchPage}
+use Rattle.boxglue_lib.specs.declared.task_fault.TaskFault.{TaskFault}
+use Rattle.boxglue_lib.specs.declared.task_fault.TaskFault.TheVariants.{Unwritten, OutOfMemory, Unreadable, NoSuchPage}
 
 -- A reader that was read to its end gave all that it had.
 pub all_read : (old new : Option (List ℕ)) (text : List ℕ) → Consumes old new text → IsAtEnd new → length text ≤ READ_LIMIT → IsReading old text
@@ -65,14 +66,14 @@ pub session_ends : (input left : Option (List ℕ)) (files : List NamedBytes) (o
     → (outcome ≡ Err LosesInput → Loses input left files reads old new k bytes)
     → ((Holds : ℕ → Option (List ℕ) → Type 0) → Holds k bytes → HoldsOfFile Holds file) → EndsSession written_bytes input files file end old new
 session_ends input left files (Ok accepted) true end old new k bytes file is ran lacks loses known =
-    let ended : EndsSession written_bytes input files file (Printed accepted) old new = (
+    let ended : EndsSession written_bytes input files file (Ok accepted) old new = (
       ran.1,
       (ran.0, all_read input left ran.0 ran.2 ran.3 ran.4, known (λ failed bytes_written. RanSession written_bytes ran.0 files 0 failed bytes_written ran.1 accepted) ran.5),
       ran.6,
     ) in
     subst (λ (it : TaskEnd). EndsSession written_bytes input files file it old new) (sym is) ended
 session_ends input left files (Ok accepted) false end old new k bytes file is ran lacks loses known =
-    let ended : EndsSession written_bytes input files file Unwritten old new = (
+    let ended : EndsSession written_bytes input files file (Err Unwritten) old new = (
       ran.1,
       inl (accepted, (ran.0, all_read input left ran.0 ran.2 ran.3 ran.4, known (λ failed bytes_written. RanSession written_bytes ran.0 files 0 failed bytes_written ran.1 accepted) ran.5)),
       ran.6,
@@ -80,7 +81,7 @@ session_ends input left files (Ok accepted) false end old new k bytes file is ra
     subst (λ (it : TaskEnd). EndsSession written_bytes input files file it old new) (sym is) ended
 session_ends input left files (Err RefusesMemory) true end old new k bytes file is ran lacks loses known =
     let lack = lacks refl in
-    let ended : EndsSession written_bytes input files file OutOfMemory old new = (
+    let ended : EndsSession written_bytes input files file (Err OutOfMemory) old new = (
       lack.1,
       (lack.0, is_beginning input left lack.0 lack.2, known (λ failed bytes_written. LacksSessionMemory written_bytes lack.0 files 0 failed bytes_written lack.1) lack.3),
       lack.4,
@@ -88,7 +89,7 @@ session_ends input left files (Err RefusesMemory) true end old new k bytes file 
     subst (λ (it : TaskEnd). EndsSession written_bytes input files file it old new) (sym is) ended
 session_ends input left files (Err RefusesMemory) false end old new k bytes file is ran lacks loses known =
     let lack = lacks refl in
-    let ended : EndsSession written_bytes input files file Unwritten old new = (
+    let ended : EndsSession written_bytes input files file (Err Unwritten) old new = (
       lack.1,
       inr (lack.0, is_beginning input left lack.0 lack.2, known (λ failed bytes_written. LacksSessionMemory written_bytes lack.0 files 0 failed bytes_written lack.1) lack.3),
       lack.4,
@@ -96,7 +97,7 @@ session_ends input left files (Err RefusesMemory) false end old new k bytes file
     subst (λ (it : TaskEnd). EndsSession written_bytes input files file it old new) (sym is) ended
 session_ends input left files (Err LosesInput) reads end old new k bytes file (path, is, dash) ran lacks loses known =
     let lose = loses refl in
-    let ended : EndsSession written_bytes input files file (Unreadable path) old new = (
+    let ended : EndsSession written_bytes input files file (Err (Unreadable path)) old new = (
       lose.2,
       reads,
       dash,
@@ -114,13 +115,13 @@ session_ends input left files (Err LosesInput) reads end old new k bytes file (p
 -- The files of fonts were not read, and that was reported.
 pub not_held : {H : Type 0} (known : H → Files) (created : H → List (List ℕ)) (written : H → Option (List ℕ)) (failures : H → ℕ) (input left : Option (List ℕ)) (host : H)
     (fonts : List NamedPath) (out : List ℕ) (fault : FontFileFault) (before after : Streams) (status : ℕ)
-    → IsUnread (known host) fonts fault → TellsOutput (end_of fault) before.output after.output → TellsErrors (end_of fault) before.errors after.errors
-    → status ≡ status_of (end_of fault)
+    → IsUnread (known host) fonts fault → TellsOutput (Err (of_font_file fault)) before.output after.output → TellsErrors (Err (of_font_file fault)) before.errors after.errors
+    → status ≡ status_of (Err (of_font_file fault))
     → HasSession written_bytes out fonts (view_of known created written failures input host) (view_of known created written failures left host) before after status
 not_held known created written failures input left host fonts out WantsMemory before after status unread said output_is is =
-    inl (refl, record { end = OutOfMemory; printed = said; memory = λ _. unread; reported = output_is; status_is = is })
+    inl (refl, record { end = Err OutOfMemory; printed = said; memory = λ _. unread; reported = output_is; status_is = is })
 not_held known created written failures input left host fonts out (File path) before after status unread said output_is is =
-    inl (refl, record { end = Unreadable path; printed = (unread, said); memory = λ wants. absurd (cc); reported = output_is; status_is = is })
+    inl (refl, record { end = Err (Unreadable path); printed = (unread, said); memory = λ wants. absurd (cc); reported = output_is; status_is = is })
 
 -- A session was held, and its end was reported.
 pub held : {H : Type 0} (fonts : List NamedPath) (out : List ℕ) (old new : HostView H) (file : OutFile) (files : List NamedBytes) (end : TaskEnd)

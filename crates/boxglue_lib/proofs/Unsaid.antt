@@ -1,5 +1,5 @@
 -- What was done, without what the rules of the writer say of the bytes.
-use Rattle.std.proofs.Common.{ℕ, Bool, List, [], Option, Some, inl, inr}
+use Rattle.std.proofs.Common.{ℕ, Bool, List, [], Option, Some, Ok, Err, inl, inr}
 use Rattle.std.specs.Borrow.{Bor}
 use Rattle.dvi_device.specs.Held.{MemoryState}
 use Rattle.tfm_core.specs.NamedBytes.{NamedBytes}
@@ -11,23 +11,22 @@ use Rattle.boxglue_words.specs.Hosts.{written_to_file}
 use Rattle.boxglue_words.specs.declared.fonts.NamedPath.{NamedPath}
 use Rattle.boxglue_words.specs.declared.task.Task.{Task}
 use Rattle.boxglue_words.specs.declared.task.Task.TheVariants as tasks
-use Rattle.boxglue_lib.specs.Ends.{EndsOutput, TaskHasEnded, TaskRules}
+use Rattle.boxglue_lib.specs.Ends.{EndsOutput, TaskEnd, TaskHasEnded, TaskRules}
 use Rattle.boxglue_lib.specs.Programs.{HasDone, input_rules}
 use Rattle.boxglue_lib.specs.Sessions.{EndsSession, HasSession, HoldsOfFile}
 use Rattle.boxglue_lib.specs.Typesets.{HasTypeset, IsLeftToFile, IsToFile, LacksMemoryForTask, OutFile, typesetting_rules}
 use Rattle.boxglue_lib.specs.Views.{HostView, Streams}
-use Rattle.boxglue_lib.specs.declared.task_end.TaskEnd.{TaskEnd}
-use Rattle.boxglue_lib.specs.declared.task_end.TaskEnd.TheVariants.{Printed, Unwritten, OutOfMemory, Unreadable, NoSuchPage}
+use Rattle.boxglue_lib.specs.declared.task_fault.TaskFault.TheVariants.{Unwritten, OutOfMemory, Unreadable, NoSuchPage}
 
 -- An end under rules of which the answers are weaker.
 output_weaker : (rules weaker : TaskRules) (end : TaskEnd) (old new : Option (List ℕ))
     → ((text : List ℕ) (fine : Bool) → rules.IsAnswer text fine → weaker.IsAnswer text fine) → ((path : Bor (List ℕ)) → rules.IsUnread path → weaker.IsUnread path)
     → (rules.LacksPage → weaker.LacksPage) → EndsOutput rules end old new → EndsOutput weaker end old new
-output_weaker rules weaker (Printed fine) old new f u l h = (h.0, f h.0 fine h.1, h.2)
-output_weaker rules weaker Unwritten old new f u l h = (h.0, h.1, f h.0 h.1 h.2, h.3)
-output_weaker rules weaker OutOfMemory old new f u l h = h
-output_weaker rules weaker (Unreadable path) old new f u l h = (u path h.0, h.1)
-output_weaker rules weaker NoSuchPage old new f u l h = (l h.0, h.1)
+output_weaker rules weaker (Ok fine) old new f u l h = (h.0, f h.0 fine h.1, h.2)
+output_weaker rules weaker (Err Unwritten) old new f u l h = (h.0, h.1, f h.0 h.1 h.2, h.3)
+output_weaker rules weaker (Err OutOfMemory) old new f u l h = h
+output_weaker rules weaker (Err (Unreadable path)) old new f u l h = (u path h.0, h.1)
+output_weaker rules weaker (Err NoSuchPage) old new f u l h = (l h.0, h.1)
 
 -- A script.
 to_file_unsaid : (text : List ℕ) (files : List NamedBytes) (Same : Type 0) (file : OutFile) (answer : List ℕ) (fine : Bool)
@@ -105,17 +104,17 @@ held_of_file P Q file f (failed, holds, done, used) = (failed, f failed (written
 
 ended_unsaid : (input : Option (List ℕ)) (files : List NamedBytes) (file : OutFile) (end : TaskEnd) (old new : Option (List ℕ))
     → EndsSession written_bytes input files file end old new → EndsSession any_bytes input files file end old new
-ended_unsaid input files file (Printed fine) old new (answer, (text, read, holds), all) =
+ended_unsaid input files file (Ok fine) old new (answer, (text, read, holds), all) =
     (answer, (text, read, held_of_file _ _ file (λ failed bytes. session_unsaid text files 0 failed bytes answer fine) holds), all)
-ended_unsaid input files file Unwritten old new (answer, inl (fine, (text, read, holds)), front) =
+ended_unsaid input files file (Err Unwritten) old new (answer, inl (fine, (text, read, holds)), front) =
     (answer, inl (fine, (text, read, held_of_file _ _ file (λ failed bytes. session_unsaid text files 0 failed bytes answer fine) holds)), front)
-ended_unsaid input files file Unwritten old new (answer, inr (text, read, holds), front) =
+ended_unsaid input files file (Err Unwritten) old new (answer, inr (text, read, holds), front) =
     (answer, inr (text, read, held_of_file _ _ file (λ failed bytes. wanting_unsaid text files 0 failed bytes answer) holds), front)
-ended_unsaid input files file OutOfMemory old new (answer, (text, read, holds), all) =
+ended_unsaid input files file (Err OutOfMemory) old new (answer, (text, read, holds), all) =
     (answer, (text, read, held_of_file _ _ file (λ failed bytes. wanting_unsaid text files 0 failed bytes answer) holds), all)
-ended_unsaid input files file (Unreadable path) old new (answer, reads, dash, (text, lost, read, unread, holds), sent) =
+ended_unsaid input files file (Err (Unreadable path)) old new (answer, reads, dash, (text, lost, read, unread, holds), sent) =
     (answer, reads, dash, (text, lost, read, unread, held_of_file _ _ file (λ failed bytes. cut_unsaid text files 0 failed bytes answer) holds), sent)
-ended_unsaid input files file NoSuchPage old new none = none
+ended_unsaid input files file (Err NoSuchPage) old new none = none
 
 had_session_unsaid : {H : Type 0} (out : List ℕ) (fonts : List NamedPath) (old new : HostView H) (before after : Streams) (status : ℕ)
     → HasSession written_bytes out fonts old new before after status → HasSession any_bytes out fonts old new before after status

@@ -1,4 +1,5 @@
 pub mod Views
+pub mod Faults
 pub mod Ends
 pub mod Inputs
 pub mod Printed

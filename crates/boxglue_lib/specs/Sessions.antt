@@ -1,5 +1,5 @@
 -- Sessions whose pages go to a file (own).
-use Rattle.std.specs.Prelude.{◌≡◌, ◌==◌, ◌⊎◌, ◌++◌, ℕ, Bool, true, List, Option, codes}
+use Rattle.std.specs.Prelude.{◌≡◌, ◌==◌, ◌⊎◌, ◌++◌, ℕ, Bool, true, List, Option, Ok, Err, codes}
 use Rattle.std.specs.Io.KnownBytes.{Appends}
 use Rattle.boxglue_words.specs.Hosts.{AreFilesOf, IsUnread, written_to_file}
 use Rattle.boxglue_words.specs.Readings.{Files, IsBeginning, IsReading}
@@ -10,11 +10,10 @@ use Rattle.boxglue_program.specs.Runs.{WritesFront}
 use Rattle.boxglue_program.specs.Sessions.{IsCutOff, IsSent, IsUnreadable, LacksSessionMemory, RanSession}
 use Rattle.tfm_core.specs.NamedBytes.{NamedBytes}
 use Rattle.boxglue_words.specs.declared.fonts.NamedPath.{NamedPath}
-use Rattle.boxglue_lib.specs.Ends.{TaskHasEnded, TaskRules, TellsOutput, status_of}
+use Rattle.boxglue_lib.specs.Ends.{TaskEnd, TaskHasEnded, TaskRules, TellsOutput, status_of}
 use Rattle.boxglue_lib.specs.Typesets.{IsUsed, LeavesHost, OutFile, TellsTypeset}
 use Rattle.boxglue_lib.specs.Views.{HostView, IsSame, Streams}
-use Rattle.boxglue_lib.specs.declared.task_end.TaskEnd.{TaskEnd}
-use Rattle.boxglue_lib.specs.declared.task_end.TaskEnd.TheVariants.{Printed, Unwritten, OutOfMemory, Unreadable, NoSuchPage}
+use Rattle.boxglue_lib.specs.declared.task_fault.TaskFault.TheVariants.{Unwritten, OutOfMemory, Unreadable, NoSuchPage}
 
 -- What is known of a file after its new device was used: this holds of how often the device has failed and of the bytes that it reports.
 abbrev pub HoldsOfFile : (Holds : (failed : ℕ) → (bytes_written : Option (List ℕ)) → Type 0) → OutFile → Type 0
@@ -43,15 +42,16 @@ CutOffToFile reports input files file answer =
 -- also where memory was refused; memory was refused after these answers; or a reading of standard input failed, and then all answers so far or a
 -- beginning of them. No page is missing.
 abbrev pub EndsSession : Reports → (input : Option (List ℕ)) → List NamedBytes → OutFile → TaskEnd → (old new : Option (List ℕ)) → Type 0
-EndsSession reports input files file (Printed fine) old new =
+EndsSession reports input files file (Ok fine) old new =
     (answer : List ℕ) × RanToFile reports input files file answer fine × Appends old new answer
-EndsSession reports input files file Unwritten old new =
+EndsSession reports input files file (Err Unwritten) old new =
     (answer : List ℕ) × (((fine : Bool) × RanToFile reports input files file answer fine) ⊎ LeftToFile reports input files file answer)
     × WritesFront old new answer
-EndsSession reports input files file OutOfMemory old new = (answer : List ℕ) × LeftToFile reports input files file answer × Appends old new answer
-EndsSession reports input files file (Unreadable path) old new =
+EndsSession reports input files file (Err OutOfMemory) old new =
+    (answer : List ℕ) × LeftToFile reports input files file answer × Appends old new answer
+EndsSession reports input files file (Err (Unreadable path)) old new =
     (answer : List ℕ) × (reads : Bool) × (path.now ≡ codes "-") × CutOffToFile reports input files file answer × IsSent true reads old new answer
-EndsSession reports input files file NoSuchPage old new = ⊥
+EndsSession reports input files file (Err NoSuchPage) old new = ⊥
 
 -- A session with these font files has ended: what is known of its file and of the host; what the output took, and after it the line for memory that
 -- was refused; what the errors took; and the status.

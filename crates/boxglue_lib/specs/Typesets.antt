@@ -1,5 +1,5 @@
 -- Scripts that are typeset to a file (own).
-use Rattle.std.specs.Prelude.{◌≡◌, ◌≢◌, ◌==◌, ◌⊎◌, [], ℕ, Bool, true, false, not, List, Option, codes}
+use Rattle.std.specs.Prelude.{◌≡◌, ◌≢◌, ◌==◌, ◌⊎◌, [], ℕ, Bool, true, false, not, List, Option, Err, codes}
 use Rattle.std.specs.Option.{ForSome}
 use Rattle.std.specs.Io.KnownBytes.{Keeps}
 use Rattle.boxglue_words.specs.Hosts.{AreFilesOf, created_after, has_failed, written_to_file}
@@ -9,11 +9,10 @@ use Rattle.boxglue_program.specs.Reports.{Reports}
 use Rattle.boxglue_program.specs.Runs.{IsUntouched, RanScript, RefusedScript}
 use Rattle.tfm_core.specs.NamedBytes.{NamedBytes}
 use Rattle.boxglue_words.specs.declared.fonts.NamedPath.{NamedPath}
-use Rattle.boxglue_lib.specs.Ends.{EndsOutput, TakesText, TaskRules, TellsErrors, message_line, status_of}
+use Rattle.boxglue_lib.specs.Ends.{EndsOutput, TakesText, TaskEnd, TaskRules, TellsErrors, message_line, status_of}
 use Rattle.boxglue_lib.specs.Inputs.{IsUnreadScript}
 use Rattle.boxglue_lib.specs.Views.{HostView, IsSame, Streams}
-use Rattle.boxglue_lib.specs.declared.task_end.TaskEnd.{TaskEnd}
-use Rattle.boxglue_lib.specs.declared.task_end.TaskEnd.TheVariants.{OutOfMemory}
+use Rattle.boxglue_lib.specs.declared.task_fault.TaskFault.TheVariants.{OutOfMemory}
 
 -- The file OUT of a `typeset` that has ended: whether it was created; whether no creation and no write of it failed; and the bytes that it took, if
 -- they are known.
@@ -109,6 +108,6 @@ pub record HasTypeset {H : Type 0} (reports : Reports) (out : List ℕ) (fonts :
   pub file : OutFile
   pub leaves : LeavesHost out old new file
   pub printed : EndsOutput (typesetting_rules reports fonts old new file) end before.output after.output
-  pub memory : end ≡ OutOfMemory → LacksMemoryForTask reports fonts old new file
+  pub memory : end ≡ Err OutOfMemory → LacksMemoryForTask reports fonts old new file
   pub reported : TellsTypeset out file.done end before.errors after.errors
   pub status_is : status ≡ status_of end

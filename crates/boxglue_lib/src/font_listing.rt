@@ -1,14 +1,14 @@
 //! `fonts`: the units of a DVI file and the fonts that it defines.
 
-ghost use Rattle.std.specs.Prelude.{◌≡◌};
+ghost use Rattle.std.specs.Prelude.{◌≡◌, Err};
 ghost use Rattle.boxglue_words.specs.Readings.{IsReadableFile};
 ghost use Rattle.boxglue_lib.specs.Ends.{EndsTask};
 ghost use Rattle.boxglue_lib.specs.FontListings.{font_rules};
 
-use crate::task_end::TaskEnd;
+use crate::task_fault::TaskFault;
 use boxglue_print::{Output, fonts_text};
 use boxglue_program::write_text;
-use boxglue_words::{FileHost, HostFault};
+use boxglue_words::FileHost;
 use std::alloc::Global;
 use std::io::Write;
 
@@ -19,20 +19,12 @@ pub fn list_fonts<'a, H: FileHost, W: Write>(
     host: &H,
     dvi: &'a str,
     output: &mut W,
-) -> TaskEnd<'a>
+) -> Result<bool, TaskFault<'a>>
     ensures ended { EndsTask (font_rules (H.file host.now) dvi.entry.now) result (W.contents output.old) (W.contents output.new) }
-    ensures memory { result ≡ TaskEnd.OutOfMemory → IsReadableFile (H.file host.now dvi.entry.now) }
+    ensures memory { result ≡ Err TaskFault.OutOfMemory → IsReadableFile (H.file host.now dvi.entry.now) }
 {
-    let bytes = match host.read_file(alloc, dvi) {
-        Ok(bytes) => bytes,
-        Err(HostFault::OutOfMemory) => return TaskEnd::OutOfMemory,
-        Err(HostFault::Failed) => return TaskEnd::Unreadable(dvi),
-    };
-    let Ok(Output { text, accepted }) = fonts_text(alloc, &bytes) else {
-        return TaskEnd::OutOfMemory;
-    };
-    match write_text(output, &text) {
-        Ok(()) => TaskEnd::Printed(accepted),
-        Err(_) => TaskEnd::Unwritten,
-    }
+    let bytes = host.read_file(alloc, dvi).map_err(|fault| fault.at(dvi))?;
+    let Output { text, accepted } = fonts_text(alloc, &bytes)?;
+    write_text(output, &text)?;
+    Ok(accepted)
 }

@@ -6,7 +6,7 @@ ghost use Rattle.boxglue_words.specs.Readings.{IsFileReading, IsReading};
 ghost use Rattle.boxglue_lib.specs.Inputs.{IsUnreadDvi, IsUnreadScript};
 
 use boxglue_program::FontFile;
-use boxglue_words::{FileHost, FontFileFault, HostFault, NamedPath, StandardInput, read_fonts};
+use boxglue_words::{FileHost, FontFileFault, NamedPath, StandardInput, read_fonts};
 use std::alloc::Global;
 
 /// The bytes of a script or a DVI file, and the files of the fonts.
@@ -32,11 +32,8 @@ pub fn read_script_inputs<'a, H: FileHost, I: StandardInput + Drop>(
     ensures err { IfErr result (IsUnreadScript (H.file host.now) (I.remaining input) fonts.now) }
 {
     let files = read_fonts(alloc, host, fonts)?;
-    match input.read_whole(alloc) {
-        Ok(bytes) => Ok(Inputs { bytes, files }),
-        Err(HostFault::OutOfMemory) => Err(FontFileFault::OutOfMemory),
-        Err(HostFault::Failed) => Err(FontFileFault::File("-")),
-    }
+    let bytes = input.read_whole(alloc).map_err(|fault| fault.at("-"))?;
+    Ok(Inputs { bytes, files })
 }
 
 /// Reads a DVI file, and then the files of fonts, in the order of their words.
@@ -53,11 +50,7 @@ pub fn read_dvi_inputs<'a, H: FileHost>(
     ensures files { IfOk result (λ read. AreFilesOf (H.file host.now) fonts.now read.files.items) }
     ensures err { IfErr result (IsUnreadDvi (H.file host.now) dvi.entry.now fonts.now) }
 {
-    let bytes = match host.read_file(alloc, dvi) {
-        Ok(bytes) => bytes,
-        Err(HostFault::OutOfMemory) => return Err(FontFileFault::OutOfMemory),
-        Err(HostFault::Failed) => return Err(FontFileFault::File(dvi)),
-    };
+    let bytes = host.read_file(alloc, dvi).map_err(|fault| fault.at(dvi))?;
     let files = read_fonts(alloc, host, fonts)?;
     Ok(Inputs { bytes, files })
 }

@@ -8,6 +8,7 @@ ghost use Rattle.boxglue_print.specs.Outputs.{IsListed, IsPainted, LacksPage};
 ghost use Rattle.raster_core.specs.PlainText.{pbm};
 ghost use Rattle.raster_core.specs.declared.text.TheConstants.{ROW_TEXT};
 ghost use Rattle.boxglue_program.specs.Runs.{WritesFront};
+ghost use Rattle.boxglue_lib.specs.Faults.{of_paint};
 ghost use Rattle.boxglue_lib.specs.declared.printing.PrintFault.TheVariants.{OutOfMemory, Unwritten};
 
 use boxglue_print::{
@@ -37,6 +38,17 @@ impl From<AllocError> for PrintFault {
 
     fn from(_error: AllocError) -> PrintFault {
         PrintFault::OutOfMemory
+    }
+}
+
+impl From<PaintFault> for PrintFault {
+    ghost from_gives = { λ unpainted fault. fault ≡ of_paint unpainted };
+
+    fn from(unpainted: PaintFault) -> PrintFault {
+        match unpainted {
+            PaintFault::OutOfMemory => PrintFault::OutOfMemory,
+            PaintFault::NoSuchPage => PrintFault::NoSuchPage,
+        }
     }
 }
 
@@ -138,12 +150,7 @@ pub fn paint_file<W: Write>(
     ensures missing { result ≡ Err PrintFault.NoSuchPage → LacksPage files.now dvi.now options.page }
     ensures found { LacksPage files.now dvi.now options.page → (result ≡ Err PrintFault.NoSuchPage) ⊎ (result ≡ Err PrintFault.OutOfMemory) }
 {
-    let painting = match page_bitmap(alloc, dvi, files, options) {
-        Ok(painting) => painting,
-        Err(PaintFault::OutOfMemory) => return Err(PrintFault::OutOfMemory),
-        Err(PaintFault::NoSuchPage) => return Err(PrintFault::NoSuchPage),
-    };
-    let bitmap = match painting {
+    let bitmap = match page_bitmap(alloc, dvi, files, options)? {
         Painting::Painted(bitmap) => bitmap,
         Painting::Refusal(Output { text, accepted }) => {
             write_text(writer, &text)?;

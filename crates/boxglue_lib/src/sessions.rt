@@ -7,7 +7,7 @@ ghost use Rattle.boxglue_lib.specs.Private.Parts.{IsSessionEnd};
 ghost use Rattle.boxglue_lib.specs.Sessions.{EndsSession};
 ghost use Rattle.boxglue_lib.specs.Typesets.{OutFile};
 
-use crate::task_end::TaskEnd;
+use crate::task_fault::TaskFault;
 use crate::typesetting::{TypesetEnd, end_with};
 use boxglue_program::{FontFile, SessionEnd, SessionFault, run_session};
 use boxglue_words::{FileDevice, FileHost, READ_LIMIT};
@@ -15,14 +15,14 @@ use std::alloc::Global;
 use std::io::{Read, Write};
 
 /// The end of a task whose session ended so. To a client that does not read any longer nothing more is said.
-fn end_of<'a>(outcome: Result<bool, SessionFault>, reads: bool) -> TaskEnd<'a>
+fn end_of<'a>(outcome: Result<bool, SessionFault>, reads: bool) -> Result<bool, TaskFault<'a>>
     ensures { IsSessionEnd outcome reads result }
 {
     match outcome {
-        Err(SessionFault::Unreadable) => TaskEnd::Unreadable("-"),
-        Ok(accepted) if reads => TaskEnd::Printed(accepted),
-        Err(SessionFault::OutOfMemory) if reads => TaskEnd::OutOfMemory,
-        _ => TaskEnd::Unwritten,
+        Err(SessionFault::Unreadable) => Err(TaskFault::Unreadable("-")),
+        Ok(accepted) if reads => Ok(accepted),
+        Err(SessionFault::OutOfMemory) if reads => Err(TaskFault::OutOfMemory),
+        _ => Err(TaskFault::Unwritten),
     }
 }
 

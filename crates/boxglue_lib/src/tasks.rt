@@ -1,10 +1,9 @@
 //! The tasks, with the files of a host.
 
-ghost use Rattle.std.specs.Prelude.{◌≡◌, None};
+ghost use Rattle.std.specs.Prelude.{◌≡◌, None, Err};
 ghost use Rattle.boxglue_program.specs.Reports.{written_bytes};
 ghost use Rattle.boxglue_words.specs.Readings.{IsReadable};
 ghost use Rattle.boxglue_lib.specs.Ends.{EndsTask};
-ghost use Rattle.boxglue_lib.specs.Private.Parts.{end_of};
 ghost use Rattle.boxglue_lib.specs.Printed.{LacksMemoryForDvi, listing_rules, painting_rules};
 ghost use Rattle.boxglue_lib.specs.Programs.{input_rules};
 ghost use Rattle.boxglue_lib.specs.Sessions.{HasSession};
@@ -12,28 +11,15 @@ ghost use Rattle.boxglue_lib.specs.Typesets.{HasTypeset, TellsUnwritten};
 ghost use Rattle.boxglue_lib.specs.Views.{streams_of, view_of};
 
 use crate::inputs::{read_dvi_inputs, read_script_inputs};
-use crate::printing::{PrintFault, list_file, paint_file};
+use crate::printing::{list_file, paint_file};
 use crate::sessions::session_file;
-use crate::task_end::TaskEnd;
+use crate::task_fault::TaskFault;
 use crate::telling::{finish, tell};
 use crate::typesetting::{TypesetEnd, typeset_file};
-use boxglue_program::{RunFault, run_memory};
-use boxglue_words::{
-    FileHost, FontFileFault, HostFault, HostParts, NamedPath, PaintOptions, StandardInput,
-    read_fonts,
-};
+use boxglue_program::run_memory;
+use boxglue_words::{FileHost, HostParts, NamedPath, PaintOptions, StandardInput, read_fonts};
 use std::alloc::Global;
 use std::io::Write;
-
-/// The end of a task whose files were not read.
-fn end_of(fault: FontFileFault<'_>) -> TaskEnd<'_>
-    ensures { result ≡ end_of fault.entry }
-{
-    match fault {
-        FontFileFault::OutOfMemory => TaskEnd::OutOfMemory,
-        FontFileFault::File(path) => TaskEnd::Unreadable(path),
-    }
-}
 
 /// Runs the script of standard input on a device in memory, and writes its answers and the bytes of the device. It has no fonts.
 #[tactic(auto, using(crate::proofs::EndLemmas::memory))]
@@ -41,20 +27,13 @@ pub fn run_input<'a, I: StandardInput, W: Write>(
     alloc: Global,
     input: I,
     output: &mut W,
-) -> TaskEnd<'a>
+) -> Result<bool, TaskFault<'a>>
     ensures ended { EndsTask (input_rules written_bytes (I.remaining input)) result (W.contents output.old) (W.contents output.new) }
-    ensures memory { result ≡ TaskEnd.OutOfMemory → IsReadable (I.remaining input) }
+    ensures memory { result ≡ Err TaskFault.OutOfMemory → IsReadable (I.remaining input) }
 {
-    let text = match input.read_whole(alloc) {
-        Ok(text) => text,
-        Err(HostFault::OutOfMemory) => return TaskEnd::OutOfMemory,
-        Err(HostFault::Failed) => return TaskEnd::Unreadable("-"),
-    };
-    match run_memory(alloc, &text, &[], output) {
-        Ok(accepted) => TaskEnd::Printed(accepted),
-        Err(RunFault::Memory(_)) => TaskEnd::OutOfMemory,
-        Err(RunFault::Answers(_)) => TaskEnd::Unwritten,
-    }
+    let text = input.read_whole(alloc).map_err(|fault| fault.at("-"))?;
+    let accepted = run_memory(alloc, &text, &[], output)?;
+    Ok(accepted)
 }
 
 /// Lists the DVI file at a path.
@@ -65,20 +44,13 @@ pub fn list<'a, H: FileHost, W: Write>(
     dvi: &'a str,
     fonts: &[NamedPath<'a>],
     output: &mut W,
-) -> TaskEnd<'a>
+) -> Result<bool, TaskFault<'a>>
     ensures ended { EndsTask (listing_rules (H.file host.now) dvi.entry.now fonts.now) result (W.contents output.old) (W.contents output.new) }
-    ensures memory { result ≡ TaskEnd.OutOfMemory → LacksMemoryForDvi (H.file host.now) dvi.entry.now fonts.now }
+    ensures memory { result ≡ Err TaskFault.OutOfMemory → LacksMemoryForDvi (H.file host.now) dvi.entry.now fonts.now }
 {
-    let inputs = match read_dvi_inputs(alloc, host, dvi, fonts) {
-        Ok(inputs) => inputs,
-        Err(fault) => return end_of(fault),
-    };
-    match list_file(alloc, &inputs.bytes, &inputs.files, output) {
-        Ok(accepted) => TaskEnd::Printed(accepted),
-        Err(PrintFault::OutOfMemory) => TaskEnd::OutOfMemory,
-        Err(PrintFault::Unwritten) => TaskEnd::Unwritten,
-        Err(PrintFault::NoSuchPage) => TaskEnd::NoSuchPage,
-    }
+    let inputs = read_dvi_inputs(alloc, host, dvi, fonts)?;
+    let accepted = list_file(alloc, &inputs.bytes, &inputs.files, output)?;
+    Ok(accepted)
 }
 
 /// Paints a page of the DVI file at a path.
@@ -90,21 +62,14 @@ pub fn paint<'a, H: FileHost, W: Write>(
     dvi: &'a str,
     fonts: &[NamedPath<'a>],
     output: &mut W,
-) -> TaskEnd<'a>
+) -> Result<bool, TaskFault<'a>>
     ensures ended { EndsTask (painting_rules (H.file host.now) options dvi.entry.now fonts.now) result (W.contents output.old)
         (W.contents output.new) }
-    ensures memory { result ≡ TaskEnd.OutOfMemory → LacksMemoryForDvi (H.file host.now) dvi.entry.now fonts.now }
+    ensures memory { result ≡ Err TaskFault.OutOfMemory → LacksMemoryForDvi (H.file host.now) dvi.entry.now fonts.now }
 {
-    let inputs = match read_dvi_inputs(alloc, host, dvi, fonts) {
-        Ok(inputs) => inputs,
-        Err(fault) => return end_of(fault),
-    };
-    match paint_file(alloc, &inputs.bytes, &inputs.files, options, output) {
-        Ok(accepted) => TaskEnd::Printed(accepted),
-        Err(PrintFault::OutOfMemory) => TaskEnd::OutOfMemory,
-        Err(PrintFault::Unwritten) => TaskEnd::Unwritten,
-        Err(PrintFault::NoSuchPage) => TaskEnd::NoSuchPage,
-    }
+    let inputs = read_dvi_inputs(alloc, host, dvi, fonts)?;
+    let accepted = paint_file(alloc, &inputs.bytes, &inputs.files, options, output)?;
+    Ok(accepted)
 }
 
 /// Reports a file that did not take all bytes.
@@ -132,7 +97,10 @@ pub fn typeset<H: FileHost, I: StandardInput + Drop, W: Write, E: Write>(
     let HostParts { input, files } = host;
     let inputs = match read_script_inputs(alloc, &files, input, fonts) {
         Ok(inputs) => inputs,
-        Err(fault) => return (finish(alloc, end_of(fault), output, errors), files),
+        Err(fault) => {
+            let end = Err(TaskFault::from(fault));
+            return (finish(alloc, end, output, errors), files);
+        }
     };
     let TypesetEnd {
         end,
@@ -160,7 +128,10 @@ pub fn session<H: FileHost, I: StandardInput + Drop, W: Write, E: Write>(
     let HostParts { mut input, files } = host;
     let font_files = match read_fonts(alloc, &files, fonts) {
         Ok(font_files) => font_files,
-        Err(unread) => return (finish(alloc, end_of(unread), output, errors), files),
+        Err(unread) => {
+            let end = Err(TaskFault::from(unread));
+            return (finish(alloc, end, output, errors), files);
+        }
     };
     let TypesetEnd {
         end,

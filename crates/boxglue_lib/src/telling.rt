@@ -5,7 +5,7 @@ ghost use Rattle.std.specs.Io.KnownBytes.{Appends};
 ghost use Rattle.boxglue_program.specs.Runs.{WritesFront, memory_line};
 ghost use Rattle.boxglue_lib.specs.Ends.{PrintsVersion, TakesText, TellsErrors, TellsOutput, message_line, status_of};
 
-use crate::task_end::TaskEnd;
+use crate::task_fault::TaskFault;
 use boxglue_program::{UnwrittenText, refuse_memory, write_text};
 use boxglue_words::VERSION_LINE;
 use std::alloc::{AllocError, Global};
@@ -80,7 +80,7 @@ pub fn print_version<W: Write>(output: &mut W) -> u8
 /// Reports how a task ended, and returns the status: 0 if its text was printed and all was accepted, 2 if there is no such page, otherwise 1.
 pub fn finish<W: Write, E: Write>(
     alloc: Global,
-    end: TaskEnd<'_>,
+    end: Result<bool, TaskFault<'_>>,
     output: &mut W,
     errors: &mut E,
 ) -> u8
@@ -89,17 +89,17 @@ pub fn finish<W: Write, E: Write>(
     ensures status { result ≡ status_of end.entry }
 {
     match end {
-        TaskEnd::Printed(true) => 0,
-        TaskEnd::Printed(false) | TaskEnd::Unwritten => 1,
-        TaskEnd::OutOfMemory => {
+        Ok(true) => 0,
+        Ok(false) | Err(TaskFault::Unwritten) => 1,
+        Err(TaskFault::OutOfMemory) => {
             say_out_of_memory(output);
             1
         }
-        TaskEnd::Unreadable(path) => {
+        Err(TaskFault::Unreadable(path)) => {
             tell(alloc, errors, "boxglue: cannot read ", path);
             1
         }
-        TaskEnd::NoSuchPage => {
+        Err(TaskFault::NoSuchPage) => {
             say(errors, b"boxglue: no such page\n");
             2
         }

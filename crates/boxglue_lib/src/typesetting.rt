@@ -1,13 +1,13 @@
 //! `typeset`: a script is run, and its pages go to a file.
 
-ghost use Rattle.std.specs.Prelude.{◌≡◌, ◌+◌, ◌==◌, false, true, not};
+ghost use Rattle.std.specs.Prelude.{◌≡◌, ◌+◌, ◌==◌, false, true, not, Err};
 ghost use Rattle.boxglue_program.specs.Reports.{written_bytes};
 ghost use Rattle.boxglue_words.specs.Hosts.{created_after, has_failed};
 ghost use Rattle.boxglue_lib.specs.Ends.{EndsTask};
 ghost use Rattle.boxglue_lib.specs.Typesets.{IsLeftToFile, IsUsed, OutFile, script_rules};
 
 use crate::inputs::Inputs;
-use crate::task_end::TaskEnd;
+use crate::task_fault::TaskFault;
 use boxglue_program::{Device, RunFault, run_script};
 use boxglue_words::{FileDevice, FileHost};
 use std::alloc::Global;
@@ -17,7 +17,7 @@ use std::io::Write;
 /// the host.
 #[derive(Debug, Drop)]
 pub struct TypesetEnd<'a, H> {
-    pub end: TaskEnd<'a>,
+    pub end: Result<bool, TaskFault<'a>>,
     pub created: bool,
     pub written: bool,
     pub host: H,
@@ -37,7 +37,7 @@ pub fn typeset_file<'a, H: FileHost, W: Write>(
         EndsTask (script_rules written_bytes inputs.now.bytes.items inputs.now.files.items (result.host ≡ host) file)
         result.end (W.contents writer.old) (W.contents writer.new) }
     ensures left { let file : OutFile = record { created = result.created; done = result.written; written = H.written result.host } in
-        result.end ≡ TaskEnd.OutOfMemory → IsLeftToFile written_bytes inputs.now.bytes.items inputs.now.files.items file }
+        result.end ≡ Err TaskFault.OutOfMemory → IsLeftToFile written_bytes inputs.now.bytes.items inputs.now.files.items file }
     ensures placed { H.created result.host ≡ created_after result.created out.now (H.created host) }
     ensures untouched { result.created ≡ false → H.written result.host ≡ H.written host }
     ensures unchanged { result.created ≡ false → result.written ≡ true → result.host ≡ host }
@@ -45,15 +45,15 @@ pub fn typeset_file<'a, H: FileHost, W: Write>(
 {
     let device = FileDevice::new(host, out);
     match run_script(alloc, &inputs.bytes, &inputs.files, device, writer) {
-        Ok((accepted, device)) => end_with(TaskEnd::Printed(accepted), device),
-        Err(RunFault::Memory(device)) => end_with(TaskEnd::OutOfMemory, device),
-        Err(RunFault::Answers(device)) => end_with(TaskEnd::Unwritten, device),
+        Ok((accepted, device)) => end_with(Ok(accepted), device),
+        Err(RunFault::Memory(device)) => end_with(Err(TaskFault::OutOfMemory), device),
+        Err(RunFault::Answers(device)) => end_with(Err(TaskFault::Unwritten), device),
     }
 }
 
 /// The end of a call, with the state of the file.
 pub(crate) fn end_with<'a, H: FileHost>(
-    end: TaskEnd<'a>,
+    end: Result<bool, TaskFault<'a>>,
     device: FileDevice<'_, H>,
 ) -> TypesetEnd<'a, H>
     ensures end { result.end ≡ end.entry }

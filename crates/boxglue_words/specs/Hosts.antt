@@ -1,9 +1,12 @@
 -- What is known of a host, and the font files of a command line (own).
 use Rattle.std.specs.Prelude.{◌≡◌, ◌==◌, ◌++◌, ⊤, ℕ, length, not, List, [], ◌∷◌, Option, Some, None, if◌then◌else◌, Bool}
+use Rattle.std.specs.Borrow.{Bor}
 use base.Stored.{Gv, gnil, gnum, gcons}
 use Rattle.dvi_device.specs.Beginnings.{Beginning}
 use Rattle.tfm_core.specs.NamedBytes.{NamedBytes}
 use Rattle.boxglue_words.specs.declared.fonts.NamedPath.{NamedPath}
+use Rattle.boxglue_words.specs.declared.host.HostFault.{HostFault}
+use Rattle.boxglue_words.specs.declared.host.HostFault.TheVariants.{OutOfMemory, Failed}
 use Rattle.boxglue_words.specs.Readings.{Files, IsFileReading, IsReadableFile, IsUnreadableFile}
 use Rattle.boxglue_words.specs.declared.font_files.FontFileFault.{FontFileFault}
 use Rattle.boxglue_words.specs.declared.font_files.FontFileFault.TheVariants.{OutOfMemory as WantsMemory, File}
@@ -36,6 +39,11 @@ begun_for path host written failures = record { sent = length path ∷ (path ++ 
 -- Whether a host has failed between two counts of its failures.
 abbrev pub has_failed : (before now : ℕ) → Bool
 has_failed before now = not (now == before)
+
+-- The fault of a reading at a path: out of memory, or the path that cannot be read.
+abbrev pub fault_at : (path : Bor (List ℕ)) → HostFault → FontFileFault
+fault_at path OutOfMemory = WantsMemory
+fault_at path Failed = File path
 
 -- The file of a font: it has its name, and the bytes at its path.
 pub record IsFileOf (contents : Files) (font : NamedPath) (file : NamedBytes) : Type 0 where

@@ -12,8 +12,19 @@ use clap::builder::ValueParser;
 use clap::{Arg, ArgAction, Command, value_parser};
 use std::alloc::{AllocError, Global};
 
+/// A text, and after it what a reader of a help reads next.
+macro_rules! with_read_next {
+    ($text:literal) => {
+        concat!(
+            $text,
+            "The manual page boxglue(1) describes every command, and docs/REFUSALS.md explains every refusal."
+        )
+    };
+}
+
 /// The six uses, each with an example; clap prints them at the end of the help.
-const USES: &str = "\
+const USES: &str = with_read_next!(
+    "\
 Uses:
   boxglue < page.box
       runs a script; prints its answers, and then the bytes of its DVI file
@@ -28,11 +39,11 @@ Uses:
   boxglue paint --page 1 --dpi 100 --width 850 --height 1100 page.dvi cmr10=cmr10.tfm > page.pbm
       prints page 1 as a bitmap: its rules, without the shapes of glyphs
 
-The manual page boxglue(1) describes every command, and docs/REFUSALS.md explains every refusal.";
+"
+);
 
-/// What a reader of a subcommand's help reads next; clap prints it at the end of that help. `USES` ends with the same line.
-const READ_NEXT: &str =
-    "The manual page boxglue(1) describes every command, and docs/REFUSALS.md explains every refusal.";
+/// What a reader of a subcommand's help reads next; clap prints it at the end of that help.
+const READ_NEXT: &str = with_read_next!("");
 
 /// A required path.
 fn path<'a>(alloc: Global, id: &'static str, help: &'static str) -> Arg<'a>

@@ -1,7 +1,7 @@
 //! The font files that a command line names.
 
 ghost use Rattle.std.specs.Prelude.{◌≡◌, ◌++◌, ◌∷◌, [], List, IfOk, IfErr, OnOk};
-ghost use Rattle.boxglue_words.specs.Hosts.{AreFilesOf, IsFileOf, IsUnread, IsUnreadOf};
+ghost use Rattle.boxglue_words.specs.Hosts.{AreFilesOf, IsFileOf, IsUnread, IsUnreadOf, fault_at};
 ghost use Rattle.boxglue_words.specs.declared.font_files.FontFileFault.TheVariants.{OutOfMemory};
 
 use crate::NamedPath;
@@ -34,6 +34,18 @@ impl<T: Drop> From<AllocFailed<T>> for FontFileFault<'_> {
     }
 }
 
+impl HostFault {
+    /// The fault of a reading at a path; `-` is standard input.
+    pub fn at(self, path: &str) -> FontFileFault<'_>
+        ensures { result ≡ fault_at path.entry self }
+    {
+        match self {
+            HostFault::OutOfMemory => FontFileFault::OutOfMemory,
+            HostFault::Failed => FontFileFault::File(path),
+        }
+    }
+}
+
 /// The file of a font.
 fn read_font<'a, H: FileHost>(
     alloc: Global,
@@ -43,11 +55,8 @@ fn read_font<'a, H: FileHost>(
     ensures ok { IfOk result (IsFileOf (H.file host.now) font.now) }
     ensures err { IfErr result (IsUnreadOf (H.file host.now) font.now) }
 {
-    let bytes = match host.read_file(alloc, font.path) {
-        Ok(bytes) => bytes,
-        Err(HostFault::OutOfMemory) => return Err(FontFileFault::OutOfMemory),
-        Err(HostFault::Failed) => return Err(FontFileFault::File(font.path)),
-    };
+    let path = font.path;
+    let bytes = host.read_file(alloc, path).map_err(|fault| fault.at(path))?;
     let name = font.name.copy(alloc)?;
     Ok(FontFile::new(name, bytes))
 }

@@ -14,8 +14,8 @@ returns g c =
 
 pub returns-in-Err : goal.returns-in-Err
 returns-in-Err g c =
-    let output = rw c.end_of.ensures at c.finish.ensures.output in
-    let errors = rw c.end_of.ensures at c.finish.ensures.errors in
-    let status = rw c.end_of.ensures at c.finish.ensures.status in
+    let output = rw c.from.ensures at c.finish.ensures.output in
+    let errors = rw c.from.ensures at c.finish.ensures.errors in
+    let status = rw c.from.ensures at c.finish.ensures.status in
     not_held g.H.FileHost.file g.H.FileHost.created g.H.FileHost.written g.H.FileHost.failures _ _ _ c.args.fonts.now c.args.out.now c.in-Err.unread _ _ _
     c.in-Err.ensures.err output errors status

@@ -1,8 +1,8 @@
--- The clauses for each kind of end.
+-- The message about a file that could not be read.
+use Rattle.boxglue_lib.proofs.EndLemmas.{tells_unreadable}
 use Rattle.boxglue_lib.proofs.telling.finish.Goals as goal
 
-pub returns-in-OutOfMemory-clause-output : goal.returns-in-OutOfMemory-clause-output
-returns-in-OutOfMemory-clause-output g c = rw c.in-OutOfMemory.is c.say_out_of_memory.ensures
-
-pub returns-in-Unreadable-clause-errors : goal.returns-in-Unreadable-clause-errors
-returns-in-Unreadable-clause-errors g c = rw c.in-Unreadable.is c.tell.ensures
+pub returns-in-Err-Unreadable-clause-errors : goal.returns-in-Err-Unreadable-clause-errors
+returns-in-Err-Unreadable-clause-errors g c =
+    let unread = rw c.in-Err-Unreadable.is at c.in-Err-Unreadable.field-0-is in
+    tells_unreadable _ c.in-Err-Unreadable.field-0 c.in-Err-Unreadable.path _ _ c.in-Err-Unreadable.is unread c.tell.ensures
