@@ -5,7 +5,8 @@ use Rattle.std.specs.Fmt.{digits}
 use Rattle.boxglue_program.specs.Texts.{refusal_line, refusal_text}
 use Rattle.boxglue_print.specs.Faults.{bad_line, dvi_cause_name, fault_line}
 use Rattle.dvi_read.specs.declared.fault.DviFault.{DviFault}
-use Rattle.dvi_read.specs.declared.fault.DviFault.TheVariants.{OutOfMemory, Bad, NoFont, BadTfm, DimensionTooLarge}
+use Rattle.dvi_read.specs.declared.fault.DviFault.TheVariants as faults
+use Rattle.dvi_scan.specs.declared.widths.FontRefusal.TheVariants.{NoFont, BadTfm, DimensionTooLarge}
 use Rattle.dvi_scan.specs.declared.fault.BadDvi.{BadDvi}
 use Rattle.dvi_scan.specs.declared.fault.DviCause.{DviCause}
 use Rattle.dvi_scan.specs.declared.fault.DviCause.TheVariants.{Trailer, Version, Opcode, Pointer, Count, Preamble, Truncated, Stack, Font, Glyph, Range}
@@ -42,15 +43,15 @@ bad_short bad below =
       length-append name (codes "\n"),
     )
 
-pub line_short : (fault : DviFault) → ((bad : BadDvi) → fault ≡ Bad bad → bad.place < 2 ^ 64) → length (fault_line fault) ≤ 64
+pub line_short : (fault : DviFault) → ((bad : BadDvi) → fault ≡ faults.Bad bad → bad.place < 2 ^ 64) → length (fault_line fault) ≤ 64
 unfolding fault_line refusal_line refusal_text digits
-line_short OutOfMemory below = lit≤ tt
-line_short DimensionTooLarge below = lit≤ tt
-line_short (NoFont name) below = lit≤ tt
-line_short (BadTfm causes.TooShort) below = lit≤ tt
-line_short (BadTfm causes.Counts) below = lit≤ tt
-line_short (BadTfm causes.DesignSize) below = lit≤ tt
-line_short (BadTfm causes.CharInfo) below = lit≤ tt
-line_short (BadTfm causes.FixWord) below = lit≤ tt
-line_short (BadTfm causes.LigKern) below = lit≤ tt
-line_short (Bad bad) below = bad_short bad (below bad refl)
+line_short faults.OutOfMemory below = lit≤ tt
+line_short (faults.Font DimensionTooLarge) below = lit≤ tt
+line_short (faults.Font (NoFont name)) below = lit≤ tt
+line_short (faults.Font (BadTfm causes.TooShort)) below = lit≤ tt
+line_short (faults.Font (BadTfm causes.Counts)) below = lit≤ tt
+line_short (faults.Font (BadTfm causes.DesignSize)) below = lit≤ tt
+line_short (faults.Font (BadTfm causes.CharInfo)) below = lit≤ tt
+line_short (faults.Font (BadTfm causes.FixWord)) below = lit≤ tt
+line_short (faults.Font (BadTfm causes.LigKern)) below = lit≤ tt
+line_short (faults.Bad bad) below = bad_short bad (below bad refl)

@@ -6,7 +6,8 @@ use Rattle.dvi_scan.specs.declared.fault.DviCause.{DviCause}
 use Rattle.dvi_scan.specs.declared.fault.DviCause.TheVariants.{Trailer, Version, Opcode, Pointer, Count, Preamble, Truncated, Stack, Font, Glyph}
 use Rattle.dvi_scan.specs.declared.fault.DviCause.TheVariants.{Range}
 use Rattle.dvi_read.specs.declared.fault.DviFault.{DviFault}
-use Rattle.dvi_read.specs.declared.fault.DviFault.TheVariants.{OutOfMemory, Bad, NoFont, BadTfm, DimensionTooLarge}
+use Rattle.dvi_read.specs.declared.fault.DviFault.TheVariants as faults
+use Rattle.dvi_scan.specs.declared.widths.FontRefusal.TheVariants.{NoFont, BadTfm, DimensionTooLarge}
 use Rattle.tfm_core.specs.declared.fault.TfmCause.TheVariants.{TooShort, LigKern}
 use Rattle.job_machine.specs.declared.replies.Refusal.TheVariants as refusals
 use Rattle.boxglue_program.specs.Texts.{refusal_line}
@@ -31,17 +32,17 @@ bad_line bad = codes "refused 20 BadDvi " ++ (decimal bad.place ++ (codes " " ++
 
 -- The line of a refusal. Those that a job has too have its numbers and names.
 unfoldable pub fault_line : DviFault → List ℕ
-fault_line OutOfMemory = refusal_line refusals.OutOfMemory
-fault_line DimensionTooLarge = refusal_line refusals.DimensionTooLarge
-fault_line (NoFont name) = refusal_line refusals.NoFont
-fault_line (BadTfm cause) = refusal_line (refusals.BadTfm cause)
-fault_line (Bad bad) = bad_line bad
+fault_line faults.OutOfMemory = refusal_line refusals.OutOfMemory
+fault_line (faults.Font DimensionTooLarge) = refusal_line refusals.DimensionTooLarge
+fault_line (faults.Font (NoFont name)) = refusal_line refusals.NoFont
+fault_line (faults.Font (BadTfm cause)) = refusal_line (refusals.BadTfm cause)
+fault_line (faults.Bad bad) = bad_line bad
 
 -- Known lines of refusals.
 abbrev pub KnownLines : Type 0
 KnownLines =
-    (fault_line OutOfMemory ≡ codes "refused 1 OutOfMemory\n")
-    × (fault_line DimensionTooLarge ≡ codes "refused 3 DimensionTooLarge\n")
-    × ((name : Bor (List ℕ)) → fault_line (NoFont name) ≡ codes "refused 4 NoFont\n")
-    × (fault_line (BadTfm TooShort) ≡ codes "refused 5 BadTfm TooShort\n")
-    × (fault_line (BadTfm LigKern) ≡ codes "refused 5 BadTfm LigKern\n")
+    (fault_line faults.OutOfMemory ≡ codes "refused 1 OutOfMemory\n")
+    × (fault_line (faults.Font DimensionTooLarge) ≡ codes "refused 3 DimensionTooLarge\n")
+    × ((name : Bor (List ℕ)) → fault_line (faults.Font (NoFont name)) ≡ codes "refused 4 NoFont\n")
+    × (fault_line (faults.Font (BadTfm TooShort)) ≡ codes "refused 5 BadTfm TooShort\n")
+    × (fault_line (faults.Font (BadTfm LigKern)) ≡ codes "refused 5 BadTfm LigKern\n")

@@ -5,7 +5,7 @@ ghost use Rattle.boxglue_print.specs.Faults.{bad_line, dvi_cause_name, fault_lin
 
 use boxglue_program::{push_number, push_refusal_line, push_text};
 use dvi_read::DviFault;
-use dvi_scan::{BadDvi, DviCause};
+use dvi_scan::{BadDvi, DviCause, FontRefusal};
 use job_machine::Refusal;
 use std::alloc::AllocError;
 
@@ -47,9 +47,13 @@ pub(crate) fn push_fault(fault: DviFault<'_>, out: &mut Vec<u8>) -> Result<(), A
 {
     match fault {
         DviFault::OutOfMemory => push_refusal_line(Refusal::OutOfMemory, out),
-        DviFault::DimensionTooLarge => push_refusal_line(Refusal::DimensionTooLarge, out),
-        DviFault::NoFont(_) => push_refusal_line(Refusal::NoFont, out),
-        DviFault::BadTfm(cause) => push_refusal_line(Refusal::BadTfm(cause), out),
+        DviFault::Font(FontRefusal::DimensionTooLarge) => {
+            push_refusal_line(Refusal::DimensionTooLarge, out)
+        }
+        DviFault::Font(FontRefusal::NoFont(_)) => push_refusal_line(Refusal::NoFont, out),
+        DviFault::Font(FontRefusal::BadTfm(cause)) => {
+            push_refusal_line(Refusal::BadTfm(cause), out)
+        }
         DviFault::Bad(bad) => push_bad(&bad, out),
     }
 }

@@ -58,10 +58,7 @@ fn is_out_of_memory(fault: DviFault<'_>) -> bool
 {
     match fault {
         DviFault::OutOfMemory => true,
-        DviFault::DimensionTooLarge
-        | DviFault::NoFont(_)
-        | DviFault::BadTfm(_)
-        | DviFault::Bad(_) => false,
+        DviFault::Bad(_) | DviFault::Font(_) => false,
     }
 }
 

@@ -17,7 +17,6 @@ use Rattle.dvi_scan.specs.Reached.{HasWidths, IsRightAt, PlacesLeft, after_bops,
 use Rattle.dvi_scan.specs.declared.fault.DviCause.{DviCause}
 use Rattle.dvi_scan.specs.declared.fault.DviCause.TheVariants.{Opcode, Stack, Glyph, Range, Truncated}
 use Rattle.dvi_scan.specs.declared.widths.FontRefusal.{FontRefusal}
-use Rattle.dvi_scan.specs.declared.widths.FontRefusal.TheVariants as refusals
 use Rattle.dvi_scan.proofs.ReachedLemmas.{reached_next}
 use Rattle.dvi_read.specs.ReadFonts.{AreSound, FontIsRead, HasCurrent, IsCurrent, selected_in}
 use Rattle.dvi_read.specs.Steps.{FontsAreRead, known_of, places_left, so_far, pass_state_of}
@@ -165,9 +164,7 @@ module _ (files : List NamedBytes) (part : PageBytes) (at : ℕ) (pass : PassSta
   by_fault : (fault : DviFault) → IsPagesFault files part at (read_in (bare pass) selected walk) fault → IsPagesFault files part at (read_in pass selected walk) fault
   by_fault faults.OutOfMemory (i, spelled_at, b) = (i, spelled_at, allocates_held i b)
   by_fault (faults.Bad bad) (place, b) = (place, pages_held bad.cause b)
-  by_fault (faults.NoFont name) b = widths_held (refusals.NoFont name) b
-  by_fault (faults.BadTfm cause) b = widths_held (refusals.BadTfm cause) b
-  by_fault faults.DimensionTooLarge b = widths_held refusals.DimensionTooLarge b
+  by_fault (faults.Font refusal) b = widths_held refusal b
 
   pub fault_held : (fault : DviFault) → pass_state_of walk ≡ bare pass → IsPagesFault files part at (so_far selected walk) fault
       → IsPagesFault files part at (read_in pass selected walk) fault

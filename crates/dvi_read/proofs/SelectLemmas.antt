@@ -15,7 +15,8 @@ use Rattle.dvi_read.specs.Faults.{of_read}
 use Rattle.dvi_read.specs.ReadFonts.{AreSound, HasWidthsAt, FontIsRead, read_font_at, font_place}
 use Rattle.dvi_read.specs.declared.fonts.ReadFonts.{ReadFonts}
 use Rattle.dvi_read.specs.Steps.{IsSelectFault, Selects}
-use Rattle.dvi_read.specs.declared.fault.StepFault.TheVariants.{OutOfMemory, Refused}
+use Rattle.dvi_read.specs.declared.fault.StepFault.TheVariants.{Pass, Font}
+use Rattle.dvi_scan.specs.declared.executing.PassFault.TheVariants.{OutOfMemory}
 use Rattle.dvi_scan.specs.Widths.{HasBytes, IsFontRefusal, MayAllocate}
 use Rattle.dvi_scan.specs.declared.widths.FontRefusal.{FontRefusal}
 use Rattle.dvi_scan.specs.declared.widths.FontRefusal.TheVariants as refusals
@@ -130,11 +131,11 @@ given_by files d file read is same widths = rw is (rw (sym same) widths)
 module _ (files : List NamedBytes) (after_post : List ℤ) (known : List Definition) (fonts : ReadFonts) (f : ℤ) (d : Definition)
     (named : has_number after_post f ≡ true) (found : first_definition_of f known ≡ Some d) where
   -- The font is refused.
-  pub refused_font : (refusal : FontRefusal) → IsFontRefusal files d refusal → IsSelectFault files after_post known fonts f (Refused refusal)
+  pub refused_font : (refusal : FontRefusal) → IsFontRefusal files d refusal → IsSelectFault files after_post known fonts f (Font refusal)
   refused_font refusal refused = record { named = named; font = d; found = found; refused = refused }
 
   -- Memory is refused for the font.
-  pub lacks_memory : font_place f fonts ≡ None → MayAllocate files d → IsSelectFault files after_post known fonts f OutOfMemory
+  pub lacks_memory : font_place f fonts ≡ None → MayAllocate files d → IsSelectFault files after_post known fonts f (Pass OutOfMemory)
   lacks_memory new file = record { named = named; new = new; font = d; found = found; file = file }
 
   -- The first file with the name gives no font at the size.

@@ -15,6 +15,8 @@ use Rattle.dvi_scan.specs.Pass.{PassStateView, Between, Inside, with_marks, exec
 use Rattle.dvi_scan.specs.Reached.{PlacesLeft, after_bops}
 use Rattle.dvi_scan.specs.Execution.{BreaksTurn, IsAsked, TakesMemory, pass_at}
 use Rattle.dvi_scan.specs.View.{marked_page}
+use Rattle.dvi_scan.specs.declared.executing.PassFault.{PassFault}
+use Rattle.dvi_scan.specs.declared.executing.PassFault.TheVariants.{OutOfMemory, Broken}
 use Rattle.dvi_scan.specs.declared.executing.PassState.{PassState}
 use Rattle.dvi_scan.specs.declared.executing.PassState.TheVariants as states
 use Rattle.dvi_scan.proofs.FontLemmas.{current_of, turn_font}
@@ -26,7 +28,7 @@ use Rattle.dvi_read.specs.Steps.{FontsAreRead, LacksFont, IsWalkStep, IsStepFaul
 use Rattle.dvi_read.specs.Private.Steps.{BreaksNote, BreaksPass, LacksNote, Notes, PassesOn}
 use Rattle.dvi_read.specs.WalkFaults.{BreaksRest, PassContinues, FontIsUnread, LacksMemory, LacksMemoryForFont}
 use Rattle.dvi_read.specs.declared.fault.StepFault.{StepFault}
-use Rattle.dvi_read.specs.declared.fault.StepFault.TheVariants.{OutOfMemory, Broken, Refused}
+use Rattle.dvi_read.specs.declared.fault.StepFault.TheVariants.{Pass, Font}
 use Rattle.dvi_read.specs.declared.check.walk.Walk.{Walk}
 use Rattle.dvi_read.proofs.SelectLemmas.{not_read, sound_more}
 use Rattle.tfm_core.specs.FileWidths.{file_widths}
@@ -139,16 +141,15 @@ stepped files after_post most at i old mid new sound current passes notes =
     }
 
 -- A fault of the pass, and one of the recorded effect.
-pub pass_fault : (files : List NamedBytes) (after_post : List ℤ) (most at : ℕ) (i : Instruction) (old : Walk) (fault : StepFault)
+pub pass_fault : (files : List NamedBytes) (after_post : List ℤ) (most at : ℕ) (i : Instruction) (old : Walk) (fault : PassFault)
     → AreSound (file_widths files) (known_of old) old.fonts
-    → IsCurrent old.fonts old.pass_state → BreaksPass most i old fault → IsStepFault files after_post most at i old fault
+    → IsCurrent old.fonts old.pass_state → BreaksPass most i old fault → IsStepFault files after_post most at i old (Pass fault)
 pass_fault files after_post most at i old OutOfMemory sound current b selected read =
     inl (space_same (widths_of (file_widths files) (known_of old)) (asked_width old.fonts (code_in i)) most i (pass_state_of old)
     (asked_is (file_widths files) (known_of old) old.fonts (map marked_page old.done.items) i old.pass_state sound current) b)
 pass_fault files after_post most at i old (Broken cause) sound current b selected read =
     inl (breaks_same (widths_of (file_widths files) (known_of old)) (asked_width old.fonts (code_in i)) most i (pass_state_of old) cause
     (asked_is (file_widths files) (known_of old) old.fonts (map marked_page old.done.items) i old.pass_state sound current) b)
-pass_fault files after_post most at i old (Refused refusal) sound current b selected read = absurd b
 
 -- After the pass the fonts are unchanged.
 wants_of : (files : List NamedBytes) (after_post : List ℤ) (selected : List ℤ) (f : ℤ) (old : Walk) → FontsAreRead old.fonts selected
@@ -181,14 +182,14 @@ pub note_fault : (files : List NamedBytes) (after_post : List ℤ) (most at : �
     → AreSound (file_widths files) (known_of old) old.fonts
     → IsCurrent old.fonts old.pass_state → PassesOn most i old mid → BreaksNote files after_post at i mid fault
     → IsStepFault files after_post most at i old fault
-note_fault files after_post most at i old mid OutOfMemory sound current passes b selected read =
+note_fault files after_post most at i old mid (Pass OutOfMemory) sound current passes b selected read =
     inr (goes_on files selected most i old mid sound current passes, lacks_same files after_post selected most i old mid read passes b)
-note_fault files after_post most at i old mid (Broken cause) sound current passes b selected read =
+note_fault files after_post most at i old mid (Pass (Broken cause)) sound current passes b selected read =
     inr (
       goes_on files selected most i old mid sound current passes,
       subst₂ (λ (ds : List Definition) (left : PlacesLeft). BreaksRest after_post ds at left i cause) passes.known passes.left b,
     )
-note_fault files after_post most at i old mid (Refused refusal) sound current passes (f, is, unread) selected read = (
+note_fault files after_post most at i old mid (Font refusal) sound current passes (f, is, unread) selected read = (
   f,
   is,
   record {

@@ -1,6 +1,6 @@
 -- The walk over the pages: one more instruction, and why it stops.
 use Rattle.std.proofs.Common.{◌≡◌, ◌≢◌, ◌≤◌, ◌-◌, min, [], ◌∷◌, Bool, true, false, List, length, reverse, ℕ, ℤ, Option, Some, None, map, refl, sym, ◌∙◌, ap, ap₂, subst, inl, inr, arith}
-use Rattle.std.specs.Prelude.{◌⊎◌, IsSome, slice_get}
+use Rattle.std.specs.Prelude.{◌⊎◌, IsSome, slice_get, slice_index}
 use Rattle.std.proofs.lemmas.List.{reverse-reverse}
 use Rattle.std.specs.BTreeMap.{is_at}
 use Rattle.std.specs.List.{AllByRecursion}
@@ -8,13 +8,14 @@ use Rattle.std.specs.Map.{lookup}
 use Rattle.std.specs.Ordering.{int_cmp}
 use Rattle.dvi_scan.proofs.ClosingLemmas.{sized_all}
 use Rattle.dvi_scan.specs.declared.widths.FontRefusal.{FontRefusal}
-use Rattle.dvi_scan.specs.declared.widths.FontRefusal.TheVariants as refusals
 use Rattle.dvi_scan.proofs.RefusalLemmas.{no_widths}
-use Rattle.dvi_scan.specs.Ends.{IsSpelledAt}
+use Rattle.dvi_scan.specs.Ends.{IsSpelledAt, cause_of}
 use Rattle.dvi_scan.specs.declared.fault.DviCause.{DviCause}
 use Rattle.dvi_scan.specs.declared.fault.DviCause.TheVariants.{Opcode, Truncated, Pointer, Font}
 use Rattle.dvi_scan.proofs.PlaceLemmas.{one_spelled_at}
 use Rattle.dvi_ops.specs.Body.{Acts, instruction_acts}
+use Rattle.dvi_ops.specs.declared.fault.OpFault.{OpFault}
+use Rattle.dvi_ops.specs.declared.fault.OpFault.TheVariants as ops
 use Rattle.dvi_ops.specs.File.{MarkedPage}
 use Rattle.dvi_ops.specs.Fonts.{WidthsByName, IsFontSize, definitions, widths_in, selection_of, widths_of}
 use Rattle.dvi_ops.specs.Instruction.{Definition, FontNum, Instruction, Do, Push, Pop, Eop, Postamble}
@@ -32,13 +33,14 @@ use Rattle.dvi_scan.proofs.TurnLemmas.{broken_turn}
 use Rattle.dvi_read.specs.ReadFonts.{IsCurrent}
 use Rattle.dvi_read.specs.Faults.{fault_in}
 use Rattle.dvi_read.specs.Steps.{BreaksStep, IsStepFault, known_of, places_left, so_far, pass_state_of}
-use Rattle.dvi_read.specs.WalkFaults.{page_bytes, BreaksPages, BreaksRest, BreaksRule, IsPagesFault, IsUnended, IsWalkFault, LacksWidths}
+use Rattle.dvi_read.specs.WalkFaults.{PageBytes, page_bytes, BreaksPages, BreaksRest, BreaksRule, IsPagesFault, IsUnended, IsWalkFault, LacksWidths}
 use Rattle.dvi_read.specs.Walks.{IsWalked, bare}
 use Rattle.dvi_read.specs.Private.Walks.{IsBegun, IsReadingFault}
 use Rattle.dvi_read.specs.declared.fault.DviFault.{DviFault}
 use Rattle.dvi_read.specs.declared.fault.DviFault.TheVariants as faults
 use Rattle.dvi_read.specs.declared.fault.StepFault.{StepFault}
-use Rattle.dvi_read.specs.declared.fault.StepFault.TheVariants.{OutOfMemory, Broken, Refused}
+use Rattle.dvi_read.specs.declared.fault.StepFault.TheVariants as steps
+use Rattle.dvi_scan.specs.declared.executing.PassFault.TheVariants.{OutOfMemory, Broken}
 use Rattle.dvi_read.specs.declared.check.walk.Walk.{Walk}
 use Rattle.tfm_core.specs.FileWidths.{file_widths}
 use Rattle.tfm_core.specs.Fonts.{SizedFont}
@@ -67,20 +69,24 @@ pages_break metrics after_post bytes most at post s cause i states b = (i, state
 taken : (files : List NamedBytes) (after_post : List ℤ) (bytes : List ℕ) (most at post : ℕ) (s : ReadSoFar) (i : Instruction) (fault : StepFault)
     → IsSpelledAt bytes at post i
     → BreaksStep files after_post most at s i fault → IsPagesFault files (page_bytes after_post bytes most post) at s (fault_in at fault)
-taken files after_post bytes most at post s i OutOfMemory states b = (i, states, b)
-taken files after_post bytes most at post s i (Broken cause) states b =
+taken files after_post bytes most at post s i (steps.Pass OutOfMemory) states b = (i, states, b)
+taken files after_post bytes most at post s i (steps.Pass (Broken cause)) states b =
     (refl, pages_break (file_widths files) after_post bytes most at post s cause i states b)
-taken files after_post bytes most at post s i (Refused (refusals.NoFont name)) states (f, is, unread) =
+taken files after_post bytes most at post s i (steps.Font refusal) states (f, is, unread) =
     (f, subst (λ (i : Instruction). IsSpelledAt bytes at post i) is states, unread)
-taken files after_post bytes most at post s i (Refused (refusals.BadTfm cause)) states (f, is, unread) =
-    (f, subst (λ (i : Instruction). IsSpelledAt bytes at post i) is states, unread)
-taken files after_post bytes most at post s i (Refused refusals.DimensionTooLarge) states (f, is, unread) =
-    (f, subst (λ (i : Instruction). IsSpelledAt bytes at post i) is states, unread)
+
+-- The fault where no instruction is there.
+pub unspelled_fault : (files : List NamedBytes) (part : PageBytes) (at : ℕ) (walk : Walk) (fault : OpFault)
+    → ((i : Instruction) → IsSpelledAt part.bytes at part.post i → ⊥)
+    → (fault ≡ ops.Opcode → 250 ≤ slice_index part.bytes at) → (fault ≡ ops.Truncated → 250 ≤ slice_index part.bytes at → ⊥)
+    → IsReadingFault files part at walk (steps.Pass (Broken (cause_of fault)))
+unspelled_fault files part at walk ops.Opcode none begins cut selected read = (refl, inl (begins refl, none))
+unspelled_fault files part at walk ops.Truncated none begins cut selected read = (refl, (cut refl, none))
 
 pub taken_fault : (files : List NamedBytes) (after_post : List ℤ) (bytes : List ℕ) (postamble : Postamble) (at post : ℕ) (walk : Walk)
     (i : Instruction) (fault : StepFault) → IsSpelledAt bytes at post i
     → IsStepFault files after_post (min 1024 postamble.stack_depth) at i walk fault
-    → IsReadingFault files (page_bytes after_post bytes (min 1024 postamble.stack_depth) post) at walk (fault_in at fault)
+    → IsReadingFault files (page_bytes after_post bytes (min 1024 postamble.stack_depth) post) at walk fault
 taken_fault files after_post bytes postamble at post walk i fault states b selected read =
     taken files after_post bytes (min 1024 postamble.stack_depth) at post (so_far selected walk) i fault states (b selected read)
 
@@ -145,9 +151,7 @@ nothing_right files after_post bytes postamble at post s i t fault other states 
         → IsPagesFault files (page_bytes after_post bytes (min 1024 postamble.stack_depth) post) at s fault → ⊥
     by_fault faults.OutOfMemory other b = other refl
     by_fault (faults.Bad bad) other (place, b) = pages bad.cause b
-    by_fault (faults.NoFont name) other b = widths (refusals.NoFont name) b
-    by_fault (faults.BadTfm cause) other b = widths (refusals.BadTfm cause) b
-    by_fault faults.DimensionTooLarge other b = widths refusals.DimensionTooLarge b
+    by_fault (faults.Font refusal) other b = widths refusal b
 
 -- In a file no walk stops.
 pub walk_fault : (files : List NamedBytes) (after_post : List ℤ) (bytes : List ℕ) (post after last : ℕ) (postamble : Postamble) (chain : List ℕ)

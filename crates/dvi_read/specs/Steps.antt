@@ -3,7 +3,8 @@
 use Rattle.std.specs.Prelude.{◌≡◌, ◌++◌, ◌⊎◌, false, true, List, map, reverse, ℕ, ℤ, Some, None}
 use Rattle.std.specs.List.{AllByRecursion}
 use Rattle.dvi_scan.specs.Widths.{MayAllocate}
-use Rattle.dvi_scan.specs.declared.fault.DviCause.TheVariants.{Font}
+use Rattle.dvi_scan.specs.declared.executing.PassFault.TheVariants.{OutOfMemory, Broken}
+use Rattle.dvi_scan.specs.declared.fault.DviCause.TheVariants as causes
 use Rattle.dvi_ops.specs.Body.{instruction_acts, bounded_acts}
 use Rattle.dvi_ops.specs.Fonts.{WidthsByName, IsRightAfter, first_definition_of, definitions_in, selection_of, widths_of}
 use Rattle.dvi_ops.specs.Instruction.{Definition, FontNum, Instruction, Do}
@@ -16,7 +17,7 @@ use Rattle.dvi_read.specs.ReadFonts.{AreSound, HasCurrent, IsCurrent, FontIsRead
 use Rattle.dvi_read.specs.declared.fonts.ReadFonts.{ReadFonts}
 use Rattle.dvi_read.specs.WalkFaults.{BreaksRule, FontIsUnread, SelectsUnread, InstructionAllocates}
 use Rattle.dvi_read.specs.declared.fault.StepFault.{StepFault}
-use Rattle.dvi_read.specs.declared.fault.StepFault.TheVariants.{OutOfMemory, Broken, Refused}
+use Rattle.dvi_read.specs.declared.fault.StepFault.TheVariants.{Pass, Font}
 use Rattle.dvi_read.specs.declared.check.walk.Walk.{Walk}
 use Rattle.tfm_core.specs.FileWidths.{file_widths}
 use Rattle.tfm_core.specs.NamedBytes.{NamedBytes}
@@ -43,9 +44,9 @@ pub record LacksFont (files : List NamedBytes) (after_post : List ℤ) (known : 
 
 -- Why a font was not selected, where these fonts were read.
 abbrev pub IsSelectFault : List NamedBytes → (after_post : List ℤ) → (known : List Definition) → ReadFonts → ℤ → StepFault → Type 0
-IsSelectFault files after_post known fonts f OutOfMemory = LacksFont files after_post known f fonts
-IsSelectFault files after_post known fonts f (Broken cause) = (cause ≡ Font) × IsUndefined after_post known f
-IsSelectFault files after_post known fonts f (Refused refusal) = FontIsUnread files after_post known f refusal
+IsSelectFault files after_post known fonts f (Pass OutOfMemory) = LacksFont files after_post known f fonts
+IsSelectFault files after_post known fonts f (Pass (Broken cause)) = (cause ≡ causes.Font) × IsUndefined after_post known f
+IsSelectFault files after_post known fonts f (Font refusal) = FontIsUnread files after_post known f refusal
 
 -- The state of a walk in the pass.
 abbrev pub pass_state_of : Walk → PassStateView
@@ -82,9 +83,9 @@ pub record IsWalkStep (metrics : WidthsByName) (after_post : List ℤ) (most at 
 
 -- Why an instruction is not accepted.
 abbrev pub BreaksStep : List NamedBytes → (after_post : List ℤ) → (most at : ℕ) → ReadSoFar → Instruction → StepFault → Type 0
-BreaksStep files after_post most at s i OutOfMemory = InstructionAllocates files after_post most s i
-BreaksStep files after_post most at s i (Broken cause) = BreaksRule (file_widths files) after_post most at s i cause
-BreaksStep files after_post most at s i (Refused refusal) = (f : ℤ) × (i ≡ Do (FontNum f)) × SelectsUnread files after_post most s f refusal
+BreaksStep files after_post most at s i (Pass OutOfMemory) = InstructionAllocates files after_post most s i
+BreaksStep files after_post most at s i (Pass (Broken cause)) = BreaksRule (file_widths files) after_post most at s i cause
+BreaksStep files after_post most at s i (Font refusal) = (f : ℤ) × (i ≡ Do (FontNum f)) × SelectsUnread files after_post most s f refusal
 
 -- The same for a walk, for any fonts that may have been selected so far and were all read.
 abbrev pub IsStepFault : List NamedBytes → (after_post : List ℤ) → (most at : ℕ) → Instruction → Walk → StepFault → Type 0

@@ -3,7 +3,6 @@
 use Rattle.std.specs.Prelude.{◌≡◌, ◌≢◌, ◌≤◌, ◌<◌, ◌⊎◌, min, [], false, true, List, slice_index, ℕ, ℤ, Some, None, IsSome}
 use Rattle.dvi_scan.specs.Widths.{IsFontRefusal, MayAllocate}
 use Rattle.dvi_scan.specs.declared.widths.FontRefusal.{FontRefusal}
-use Rattle.dvi_scan.specs.declared.widths.FontRefusal.TheVariants as refusals
 use Rattle.dvi_scan.specs.Ends.{IsSpelledAt}
 use Rattle.dvi_scan.specs.declared.fault.BadDvi.{BadDvi}
 use Rattle.dvi_scan.specs.declared.fault.DviCause.{DviCause}
@@ -105,9 +104,7 @@ abbrev pub IsPagesFault : List NamedBytes → PageBytes → (at : ℕ) → ReadS
 IsPagesFault files part at s faults.OutOfMemory =
     (i : Instruction) × IsSpelledAt part.bytes at part.post i × InstructionAllocates files part.after_post part.most s i
 IsPagesFault files part at s (faults.Bad fault) = (fault.place ≡ at) × BreaksPages (file_widths files) part at s fault.cause
-IsPagesFault files part at s (faults.NoFont name) = LacksWidths files part at s (refusals.NoFont name)
-IsPagesFault files part at s (faults.BadTfm cause) = LacksWidths files part at s (refusals.BadTfm cause)
-IsPagesFault files part at s faults.DimensionTooLarge = LacksWidths files part at s refusals.DimensionTooLarge
+IsPagesFault files part at s (faults.Font refusal) = LacksWidths files part at s refusal
 
 -- Why the reading of the pages stops at a place before post, where all instructions before the place are right.
 pub record HasFaultAt (files : List NamedBytes) (part : PageBytes) (postamble : Postamble) (chain : List ℕ) (at : ℕ) (fault : DviFault) : Type 0 where

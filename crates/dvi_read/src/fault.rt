@@ -1,28 +1,26 @@
 //! Why a DVI file is refused.
 
 ghost use Rattle.std.specs.Prelude.{◌≡◌};
-ghost use Rattle.dvi_read.specs.Faults.{fault_in, of_font, of_frame, of_pass, of_read};
+ghost use Rattle.dvi_read.specs.Faults.{fault_in, of_frame, of_read};
 
 pub(crate) mod laws;
 
+use dvi_ops::OpFault;
 use dvi_scan::{BadDvi, DviCause, FontRefusal, FrameFault, PassFault};
 pub use laws::{no_fault_is_in_a_file, no_walk_fault_is_in_a_file, pointers_are_wrong};
 use std::alloc::AllocError;
-use tfm_core::{FontReadFault, TfmCause};
+use tfm_core::FontReadFault;
 use thiserror::Error;
 
-/// Why the walk over all pages does not accept an instruction: as in a pass over a page, or a font has no widths.
+/// Why the walk over all pages does not accept an instruction.
 #[derive(Clone, Copy, Debug, PartialEq, Eq, Error)]
 pub enum StepFault<'a> {
-    /// A growth of memory was refused.
-    #[error("out of memory")]
-    OutOfMemory,
-    /// The instruction breaks this rule.
+    /// The instruction breaks a rule of the pass, of the chain of pages or of font definitions, or a growth of memory was refused.
     #[error("{0}")]
-    Broken(DviCause),
+    Pass(PassFault),
     /// The instruction selects a font that has no widths.
     #[error("{0}")]
-    Refused(FontRefusal<'a>),
+    Font(FontRefusal<'a>),
 }
 
 /// Why a DVI file is not opened.
@@ -34,45 +32,52 @@ pub enum DviFault<'a> {
     /// The bytes break this rule.
     #[error("{0}")]
     Bad(BadDvi),
-    /// No metric file of a selected font was given, and this is the name in its first definition.
-    #[error("there is no file of a font")]
-    NoFont(&'a [u8]),
-    /// The metric file of a selected font breaks this rule.
+    /// A selected font has no widths: no metric file with the name in its first definition was given, or this file is bad, or a dimension at its size
+    /// does not fit.
     #[error("{0}")]
-    BadTfm(TfmCause),
-    /// A dimension of a selected font at its size does not fit.
-    #[error("a dimension of a font is too large")]
-    DimensionTooLarge,
+    Font(FontRefusal<'a>),
 }
 
 impl From<AllocError> for StepFault<'_> {
-    ghost use Rattle.dvi_read.specs.declared.fault.StepFault.TheVariants.{OutOfMemory};
+    ghost use Rattle.dvi_read.specs.declared.fault.StepFault.TheVariants.{Pass};
+    ghost use Rattle.dvi_scan.specs.declared.executing.PassFault.TheVariants.{OutOfMemory};
 
-    ghost from_gives = { λ _ fault. fault ≡ OutOfMemory };
+    ghost from_gives = { λ _ fault. fault ≡ Pass OutOfMemory };
 
     fn from(_error: AllocError) -> Self {
-        StepFault::OutOfMemory
+        StepFault::Pass(PassFault::OutOfMemory)
+    }
+}
+
+impl From<OpFault> for StepFault<'_> {
+    ghost use Rattle.dvi_read.specs.declared.fault.StepFault.TheVariants.{Pass};
+    ghost use Rattle.dvi_scan.specs.Ends.{cause_of};
+    ghost use Rattle.dvi_scan.specs.declared.executing.PassFault.TheVariants.{Broken};
+
+    ghost from_gives = { λ op fault. fault ≡ Pass (Broken (cause_of op)) };
+
+    fn from(fault: OpFault) -> Self {
+        StepFault::Pass(PassFault::Broken(DviCause::from(fault)))
     }
 }
 
 impl From<PassFault> for StepFault<'_> {
-    ghost from_gives = { λ pass fault. fault ≡ of_pass pass };
+    ghost use Rattle.dvi_read.specs.declared.fault.StepFault.TheVariants.{Pass};
+
+    ghost from_gives = { λ pass fault. fault ≡ Pass pass };
 
     fn from(fault: PassFault) -> Self {
-        match fault {
-            PassFault::OutOfMemory => StepFault::OutOfMemory,
-            PassFault::Broken(cause) => StepFault::Broken(cause),
-        }
+        StepFault::Pass(fault)
     }
 }
 
 impl<'a> From<FontRefusal<'a>> for StepFault<'a> {
-    ghost use Rattle.dvi_read.specs.declared.fault.StepFault.TheVariants.{Refused};
+    ghost use Rattle.dvi_read.specs.declared.fault.StepFault.TheVariants.{Font};
 
-    ghost from_gives = { λ refusal fault. fault ≡ Refused refusal };
+    ghost from_gives = { λ refusal fault. fault ≡ Font refusal };
 
     fn from(refusal: FontRefusal<'a>) -> StepFault<'a> {
-        StepFault::Refused(refusal)
+        StepFault::Font(refusal)
     }
 }
 
@@ -81,9 +86,9 @@ impl From<FontReadFault> for StepFault<'_> {
 
     fn from(fault: FontReadFault) -> Self {
         match fault {
-            FontReadFault::OutOfMemory => StepFault::OutOfMemory,
-            FontReadFault::BadTfm(cause) => StepFault::Refused(FontRefusal::BadTfm(cause)),
-            FontReadFault::DimensionTooLarge => StepFault::Refused(FontRefusal::DimensionTooLarge),
+            FontReadFault::OutOfMemory => StepFault::Pass(PassFault::OutOfMemory),
+            FontReadFault::BadTfm(cause) => StepFault::Font(FontRefusal::BadTfm(cause)),
+            FontReadFault::DimensionTooLarge => StepFault::Font(FontRefusal::DimensionTooLarge),
         }
     }
 }
@@ -94,9 +99,8 @@ impl<'a> StepFault<'a> {
         ensures { result ≡ fault_in place self.entry }
     {
         match self {
-            StepFault::OutOfMemory => DviFault::OutOfMemory,
-            StepFault::Broken(cause) => DviFault::Bad(BadDvi { place, cause }),
-            StepFault::Refused(refusal) => DviFault::from(refusal),
+            StepFault::Pass(fault) => DviFault::from(fault.at(place)),
+            StepFault::Font(refusal) => DviFault::Font(refusal),
         }
     }
 }
@@ -128,18 +132,6 @@ impl From<FrameFault> for DviFault<'_> {
         match fault {
             FrameFault::OutOfMemory => DviFault::OutOfMemory,
             FrameFault::Bad(bad) => DviFault::Bad(bad),
-        }
-    }
-}
-
-impl<'a> From<FontRefusal<'a>> for DviFault<'a> {
-    ghost from_gives = { λ refusal fault. fault ≡ of_font refusal };
-
-    fn from(refusal: FontRefusal<'a>) -> DviFault<'a> {
-        match refusal {
-            FontRefusal::NoFont(name) => DviFault::NoFont(name),
-            FontRefusal::BadTfm(cause) => DviFault::BadTfm(cause),
-            FontRefusal::DimensionTooLarge => DviFault::DimensionTooLarge,
         }
     }
 }

@@ -3,7 +3,8 @@
 ghost use Rattle.std.specs.Prelude.{◌≡◌, ◌++◌, ◌∷◌, [], false, length, option_map, true, ℕ, None, OnErr, OnOk, Some, ◌⊎◌, IfErr, IfOk, IfSome};
 ghost use Rattle.std.specs.BTreeMap.{IsEmpty, Updates};
 ghost use Rattle.std.specs.Ordering.{int_cmp};
-ghost use Rattle.dvi_scan.specs.Widths.{HasBytes, IsFontRefusal};
+ghost use Rattle.dvi_scan.specs.Widths.{HasBytes};
+ghost use Rattle.dvi_scan.specs.declared.widths.FontRefusal.TheVariants.{NoFont};
 ghost use Rattle.dvi_ops.specs.View.{view, definition};
 ghost use Rattle.dvi_read.specs.PageMarks.{read_width};
 ghost use Rattle.dvi_read.specs.ReadFonts.{AreSound, AreUnchanged, HaveByteCodes};
@@ -19,7 +20,8 @@ use crate::check::walk::Source;
 use crate::fault::StepFault;
 use dvi_ops::{BodyOp, FontDefinition, Op};
 use dvi_scan::{
-    DviCause, FontNumber, FontRefusal, KnownFonts, NumbersAfterPost, is_after_post, read_font,
+    DviCause, FontNumber, FontRefusal, KnownFonts, NumbersAfterPost, PassFault, is_after_post,
+    read_font,
 };
 use std::alloc::{AllocError, Global};
 use std::collections::BTreeMap;
@@ -167,7 +169,9 @@ fn font_file<'f, 'a>(
     font: &FontDefinition<'a>,
 ) -> Result<&'f FontFile, FontRefusal<'a>>
     ensures found { IfOk result (λ file. file_named font.now.name.now files.now ≡ Some file.now) }
-    ensures none { IfErr result (IsFontRefusal files.now (definition font.now)) }
+    // The refusal has the name, and none of the files has it.
+    ensures name { IfErr result (λ refusal. refusal ≡ NoFont font.now.name) }
+    ensures none { OnErr result (file_named font.now.name.now files.now ≡ None) }
 {
     file_named(files, font.name).ok_or(FontRefusal::NoFont(font.name))
 }
@@ -190,7 +194,7 @@ pub fn select<'a>(
     ensures unchanged { OnErr result (AreUnchanged fonts.old fonts.new) }
 {
     let Some(font) = definition_in(source.after_post, known, number) else {
-        return Err(StepFault::Broken(DviCause::Font));
+        return Err(StepFault::Pass(PassFault::Broken(DviCause::Font)));
     };
     if fonts.choose(number) {
         return Ok(());

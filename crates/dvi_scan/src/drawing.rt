@@ -104,10 +104,7 @@ impl<'a> OpenPage<'a> {
         if let Some(mark) = mark {
             self.marks.push(mark)?;
         }
-        self.state = DviState {
-            place,
-            ..self.state
-        };
+        self.state.place = place;
         Ok(())
     }
 

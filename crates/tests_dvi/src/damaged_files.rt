@@ -1,7 +1,7 @@
 //! DVI files that are refused: cut off, or without the file of a font.
 
 use dvi_read::{Dvi, DviFault};
-use dvi_scan::{BadDvi, DviCause};
+use dvi_scan::{BadDvi, DviCause, FontRefusal};
 use std::process::Abort;
 
 /// The file of a page of fonts in nested boxes, with four bytes 223 at its end. Its bop is at 55, its post at 116.
@@ -41,6 +41,6 @@ fn cut_files_are_refused(rt: HostRuntime) {
 fn a_font_without_a_file_is_named(rt: HostRuntime) {
     assert_eq!(rt;
         Dvi::open(rt.alloc(), &NESTED, &[]).err(),
-        Some(DviFault::NoFont(b"tiny"))
+        Some(DviFault::Font(FontRefusal::NoFont(b"tiny")))
     );
 }

@@ -8,13 +8,15 @@ use Rattle.dvi_ops.specs.Tokens.{bop_place}
 use Rattle.dvi_scan.specs.Drawing.{constant_width}
 use Rattle.dvi_scan.specs.Pass.{execute}
 use Rattle.dvi_scan.specs.Reached.{HasWidths, after_bops, has_number}
-use Rattle.dvi_scan.specs.Execution.{BreaksTurn, TakesMemory}
+use Rattle.dvi_scan.specs.Execution.{IsTurnFault}
 use Rattle.dvi_scan.specs.View.{marked_page}
+use Rattle.dvi_scan.specs.declared.executing.PassFault.{PassFault}
+use Rattle.dvi_scan.specs.declared.executing.PassFault.TheVariants.{OutOfMemory, Broken}
 use Rattle.dvi_read.specs.ReadFonts.{AreSound, FontIsRead, asked_width, code_in}
 use Rattle.dvi_read.specs.Private.ReadFonts.{Chooses}
 use Rattle.dvi_read.specs.WalkFaults.{BreaksRest, FontIsUnread}
 use Rattle.dvi_read.specs.declared.fault.StepFault.{StepFault}
-use Rattle.dvi_read.specs.declared.fault.StepFault.TheVariants.{OutOfMemory, Broken, Refused}
+use Rattle.dvi_read.specs.declared.fault.StepFault.TheVariants.{Pass, Font}
 use Rattle.dvi_read.specs.declared.check.walk.Walk.{Walk}
 use Rattle.tfm_core.specs.NamedBytes.{NamedBytes}
 use Rattle.dvi_read.specs.Steps.{LacksFont, pass_state_of, known_of, places_left}
@@ -42,9 +44,9 @@ LacksNote files after_post i walk = ⊥
 
 -- Why the effect of an instruction is not recorded.
 abbrev pub BreaksNote : List NamedBytes → (after_post : List ℤ) → (at : ℕ) → Instruction → Walk → StepFault → Type 0
-BreaksNote files after_post at i walk OutOfMemory = LacksNote files after_post i walk
-BreaksNote files after_post at i walk (Broken cause) = BreaksRest after_post (known_of walk) at (places_left walk) i cause
-BreaksNote files after_post at i walk (Refused refusal) = (f : ℤ) × (i ≡ Do (FontNum f)) × FontIsUnread files after_post (known_of walk) f refusal
+BreaksNote files after_post at i walk (Pass OutOfMemory) = LacksNote files after_post i walk
+BreaksNote files after_post at i walk (Pass (Broken cause)) = BreaksRest after_post (known_of walk) at (places_left walk) i cause
+BreaksNote files after_post at i walk (Font refusal) = (f : ℤ) × (i ≡ Do (FontNum f)) × FontIsUnread files after_post (known_of walk) f refusal
 
 -- The width of the character that an instruction sets or puts, in the font that was selected last.
 abbrev pub asked_of : Walk → Instruction → Option ℤ
@@ -58,7 +60,5 @@ pub record PassesOn (most : ℕ) (i : Instruction) (old new : Walk) : Type 0 whe
   pub left : places_left new ≡ places_left old
 
 -- The pass does not go on, or memory is refused for it.
-abbrev pub BreaksPass : (most : ℕ) → Instruction → Walk → StepFault → Type 0
-BreaksPass most i walk OutOfMemory = TakesMemory (instruction_acts (constant_width (asked_of walk i))) most i (pass_state_of walk)
-BreaksPass most i walk (Broken cause) = BreaksTurn (instruction_acts (constant_width (asked_of walk i))) most i (pass_state_of walk) cause
-BreaksPass most i walk (Refused refusal) = ⊥
+abbrev pub BreaksPass : (most : ℕ) → Instruction → Walk → PassFault → Type 0
+BreaksPass most i walk fault = IsTurnFault (instruction_acts (constant_width (asked_of walk i))) most i (pass_state_of walk) fault

@@ -7,7 +7,8 @@ use Rattle.dvi_ops.specs.Table.{Spells}
 use Rattle.dvi_scan.specs.declared.executing.PassState.TheVariants as states
 use Rattle.dvi_read.specs.Steps.{FontsAreRead, IsWalkStep, so_far}
 use Rattle.dvi_read.specs.WalkFaults.{PageBytes, IsPagesFault}
-use Rattle.dvi_read.specs.declared.fault.DviFault.{DviFault}
+use Rattle.dvi_read.specs.Faults.{fault_in}
+use Rattle.dvi_read.specs.declared.fault.StepFault.{StepFault}
 use Rattle.dvi_read.specs.declared.check.walk.Walk.{Walk}
 use Rattle.tfm_core.specs.NamedBytes.{NamedBytes}
 
@@ -20,9 +21,9 @@ pub record Reads (metrics : WidthsByName) (part : PageBytes) (at : ℕ) (old new
   pub steps : IsWalkStep metrics part.after_post part.most at here old new
 
 -- No instruction was accepted, for any fonts that may have been selected so far and were all read.
-abbrev pub IsReadingFault : List NamedBytes → PageBytes → (at : ℕ) → Walk → DviFault → Type 0
+abbrev pub IsReadingFault : List NamedBytes → PageBytes → (at : ℕ) → Walk → StepFault → Type 0
 IsReadingFault files part at walk fault = (selected : List ℤ) → FontsAreRead walk.fonts selected
-    → IsPagesFault files part at (so_far selected walk) fault
+    → IsPagesFault files part at (so_far selected walk) (fault_in at fault)
 
 -- A walk before the first page.
 pub record IsBegun (left : List ℕ) (walk : Walk) : Type 0 where

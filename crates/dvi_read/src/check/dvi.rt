@@ -72,8 +72,7 @@ impl<'a> Dvi<'a> {
     /// for places, definitions and fonts, and for the page that is checked.
     ///
     /// The checks are in this order: the end of the file, the places of its pages from the last one back, the preamble, and each instruction from
-    /// there on. The fault is Bad with the first broken rule and its place; NoFont with the font's name, BadTfm or DimensionTooLarge for a selected
-    /// font without widths; or OutOfMemory.
+    /// there on. The fault is Bad with the first broken rule and its place; Font with the refusal of a selected font without widths; or OutOfMemory.
     pub fn open(alloc: Global, bytes: &'a [u8], files: &[FontFile]) -> Result<Dvi<'a>, DviFault<'a>>
         // The bytes are a file of these pages.
         ensures ok { IfOk result (λ dvi. IsFile (file_widths files.now) bytes.now dvi.pages) }

@@ -16,7 +16,7 @@ use crate::fault::StepFault;
 use crate::fonts::{select, width_asked};
 use dvi_ops::dvi_file_laws::MAX_PUSHES;
 use dvi_ops::{BodyOp, Op};
-use dvi_scan::{DviCause, FileEnd, FontNumber, define, execute};
+use dvi_scan::{DviCause, FileEnd, FontNumber, PassFault, define, execute};
 use std::alloc::Global;
 
 /// Removes the place of a bop from the places that are still to come, and returns whether it was among them. Earlier places are missed. The places
@@ -55,7 +55,7 @@ fn note<'a>(
             if is_named(&mut walk.left, &mut walk.missed, at) {
                 Ok(())
             } else {
-                Err(StepFault::Broken(DviCause::Pointer))
+                Err(StepFault::Pass(PassFault::Broken(DviCause::Pointer)))
             }
         }
         Op::FontDef(font) => {
@@ -76,15 +76,14 @@ fn pass_on<'a>(
     most: usize,
     op: &Op<'a>,
     walk: &mut Walk<'_, 'a>,
-) -> Result<(), StepFault<'a>>
+) -> Result<(), PassFault>
     requires { HaveByteCodes walk.old.fonts }
     ensures ok { OnOk result (PassesOn most (view op.now) walk.old walk.new) }
     ensures bad { IfErr result (BreaksPass most (view op.now) walk.old) }
 {
     let current = walk.fonts.current;
     let width = width_asked(&walk.fonts, current, op);
-    execute(alloc, &mut walk.pass_state, &mut walk.done, most, op, width)?;
-    Ok(())
+    execute(alloc, &mut walk.pass_state, &mut walk.done, most, op, width)
 }
 
 /// The greatest number of pushes that may be open at once: the depth in post, but at most `MAX_PUSHES`.

@@ -19,7 +19,7 @@ ghost use Rattle.dvi_read.specs.Private.Walks.{IsBegun, Reads, IsReadingFault};
 ghost use Rattle.tfm_core.specs.FileWidths.{file_widths};
 
 use crate::check::instruction::step;
-use crate::fault::DviFault;
+use crate::fault::{DviFault, StepFault};
 use crate::fonts::{CharCode, ReadFonts};
 use dvi_scan::{
     BadDvi, DviCause, FileEnd, KnownFonts, NumbersAfterPost, OpenPage, Page, PassState, read_at,
@@ -59,7 +59,7 @@ fn read_step<'a>(
     source: &Source<'_, 'a>,
     at: usize,
     walk: &mut Walk<'_, 'a>,
-) -> Result<usize, DviFault<'a>>
+) -> Result<usize, StepFault<'a>>
     requires low { at < source.now.ending.now.post }
     requires high { source.now.ending.now.post ≤ length source.now.bytes.now }
     requires sizes { AllByRecursion (λ d. IsFontSize d.size) (known_of walk.old) }
@@ -74,19 +74,9 @@ fn read_step<'a>(
         source.now.ending.now.post)
         at walk.old) }
 {
-    let (op, next) = match read_at(source.bytes, at, source.ending.post) {
-        Ok(found) => found,
-        Err(fault) => {
-            return Err(DviFault::Bad(BadDvi {
-                place: at,
-                cause: DviCause::from(fault),
-            }));
-        }
-    };
-    match step(alloc, source, at, &op, walk) {
-        Ok(()) => Ok(next),
-        Err(fault) => Err(fault.at(at)),
-    }
+    let (op, next) = read_at(source.bytes, at, source.ending.post)?;
+    step(alloc, source, at, &op, walk)?;
+    Ok(next)
 }
 
 /// A walk before the first page.
@@ -166,7 +156,7 @@ fn pass_character(source: &Source<'_, '_>, at: usize, walk: &mut Walk<'_, '_>) -
 /// pages, the last one first (DVItype, 15 and 18). The width of a character is that of the first definition of its font. It takes memory for a page,
 /// its marks and places, for definitions and fonts.
 ///
-/// The fault is Bad with the first broken rule and its place; NoFont, BadTfm or DimensionTooLarge for a selected font without widths; or OutOfMemory.
+/// The fault is Bad with the first broken rule and its place; Font with the refusal of a selected font without widths; or OutOfMemory.
 pub fn walk_pages<'c, 'a>(
     alloc: Global,
     source: &Source<'_, 'a>,
@@ -191,7 +181,10 @@ pub fn walk_pages<'c, 'a>(
         if pass_character(source, at, &mut walk) {
             at += 1;
         } else {
-            at = read_step(alloc, source, at, &mut walk)?;
+            at = match read_step(alloc, source, at, &mut walk) {
+                Ok(next) => next,
+                Err(fault) => return Err(fault.at(at)),
+            };
             release(&mut walk);
         }
     }

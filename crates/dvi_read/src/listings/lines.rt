@@ -33,6 +33,16 @@ impl<'d, 'a> Lines<'d, 'a> {
         }
     }
 
+    /// Keeps the text of a mark that is still to come. Most marks have none, and then nothing is stored: that would take nine instructions a glyph.
+    fn keep_text(&mut self, text: Option<&'a [u8]>)
+        requires { self.old.text ≡ None }
+        ensures { self.new ≡ record self.old { text = text.entry } }
+    {
+        if text.is_some() {
+            self.text = text;
+        }
+    }
+
     /// Replaces the part by the next line; for a special by the beginning of its line or by its next byte. Returns whether there was one.
     pub(crate) fn next(&mut self, part: &mut ListingPart) -> bool
         requires { (text : List ℕ) × AreLinesLeft self.old text }
@@ -55,7 +65,7 @@ impl<'d, 'a> Lines<'d, 'a> {
                 self.before += 1;
                 put_counts(self.before, &counts, part);
             }
-            SeenItem::Mark(mark) => self.text = put_mark(&mark, part),
+            SeenItem::Mark(mark) => self.keep_text(put_mark(&mark, part)),
         }
         true
     }

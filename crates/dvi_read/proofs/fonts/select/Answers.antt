@@ -1,4 +1,4 @@
-use Rattle.std.proofs.Common.{List, Some, sym, subst, ℕ}
+use Rattle.std.proofs.Common.{List, Some, refl, sym, subst, ℕ}
 use Rattle.dvi_scan.proofs.FirstDefinitionLemmas.{defined_all}
 use Rattle.dvi_scan.proofs.RefusalLemmas.{handed_on, widths_space}
 use Rattle.dvi_ops.specs.Fonts.{IsFontSize}
@@ -8,7 +8,10 @@ use Rattle.dvi_read.specs.Faults.{of_read}
 use Rattle.dvi_read.specs.ReadFonts.{AreSound}
 use Rattle.dvi_read.specs.Steps.{IsSelectFault, Selects}
 use Rattle.dvi_read.specs.declared.fonts.ReadFonts.{ReadFonts}
-use Rattle.dvi_read.specs.declared.fault.StepFault.TheVariants.{OutOfMemory, Refused}
+use Rattle.dvi_read.specs.declared.fault.StepFault.TheVariants.{Pass, Font}
+use Rattle.dvi_scan.specs.declared.executing.PassFault.TheVariants.{OutOfMemory}
+use Rattle.dvi_scan.specs.declared.widths.FontRefusal.{FontRefusal}
+use Rattle.dvi_scan.specs.Widths.{IsFontRefusal}
 use Rattle.dvi_read.proofs.SelectLemmas.{given_by, lacks_memory, not_read_from, refused_font, selects_new, selects_read}
 use Rattle.tfm_core.specs.FileWidths.{file_widths, width_at}
 use Rattle.tfm_core.specs.FontReads.{IsReadRefusal}
@@ -34,8 +37,10 @@ returns-in_err-file-clause-bad c =
     let d = definition c.in-Some.font.now in
     let refusal = c.in_err-file.field-0.0 in
     let there = c.in-Some.ensures.font_defined in
-    handed_on (IsSelectFault files after_post known fonts f) c.from_residual.result (Refused refusal) c.from_residual.ensures.1
-    (refused_font files after_post known fonts f d there.0 there.1 refusal c.in_err-file.ensures.none)
+    let refused = subst (λ (refusal : FontRefusal). IsFontRefusal files d refusal) (sym c.in_err-file.ensures.name)
+    (refl, c.in_err-file.ensures.none) in
+    handed_on (IsSelectFault files after_post known fonts f) c.from_residual.result (Font refusal) c.from_residual.ensures.1
+    (refused_font files after_post known fonts f d there.0 there.1 refusal refused)
 
 pub returns-in_err-read-clause-bad : goal.returns-in_err-read-clause-bad
 returns-in_err-read-clause-bad c =
@@ -66,7 +71,7 @@ returns-in_err-add-clause-bad c =
     let file = c.in_ok-file.file.now in
     let read = c.in_ok-read.read in
     let widths = given_by files d file read c.in_ok-file.ensures.found c.bytes.ensures c.in_ok-read.ensures.ok in
-    handed_on (IsSelectFault files after_post known fonts f) c.from_residual-in_err-add.result OutOfMemory c.from_residual-in_err-add.ensures.1
+    handed_on (IsSelectFault files after_post known fonts f) c.from_residual-in_err-add.result (Pass OutOfMemory) c.from_residual-in_err-add.ensures.1
     (lacks_memory files after_post known fonts f d there.0 there.1 (c.choose.ensures.no c.if-choose.false).0
     (widths_space files d (width_at read) widths))
 

@@ -3,6 +3,7 @@ use Rattle.std.proofs.lemmas.Result.{IfErr-weaker, on_ok_weaker}
 use Rattle.dvi_scan.proofs.RefusalLemmas.{handed_on}
 use Rattle.dvi_ops.specs.View.{view}
 use Rattle.dvi_read.specs.Steps.{IsStepFault}
+use Rattle.dvi_read.specs.declared.fault.StepFault.TheVariants.{Pass}
 use Rattle.dvi_read.specs.Private.Steps.{BreaksNote, BreaksPass, Notes, PassesOn}
 use Rattle.dvi_read.proofs.StepLemmas.{note_fault, pass_fault, stepped}
 use Rattle.tfm_core.specs.FileWidths.{file_widths}
@@ -18,7 +19,7 @@ returns-in_err-pass_on-clause-bad c =
     let most = min 1024 c.args.source.now.ending.now.postamble.stack_depth in
     let i = view c.args.op.now in
     let fault = c.in_err-pass_on.field-0.0 in
-    handed_on (IsStepFault files after_post most c.args.at i c.args.walk.now) c.from_residual.result fault c.from_residual.ensures.1
+    handed_on (IsStepFault files after_post most c.args.at i c.args.walk.now) c.from_residual.result (Pass fault) c.from_residual.ensures.1
     (pass_fault files after_post most c.args.at i c.args.walk.now fault c.requires.sound c.requires.current
     (subst (λ (n : ℕ). BreaksPass n i c.args.walk.now fault) c.most_pushes.ensures c.in_err-pass_on.ensures.bad))
 

@@ -1,8 +1,9 @@
-use Rattle.std.proofs.Common.{rules, ◌≡◌, false, min}
-use Rattle.dvi_scan.proofs.RefusalLemmas.{handed_on}
+use Rattle.std.proofs.Common.{rules, ◌≡◌, false, min, subst, sym}
 use Rattle.dvi_ops.specs.View.{view_postamble}
 use Rattle.dvi_read.specs.WalkFaults.{IsWalkFault, page_bytes}
+use Rattle.dvi_read.specs.Faults.{fault_in}
 use Rattle.dvi_read.specs.Walks.{read_in}
+use Rattle.dvi_read.specs.declared.fault.DviFault.{DviFault}
 use Rattle.dvi_read.proofs.HeldLemmas.{fault_held, walked_next, walked_same}
 use Rattle.dvi_read.proofs.WalkLemmas.{known_sizes, walked_first}
 use Rattle.tfm_core.specs.FileWidths.{file_widths}
@@ -28,8 +29,8 @@ read_step-requires-clause-sizes c =
     known_sizes metrics source.after_post.now.keys source.bytes.now postamble c.args.left.now c.loop-at.at (read_in walked.pass walked.selected walk)
     walked.reached
 
-pub returns-in_err-at-clause-bad : goal.returns-in_err-at-clause-bad
-returns-in_err-at-clause-bad c =
+pub returns-in-Err-clause-bad : goal.returns-in-Err-clause-bad
+returns-in-Err-clause-bad c =
     let source = c.args.source.now in
     let metrics = file_widths source.files.now in
     let postamble = view_postamble source.ending.now.postamble in
@@ -37,9 +38,8 @@ returns-in_err-at-clause-bad c =
     let walk = c.pass_character.new.walk in
     let walked = walked_same metrics source.after_post.now.keys source.bytes.now postamble c.args.left.now c.loop-at.at c.loop-at.walk walk
     (c.pass_character.ensures.same fact) c.loop-at.invariant.1 in
-    handed_on (IsWalkFault source.files.now source.after_post.now.keys source.bytes.now postamble c.args.left.now source.ending.now.post)
-    c.from_residual.result c.in_err-at.field-0.0
-    c.from_residual.ensures.1 (
+    subst (λ (fault : DviFault). IsWalkFault source.files.now source.after_post.now.keys source.bytes.now postamble c.args.left.now
+    source.ending.now.post fault) (sym c.at.ensures) (
       c.loop-at.at,
       record {
         before = c.loop-at-test.true;
@@ -47,7 +47,8 @@ returns-in_err-at-clause-bad c =
         reached = walked.reached;
         fault_is = fault_held source.files.now
             (page_bytes source.after_post.now.keys source.bytes.now (min 1024 postamble.stack_depth) source.ending.now.post) c.loop-at.at
-            walked.pass walked.selected walk c.in_err-at.field-0.0 walked.pass_state (c.in_err-at.ensures.bad walked.selected walked.read);
+            walked.pass walked.selected walk (fault_in c.loop-at.at c.in-Err.fault) walked.pass_state
+            (c.in-Err.ensures.bad walked.selected walked.read);
       },
     )
 
@@ -60,10 +61,10 @@ loop-at-preserved c =
     let walk = c.pass_character.new.walk in
     let walked = walked_same metrics source.after_post.now.keys source.bytes.now postamble c.args.left.now c.loop-at.at c.loop-at.walk walk
     (c.pass_character.ensures.same fact) c.loop-at.invariant.1 in
-    let reads = c.in_ok-at.ensures.ok in
+    let reads = c.in-Ok.ensures.ok in
     let release = c.release.ensures in (
       reads.within,
-      walked_next metrics source.after_post.now.keys source.bytes.now postamble c.args.left.now c.loop-at.at source.ending.now.post c.in_ok-at.at walk
+      walked_next metrics source.after_post.now.keys source.bytes.now postamble c.args.left.now c.loop-at.at source.ending.now.post c.in-Ok.next walk
           c.read_step.new.walk c.release.new.walk
           c.requires.high walked reads release.pass_state release.selected release.fonts release.known release.left,
     )
