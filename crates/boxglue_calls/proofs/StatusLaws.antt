@@ -98,14 +98,14 @@ lacking (Err refusal ∷ rest) h = elim (refusal_status_cases refusal) [
   | inr other ↦ Contains-append_right (Err refusal ∷ []) rest (Err OutOfMemory) (lacking rest (omega (arith, h, other)))
 ]
 
-told : (replies : List Reply) → Contains replies (Err OutOfMemory) → replies_status replies ≡ 7
-told replies has =
+memory_is_7 : (replies : List Reply) → Contains replies (Err OutOfMemory) → replies_status replies ≡ 7
+memory_is_7 replies has =
     let least : 7 ≤ replies_status replies = All-contains (λ reply. reply_status reply ≤ replies_status replies) replies (Err OutOfMemory) (none_greater replies) has in
     let most : replies_status replies ≤ 7 = replies_status_small replies in
     omega (arith, least, most)
 
 pub lacking_at_7 : (replies : List Reply) → (replies_status replies ≡ 7) ↔ Contains replies (Err OutOfMemory)
-lacking_at_7 replies = (lacking replies, told replies)
+lacking_at_7 replies = (lacking replies, memory_is_7 replies)
 
 reply_lacking : {A : Type 0} (reply : Result A Refusal) → reply_status reply ≡ 7 → reply ≡ Err OutOfMemory
 reply_lacking (Ok answer) h = absurd (omega (arith, h))
@@ -133,7 +133,7 @@ run_lacking_at_7 replies end =
         | inr is ↦ inr (reply_lacking end is)
       ],
       λ either. elim either [
-        | inl has ↦ let is = told replies has in omega (arith, is, last)
+        | inl has ↦ let is = memory_is_7 replies has in omega (arith, is, last)
         | inr is ↦ let at : reply_status end ≡ 7 = ap reply_status is in omega (arith, at, most)
       ],
     )

@@ -198,9 +198,9 @@ stops_at_rest whole rest answers old now ends ran =
     record { whole = whole; rest = rest; split = refl; ends = inl ends; ran = ran }
 
 -- A text was written to a client that reads, or a beginning of it.
-pub told : {A E : Type 0} (r : Result A E) (ok : Bool) (old new : Option (List ℕ)) (text : List ℕ) → ok ≡ is_ok r → OnOk r (Appends old new text) → OnErr r (WritesFront old new text) → IsSent true ok old new text
-told (Ok x) ok old new text is all front = subst (λ (b : Bool). IsSent true b old new text) (sym is) all
-told (Err e) ok old new text is all front = subst (λ (b : Bool). IsSent true b old new text) (sym is) front
+pub sent_by_result : {A E : Type 0} (r : Result A E) (ok : Bool) (old new : Option (List ℕ)) (text : List ℕ) → ok ≡ is_ok r → OnOk r (Appends old new text) → OnErr r (WritesFront old new text) → IsSent true ok old new text
+sent_by_result (Ok x) ok old new text is all front = subst (λ (b : Bool). IsSent true b old new text) (sym is) all
+sent_by_result (Err e) ok old new text is all front = subst (λ (b : Bool). IsSent true b old new text) (sym is) front
 
 -- What waited was sent or stayed, and a line was added.
 pub sends_line : (a b c : OutboxView) (old middle new : Option (List ℕ)) (text more now : List ℕ) → Sends a b old middle text → Sends b c middle new [] → now ≡ c.waiting ++ more

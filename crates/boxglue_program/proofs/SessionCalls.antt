@@ -51,9 +51,9 @@ pub session_finished : (old was : SessionView) (outcome : Result Bool SessionFau
     → AnswersLines was.dialog (lines was.kept) answers middle → EndsRun middle.job end failed reported
     → IsSent was.reads reads before after (answers ++ end_line end) → accepted ≡ (middle.accepted && is_ok end)
     → IfOk outcome (λ accepted. (answer : List ℕ) × EndsSession old k bytes_written answer accepted × IsSent old.reads written before after answer)
-session_finished old was outcome accepted reads written k failed bytes_written reported before after answers middle end same is count bytes told
+session_finished old was outcome accepted reads written k failed bytes_written reported before after answers middle end same is count bytes as_reported
     ran run sent fine =
-    rw (is, count, bytes, told, ← same) (
+    rw (is, count, bytes, as_reported, ← same) (
       answers ++ end_line end,
       record { answers = answers; middle = middle; ran = ran; end = end; run = run; answer_is = refl; accepted_is = fine },
       sent,
@@ -66,8 +66,8 @@ pub session_unfinished : (old was : SessionView) (ended : DialogView) (outcome :
     → StopsIn was.kept was.dialog answers ended → IsSent was.reads reads before after answers
     → IfErr outcome (λ fault. (fault ≡ OutOfMemory) × (answers : List ℕ) × (last : DialogView) × StopsIn old.kept old.dialog answers last
     × IsSent old.reads written before after answers × (k ≡ last.job.failed) × (bytes_written ≡ last.job.bytes_written))
-session_unfinished old was ended outcome reads written k bytes_written before after answers same is count bytes told stops sent =
-    rw (is, told, ← same) (refl, answers, ended, stops, sent, count, bytes)
+session_unfinished old was ended outcome reads written k bytes_written before after answers same is count bytes as_reported stops sent =
+    rw (is, as_reported, ← same) (refl, answers, ended, stops, sent, count, bytes)
 
 -- What a session that is going on has read, run and sent.
 pub record InSession (start now : SessionView) (input left before after : Option (List ℕ)) : Type 0 where
@@ -191,12 +191,12 @@ pub run_lacks_space : (files : List NamedBytes) (n k : ℕ) (start now last : Se
     → outcome ≡ Err fault → written ≡ last.reads → k ≡ last.dialog.job.failed → bytes_written ≡ last.dialog.job.bytes_written
     → outcome ≡ Err OutOfMemory → (text answer : List ℕ) × Consumes input rest text × LacksSessionMemory written_bytes text files n k bytes_written answer
     × IsSent true written before after answer
-run_lacks_space files n k start now last input left rest before middle after bytes_written outcome fault written new so_far space is told count
+run_lacks_space files n k start now last input left rest before middle after bytes_written outcome fault written new so_far space is as_reported count
     bytes wants =
     let (piece, consumed, lacks) = space (same_fault (sym is ∙ wants)) in
     let split : so_far.text ++ piece ≡ so_far.done.whole ++ (now.kept ++ piece) =
     ap (λ (l : List ℕ). l ++ piece) so_far.done.split ∙ append_assoc so_far.done.whole now.kept piece in
-    rw (told, count, bytes) (
+    rw (as_reported, count, bytes) (
       so_far.text ++ piece,
       so_far.answers ++ lacks.answers,
       Consumes-trans input left rest so_far.text piece so_far.read consumed,
@@ -215,12 +215,12 @@ pub run_lost_input : (files : List NamedBytes) (n k limit : ℕ) (start now last
     → outcome ≡ Err Unreadable → (text lost answer : List ℕ) × Consumes input rest (text ++ lost) × IsUnreadable limit text lost
     × IsCutOff written_bytes text files n k bytes_written answer × IsSent true written before after answer
 run_lost_input files n k limit start now last input left rest before middle after bytes_written outcome fault written new limited so_far loses is
-    told count bytes wants =
+    as_reported count bytes wants =
     let (same, lost, consumed, small, over, kept) = loses (same_fault (sym is ∙ wants)) in
     let read : now.left + length so_far.text ≡ limit = so_far.done.left ∙ limited in
     let sent : IsSent true now.reads before middle so_far.answers =
     subst (λ (b : Bool). IsSent b now.reads before middle so_far.answers) new.reads so_far.done.sent in
-    rw (told, count, bytes, same) (
+    rw (as_reported, count, bytes, same) (
       so_far.text,
       lost,
       so_far.answers,
@@ -237,9 +237,9 @@ pub run_not_ended : (files : List NamedBytes) (n k limit : ℕ) (start now : Ses
     → outcome ≡ Err Unreadable → written ≡ now.reads → k ≡ now.dialog.job.failed → bytes_written ≡ now.dialog.job.bytes_written
     → (text lost answer : List ℕ) × Consumes input left (text ++ lost) × IsUnreadable limit text lost
     × IsCutOff written_bytes text files n k bytes_written answer × IsSent true written before after answer
-run_not_ended files n k limit start now input left before after bytes_written outcome written new limited so_far is told count bytes =
+run_not_ended files n k limit start now input left before after bytes_written outcome written new limited so_far is as_reported count bytes =
     run_lost_input files n k limit start now now input left left before after after bytes_written outcome Unreadable written new limited so_far
-    (λ _. (refl, [], Consumes-nil left, omega arith, λ some. absurd (some refl), kept_as after)) is told count bytes is
+    (λ _. (refl, [], Consumes-nil left, omega arith, λ some. absurd (some refl), kept_as after)) is as_reported count bytes is
 
 -- Memory was refused before the first reading.
 pub run_not_begun : (files : List NamedBytes) (n k : ℕ) (input before bytes_written : Option (List ℕ)) → k ≡ n
