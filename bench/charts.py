@@ -2,7 +2,7 @@
 """Draws the charts of docs/SPEED.md from the figures of runs: bench/charts.py [DATA ..] [--out FOLDER], by default docs/speed.tsv, docs/speed_large.tsv and docs.
 
   speed_places.svg  microseconds and instructions per place against the length of the paragraph, at both widths, beside tex
-  speed_items.svg   a bar for each case that has a peer: time, instructions and memory as a ratio to the peer
+  speed_items.svg   bars for each case and each of its peers: time, instructions, D1 misses and memory as a ratio to the peer
   speed_memory.svg  the peak memory of small and large cases, beside the peer where there is one
 
 It needs nothing but Python: the charts are written as text."""
@@ -15,7 +15,8 @@ import os
 DOCS = os.path.join(os.path.dirname(os.path.dirname(os.path.abspath(__file__))), "docs")
 # The data of the runs that docs/SPEED.md shows.
 KNOWN = [os.path.join(DOCS, name) for name in ("speed.tsv", "speed_large.tsv")]
-COLOURS = {"boxglue": "#0b62a4", "tex": "#b5532a", "time": "#0b62a4", "instructions": "#5a9bd0", "memory": "#a9b4bd"}
+COLOURS = {"boxglue": "#0b62a4", "tex": "#b5532a", "time": "#0b62a4", "instructions": "#5a9bd0", "D1 misses": "#d9a441", "memory": "#a9b4bd"}
+RATIOS = (("time", "seconds"), ("instructions", "instructions"), ("D1 misses", "misses"), ("memory", "memory"))
 INK, FAINT, GRID = "#222222", "#666666", "#dddddd"
 
 
@@ -46,10 +47,12 @@ class Figures:
         """The row of the peer, or None."""
         return next((it for name, it in self.rows[case].items() if name != "boxglue"), None)
 
-    def ratio(self, case, what):
-        """The figure of boxglue divided by its peer's, or None."""
-        row, peer = self.rows[case], self.peer(case)
-        return float(row["boxglue"][what]) / float(peer[what]) if peer and row["boxglue"][what] and peer[what] else None
+    def ratio(self, case, what, program=None):
+        """The figure of boxglue divided by that of a peer, or of its first one, or None."""
+        row = self.rows[case]
+        peer = row[program] if program else self.peer(case)
+        known = peer and peer["program"] != "boxglue" and row["boxglue"].get(what) and peer.get(what)
+        return float(row["boxglue"][what]) / float(peer[what]) if known else None
 
 
 class Svg:
@@ -134,19 +137,19 @@ def draw_places(figures, out):
 
 LABELS = (("paragraphs_200", "paragraphs, tolerance 200"), ("paragraphs_10000", "paragraphs, tolerance 10000"), ("places_345pt_100_100", "places: 345pt, 100"),
     ("places_345pt_100_1000", "places: 345pt, 1,000"), ("places_345pt_100_8000", "places: 345pt, 8,000"), ("places_1500pt_100_100", "places: 1500pt, 100"),
-    ("places_1500pt_100_1000", "places: 1500pt, 1,000"), ("places_1500pt_100_8000", "places: 1500pt, 8,000"), ("list", "list (dvitype)"), ("paint", "paint (dvipng)"),
+    ("places_1500pt_100_1000", "places: 1500pt, 1,000"), ("places_1500pt_100_8000", "places: 1500pt, 8,000"), ("list", "list"), ("paint", "paint"),
     ("many_fonts_256", "many_fonts, 256 loaded"))
 
 
 def draw_items(figures, out):
-    rows = [it for it in LABELS if it[0] in figures.rows]
-    kinds = [(name, what) for name, what in (("time", "seconds"), ("instructions", "instructions"), ("memory", "memory"))]
-    left, top, each, wide = 210, 76, 50, 500
-    found = {(case, name): figures.ratio(case, what) for case, _ in rows for name, what in kinds}
+    rows = [((case, peer), label) for case, label in LABELS for peer in figures.rows.get(case, ()) if peer != "boxglue"]
+    kinds = [(name, what) for name, what in RATIOS if any(figures.ratio(it[0], what, it[1]) is not None for it, _ in rows)]
+    left, top, each, wide = 210, 76, 8 + 14 * len(kinds), 500
+    found = {(it, name): figures.ratio(it[0], what, it[1]) for it, _ in rows for name, what in kinds}
     most = max(1.2, min(max(it for it in found.values() if it is not None), 4))
     height = top + each * len(rows) + 50
     svg = Svg(800, height, "boxglue beside its peers")
-    svg.text(20, 26, "boxglue as a ratio to its peer: tex, or the program that is named (less is better)", size=15, weight="bold")
+    svg.text(20, 26, "boxglue as a ratio to the program that is named (less is better)", size=15, weight="bold")
     for place, (name, _) in enumerate(kinds):
         svg.bar(left + place * 120, 38, 12, 12, COLOURS[name])
         svg.text(left + 18 + place * 120, 48, name)
@@ -156,11 +159,11 @@ def draw_items(figures, out):
         svg.line(x, top - 8, x, bottom)
         svg.text(x, bottom + 16, "%g" % mark, "middle", FAINT, 11)
     svg.line(left + wide / most, top - 8, left + wide / most, bottom, INK, 1.5)
-    for place, (case, label) in enumerate(rows):
+    for place, (it, label) in enumerate(rows):
         y = top + place * each
-        svg.text(left - 10, y + 24, label, "end")
+        svg.text(left - 10, y + 24, "%s: %s" % (label.replace(":", ","), it[1]), "end")
         for turn, (name, _) in enumerate(kinds):
-            value = found[case, name]
+            value = found[it, name]
             if value is not None:
                 long = min(value, most) / most * wide
                 svg.bar(left, y + turn * 14, long, 11, COLOURS[name])

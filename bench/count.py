@@ -1,8 +1,9 @@
 #!/usr/bin/env python3
-"""Counts the instructions of programs on the bench's work, by callgrind: bench/count.py PROGRAM [OTHER] [--items ITEM ..].
+"""Counts the instructions of programs on the bench's work, and their D1 misses, by callgrind: bench/count.py PROGRAM [OTHER] [--items ITEM ..].
 
+A D1 miss is a reading or writing that the first cache of data does not have; measure.py fixes the size of this cache.
 With OTHER it counts those of both, and says where the files or answers of the two differ; its status is then 1.
-A count is the same each time for the same program, work and machine, whatever else runs on the machine."""
+A count of instructions is the same each time for the same program, work and machine, whatever else runs on the machine."""
 
 import argparse
 import hashlib
@@ -16,11 +17,11 @@ from measure import count
 
 
 def counted(program, case, folder):
-    """Millions of instructions of a run, and a checksum over its status, its answers and the file that it wrote."""
+    """Millions of instructions and of D1 misses of a run, and a checksum over its status, its answers and the file that it wrote."""
     found = count([program, *case.words], case.stdin, folder, case.out)
     checksum = hashlib.sha256(b"%d\n" % found.status + found.answers)
     checksum.update(found.written)
-    return found.instructions / 1e6, checksum.hexdigest()
+    return found.instructions / 1e6, found.misses / 1e6, checksum.hexdigest()
 
 
 def main():
@@ -38,11 +39,11 @@ def main():
         cases = [case for item in chosen for case in getattr(work, item)() if any(case.name.startswith(it) for it in words.items)]
         with ThreadPoolExecutor(words.jobs) as pool:
             for case, *found in pool.map(lambda case: (case, *(counted(program, case, folder) for program in programs)), cases):
-                print("%-24s %s" % (case.name, "  ".join("%10.2f" % it[0] for it in found)), flush=True)
-                if len({it[1] for it in found}) > 1:
+                print("%-24s %s  %s" % (case.name, "".join("%10.2f" % it[0] for it in found), "".join("%10.3f" % it[1] for it in found)), flush=True)
+                if len({it[2] for it in found}) > 1:
                     differ.append(case.name)
                     print("  the files or answers differ", flush=True)
-    print("millions of instructions" + ("; the files and answers are equal" if len(programs) > 1 and not differ else ""))
+    print("millions of instructions, then of D1 misses" + ("; the files and answers are equal" if len(programs) > 1 and not differ else ""))
     sys.exit(1 if differ else 0)
 
 

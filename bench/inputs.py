@@ -75,13 +75,18 @@ def tex_paragraph(words):
     return "\n".join(rows(words)) + "\\par\n"
 
 
+def chapters():
+    """The paragraphs of each chapter."""
+    prose = Prose(1)
+    for _ in range(CHAPTERS):
+        yield [prose.paragraph(WORDS_EACH) for _ in range(PARAGRAPHS)]
+
+
 def book(tolerance):
     """Chapters of paragraphs, each a box that is split into pages; the last page of a chapter is the rest of it."""
-    prose = Prose(1)
     box, tex = [BOX_HEAD % ("345pt", tolerance)], [TEX_HEAD % ("345pt", tolerance)]
     words = letters = 0
-    for _ in range(CHAPTERS):
-        paragraphs = [prose.paragraph(WORDS_EACH) for _ in range(PARAGRAPHS)]
+    for paragraphs in chapters():
         words += sum(map(len, paragraphs))
         letters += sum(len(word) for paragraph in paragraphs for word in paragraph)
         box.append("vbox into 0\n" + "".join(map(box_paragraph, paragraphs)) + "end\n")
@@ -90,6 +95,15 @@ def book(tolerance):
         tex.append(("\\setbox1\\vsplit0 to %s \\shipout\\box1\n" % PAGE) * SPLITS + "\\shipout\\box0\n")
     tex.append("\\end\n")
     return "".join(box), "".join(tex), words, letters
+
+
+def troff_book():
+    """The same chapters for groff, which fills line after line without a tolerance. Its own page length ends a page."""
+    parts = [".pl %s\n.po 0\n.ll 345p\n.ps 10\n.vs 12p\n.ss 12 0\n.ad b\n.nh\n" % PAGE.replace("pt", "p")]
+    for paragraphs in chapters():
+        parts += ["\n".join(rows(words)) + "\n.br\n" for words in paragraphs]
+        parts.append(".bp\n")
+    return "".join(parts)
 
 
 def places(count, width, total, tolerance, pretolerance):
@@ -203,3 +217,56 @@ def repeated_pages(dvi, times):
     last = struct.pack(">Bi", dvi[end - 6], place) + dvi[end - 1:end]
     size = sum(map(len, parts)) + len(last)
     return b"".join(parts) + last + b"\xdf" * (4 + -size % 4)
+
+
+def first_lines(count):
+    """A paragraph of this many places that would fit into one line, in which lines up to the 32nd are counted.
+    Each place ends lines from all places before it."""
+    head = "set hsize 16383pt\nset firstsize 16383pt\nset firstlines 32\nset pretolerance 10000\n"
+    return head + "vbox into 0\npar\n" + "rule 1pt 1pt 0pt\nglue 1pt plus 1pt\n" * count + "end\nend\n"
+
+
+def splits(count, falls):
+    """A box of this many rules, which is split as many times; the widths of the rules stay the same or fall."""
+    rules = ("rule %dsp 1pt 0pt\nglue 0pt\n" % (count - it if falls else 1) for it in range(count))
+    return "set splittopskip 0pt\nvbox into 0\n" + "".join(rules) + "end\n" + "vsplit 0 to 1pt into 1\n" * count
+
+
+def long_text(count):
+    """A line of text of this many bytes, which has more characters than a list may."""
+    return "font 0 face\nuse 0\nhbox into 0\ntext " + "a" * count + "\nend\n"
+
+
+def flat_metric_file():
+    """A metric file in which each of the characters 32 to 126 has the width 0, so that any number of them fits on a line."""
+    fixed = lambda value: struct.pack(">i", value)
+    zeros = [fixed(0), fixed(0)]
+    parts = [[fixed(0), fixed(10 << 20)], [bytes([1, 0x11, 0, 0])] * 95, zeros, zeros, zeros, zeros[:1], [], [], [], []]
+    return metric_bytes(32, 126, parts)
+
+
+def font_definition(number):
+    """The definition of the font of `flat_metric_file` under a number."""
+    return struct.pack(">BIIIIBB", 246, number, 0, 10 << 16, 10 << 16, 0, 4) + b"face"
+
+
+def one_page(body, definitions):
+    """A DVI file of one page, whose postamble has these definitions of fonts."""
+    sizes = struct.pack(">III", 25400000, 473628672, 1000)
+    page = struct.pack(">B10ii", 139, *[0] * 10, -1) + body + b"\x8c"
+    head = b"\xf7\x02" + sizes + b"\x00"
+    post = len(head) + len(page)
+    tail = struct.pack(">Bi", 248, len(head)) + sizes + struct.pack(">iiHH", 0, 0, 0, 1) + definitions + struct.pack(">BiB", 249, post, 2)
+    return head + page + tail + b"\xdf" * (4 + -(post + len(tail)) % 4)
+
+
+def many_glyphs(count):
+    """A DVI file with a page of this many glyphs."""
+    definition = font_definition(0)
+    return one_page(definition + b"\xab" + b"a" * count, definition)
+
+
+def many_numbers(count):
+    """A DVI file with a page that defines one font under this many numbers, and sets a glyph by each."""
+    definitions = [font_definition(number) for number in range(count)]
+    return one_page(b"".join(it + struct.pack(">BIB", 238, number, 97) for number, it in enumerate(definitions)), b"".join(definitions))

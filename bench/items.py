@@ -1,6 +1,6 @@
-"""The items of the bench: the work of each, for boxglue and for its peer. docs/SPEED.md has the results.
+"""The items of the bench: the work of each, for boxglue and for its peers. docs/SPEED.md has the results.
 
-An item has cases, and a case is one run of boxglue, mostly beside one run of another program on the same work."""
+An item has cases, and a case is one run of boxglue, mostly beside runs of other programs on the same work."""
 
 import os
 import subprocess
@@ -8,25 +8,36 @@ import subprocess
 import inputs
 
 CMR10 = "/usr/share/texlive/texmf-dist/fonts/tfm/public/cm/cmr10.tfm"
-PACKAGES = {"tex": "texlive-binaries", "dvitype": "texlive-binaries", "dvipng": "dvipng"}
+PACKAGES = {**dict.fromkeys(("tex", "dvitype", "pdftex", "luatex"), "texlive-binaries"), "dvipng": "dvipng", "groff": "groff", "floor": "gcc"}
+HERE = os.path.dirname(os.path.abspath(__file__))
+FLAGS = "-std=c99 -O2 -Wall -Wextra -Wpedantic -Werror".split()
 PLACES = 80000
 WIDTHS = (("345pt", 100), ("345pt", -1), ("1500pt", 100))
 LENGTHS = (100, 250, 500, 1000, 2000, 4000, 8000)
 
 
-class Case:
-    """A run of boxglue with these words, this standard input and the file that it writes, if any; the words of its peer; the unit that it is counted in; and whether it is
-    a large one, which is run once and whose output is not kept."""
+class Peer:
+    """A run of another program on the work of a case: its name in tables, and its words."""
 
-    def __init__(self, name, words, stdin="/dev/null", out=None, peer=None, unit=None, units=1, large=False):
-        self.name, self.words, self.stdin, self.out, self.peer, self.unit, self.units, self.large = name, words, stdin, out, peer, unit, units, large
+    def __init__(self, name, *words):
+        self.name, self.words = name, list(words)
+
+
+class Case:
+    """A run of boxglue with these words, this standard input and the file that it writes, if any; its peers; the unit that it is counted in;
+    whether it is a large one, which is run once and whose output is not kept; and the status that boxglue ends with."""
+
+    def __init__(self, name, words, stdin="/dev/null", out=None, peers=(), unit=None, units=1, large=False, status=0):
+        self.name, self.words, self.stdin, self.out, self.peers = name, words, stdin, out, list(peers)
+        self.unit, self.units, self.large, self.status = unit, units, large, status
 
 
 class Work:
-    """The inputs of all items, in a folder. `program` writes the DVI files that other items read."""
+    """The inputs of all items, in a folder. `program` writes the DVI files that other items read.
+    `more` names the peers that are there beside the first ones."""
 
-    def __init__(self, program, folder):
-        self.program, self.folder = os.path.abspath(program), folder
+    def __init__(self, program, folder, more=()):
+        self.program, self.folder, self.more = os.path.abspath(program), folder, more
 
     def put(self, name, content):
         path = os.path.join(self.folder, name)
@@ -40,7 +51,7 @@ class Work:
         tex = more.pop("tex", None)
         if tex:
             self.put(name + ".tex", tex)
-            more["peer"] = ["tex", name + ".tex"]
+            more["peers"] = [Peer("tex", "tex", name + ".tex")]
         return Case(name, ["typeset", "out.dvi", *fonts], self.put(name + ".box", script), "out.dvi", **more)
 
     def made(self, out, case):
@@ -51,9 +62,30 @@ class Work:
                 subprocess.run([self.program, *words], cwd=self.folder, stdin=file, stdout=subprocess.DEVNULL, check=True)
         return out
 
+    def there(self, *peers):
+        """Those of these peers that are there. What a floor needs is built."""
+        found = [it for it in peers if it.name in self.more]
+        for it in found:
+            if it.name == "floor":
+                self.build(it.words[0])
+        return found
+
+    def build(self, floor: str) -> None:
+        """Builds a program of bench/floor in the folder, once."""
+        out = os.path.join(self.folder, floor)
+        if not os.path.exists(out):
+            subprocess.run(["cc", *FLAGS, "-o", out, os.path.join(HERE, "floor", os.path.basename(floor) + ".c")], check=True)
+
     def book(self, tolerance):
         box, tex, words, _ = inputs.book(tolerance)
-        return self.typeset("paragraphs_%d" % tolerance, box, "cmr10=" + CMR10, tex=tex, unit="word", units=words)
+        case = self.typeset("paragraphs_%d" % tolerance, box, "cmr10=" + CMR10, tex=tex, unit="word", units=words)
+        text, script = case.name + ".tex", case.name + ".box"
+        if tolerance == 200:
+            troff = self.put("book.roff", inputs.troff_book())
+            case.peers += self.there(Peer("pdftex", "pdftex", "-output-format=dvi", text), Peer("luatex", "luatex", "--output-format=dvi", text),
+                Peer("groff", "groff", "-Tdvi", troff))
+        case.peers += self.there(Peer("floor", "./paragraphs", script, CMR10, "out.dvi"))
+        return case
 
     def paragraphs(self):
         """2,000 paragraphs in cmr10, 280 pages by vsplit, at two tolerances."""
@@ -71,13 +103,14 @@ class Work:
     def list(self):
         """`list` of the file that `paragraphs` writes."""
         out = self.made("book.dvi", self.book(200))
-        yield Case("list", ["list", out, "cmr10=" + CMR10], peer=["dvitype", "-output-level=4", out])
+        peers = [Peer("dvitype", "dvitype", "-output-level=4", out), *self.there(Peer("floor", "./list", out, CMR10))]
+        yield Case("list", ["list", out, "cmr10=" + CMR10], peers=peers)
 
     def paint(self):
         """4,000 rules on a page of A4 at 300 dpi."""
         out = self.made("rules.dvi", self.typeset("rules", inputs.many_rules(4000)))
         words = ["paint", "--page", "1", "--dpi", "300", "--width", "2480", "--height", "3508", out]
-        yield Case("paint", words, peer=["dvipng", "-D", "300", "-T", "210mm,297mm", "-o", "rules.png", out])
+        yield Case("paint", words, peers=[Peer("dvipng", "dvipng", "-D", "300", "-T", "210mm,297mm", "-o", "rules.png", out)])
 
     def short_lines(self):
         """Scripts of short lines: boxes of two rules each, and no page."""
@@ -132,9 +165,66 @@ class Work:
         for megabytes, times in ((1, 0), (14, 9), (140, 101)):
             content = inputs.repeated_pages(dvi, times)
             out = os.path.basename(self.put("book_%d.dvi" % megabytes, content))
-            peer = ["dvitype", "-output-level=4", out]
-            yield Case("large_list_%d" % megabytes, ["list", out, "cmr10=" + CMR10], peer=peer, unit="byte", units=len(content), large=True)
+            peers = [Peer("dvitype", "dvitype", "-output-level=4", out)]
+            yield Case("large_list_%d" % megabytes, ["list", out, "cmr10=" + CMR10], peers=peers, unit="byte", units=len(content), large=True)
+
+    def of_first_lines(self, *counts, **more):
+        for count in counts:
+            yield self.typeset("first_lines_%d" % count, inputs.first_lines(count), unit="place", units=count, **more)
+
+    def first_lines(self):
+        """A paragraph that would fit into one line, with firstlines 32."""
+        return self.of_first_lines(500, 1000, 2000)
+
+    def of_splits(self, *counts, **more):
+        for name, falls in (("same", False), ("falling", True)):
+            for count in counts:
+                yield self.typeset("splits_%s_%d" % (name, count), inputs.splits(count, falls), unit="split", units=count, **more)
+
+    def splits(self):
+        """A box of rules that is split as often, with rules of the same width and of widths that fall."""
+        return self.of_splits(1000, 2000, 4000)
+
+    def of_long_text(self, *megabytes, **more):
+        self.put("face.tfm", inputs.flat_metric_file())
+        for size in megabytes:
+            script = inputs.long_text(size * 10 ** 6)
+            yield self.typeset("long_text_%d" % size, script, "face=face.tfm", unit="byte", units=size * 10 ** 6, status=1, **more)
+
+    def long_text(self):
+        """One line of text of this many megabytes, which no list can hold, so it is refused."""
+        return self.of_long_text(1, 2, 4)
+
+    def of_many_glyphs(self, *megabytes, **more):
+        self.put("face.tfm", inputs.flat_metric_file())
+        for size in megabytes:
+            out = os.path.basename(self.put("glyphs_%d.dvi" % size, inputs.many_glyphs(size * 10 ** 6)))
+            words = ["paint", "--page", "1", "--dpi", "72", "--width", "100", "--height", "100", out, "face=face.tfm"]
+            yield Case("many_glyphs_%d" % size, words, unit="glyph", units=size * 10 ** 6, **more)
+
+    def many_glyphs(self):
+        """`paint` of a page of this many million glyphs."""
+        return self.of_many_glyphs(1, 2, 4)
+
+    def of_many_numbers(self, *counts, **more):
+        self.put("face.tfm", inputs.flat_metric_file())
+        for count in counts:
+            out = os.path.basename(self.put("numbers_%d.dvi" % count, inputs.many_numbers(count)))
+            yield Case("many_numbers_%d" % count, ["list", out, "face=face.tfm"], unit="number", units=count, **more)
+
+    def many_numbers(self):
+        """`list` of a page that has one font under this many numbers, and a glyph by each."""
+        return self.of_many_numbers(2500, 5000, 10000)
+
+    def large_worst(self):
+        """The worst inputs of the last five items, at larger sizes."""
+        yield from self.of_first_lines(2000, 4000, 8190, large=True)
+        yield from self.of_splits(4000, 8000, 16000, large=True)
+        yield from self.of_long_text(25, 50, 100, large=True)
+        yield from self.of_many_glyphs(12, 25, 50, large=True)
+        yield from self.of_many_numbers(40000, 80000, 160000, large=True)
 
 
-ITEMS = ("paragraphs", "places", "list", "paint", "short_lines", "start", "fonts", "many_fonts", "small_pages")
-LARGE = ("large_pages", "large_script", "large_list")
+WORST = ("first_lines", "splits", "long_text", "many_glyphs", "many_numbers")
+ITEMS = ("paragraphs", "places", "list", "paint", "short_lines", "start", "fonts", "many_fonts", "small_pages", *WORST)
+LARGE = ("large_pages", "large_script", "large_list", "large_worst")

@@ -1,7 +1,9 @@
 #!/usr/bin/env python3
 """Writes the figures of runs into the tables of docs/SPEED.md: bench/tables.py [DATA ..] [--page FILE], by default docs/speed.tsv, docs/speed_large.tsv and docs/SPEED.md.
 
-A row is found by its first cell, and by the number of its cells. docs/internal/MEASURING.md has the goals: read there which of them are still met."""
+The table of programs is made anew, with a row for each that the data has.
+In each other table a row is found by its first cell, and by the number of its cells.
+docs/internal/MEASURING.md has the goals: read there which of them are still met."""
 
 import argparse
 import math
@@ -10,10 +12,21 @@ import re
 
 from charts import DOCS, KNOWN, Figures
 
-# The rows with a peer, by how they begin: their case.
+# How the head of the table of programs begins; its columns, each with the figure in the data and how it is written; and its cases.
+PROGRAMS = "| case | program |"
+COSTS = {
+    "seconds": ("seconds", lambda value: f"{value:.3f}"), "million instructions": ("instructions", lambda value: f"{value / 1e6:,.0f}"),
+    "million D1 misses": ("misses", lambda value: f"{value / 1e6:.2f}"), "MB": ("memory", lambda value: f"{value / 1e6:.1f}"),
+}
 BESIDE = {
     "`paragraphs`, tolerance 200": "paragraphs_200", "`paragraphs`, tolerance 10000": "paragraphs_10000", "`list`": "list", "`paint`": "paint",
     "`many_fonts`, 2 loaded": "many_fonts_2", "`many_fonts`, 256 loaded": "many_fonts_256",
+}
+# The rows of worst inputs: their case, and the one of half the size.
+WORST = {
+    "`first_lines`, 2,000 places": ("first_lines_2000", "first_lines_1000"),
+    "`splits`, 4,000, falling widths": ("splits_falling_4000", "splits_falling_2000"), "`long_text`, 4 MB": ("long_text_4", "long_text_2"),
+    "`many_glyphs`, 4,000,000": ("many_glyphs_4", "many_glyphs_2"), "`many_numbers`, 10,000": ("many_numbers_10000", "many_numbers_5000"),
 }
 # The rows of large inputs, whose cases have run once: their case.
 LARGE = {
@@ -38,11 +51,34 @@ def totals(row):
     return f"{float(row['seconds']):.3f} s, {millions(int(row['instructions']))}, {int(row['memory']) / 1e6:.1f} MB"
 
 
-def beside(figures, case):
-    """The cells of a case with a peer."""
-    rows, peer = figures.rows[case], figures.peer(case)
-    ratios = [f"{figures.ratio(case, it):.2f}" for it in ("seconds", "instructions", "memory")]
-    return [totals(rows["boxglue"]), f"{peer['program']}: {totals(peer)}", *ratios]
+def cost_cell(figures, case, program, column):
+    """The cell of a figure of a program: the figure, and in parentheses boxglue's divided by it."""
+    what, written = COSTS[column]
+    known = figures.rows[case][program].get(what)
+    ratio = figures.ratio(case, what, program)
+    return "" if not known else written(float(known)) if ratio is None else f"{written(float(known))} ({ratio:.2f})"
+
+
+def programs_table(figures):
+    """The lines of the table of programs. A column without a figure is left out."""
+    columns = [it for it, (what, _) in COSTS.items() if any(row.get(what) for case in BESIDE.values() for row in figures.rows[case].values())]
+    yield line_of(["case", "program", *columns])
+    yield "|---" * (2 + len(columns)) + "|"
+    for name, case in BESIDE.items():
+        for program in figures.rows[case]:
+            yield line_of([name if program == "boxglue" else "", program, *(cost_cell(figures, case, program, it) for it in columns)])
+
+
+def line_of(cells):
+    """A line of a table."""
+    return f"| {' | '.join(cells)} |".replace("|  |", "| |").replace("|  |", "| |")
+
+
+def worst_cells(figures, name):
+    """The cells of a worst input: what it takes, and the power of its size in which the instructions grow."""
+    case, half = (figures.rows[it]["boxglue"] for it in WORST[name])
+    power, units = (math.log(float(case[it]) / float(half[it])) for it in ("instructions", "units"))
+    return [totals(case), f"{power / units:.2f}"]
 
 
 def once(row):
@@ -98,8 +134,8 @@ def cells_of(figures, cells):
     name = cells[0]
     lines = re.fullmatch(r"`short_lines`, ([\d,]+) lines", name)
     place = re.fullmatch(r"(\d+pt), (-?\d+)", name)
-    if name in BESIDE and len(cells) == 6:
-        return beside(figures, BESIDE[name])
+    if name in WORST:
+        return worst_cells(figures, name) if set(WORST[name]) <= figures.rows.keys() else None
     if name in LARGE:
         return large_cells(figures, LARGE[name])
     if name in MORE:
@@ -119,7 +155,19 @@ def changed(figures, line):
         return line
     cells = [it.strip() for it in line.strip().strip("|").split("|")]
     found = cells_of(figures, cells)
-    return f"| {' | '.join([cells[0], *found])} |".replace("|  |", "| |") if found else line
+    return line_of([cells[0], *found]) if found else line
+
+
+def page_of(figures, lines):
+    """The lines of the page with these figures."""
+    is_inside = False
+    for line in lines:
+        begins = line.startswith(PROGRAMS)
+        is_inside = begins or (is_inside and line.startswith("|"))
+        if begins:
+            yield from programs_table(figures)
+        elif not is_inside:
+            yield changed(figures, line)
 
 
 def main():
@@ -132,7 +180,7 @@ def main():
     with open(given.page) as page:
         lines = page.read().split("\n")
     with open(given.page, "w") as page:
-        page.write("\n".join(changed(figures, line) for line in lines))
+        page.write("\n".join(page_of(figures, lines)))
 
 
 if __name__ == "__main__":
