@@ -1,6 +1,6 @@
 //! The lines of refusals.
 
-ghost use Rattle.std.specs.Prelude.{◌≡◌, ◌++◌, OnOk};
+ghost use Rattle.std.specs.Prelude.{◌≡◌, ◌≢◌, ◌++◌, OnOk};
 ghost use Rattle.boxglue_print.specs.Faults.{bad_line, dvi_cause_name, fault_line};
 
 use boxglue_program::{push_number, push_refusal_line, push_text};
@@ -40,13 +40,14 @@ fn push_bad(bad: &BadDvi, out: &mut Vec<u8>) -> Result<(), AllocError>
     push_text("\n", out)
 }
 
-/// Appends the line of a refusal. Those that a job has too have its numbers and names.
+/// Appends the line of a file's refusal. Those that a job has too have its numbers and names. The error is a refused growth, here or before.
 #[tactic(auto, unfolding(crate::specs::Faults::fault_line))]
 pub(crate) fn push_fault(fault: DviFault<'_>, out: &mut Vec<u8>) -> Result<(), AllocError>
-    ensures { OnOk result (out.new.items ≡ out.old.items ++ fault_line fault.entry) }
+    ensures line { OnOk result (out.new.items ≡ out.old.items ++ fault_line fault.entry) }
+    ensures other { OnOk result (fault.entry ≢ DviFault.OutOfMemory) }
 {
     match fault {
-        DviFault::OutOfMemory => push_refusal_line(Refusal::OutOfMemory, out),
+        DviFault::OutOfMemory => Err(AllocError),
         DviFault::Font(FontRefusal::DimensionTooLarge) => {
             push_refusal_line(Refusal::DimensionTooLarge, out)
         }

@@ -1,6 +1,6 @@
 //! The text for a DVI file that is refused, and the bitmap of one of its pages.
 
-ghost use Rattle.std.specs.Prelude.{◌≡◌, ◌≢◌, ◌↔◌, ◌⊎◌, false, Err, IfOk, IsTrue, OnOk};
+ghost use Rattle.std.specs.Prelude.{◌≡◌, ◌≢◌, ◌⊎◌, false, Err, IfOk, OnOk};
 ghost use Rattle.dvi_ops.specs.File.{AreUnits};
 ghost use Rattle.dvi_ops.specs.View.{units as units_of};
 ghost use Rattle.dvi_scan.specs.View.{marked_page};
@@ -52,25 +52,12 @@ impl From<AllocError> for PaintFault {
     }
 }
 
-/// Whether a file is refused because memory was refused.
-fn is_out_of_memory(fault: DviFault<'_>) -> bool
-    ensures { IsTrue result ↔ fault.entry ≡ DviFault.OutOfMemory }
-{
-    match fault {
-        DviFault::OutOfMemory => true,
-        DviFault::Bad(_) | DviFault::Font(_) => false,
-    }
-}
-
 /// The text for a file that is refused. The result is an Err where memory was refused, here or before.
 pub fn refusal(alloc: Global, fault: DviFault<'_>) -> Result<Output, AllocError>
     ensures text { IfOk result (λ output. output.text.items ≡ fault_line fault.entry) }
     ensures refused { IfOk result (λ output. output.accepted ≡ false) }
     ensures other { OnOk result (fault.entry ≢ DviFault.OutOfMemory) }
 {
-    if is_out_of_memory(fault) {
-        return Err(AllocError);
-    }
     let mut text = Vec::new(alloc);
     push_fault(fault, &mut text)?;
     Ok(Output {
