@@ -1,8 +1,10 @@
 """The backend by which pip, build and others make a wheel or a source distribution of this package (PEP 517). It needs neither network nor other packages.
 
-A wheel has the shared object inside that the setting `library` names, as in `pip install --config-settings library=PATH bindings/python`; else the
-variable BOXGLUE_LIBRARY; else libboxglue.so in the package's folder. Without one, or with another library, there is no wheel. The script bindings/wheel
-makes it."""
+A wheel contains the shared object. The backend takes the first of these that is given:
+- the file that the setting `library` names, as in `pip install --config-settings library=PATH bindings/python`;
+- the file that the variable BOXGLUE_LIBRARY names;
+- libboxglue.so in the package's folder.
+The build fails if none is given, or if the file is not a library of this version. The script bindings/wheel makes the wheel."""
 import gzip
 import importlib.machinery
 import importlib.util
@@ -32,8 +34,8 @@ def build_wheel(wheel_directory, config_settings=None, metadata_directory=None):
     script, own = _wheel_script(), f"{HERE}/boxglue/libboxglue.so"
     named = (config_settings or {}).get("library") or os.environ.get("BOXGLUE_LIBRARY")
     if not named and not os.path.exists(own):
-        ways = "make it by bindings/build, and name it in BOXGLUE_LIBRARY or by --config-settings library=PATH"
-        sys.exit(f"boxglue: there is no libboxglue.so for the wheel: {ways}")
+        ways = "make it with bindings/build, and name it in BOXGLUE_LIBRARY or with --config-settings library=PATH"
+        sys.exit(f"boxglue: the wheel needs libboxglue.so: {ways}")
     try:
         return script.make_wheel(named or own, wheel_directory)
     except (script.Unfit, OSError) as error:

@@ -132,7 +132,7 @@ def backend_wrong(root, prefix, said, room):
             if it.read() != made.read() or wheels_in(f"{room}/{at}") != {os.path.basename(wheel): True}:
                 return f"pip makes {wheels_in(f'{room}/{at}')}, which is not the wheel of ./install"
     old = stand_in(root, f"{room}/old/libboxglue.so", True, 10100)
-    return (refused_wheel(source, [], "there is no libboxglue.so for the wheel", room)
+    return (refused_wheel(source, [], "the wheel needs libboxglue.so", room)
             or refused_wheel(source, [], "has version 1.1.0, and the package", room, BOXGLUE_LIBRARY=old)
             or refused_wheel(source, [], "is not a library of boxglue", room, BOXGLUE_LIBRARY=f"{source}/README.md")
             or refused_wheel(source, ["--config-settings", f"library={room}/absent"], "absent", room, BOXGLUE_LIBRARY=library))
@@ -227,7 +227,7 @@ def loader_wrong(root, prefix, said, room):
     try:
         return f"{os.path.relpath(planted, room)} is loaded: {run(words, room, **env)!r}"
     except Wrong as wrong:
-        if "the system has none" not in str(wrong):
+        if "found no library" not in str(wrong):
             return f"without a library it says {wrong}"
     system = stand_in(root, f"{room}/system/libboxglue.so.1", True, 10201)
     found = [run(words, room, **env, **loader_path(system))]

@@ -21,8 +21,11 @@ A `Job` is kept between calls, and takes a script piece by piece:
         job.finish().check()
         open("page.dvi", "wb").write(job.take())
 
-It calls the shared object libboxglue.so: the file that the variable BOXGLUE_LIBRARY names; else that in the folder of this package, where a wheel has it;
-else libboxglue.so.1 of the system. In the repository `bindings/build` makes one, for BOXGLUE_LIBRARY. `proved()` asks the one that is loaded.
+It calls the shared object libboxglue.so, and loads the first of these:
+- the file that the variable BOXGLUE_LIBRARY names, such as the one that `bindings/build` makes in the repository;
+- libboxglue.so in the folder of this package, where a wheel puts it;
+- libboxglue.so.1, which the system's loader looks for.
+`proved()` asks the library that is loaded.
 
 Scripts and answers are those of docs/FORMATS.md, and the commands those of docs/COMMANDS.md. Fonts are a mapping from names to the bytes of metric files
 (TFM), as a `FontFolder` is, or pairs of both; of several with one name the first counts. A `str` is handed over as UTF-8. A dimension is a whole number of scaled

@@ -83,7 +83,7 @@ _CALLS = {
 
 
 def library_path() -> str:
-    """Where the shared object is: the file that BOXGLUE_LIBRARY names; else that of this package; else the name by which the system finds its own."""
+    """The path of the shared object. BOXGLUE_LIBRARY comes first, then this package's file, then the name that the system's loader looks for."""
     named = os.environ.get("BOXGLUE_LIBRARY")
     own = os.path.join(os.path.dirname(os.path.abspath(__file__)), "libboxglue.so")
     return os.path.abspath(named) if named else own if os.path.exists(own) else SYSTEM_LIBRARY
@@ -104,9 +104,9 @@ def library() -> Any:
         number = found.boxglue_version()
     except (OSError, AttributeError) as error:
         if path == SYSTEM_LIBRARY and isinstance(error, OSError):
-            why = "there is no libboxglue.so in this package, and the system has none: install the wheel, or name one in BOXGLUE_LIBRARY"
+            why = "boxglue found no library in this package or the system: install the wheel, or name a library in BOXGLUE_LIBRARY"
             raise BoxglueError(f"{why} ({error})") from error
-        raise BoxglueError(f"{path} is no library of boxglue: {error}") from error
+        raise BoxglueError(f"{path} is not a library of boxglue: {error}") from error
     if number // 10_000 != 1:
         raise BoxglueError(f"{path} has version {shown_version(number)}, and this package is for 1.x")
     # After the version, so that an older library is named as one.

@@ -25,12 +25,12 @@ class Versions(unittest.TestCase):
 
     def test_other_library(self):
         with mock.patch("ctypes.CDLL", lambda _: types.SimpleNamespace()):
-            self.assertRaisesRegex(boxglue.BoxglueError, "is no library of boxglue", _library.library.__wrapped__)
+            self.assertRaisesRegex(boxglue.BoxglueError, "is not a library of boxglue", _library.library.__wrapped__)
         with mock.patch.dict(os.environ, BOXGLUE_LIBRARY=__file__):
-            self.assertRaisesRegex(boxglue.BoxglueError, "is no library of boxglue", _library.library.__wrapped__)
+            self.assertRaisesRegex(boxglue.BoxglueError, "is not a library of boxglue", _library.library.__wrapped__)
 
     def test_place(self):
-        """A file that BOXGLUE_LIBRARY names is the library; else one in the package; else the system's."""
+        """BOXGLUE_LIBRARY comes first, then the package's file, then the system's."""
         with mock.patch.dict(os.environ, BOXGLUE_LIBRARY="no such file"):
             self.assertEqual(_library.library_path(), os.path.abspath("no such file"))
         with mock.patch.dict(os.environ, BOXGLUE_LIBRARY=""):
@@ -41,7 +41,7 @@ class Versions(unittest.TestCase):
     def test_no_library(self):
         absent = mock.patch("ctypes.CDLL", side_effect=OSError("no file"))
         with mock.patch.dict(os.environ, BOXGLUE_LIBRARY=""), mock.patch("os.path.exists", lambda _: False), absent:
-            self.assertRaisesRegex(boxglue.BoxglueError, "there is no libboxglue.so in this package, and the system has none", _library.library.__wrapped__)
+            self.assertRaisesRegex(boxglue.BoxglueError, "boxglue found no library in this package or the system", _library.library.__wrapped__)
 
 
 class Proofs(unittest.TestCase):
