@@ -2,7 +2,7 @@
 pub mod Sums
 pub mod Passing
 pub mod Measured
-pub mod Topped
+pub mod Downward
 pub mod Steps
 pub mod Walks
 pub mod Front

@@ -21,7 +21,8 @@ use Rattle.pack_core.proofs.Sums.{total-append, pending-append}
 total-one : (size : Node → ℤ) (xs : List Node) (x : Node) → total size xs +ℤ size x ≡ total size (xs ++ x ∷ [])
 total-one size xs x = omega (arith, ints, total-append size xs (x ∷ []))
 
-plus-one :
+-- The amounts of one more item.
+pub plus-one :
     (amount : Order → Node → ℤ) (xs : List Node) (x : Node)
     → plus (order_amounts (λ order. total (amount order) xs)) (λ order. amount order x) ≡ order_amounts (λ order. total (amount order) (xs ++ x ∷ []))
 plus-one amount xs x = rw (total-one (amount Normal) xs x, total-one (amount Fil) xs x, total-one (amount Fill) xs x, total-one (amount Filll) xs x) refl
@@ -41,15 +42,6 @@ totals-more kind nodes i node within is =
     with_item-totals kind (take i nodes) node
     ∙ ap (λ (x : Node). totals_of kind (take i nodes ++ x ∷ [])) is
     ∙ sym (ap (totals_of kind) (take_more nodes i node within))
-
--- One more item of a list with another item above it.
-pub totals-more-below :
-    (kind : Kind) (top : Node) (nodes : List Node) (i : ℕ) (node : Node) → i < length nodes → node ≡ get_or nodes i node
-    → with_item (totals_of kind (top ∷ take i nodes)) node ≡ totals_of kind (top ∷ take (i + 1) nodes)
-totals-more-below kind top nodes i node within is =
-    with_item-totals kind (top ∷ take i nodes) node
-    ∙ ap (λ (x : Node). totals_of kind (top ∷ (take i nodes ++ x ∷ []))) is
-    ∙ sym (ap (λ (xs : List Node). totals_of kind (top ∷ xs)) (take_more nodes i node within))
 
 -- Amounts within a bound are within a greater bound.
 pub within-more : (m n : ℕ) (amounts : OrderAmounts) → m ≤ n → AreWithin m amounts → AreWithin n amounts

@@ -1,40 +1,16 @@
 //! The vbox of a vertical list with some glue above it, found without building a list that holds both.
 
-ghost use Rattle.std.specs.Prelude.{◌≡◌, ◌≤◌, ◌∷◌, [], is_some, length};
+ghost use Rattle.std.specs.Prelude.{◌≡◌, ◌≤◌, ◌∷◌, is_some, length};
 ghost use Rattle.std.specs.List.{list_all};
 ghost use Rattle.std.specs.Option.{IfSome};
 ghost use Rattle.scaled_core.specs.Dimensions.{fits};
 ghost use Rattle.node_core.specs.Nodes.{max_nodes};
-ghost use Rattle.pack_core.specs.ListTotals.{totals_of};
 ghost use Rattle.pack_core.specs.Boxes.{some_if, vbox_numbers, vbox_shell};
 
-use crate::extents::greatest_breadth;
+use crate::down::Down;
 use crate::pack::{Shell, Target, vertical_shell};
-use crate::totals::Totals;
-use node_core::{Glue, Kind, Node};
+use node_core::{Glue, Node};
 use scaled_core::Dimen;
-
-/// The totals of some glue in a vertical list.
-fn totals_of_glue(glue: &Glue) -> Totals
-    ensures { result ≡ totals_of Kind.Vertical (Node.Glue glue.now ∷ []) }
-{
-    let node = Node::Glue(*glue);
-    let mut totals = Totals::new(Kind::Vertical);
-    totals.pass(&node);
-    totals
-}
-
-/// The totals of some glue and of a vertical list below it.
-fn totals_below(glue: &Glue, nodes: &[Node]) -> Totals
-    requires { length nodes.now ≤ max_nodes }
-    ensures { result ≡ totals_of Kind.Vertical (Node.Glue glue.now ∷ nodes.now) }
-{
-    let mut totals = totals_of_glue(glue);
-    for node in nodes {
-        totals.pass(node);
-    }
-    totals
-}
 
 /// The box that `vpack` would make of some glue and these nodes below it, at their natural height, but without the list. `None` exactly when one of
 /// their numbers does not fit. Does not allocate.
@@ -45,7 +21,6 @@ pub fn vbox_below(depth_limit: Dimen, glue: &Glue, nodes: &[Node]) -> Option<She
     ensures fits { is_some result ≡ list_all fits (vbox_numbers Target.Natural depth_limit (Node.Glue glue.now ∷ nodes.now)) }
     ensures shell { IfSome result (λ shell. shell ≡ vbox_shell Target.Natural depth_limit (Node.Glue glue.now ∷ nodes.now)) }
 {
-    let totals = totals_below(glue, nodes);
-    let width = greatest_breadth(nodes);
-    vertical_shell(Target::Natural, depth_limit, width, false, &totals)
+    let down = Down::of_glue(glue).followed_by(nodes);
+    vertical_shell(Target::Natural, depth_limit, false, &down)
 }

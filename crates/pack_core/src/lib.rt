@@ -6,7 +6,7 @@
 
 mod across;
 mod below;
-mod extents;
+mod down;
 pub mod laws;
 mod orders;
 mod pack;

@@ -1,6 +1,6 @@
 //! Packed boxes (TeX: The Program, part 33, §649 to §678).
 
-ghost use Rattle.std.specs.Prelude.{◌≡◌, ◌≢◌, ◌+ℤ◌, ◌-ℤ◌, ◌≤◌, ◌==◌, IfOk, IfErr, List, None, is_some, length};
+ghost use Rattle.std.specs.Prelude.{◌≡◌, ◌≢◌, ◌+ℤ◌, ◌-ℤ◌, ◌^◌, ◌≤◌, ◌==◌, IfOk, IfErr, List, None, is_some, length};
 ghost use Rattle.std.specs.Option.{IfSome};
 ghost use Rattle.std.specs.Result.{is_ok};
 ghost use Rattle.std.specs.List.{list_all};
@@ -8,19 +8,18 @@ ghost use Rattle.std.specs.Int.{int_min};
 ghost use Rattle.scaled_core.specs.Dimensions.{Fits, fits, dimension_of};
 ghost use Rattle.node_core.specs.Nodes.{max_nodes, nodes_of};
 ghost use Rattle.node_core.specs.declared.tree.Node.{Node};
-ghost use Rattle.pack_core.specs.Items.{breadth};
-ghost use Rattle.pack_core.specs.Totals.{greatest_of, first_height};
-ghost use Rattle.pack_core.specs.ListTotals.{totals_of};
+ghost use Rattle.pack_core.specs.Totals.{first_height};
 ghost use Rattle.pack_core.specs.Boxes.{target_size, hbox, hbox_badness, hbox_numbers, hpack_result, vbox, vbox_badness, vbox_numbers, vpack_result};
 ghost use Rattle.pack_core.specs.Boxes.{vtop_box};
 ghost use Rattle.pack_core.specs.Boxes.{vtop_numbers, vtop_result, some_if, hbox_shell, vbox_shell, packed_of};
 ghost use Rattle.pack_core.specs.Places.{place_in};
 ghost use Rattle.pack_core.specs.Private.Steps.{vtop_shell, boxed_list};
+ghost use Rattle.pack_core.specs.Private.Measures.{AreMeasuresOf, HasGoneDown};
 
 use crate::across::Across;
-use crate::extents::{first_height, greatest_breadth};
+use crate::down::Down;
 use crate::setting::set_glue;
-use crate::totals::Totals;
+use crate::sizes::first_height_of;
 use node_core::{BoxNode, Kind, Node, NodeList, Setting};
 use scaled_core::Dimen;
 use thiserror::Error;
@@ -130,10 +129,11 @@ fn at_most(depth: Dimen, limit: Dimen) -> Dimen
 }
 
 /// The natural height of a vertical list whose box has this depth, if it fits.
-fn height_above(depth: Dimen, totals: &Totals) -> Option<Dimen>
-    ensures { result ≡ dimension_of (totals.now.advance -ℤ depth) }
+fn height_above(depth: Dimen, down: &Down) -> Option<Dimen>
+    requires { HasGoneDown (2 ^ 64) down.now }
+    ensures { result ≡ dimension_of (down.now.advance -ℤ depth) }
 {
-    Dimen::from_wide(totals.advance() - i128::from(depth.get()))
+    Dimen::from_wide(down.advance - i128::from(depth.get()))
 }
 
 /// The box that `hpack` would make of these nodes, without the list; `None` exactly when one of their numbers does not fit. Does not allocate.
@@ -159,23 +159,23 @@ pub fn hbox_shell(target: Target, nodes: &[Node]) -> Option<Shell>
     })
 }
 
-/// The vbox of a list with these totals and this width, without the list, if the numbers of the list fit.
+/// The vbox of a list with these measures, without the list, if the numbers of the list fit.
 #[tactic(auto, using(crate::proofs::Steps::steps))]
-pub fn vertical_shell(
+pub(crate) fn vertical_shell(
     target: Target,
     limit: Dimen,
-    width: i64,
     empty: bool,
-    totals: &Totals,
+    down: &Down,
 ) -> Option<Shell>
-    ensures { (nodes : List Node) → totals.now ≡ totals_of Kind.Vertical nodes → width ≡ greatest_of breadth nodes → empty ≡ (length nodes == 0) →
+    requires { HasGoneDown (2 ^ 64) down.now }
+    ensures { (nodes : List Node) → AreMeasuresOf nodes down.now → empty ≡ (length nodes == 0) →
         result ≡ some_if (list_all fits (vbox_numbers target limit nodes)) (vbox_shell target limit nodes) }
 {
-    let depth = at_most(totals.pending_depth(), limit);
-    let natural = height_above(depth, totals)?;
+    let depth = at_most(down.pending_depth, limit);
+    let natural = height_above(depth, down)?;
     let height = wanted_size(target, natural)?;
-    let width = Dimen::try_new(width)?;
-    let set = set_glue(height, natural, empty, totals.stretch(), totals.shrink())?;
+    let width = Dimen::try_new(down.breadth)?;
+    let set = set_glue(height, natural, empty, down.stretch, down.shrink)?;
     Some(Shell {
         kind: Kind::Vertical,
         width,
@@ -193,9 +193,8 @@ pub fn vbox_shell(target: Target, depth_limit: Dimen, nodes: &[Node]) -> Option<
     ensures fits { is_some result ≡ list_all fits (vbox_numbers target depth_limit nodes.now) }
     ensures shell { IfSome result (λ shell. shell ≡ vbox_shell target depth_limit nodes.now) }
 {
-    let totals = Totals::of(Kind::Vertical, nodes);
-    let width = greatest_breadth(nodes);
-    vertical_shell(target, depth_limit, width, nodes.is_empty(), &totals)
+    let down = Down::new().followed_by(nodes);
+    vertical_shell(target, depth_limit, nodes.is_empty(), &down)
 }
 
 /// A box without its list, if there is one, with this height in place of its own, if the depth then fits. Height and depth together stay the same.
@@ -218,6 +217,16 @@ fn with_height(shell: Option<Shell>, height: Dimen) -> Option<Shell>
         setting: own.setting,
         badness: own.badness,
     })
+}
+
+/// The height of the first item if it is a rule or a box, and otherwise 0.
+fn first_height(nodes: &[Node]) -> Dimen
+    ensures { result ≡ first_height nodes.now }
+{
+    match nodes {
+        [node, ..] => first_height_of(node),
+        [] => Dimen::ZERO,
+    }
 }
 
 /// The vtop of a list, without the list, if its numbers fit.

@@ -1,12 +1,9 @@
 //! The exact totals of lists.
 
-ghost use Rattle.std.specs.Prelude.{◌≡◌, ◌<◌, ◌+◌, ◌*◌, ◌^◌, ◌++◌, ◌∷◌, [], List, pos, length};
+ghost use Rattle.std.specs.Prelude.{◌≡◌, ◌<◌, ◌*◌, ◌^◌, ◌++◌, ◌∷◌, [], List};
 ghost use Rattle.scaled_core.specs.Dimensions.{Within};
 ghost use Rattle.node_core.specs.declared.tree.Node.{Node};
-ghost use Rattle.pack_core.specs.Items.{advance};
-ghost use Rattle.pack_core.specs.Totals.{total, pending_depth};
-ghost use Rattle.pack_core.specs.Glue.{stretch_totals, shrink_totals};
-ghost use Rattle.pack_core.specs.Orders.{order_amounts, AreWithin};
+ghost use Rattle.pack_core.specs.Orders.{AreWithin};
 ghost use Rattle.pack_core.specs.ListTotals.{totals_of, with_item, pending_after};
 
 use crate::orders::{OrderAmounts, no_amounts};
@@ -78,23 +75,6 @@ impl Totals {
         self.shrink.add(glue.shrink_order, glue.shrink);
     }
 
-    /// The totals of these items, in a list of this kind.
-    #[tactic(auto, using(crate::proofs::Passing::passing))]
-    pub fn of(kind: Kind, nodes: &[Node]) -> Totals
-        ensures value { result ≡ totals_of kind nodes.now }
-        ensures kind { result.kind ≡ kind }
-        ensures advance { result.advance ≡ total (advance kind) nodes.now }
-        ensures stretch { result.stretch ≡ order_amounts (stretch_totals nodes.now) }
-        ensures shrink { result.shrink ≡ order_amounts (shrink_totals nodes.now) }
-        ensures pending_depth { result.pending_depth ≡ pending_depth nodes.now }
-    {
-        let mut totals = Totals::new(kind);
-        for node in nodes {
-            totals.pass(node);
-        }
-        totals
-    }
-
     /// The sum of the advances of the items.
     pub fn advance(&self) -> i128
         ensures value { result ≡ self.now.advance }
@@ -131,7 +111,7 @@ impl Totals {
 }
 
 /// The pending depth after one more item.
-fn pending_after(before: Dimen, node: &Node) -> Dimen
+pub fn pending_after(before: Dimen, node: &Node) -> Dimen
     ensures { result ≡ pending_after before node.now }
 {
     match node.class() {

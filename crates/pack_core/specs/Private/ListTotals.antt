@@ -1,7 +1,6 @@
 -- The rest of `ListTotals`, which no public contract reaches (TeX: The Program, part 33, §649 to §656 and §669 to §671; own: of any size).
 use Rattle.std.specs.Prelude.{◌*◌, ◌^◌, ◌<◌, ℕ, ℤ}
 use Rattle.scaled_core.specs.Dimensions.{Within}
-use Rattle.pack_core.specs.Items.{advance}
 use Rattle.pack_core.specs.Orders.{AreWithin}
 use Rattle.pack_core.specs.declared.orders.OrderAmounts.{OrderAmounts}
 
