@@ -189,7 +189,7 @@ fn line_ends<M: Meter>(
     requires ends_bounded { AreEndsInParagraph (M.facts meter.now) ends.now }
     ensures { IfOk result (λ lines. lines.items ≡ map (line_end_at (M.facts meter.now)) ends.now) }
 {
-    let mut lines = Vec::new(alloc);
+    let mut lines = Vec::with_capacity(alloc, ends.len())?;
     for end in ends {
         lines.push(LineEnd {
             place: meter.place(end.place as usize).position,

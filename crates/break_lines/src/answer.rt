@@ -10,6 +10,9 @@ use crate::entry::Entry;
 use crate::state::BreakState;
 use std::alloc::{AllocError, Global};
 
+/// Most paragraphs have no more lines than this, and their ends fit into the space that is taken at first.
+const USUAL_LINES: usize = 16;
+
 /// A list of breaks: the ends of its lines in order, its total overhang in scaled points, and its total demerits.
 #[derive(Debug, Drop)]
 pub struct ChosenBreaks {
@@ -54,7 +57,7 @@ fn read_back(alloc: Global, table: &[Entry], at: usize) -> Result<Vec<BreakState
     requires table { IsSomeTable table.now }
     ensures { IfOk result (λ ends. AreEndsOf table.now at (reverse ends.items)) }
 {
-    let mut ends = Vec::new(alloc);
+    let mut ends = Vec::with_capacity(alloc, USUAL_LINES)?;
     let mut index = at;
     while index != 0 {
         let entry = table[index];

@@ -9,7 +9,7 @@ pub loop-index-init : goal.loop-index-init
 loop-index-init c =
     record {
       within = c.requires.index_bounded;
-      read = subst (λ xs. AreEndsUpTo c.args.table.now c.args.at c.args.at xs) (sym c.new-ends.ensures.items) (read_none c.args.table.now c.args.at);
+      read = subst (λ xs. AreEndsUpTo c.args.table.now c.args.at c.args.at xs) (sym c.in_ok-ends.ensures.items) (read_none c.args.table.now c.args.at);
     }
 
 pub loop-index-smaller : goal.loop-index-smaller
