@@ -9,5 +9,6 @@ pub mod PrintScaled
 pub mod RoundingLaws
 pub mod BadnessLaws
 pub mod PointTexts
+pub mod ShortTexts
 pub mod Appending
 pub mod EachOf

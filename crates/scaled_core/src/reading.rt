@@ -1,6 +1,7 @@
 //! Reading dimensions.
 
-ghost use Rattle.std.specs.Prelude.{◌≡◌, ◌↔◌, ◌++◌, Err, ◌*◌, ◌^◌, ◌<◌, ◌≤◌, IsTrue, IfOk, codes, length, min};
+ghost use Rattle.std.specs.Prelude.{◌≡◌, ◌↔◌, ◌++◌, [], Ok, Err, ◌*◌, ◌^◌, ◌<◌, ◌≤◌, IsTrue, IfOk, codes, length, min};
+ghost use Rattle.std.specs.Option.{IfSome};
 ghost use Rattle.std.specs.List.{prefix_len};
 ghost use Rattle.std.specs.Char.{is_ascii_digit};
 ghost use Rattle.std.specs.Str.{all_ascii_digits};
@@ -13,7 +14,7 @@ ghost use Rattle.scaled_core.specs.ParsedTexts.{is_negative, point_digits, read_
 
 use crate::dimen::Dimen;
 use crate::fault::DimenFault;
-use crate::rounding::nearest;
+use crate::rounding::{nearest, nearest_small};
 use crate::units::LengthUnit;
 
 /// The dimension that a text writes: an optional sign, at least one digit with at most one `.` among the digits, and a unit with no space before it,
@@ -27,6 +28,9 @@ pub fn parse_dimen(text: &[u8]) -> Result<Dimen, DimenFault>
     ensures not_a_dimension { (result ≡ Err DimenFault.NotADimension) ↔ IsNoDimension text.now }
     ensures value { result ≡ read_dimension text.now }
 {
+    if let Some(points) = short_points(text) {
+        return Ok(points);
+    }
     let (negative, number) = after_sign(text);
     let (whole, after) = digits_first(number);
     let (fraction, name) = fraction_first(after);
@@ -46,6 +50,76 @@ pub fn parse_points(text: &[u8]) -> Result<Dimen, DimenFault>
     let (whole, after) = digits_first(number);
     let (fraction, name) = fraction_first(after);
     written_value(negative, whole, fraction, unit_of_points(name))
+}
+
+/// A number that digits at the beginning of a text write, 10 to the power of their count, and the text after them.
+#[derive(Clone, Copy)]
+struct FrontNumber<'a> {
+    value: u64,
+    scale: u64,
+    after: &'a [u8],
+}
+
+/// The number that the digits at the beginning of a text of at most nine bytes write.
+fn front_number(text: &[u8]) -> FrontNumber<'_>
+    requires { length text.now ≤ 9 }
+    ensures value { result.value ≡ digits_value 10 (front_digits text.now) }
+    ensures scale { result.scale ≡ 10 ^ length (front_digits text.now) }
+    ensures after { result.after.now ≡ text_after_digits text.now }
+    ensures value_bounded { result.value < result.scale }
+    ensures scale_bounded { result.scale ≤ 10 ^ 9 }
+{
+    let (digits, after) = digits_first(text);
+    let mut value: u64 = 0;
+    let mut scale: u64 = 1;
+    for digit in digits {
+        value = 10 * value + u64::from(*digit - b'0');
+        scale *= 10;
+    }
+    FrontNumber {
+        value,
+        scale,
+        after,
+    }
+}
+
+/// The fraction with which a number ends, in 65536ths, if the text is empty, or a point and digits alone.
+fn ending_fraction(text: &[u8]) -> Option<u64>
+    requires { length text.now ≤ 9 }
+    ensures value { IfSome result (λ fraction. fraction ≡ decimal_fraction (point_digits text.now)) }
+    ensures all { IfSome result (λ _. text_after_fraction text.now ≡ []) }
+    ensures value_bounded { IfSome result (λ fraction. fraction ≤ 65536) }
+{
+    match text {
+        [] => Some(0),
+        [b'.', digits @ ..] => {
+            let number = front_number(digits);
+            if !number.after.is_empty() {
+                return None;
+            }
+            Some(nearest_small(number.value * 65536, number.scale))
+        }
+        _ => None,
+    }
+}
+
+/// The dimension of a text such as `12.5pt`, without a sign and with at most nine bytes before the unit, or `None` if the text has another form or
+/// its value does not fit. Nearly all dimensions of scripts are such texts, for which 64 bits are enough.
+fn short_points(text: &[u8]) -> Option<Dimen>
+    ensures { IfSome result (λ d. read_dimension text.now ≡ Ok d) }
+{
+    let [number @ .., b'p', b't'] = text else {
+        return None;
+    };
+    if number.len() > 9 {
+        return None;
+    }
+    let whole = front_number(number);
+    if whole.scale == 1 {
+        return None;
+    }
+    let fraction = ending_fraction(whole.after)?;
+    Dimen::try_new((65536 * whole.value + fraction) as i64)
 }
 
 /// The unit of a number of points without a unit: points if nothing follows the number, and otherwise none.

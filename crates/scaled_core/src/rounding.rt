@@ -35,7 +35,7 @@ pub fn rounded(x: i128, d: u64) -> i128
 
 /// The whole number nearest to `n / d`, halves upward, in 64 bits.
 #[tactic(auto, unfolding(crate::specs::Rounding::nearest))]
-fn nearest_small(n: u64, d: u64) -> u64
+pub fn nearest_small(n: u64, d: u64) -> u64
     requires n { n ≤ 2 ^ 62 }
     requires d { d < 2 ^ 63 }
     requires not_zero { 0 < d }
