@@ -2,7 +2,7 @@
 use Rattle.std.proofs.Common.{◌≡◌, ◌∙◌, ℕ, zero, suc, ◌+◌, ◌-◌, ◌<◌, ◌≤◌, Bool, true, false, cond, List, [], ◌∷◌, ◌++◌, length, length-append, drop, drop-cons, drop_of_length-le, get_or, replicate, refl, ap, sym, subst, arith, Option, Some, None}
 use Rattle.std.specs.Prelude.{slice_get, if◌then◌else◌, ◌==◌}
 use Rattle.std.proofs.Math.Logic.{◌⊎◌, inl, inr}
-use Rattle.std.proofs.lemmas.Bool.{cases_Bool, cases_lt}
+use Rattle.std.proofs.lemmas.Bool.{cases_Bool, cases_lt, cond-true, cond-false}
 use Rattle.std.proofs.lemmas.Option.{slice_get_within, get_or_from_slice_get}
 use Rattle.std.proofs.lemmas.List.{append-nil}
 use Rattle.break_lines.specs.declared.group.ActiveGroup.{ActiveGroup}
@@ -340,3 +340,35 @@ pub filled_first :
     (p : Problem) (stop : ℕ → ℕ → Bool) (g : ActiveGroup) → g.place ≡ 0 → g.start ≡ 0 → g.end ≡ 1 → IsFilled p stop 1 (first_entry ∷ []) (g ∷ [])
 filled_first p stop g place start end =
     record { is_table = first_table p; is_active = active_one p stop (first_entry ∷ []) 0 g (first_live p g place start end) place }
+
+-- A place without entries at which no break is forced leaves the table and the groups as they are.
+pub filled_none :
+    (p : Problem) (stop : ℕ → ℕ → Bool) (b n : ℕ) (table : List Entry) (row : List (Option Entry)) (live next : List ActiveGroup)
+    → 0 < b → IsFilled p stop b table live → IsRow p table b (length table) row → row ≡ replicate n None → p.forced b ≡ false
+    → IsActive p stop table (b + 1) b 0 0 next → IsFilled p stop (b + 1) table next
+filled_none p stop b n table row live next some is full empty free active =
+    subst (λ t. IsFilled p stop (b + 1) t next) same
+    (filled_more p stop b table row live next next group some is full (λ _. active) refl refl refl (sym (put ∙ unforced)))
+  where
+    none : row_entries row ≡ []
+    none = ap row_entries empty ∙ no_entries n
+
+    long : length (table ++ row_entries row) ≡ length table
+    long = omega (arith, length-append table (row_entries row), ap length none)
+
+    same : table ++ row_entries row ≡ table
+    same = no_more table (row_entries row) long
+
+    group : ActiveGroup
+    group = record { place = b; start = length table; end = length (table ++ row_entries row) }
+
+    equal : (k j : ℕ) → k ≡ j → (j == k) ≡ true
+    equal k j is_same = grind arith
+
+    unforced : (if p.forced b then [] else next) ≡ next
+    unforced = cond-false (p.forced b) [] next free
+
+    put : with_group (if p.forced b then [] else next) group ≡ (if p.forced b then [] else next)
+    put =
+        cond-true (length table == length (table ++ row_entries row)) (if p.forced b then [] else next) ((if p.forced b then [] else next) ++ group ∷ [])
+        (equal (length (table ++ row_entries row)) (length table) long)

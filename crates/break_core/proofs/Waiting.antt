@@ -227,6 +227,14 @@ pub none_offered_waiting :
 none_offered_waiting table params bound lives place penalty row none p stop at low cut within costs is here =
     none_waiting p stop table params bound penalty place place at low (groups_of lives) row within none costs is here
 
+-- If there is no group, nothing is offered.
+pub no_group_waits :
+    (table : List Entry) (params : Params) (bound : Bound) (lives : List Live) (place : ℕ) (penalty : ℤ) (row : List (Option Entry))
+    → groups_of lives ≡ [] → IsOfferingWaiting table params bound lives place penalty row row
+no_group_waits table params bound lives place penalty row none p stop at low cut within costs is here =
+    let last : IsActive p stop table place place at low [] = subst (IsActive p stop table place place at low) none is in
+    row_silent p table place at (length table) row last.gap within last.silent here
+
 -- No group has been offered yet, and after all of them there are no more offers.
 pub offered_none :
     (table : List Entry) (params : Params) (alone : LineCost) (lives : List Live) (place : ℕ) (row : List (Option Entry))

@@ -25,9 +25,18 @@ struct FilledTable {
     live: Vec<Live>,
 }
 
+/// Whether entries were offered before, or were offered now.
+#[inline(always)]
+fn either(before: bool, now: bool) -> bool
+    ensures { result ≡ false → (before ≡ false) × (now ≡ false) }
+{
+    before || now
+}
+
 /// Tries the line to a place once from each live group, keeps those from which lines to later places are tried, and carries `over` on to the next
 /// place. If groups wait, then all later groups wait after a line that is stretched so much that the lines from all of them cost the same as the
-/// loosest line. The groups stay in place, since most of them are kept. The function is not inlined, so that its loop has all registers.
+/// loosest line. The groups stay in place, since most of them are kept. Returns whether entries were offered. The function is not inlined, so that
+/// its loop has all registers.
 #[inline(never)]
 fn try_lines<M: Meter>(
     meter: &mut M,
@@ -36,7 +45,7 @@ fn try_lines<M: Meter>(
     lives: &mut Vec<Live>,
     row: &mut Vec<Option<Entry>>,
     place: usize,
-)
+) -> bool
     requires first { 0 < place }
     requires last { place ≤ (M.facts meter.old).places }
     requires places { place ≤ max_places }
@@ -59,8 +68,10 @@ fn try_lines<M: Meter>(
     ensures trials { IsSwept (stops_at (M.facts meter.old) rules.now.params.now rules.now.stop_rule) place (M.trials meter.old) (M.trials meter.new) }
     ensures kept { TrialsOnlyGrow (M.trials meter.old) (M.trials meter.new) }
     ensures tried { WasTried (groups_of lives.old.items) (M.trials meter.old) (M.trials meter.new) }
+    ensures untouched { result ≡ false → row.new.items ≡ row.old.items }
 {
     let at = meter.place(place);
+    let mut offered = false;
     let mut kept = 0;
     let mut index = 0;
     let mut end = lives.len();
@@ -75,17 +86,27 @@ fn try_lines<M: Meter>(
             sums,
         };
         let judgement = offer_line(left_out, row, table, live, rules, tried);
+        offered = either(offered, judgement.offered);
         let stopped = rules.stop_rule.stops_after(judgement.overfull, left_out);
         keep_over(lives, index, judgement.overfull, width);
         kept = keep_group(lives, stopped, kept, index);
         index += 1;
         end = first_waiting(judgement.loosest, rules.waits, index, end);
     }
-    offer_waiting(row, table, rest_of(lives, end), rules, place, at.penalty);
+    let waiting = offer_waiting(row, table, rest_of(lives, end), rules, place, at.penalty);
     remove_groups(lives, kept, end);
+    either(offered, waiting)
 }
 
-/// Goes on to a place: tries the lines to it, and appends the entries of its row to the table.
+/// Whether a place has no entries, and a break there is not forced. Then the table and the groups stay as they are.
+#[inline(always)]
+fn is_passed_over(offered: bool, forced: bool) -> bool
+    ensures { result ≡ true → (offered ≡ false) × (forced ≡ false) }
+{
+    !offered && !forced
+}
+
+/// Goes on to a place: tries the lines to it, and appends the entries of its row to the table. Most places have none, and there is nothing to append.
 fn add_place<M: Meter>(
     meter: &mut M,
     rules: &Rules,
@@ -116,7 +137,11 @@ fn add_place<M: Meter>(
     ensures kept { TrialsOnlyGrow (M.trials meter.old) (M.trials meter.new) }
     ensures tried { OnOk result (WasTried (groups_of reached.old.live.items) (M.trials meter.old) (M.trials meter.new)) }
 {
-    try_lines(meter, rules, &reached.table, &mut reached.live, row, place);
+    let offered = try_lines(meter, rules, &reached.table, &mut reached.live, row, place);
+    let forced = meter.place(place).is_forced();
+    if is_passed_over(offered, forced) {
+        return Ok(());
+    }
     let start = reached.table.len();
     flush_row(&mut reached.table, row)?;
     let group = ActiveGroup {
@@ -125,7 +150,7 @@ fn add_place<M: Meter>(
         end: reached.table.len(),
     };
     let live = Live::new(&reached.table, group);
-    add_group(&mut reached.live, meter.place(place).is_forced(), live)?;
+    add_group(&mut reached.live, forced, live)?;
     Ok(())
 }
 

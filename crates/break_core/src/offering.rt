@@ -36,12 +36,13 @@ struct OfferedLine {
     least: LineCost,
 }
 
-/// What is found of a line that was tried, besides its offers: whether it is overfull after any number of lines, and whether it is found so loose
-/// that a line that is stretched by more costs the same in the pass. The second is found only if no lines are counted.
+/// What is found of a line that was tried, besides its offers: whether it is overfull after any number of lines, whether it is found so loose that a
+/// line that is stretched by more costs the same in the pass, and whether entries were offered. The second is found only if no lines are counted.
 #[derive(Clone, Copy, Debug, PartialEq, Eq)]
 pub(crate) struct Judgement {
     pub(crate) overfull: bool,
     pub(crate) loosest: bool,
+    pub(crate) offered: bool,
 }
 
 /// Offers the entries of a group for a place, by a line from there that was tried and judged. The line is judged for firstsize and for hsize at once,
@@ -91,11 +92,13 @@ fn offer_counted(
     ensures overfull { result.overfull
         ≡ ((fits_of_sums rules.now.params.now tried.now.sums).first.overfull && (fits_of_sums rules.now.params.now tried.now.sums).rest.overfull) }
     ensures loosest { result.loosest ≡ false }
+    ensures untouched { result.offered ≡ false → row.new.items ≡ row.old.items }
 {
     let line = fit_both(&tried.sums, rules.params);
     let judgement = Judgement {
         overfull: line.is_overfull(),
         loosest: false,
+        offered: !left_out,
     };
     if left_out {
         return judgement;
@@ -277,6 +280,7 @@ pub(crate) fn offer_line(
         ≡ ((fits_of_sums rules.now.params.now tried.sums).first.overfull && (fits_of_sums rules.now.params.now tried.sums).rest.overfull) }
     ensures loosest { result.loosest ≡ true → is_loosest rules.now.bound (line_fit tried.sums rules.now.params.now.hsize) ≡ true }
     ensures uncounted { result.loosest ≡ true → rules.now.params.now.first_lines ≡ 0 }
+    ensures untouched { result.offered ≡ false → row.new.items ≡ row.old.items }
 {
     if rules.params.first_lines.get() > 0 {
         // Only the address of this copy is taken, so `tried` stays in registers where no lines are counted.
@@ -287,6 +291,7 @@ pub(crate) fn offer_line(
     let judgement = Judgement {
         overfull: line.overfull,
         loosest: is_loosest(&rules.bound, &line),
+        offered: false,
     };
     if left_out {
         return judgement;
@@ -296,7 +301,10 @@ pub(crate) fn offer_line(
     };
     let line = offered_line(rules.params, tried.place, alone);
     offer_best(row, table, live, rules.params, &line);
-    judgement
+    Judgement {
+        offered: true,
+        ..judgement
+    }
 }
 
 /// Offers the entries of groups that wait by a line, one after the other, if no lines are counted. The function is not inlined, so that its loop has
@@ -322,7 +330,7 @@ fn offer_each_waiting(
 }
 
 /// Offers the entries of groups that wait for a place, if no lines are counted. The lines from all of them cost what the loosest line costs; mostly
-/// the pass does not admit it, and then there is nothing to do.
+/// the pass does not admit it, and then there is nothing to do. Returns whether entries were offered.
 #[inline]
 pub(crate) fn offer_waiting(
     row: &mut Vec<Option<Entry>>,
@@ -331,14 +339,19 @@ pub(crate) fn offer_waiting(
     rules: &Rules,
     place: usize,
     penalty: i32,
-)
+) -> bool
     requires can { CanOfferWaiting rules.now.params.now row.old.items table.now lives.now place }
     requires penalty { penalty <ℤ pos 10000 }
     ensures row { IsOfferingWaiting table.now rules.now.params.now rules.now.bound lives.now place penalty row.old.items row.new.items }
+    ensures untouched { result ≡ false → row.new.items ≡ row.old.items }
 {
+    if lives.is_empty() {
+        return false;
+    }
     let Some(alone) = line_alone(rules.params, &rules.bound, penalty, &LineFit::LOOSEST) else {
-        return;
+        return false;
     };
     let line = offered_line(rules.params, place, alone);
     offer_each_waiting(row, table, lives, rules.params, line);
+    true
 }

@@ -1,9 +1,9 @@
 use Rattle.std.proofs.Common.{◌≡◌, ◌∙◌, ◌+◌, ◌++◌, [], None, length, length-append, ◌≤◌, ◌<◌, replicate, cond, false, refl, ap, sym, subst, rules, arith}
 use Rattle.break_lines.specs.declared.group.ActiveGroup.{ActiveGroup}
-use Rattle.break_lines.specs.Tables.{IsRow, row_entries}
+use Rattle.break_lines.specs.Tables.{slots, IsRow, row_entries}
 use Rattle.break_lines.specs.Legal.{is_forced}
 use Rattle.break_core.specs.Private.Active.{stops_at, problem_leaving_out, groups_of, with_group, with_live, IsBestOf, HaveBest, IsActive, IsFilled}
-use Rattle.break_core.proofs.Active.{filled_more}
+use Rattle.break_core.proofs.Active.{filled_more, filled_none}
 use Rattle.break_core.proofs.Lives.{groups_put, over_put, best_put}
 use Rattle.break_core.proofs.Beaten.{best_longer}
 use Rattle.break_core.proofs.filling.add_place.Goals as goal
@@ -15,16 +15,16 @@ returns-clause-filled g c =
     let p = problem_leaving_out f rules_now.params.now rules_now.bound rules_now.stop_rule in
     let stop = stops_at f rules_now.params.now rules_now.stop_rule in
     let table = c.args.reached.now.table.items in
-    let row = c.try_lines.new.row.items in
-    let lives = c.try_lines.new.lives.items in
+    let row = c.try_lines-offered.new.row.items in
+    let lives = c.try_lines-offered.new.lives.items in
     let next = groups_of lives in
     let full : IsRow p table c.args.place (length table) row =
-    subst (λ t. IsRow p t c.args.place (length t) row) c.deref.ensures.value c.try_lines.ensures.row in
+    subst (λ t. IsRow p t c.args.place (length t) row) c.deref.ensures.value c.try_lines-offered.ensures.row in
     let active : is_forced (f.penalty c.args.place) ≡ false → IsActive p stop table (c.args.place + 1) c.args.place 0 0 next =
-    λ free. subst (λ t. IsActive p stop t (c.args.place + 1) c.args.place 0 0 next) c.deref.ensures.value (c.try_lines.ensures.live free) in
+    λ free. subst (λ t. IsActive p stop t (c.args.place + 1) c.args.place 0 0 next) c.deref.ensures.value (c.try_lines-offered.ensures.live free) in
     let held : c.flush_row.new.table.items ≡ table ++ row_entries row = c.in_ok-flush_row.ensures.table in
-    let forced : c.is_forced.result ≡ p.forced c.args.place =
-    c.is_forced.ensures ∙ ap is_forced (c.place.ensures.penalty ∙ ap (λ x. x.penalty c.args.place) c.try_lines.ensures.facts) in
+    let forced : c.is_forced-forced.result ≡ p.forced c.args.place =
+    c.is_forced-forced.ensures ∙ ap is_forced (c.place.ensures.penalty ∙ ap (λ x. x.penalty c.args.place) c.try_lines-offered.ensures.facts) in
     let began : c.len-start.result ≡ length table = search rules in
     let ended : c.len.result ≡ length c.flush_row.new.table.items = search rules in
     let group : ActiveGroup = record { place = c.args.place; start = c.len-start.result; end = c.len.result } in
@@ -40,18 +40,18 @@ returns-clause-filled g c =
 pub returns-clause-empty : goal.returns-clause-empty
 returns-clause-empty g c =
     let f = g.M.Meter.facts c.args.meter.now in
-    c.in_ok-flush_row.ensures.row ∙ ap (λ n. replicate n None) c.try_lines.ensures.row.wide
+    c.in_ok-flush_row.ensures.row ∙ ap (λ n. replicate n None) c.try_lines-offered.ensures.row.wide
 
 pub returns-clause-over : goal.returns-clause-over
 returns-clause-over g c =
     let f = g.M.Meter.facts c.args.meter.now in
     let params = c.args.rules.now.params.now in
-    let lives = c.try_lines.new.lives.items in
-    over_put f params c.args.place c.is_forced.result lives c.add_group.new.lives.items c.new-live.result c.try_lines.ensures.over
+    let lives = c.try_lines-offered.new.lives.items in
+    over_put f params c.args.place c.is_forced-forced.result lives c.add_group.new.lives.items c.new-live.result c.try_lines-offered.ensures.over
     (ap (λ (x : ActiveGroup). x.place) c.new-live.ensures.group) c.new-live.ensures.over c.in_ok-add_group.ensures
 
-pub try_lines-requires-clause-best : goal.try_lines-requires-clause-best
-try_lines-requires-clause-best g c = subst (λ t. HaveBest t c.args.reached.now.live.items) (sym c.deref.ensures.value) c.requires.best
+pub try_lines-offered-requires-clause-best : goal.try_lines-offered-requires-clause-best
+try_lines-offered-requires-clause-best g c = subst (λ t. HaveBest t c.args.reached.now.live.items) (sym c.deref.ensures.value) c.requires.best
 
 pub new-live-requires : goal.new-live-requires
 new-live-requires g c =
@@ -61,8 +61,8 @@ new-live-requires g c =
 pub returns-clause-best : goal.returns-clause-best
 returns-clause-best g c =
     let table = c.args.reached.now.table.items in
-    let row = c.try_lines.new.row.items in
-    let lives = c.try_lines.new.lives.items in
+    let row = c.try_lines-offered.new.row.items in
+    let lives = c.try_lines-offered.new.lives.items in
     let new = c.add_group.new.lives.items in
     let live = c.new-live.result in
     let held : c.flush_row.new.table.items ≡ table ++ row_entries row = c.in_ok-flush_row.ensures.table in
@@ -73,8 +73,37 @@ returns-clause-best g c =
     let rises : live.group.start ≤ live.group.end = omega (arith, start, end, began, ended, ap length held, length-append table (row_entries row)) in
     let before : HaveBest c.flush_row.new.table.items lives =
     subst (λ t. HaveBest t lives) (sym held)
-    (best_longer table (row_entries row) lives (subst (λ t. HaveBest t lives) c.deref.ensures.value c.try_lines.ensures.best)) in
+    (best_longer table (row_entries row) lives (subst (λ t. HaveBest t lives) c.deref.ensures.value c.try_lines-offered.ensures.best)) in
     let is : live.group.start < live.group.end → IsBestOf c.flush_row.new.table.items live.group.start live.group.end live.best =
     λ some. subst (λ t. IsBestOf t live.group.start live.group.end live.best) c.deref-2.ensures.value
     (subst (λ (x : ActiveGroup). IsBestOf c.deref-2.result.now x.start x.end live.best) (sym c.new-live.ensures.group) (c.new-live.ensures.best (omega (arith, some, start, end)))) in
-    best_put c.flush_row.new.table.items c.is_forced.result lives new live before rises is c.in_ok-add_group.ensures
+    best_put c.flush_row.new.table.items c.is_forced-forced.result lives new live before rises is c.in_ok-add_group.ensures
+
+pub returns-then-is_passed_over-clause-filled : goal.returns-then-is_passed_over-clause-filled
+returns-then-is_passed_over-clause-filled g c =
+    let f = g.M.Meter.facts c.args.meter.now in
+    let rules_now = c.args.rules.now in
+    let p = problem_leaving_out f rules_now.params.now rules_now.bound rules_now.stop_rule in
+    let stop = stops_at f rules_now.params.now rules_now.stop_rule in
+    let table = c.args.reached.now.table.items in
+    let row = c.try_lines-offered.new.row.items in
+    let next = groups_of c.try_lines-offered.new.lives.items in
+    let passed = c.is_passed_over.ensures c.if-is_passed_over.true in
+    let full : IsRow p table c.args.place (length table) row =
+    subst (λ t. IsRow p t c.args.place (length t) row) c.deref.ensures.value c.try_lines-offered.ensures.row in
+    let forced : c.is_forced-forced.result ≡ p.forced c.args.place =
+    c.is_forced-forced.ensures ∙ ap is_forced (c.place.ensures.penalty ∙ ap (λ x. x.penalty c.args.place) c.try_lines-offered.ensures.facts) in
+    let free : is_forced (f.penalty c.args.place) ≡ false = sym forced ∙ passed.1 in
+    let active : IsActive p stop table (c.args.place + 1) c.args.place 0 0 next =
+    subst (λ t. IsActive p stop t (c.args.place + 1) c.args.place 0 0 next) c.deref.ensures.value (c.try_lines-offered.ensures.live free) in
+    filled_none p stop c.args.place (slots rules_now.params.now.first_lines) table row (groups_of c.args.reached.now.live.items) next c.requires.first
+    c.requires.filled full (c.try_lines-offered.ensures.untouched passed.0 ∙ c.requires.empty) free active
+
+pub returns-then-is_passed_over-clause-best : goal.returns-then-is_passed_over-clause-best
+returns-then-is_passed_over-clause-best g c =
+    subst (λ t. HaveBest t c.try_lines-offered.new.lives.items) c.deref.ensures.value c.try_lines-offered.ensures.best
+
+pub returns-then-is_passed_over-clause-empty : goal.returns-then-is_passed_over-clause-empty
+returns-then-is_passed_over-clause-empty g c =
+    let passed = c.is_passed_over.ensures c.if-is_passed_over.true in
+    c.try_lines-offered.ensures.untouched passed.0 ∙ c.requires.empty

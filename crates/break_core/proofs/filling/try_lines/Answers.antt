@@ -187,6 +187,9 @@ loop-index-preserved g c =
       end_bounded = end_within (cases_Bool both_wait);
       begins = begins (cases_Bool both_wait);
       waits = waits (cases_Bool both_wait);
+      untouched = λ none.
+          let neither = c.either-offered.ensures none in
+          c.offer_line-judgement.ensures.untouched neither.1 ∙ inv.untouched neither.0;
     }
   where
     loosest : Bool
@@ -279,10 +282,11 @@ loop-index-init g c =
       end_bounded = omega (arith, c.len-end.ensures);
       begins = inl (omega (arith, c.len-end.ensures));
       waits = inl (omega (arith, c.len-end.ensures));
+      untouched = λ none. refl;
     }
 
-pub offer_waiting-requires : goal.offer_waiting-requires
-offer_waiting-requires g c =
+pub offer_waiting-waiting-requires : goal.offer_waiting-waiting-requires
+offer_waiting-waiting-requires g c =
     let inv = c.loop-index.invariant in
     let f = g.M.Meter.facts c.args.meter.now in
     let rules_now = c.args.rules.now in
@@ -337,10 +341,10 @@ returns-clause-row g c =
     omega (arith, ints, c.place-at.ensures.penalty) in
     let costs : CostLoosest p params bound (f.penalty place) place (groups_of (drop c.loop-index.end now)) =
     costs_waiting f params bound rule table place place inv.at inv.low (groups_of (drop c.loop-index.end now)) c.requires.may c.requires.last waiting.wait waiting.active in
-    let offered : IsOfferingWaiting table params bound (drop c.loop-index.end now) place (f.penalty place) c.loop-index.row.items c.offer_waiting.new.row.items =
-    subst (λ n. IsOfferingWaiting table params bound (drop c.loop-index.end now) place n c.loop-index.row.items c.offer_waiting.new.row.items) penalty
-    (subst (λ xs. IsOfferingWaiting table params bound xs place (to_z w32 (of_z w32 c.place-at.result.penalty)) c.loop-index.row.items c.offer_waiting.new.row.items) slice
-    c.offer_waiting.ensures.row) in
+    let offered : IsOfferingWaiting table params bound (drop c.loop-index.end now) place (f.penalty place) c.loop-index.row.items c.offer_waiting-waiting.new.row.items =
+    subst (λ n. IsOfferingWaiting table params bound (drop c.loop-index.end now) place n c.loop-index.row.items c.offer_waiting-waiting.new.row.items) penalty
+    (subst (λ xs. IsOfferingWaiting table params bound xs place (to_z w32 (of_z w32 c.place-at.result.penalty)) c.loop-index.row.items c.offer_waiting-waiting.new.row.items) slice
+    c.offer_waiting-waiting.ensures.row) in
     offered p stop inv.at inv.low refl c.requires.last costs waiting.active inv.row
 
 pub returns-clause-live : goal.returns-clause-live
@@ -397,3 +401,8 @@ returns-clause-tried g c =
     let last : c.loop-index.index ≡ c.loop-index.end = omega (arith, c.loop-index-test.false, inv.index_bounded) in
     first_tried c.loop-index.index c.loop-index.end c.args.lives.now.items (g.M.Meter.trials c.args.meter.now) (g.M.Meter.trials c.loop-index.meter)
     last inv.begins inv.tried
+
+pub returns-clause-untouched : goal.returns-clause-untouched
+returns-clause-untouched g c = λ none.
+    let neither = c.either.ensures none in
+    c.offer_waiting-waiting.ensures.untouched neither.1 ∙ c.loop-index.invariant.untouched neither.0

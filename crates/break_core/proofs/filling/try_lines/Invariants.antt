@@ -1,4 +1,4 @@
-use Rattle.std.proofs.Common.{◌≡◌, ◌+◌, ◌-◌, ◌≤◌, ◌<◌, ℕ, length, drop, take}
+use Rattle.std.proofs.Common.{false, ◌≡◌, ◌+◌, ◌-◌, ◌≤◌, ◌<◌, ℕ, length, drop, take}
 use Rattle.std.specs.Prelude.{slice_get, ◌⊎◌}
 use Rattle.break_lines.specs.Tables.{slots, IsRow}
 use Rattle.break_core.specs.Private.Active.{stops_at, problem_leaving_out, groups_of, AreOver, HaveBest, IsActive, IsSwept, TrialsOnlyGrow, WasTried, AreLoosest}
@@ -27,6 +27,7 @@ invariant-loop-index g l = record {
   end_bounded : l.end ≤ length l.initial.lives.items;
   begins : (length l.initial.lives.items ≤ l.end) ⊎ (0 < l.end);
   waits : (length l.initial.lives.items ≤ l.end) ⊎ AreLoosest (g.M.Meter.facts l.initial.meter) l.rules.params.now l.rules.bound low l.place;
+  untouched : l.offered ≡ false → l.row.items ≡ l.initial.row.items;
 }
 
 abbrev pub decreases-loop-index : goal.decreases-loop-index
