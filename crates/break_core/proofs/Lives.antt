@@ -4,7 +4,7 @@ use Rattle.std.specs.Prelude.{ℤ, slice_get, ◌==◌}
 use Rattle.std.specs.Option.{option_map}
 use Rattle.std.proofs.Math.Logic.{◌⊎◌, inl, inr}
 use Rattle.std.proofs.lemmas.Bool.{cases_Bool, cond-true, cond-false}
-use Rattle.std.proofs.lemmas.List.{map-append, length-take-le, length-drop, take_all}
+use Rattle.std.proofs.lemmas.List.{map-append, length-take-le, length-drop, take_all, drop_all, drop-append-le}
 use Rattle.std.proofs.Math.Seq.{take-append_seam}
 use Rattle.std.proofs.lemmas.Option.{same_Some, slice_get-map}
 use Rattle.node_core.specs.declared.params.Params.{Params}
@@ -151,3 +151,34 @@ copied_down xs to from n remaining rises within is_n is_remaining =
     let front : length (take to xs) ≡ to = length-take-le to xs (omega arith) in
     let is_length : remaining ≡ length copied = omega (arith, length-append (take to xs) (take n zs), front, size, ap length all, is_remaining) in
     ap (λ k. take k (copied ++ rest)) is_length ∙ take-append_seam copied rest ∙ ap (λ ys. take to xs ++ ys) all
+
+-- Groups from a number on.
+pub from_first :
+    (xs : List Live) (first k index : ℕ) (x : Live) → index ≡ first + k → slice_get xs index ≡ Some x → slice_get (drop first xs) k ≡ Some x
+from_first xs zero k index x same is =
+    let at : index ≡ k = omega (arith, same) in
+    subst (λ n. slice_get xs n ≡ Some x) at is
+from_first [] (suc first) k index x same is = absurd (cc)
+from_first (y ∷ xs) (suc first) k zero x same is = absurd (omega (arith, same))
+from_first (y ∷ xs) (suc first) k (suc index) x same is = from_first xs first k index x (omega (arith, same)) is
+
+pub none_between : (n : ℕ) (xs : List Live) → n ≤ length xs → drop n (take n xs) ≡ []
+none_between n xs within = drop_all n (take n xs) (omega (arith, length-take-le n xs within))
+
+pub one_more :
+    (first kept : ℕ) (old new : List Live) (live : Live)
+    → first ≤ kept → kept ≤ length old → new ≡ take kept old ++ live ∷ [] → drop first new ≡ drop first (take kept old) ++ live ∷ []
+one_more first kept old new live low within made =
+    ap (drop first) made ∙ drop-append-le first (take kept old) (live ∷ []) (omega (arith, low, length-take-le kept old within))
+
+pub both_parts :
+    (first kept end : ℕ) (now new : List Live)
+    → first ≤ kept → kept ≤ length now → new ≡ take kept now ++ drop end now → drop first new ≡ drop first (take kept now) ++ drop end now
+both_parts first kept end now new low within made =
+    ap (drop first) made ∙ drop-append-le first (take kept now) (drop end now) (omega (arith, low, length-take-le kept now within))
+
+pub parts_long :
+    (first kept end : ℕ) (now new : List Live)
+    → first ≤ kept → kept ≤ length now → new ≡ take kept now ++ drop end now → first ≤ length new
+parts_long first kept end now new low within made =
+    omega (arith, low, ap length made, length-append (take kept now) (drop end now), length-take-le kept now within)

@@ -1,9 +1,9 @@
 -- Groups that wait: the lines from them cost what the loosest line costs, and no line from them is tried.
-use Rattle.std.proofs.Common.{◌≡◌, ◌∙◌, ℕ, zero, suc, ◌+◌, ◌<◌, ◌≤◌, Bool, true, false, ◌||◌, List, [], ◌∷◌, ◌++◌, length, drop, refl, ap, sym, subst, arith, Option, Some, None}
+use Rattle.std.proofs.Common.{◌≡◌, ◌∙◌, ℕ, zero, suc, ◌+◌, ◌-◌, ◌<◌, ◌≤◌, Bool, true, false, ◌||◌, List, [], ◌∷◌, ◌++◌, length, drop, refl, ap, sym, subst, arith, Option, Some, None}
 use Rattle.std.specs.Prelude.{ℤ, slice_get}
 use Rattle.std.proofs.Math.Logic.{◌⊎◌, inl, inr}
 use Rattle.std.proofs.lemmas.Bool.{cases_Bool, cond-false}
-use Rattle.std.proofs.lemmas.List.{drop-map, map-append}
+use Rattle.std.proofs.lemmas.List.{drop-map, drop-drop, length-drop, map-append}
 use Rattle.std.proofs.lemmas.Option.{same_Some, slice_get_within}
 use Rattle.node_core.specs.declared.params.Params.{Params}
 use Rattle.break_lines.specs.declared.group.ActiveGroup.{ActiveGroup}
@@ -353,22 +353,27 @@ pub record RestWaits
   pub uncounted : 0 < length rest → params.first_lines ≡ 0
 
 pub rest_waits :
-    (facts : Facts) (params : Params) (bound : Bound) (rule : StopRule) (table : List Entry) (b at low index end : ℕ) (lives now : List Live)
-    → index ≡ end → length now ≡ length lives → ((k : ℕ) → index ≤ k → slice_get now k ≡ slice_get lives k)
-    → (length lives ≤ end) ⊎ AreLoosest facts params bound low b → AreOver facts params b lives → HaveBest table lives
+    (facts : Facts) (params : Params) (bound : Bound) (rule : StopRule) (table : List Entry) (b at low first index end : ℕ) (lives now : List Live)
+    → first ≤ index → index ≡ end → length now ≡ length lives → ((k : ℕ) → index ≤ k → slice_get now k ≡ slice_get lives k)
+    → (length lives ≤ end) ⊎ AreLoosest facts params bound low b → AreOver facts params b (drop first lives) → HaveBest table (drop first lives)
     → IsActive (problem_leaving_out facts params bound rule) (stops_at facts params rule) table b b at low (drop index (groups_of lives))
     → RestWaits facts params bound rule table b at low (drop end now)
-rest_waits facts params bound rule table b at low index end lives now last long rest wait over best is =
+rest_waits facts params bound rule table b at low first index end lives now begun last long rest wait over best is =
     subst (RestWaits facts params bound rule table b at low) (sym same)
     (record {
       active = subst (IsActive (problem_leaving_out facts params bound rule) (stops_at facts params rule) table b b at low)
           (ap (λ n. drop n (groups_of lives)) last ∙ drop-map (λ (x : Live). x.group) end lives) is;
       wait = all_wait facts params bound low b lives end wait;
-      over = over_from facts params b end lives over;
-      best = best_from table end lives best;
+      over = subst (AreOver facts params b) from_end (over_from facts params b (end - first) (drop first lives) over);
+      best = subst (HaveBest table) from_end (best_from table (end - first) (drop first lives) best);
       uncounted = λ some. none some wait;
     })
   where
+    from_end : drop (end - first) (drop first lives) ≡ drop end lives
+    from_end =
+        let at : first + (end - first) ≡ end = omega (arith, begun, last) in
+        drop-drop (end - first) first lives ∙ ap (λ n. drop n lives) at
+
     same : drop end now ≡ drop end lives
     same = same_rest now lives end long (λ k low. rest k (omega (arith, low, last)))
 
@@ -408,3 +413,15 @@ pub first_tried :
 first_tried index end [] before now last some tried = λ g there. absurd (cc)
 first_tried index end (live ∷ lives) before now last (inl all) tried = tried (omega (arith, last, all))
 first_tried index end (live ∷ lives) before now last (inr some) tried = tried (omega (arith, last, some))
+
+-- The same for the groups of a list from a number on.
+pub first_tried_from :
+    (first index end : ℕ) (lives : List Live) (before now : ℕ → ℕ)
+    → first ≤ index → index ≡ end → (length lives ≤ end) ⊎ (first < end) → (first < index → WasTried (groups_of (drop first lives)) before now)
+    → WasTried (groups_of (drop first lives)) before now
+first_tried_from first index end lives before now begun last some tried =
+    first_tried (index - first) (end - first) (drop first lives) before now (omega (arith, last)) (cases some) (λ more. tried (omega (arith, more)))
+  where
+    cases : (length lives ≤ end) ⊎ (first < end) → (length (drop first lives) ≤ end - first) ⊎ (0 < end - first)
+    cases (inl all) = inl (omega (arith, all, length-drop first lives))
+    cases (inr more) = inr (omega (arith, more))

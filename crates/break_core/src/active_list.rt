@@ -1,8 +1,8 @@
 //! The active list: the groups of entries from which lines are still tried.
 
-ghost use Rattle.std.specs.Prelude.{◌≡◌, ◌<◌, ◌≤◌, ◌+◌, ◌++◌, ◌&&◌, ℕ, [], ◌∷◌, length, take, drop, set, slice_get, Some, None, if◌then◌else◌, OnOk};
+ghost use Rattle.std.specs.Prelude.{◌≡◌, ◌<◌, ◌≤◌, ◌+◌, ◌++◌, ◌&&◌, ℕ, true, [], ◌∷◌, length, take, drop, set, slice_get, Some, None, if◌then◌else◌, OnOk};
 ghost use Rattle.break_core.specs.Private.LeftOut.{is_more, kept_over};
-ghost use Rattle.break_core.specs.Private.Active.{with_live, IsBestOf};
+ghost use Rattle.break_core.specs.Private.Active.{with_live, live_of, IsBestOf};
 
 use break_lines::{ActiveGroup, Entry};
 use std::alloc::AllocError;
@@ -15,6 +15,27 @@ pub(crate) struct Live {
     pub(crate) over: Option<i64>,
     pub(crate) best: usize,
 }
+
+/// The groups from which lines are tried, in the order of their places: those of a list from number `first` on. Mostly trying stops from the first
+/// ones. They stay in the list until many have gathered, so that the others need not move.
+#[derive(Drop)]
+pub(crate) struct LiveGroups {
+    pub(crate) list: Vec<Live>,
+    pub(crate) first: usize,
+}
+
+impl LiveGroups {
+    /// Whether no line is left to try.
+    #[inline]
+    pub(crate) fn is_empty(&self) -> bool
+        ensures { result ≡ true → live_of self.now ≡ [] }
+    {
+        self.first >= self.list.len()
+    }
+}
+
+/// How many groups from which trying has stopped stay in front of the others.
+const MOST_STOPPED: usize = 32;
 
 /// The number of the best entry of a group, if it has entries.
 #[inline(always)]
@@ -94,22 +115,30 @@ pub(crate) fn keep_over(lives: &mut Vec<Live>, index: usize, overfull: bool, wid
 }
 
 /// Keeps group number `index` as number `kept` of the list, unless trying lines from it has stopped, and returns the number of groups that are kept
-/// then.
+/// then. If trying has stopped from it and from all groups before it, no group needs to move.
 #[inline(always)]
-pub(crate) fn keep_group(lives: &mut Vec<Live>, stopped: bool, kept: usize, index: usize) -> usize
+pub(crate) fn keep_group(lives: &mut LiveGroups, stopped: bool, kept: usize, index: usize) -> usize
+    requires first_bounded { lives.old.first ≤ kept }
     requires kept_bounded { kept ≤ index }
-    requires index_bounded { index < length lives.old.items }
-    ensures front { (live : Live) → slice_get lives.old.items index ≡ Some live →
-        take result lives.new.items ≡ (if stopped then take kept lives.old.items else (take kept lives.old.items ++ live ∷ [])) }
-    ensures rest { (k : ℕ) → kept < k → slice_get lives.new.items k ≡ slice_get lives.old.items k }
-    ensures count { length lives.new.items ≡ length lives.old.items }
-    ensures result_bounded { result ≤ kept + 1 }
+    requires index_bounded { index < length lives.old.list.items }
+    ensures front { (live : Live) → slice_get lives.old.list.items index ≡ Some live →
+        drop lives.new.first (take result lives.new.list.items) ≡ (if stopped then drop lives.old.first (take kept lives.old.list.items)
+        else (drop lives.old.first (take kept lives.old.list.items) ++ live ∷ [])) }
+    ensures rest { (k : ℕ) → kept < k → slice_get lives.new.list.items k ≡ slice_get lives.old.list.items k }
+    ensures count { length lives.new.list.items ≡ length lives.old.list.items }
+    ensures first_bounded { lives.new.first ≤ result }
+    ensures result_bounded { result ≤ index + 1 }
 {
     if stopped {
-        return kept;
+        if lives.first < index {
+            return kept;
+        }
+        // No group is kept before this one.
+        lives.first = index + 1;
+        return index + 1;
     }
     if kept < index {
-        lives[kept] = lives[index];
+        lives.list[kept] = lives.list[index];
     }
     kept + 1
 }
@@ -152,17 +181,36 @@ pub(crate) fn remove_groups(lives: &mut Vec<Live>, kept: usize, next: usize)
     lives.truncate(remaining);
 }
 
+/// Removes the groups from which trying has stopped, if there are many, or all groups.
+#[inline]
+fn make_room(lives: &mut LiveGroups, all: bool)
+    requires first_bounded { lives.old.first ≤ length lives.old.list.items }
+    ensures left { live_of lives.new ≡ (if all then [] else live_of lives.old) }
+    ensures first_bounded { lives.new.first ≤ length lives.new.list.items }
+{
+    if all {
+        lives.list.clear();
+        lives.first = 0;
+        return;
+    }
+    if lives.first < MOST_STOPPED {
+        return;
+    }
+    remove_groups(&mut lives.list, 0, lives.first);
+    lives.first = 0;
+}
+
 /// Appends the group of a place to those of earlier places, unless it has no entries. If a break at the place is forced, the earlier groups are
 /// removed first.
 #[inline]
-pub(crate) fn add_group(lives: &mut Vec<Live>, forced: bool, live: Live) -> Result<(), AllocError>
-    ensures { OnOk result (lives.new.items ≡ with_live (if forced then [] else lives.old.items) live) }
+pub(crate) fn add_group(lives: &mut LiveGroups, forced: bool, live: Live) -> Result<(), AllocError>
+    requires first_bounded { lives.old.first ≤ length lives.old.list.items }
+    ensures groups { OnOk result (live_of lives.new ≡ with_live (if forced then [] else live_of lives.old) live) }
+    ensures first_bounded { lives.new.first ≤ length lives.new.list.items }
 {
-    if forced {
-        lives.clear();
-    }
+    make_room(lives, forced);
     if live.group.start != live.group.end {
-        lives.push(live)?;
+        lives.list.push(live)?;
     }
     Ok(())
 }

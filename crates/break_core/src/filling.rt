@@ -6,12 +6,12 @@ ghost use Rattle.break_lines.specs.Problems.{max_places};
 ghost use Rattle.break_lines.specs.Even.{IsEven};
 ghost use Rattle.break_lines.specs.Legal.{is_forced};
 ghost use Rattle.break_core.specs.Private.Filling.{CountsMayGrow};
-ghost use Rattle.break_core.specs.Private.Active.{stops_at, problem_leaving_out, groups_of, MayStop, AreOver, HaveBest, IsActive, IsFilled, IsSwept};
+ghost use Rattle.break_core.specs.Private.Active.{stops_at, problem_leaving_out, groups_of, live_of, MayStop, AreOver, HaveBest, IsActive, IsFilled, IsSwept};
 ghost use Rattle.break_core.specs.Private.Active.{IsCounted};
 ghost use Rattle.break_core.specs.Private.Active.{TrialsOnlyGrow, WasTried};
 
 use crate::active_list::{
-    Live, add_group, first_waiting, keep_group, keep_over, remove_groups, rest_of,
+    Live, LiveGroups, add_group, first_waiting, keep_group, keep_over, remove_groups, rest_of,
 };
 use crate::offering::{TriedLine, offer_line, offer_waiting};
 use crate::pass_rules::Rules;
@@ -22,7 +22,7 @@ use std::alloc::{AllocError, Global};
 #[derive(Drop)]
 struct FilledTable {
     table: Vec<Entry>,
-    live: Vec<Live>,
+    live: LiveGroups,
 }
 
 /// Whether entries were offered before, or were offered now.
@@ -42,7 +42,7 @@ fn try_lines<M: Meter>(
     meter: &mut M,
     rules: &Rules,
     table: &[Entry],
-    lives: &mut Vec<Live>,
+    lives: &mut LiveGroups,
     row: &mut Vec<Option<Entry>>,
     place: usize,
 ) -> bool
@@ -50,9 +50,10 @@ fn try_lines<M: Meter>(
     requires last { place ≤ (M.facts meter.old).places }
     requires places { place ≤ max_places }
     requires filled { IsFilled (problem_leaving_out (M.facts meter.old) rules.now.params.now rules.now.bound rules.now.stop_rule)
-        (stops_at (M.facts meter.old) rules.now.params.now rules.now.stop_rule) place table.now (groups_of lives.old.items) }
-    requires over { AreOver (M.facts meter.old) rules.now.params.now place lives.old.items }
-    requires best { HaveBest table.now lives.old.items }
+        (stops_at (M.facts meter.old) rules.now.params.now rules.now.stop_rule) place table.now (groups_of (live_of lives.old)) }
+    requires over { AreOver (M.facts meter.old) rules.now.params.now place (live_of lives.old) }
+    requires best { HaveBest table.now (live_of lives.old) }
+    requires first_bounded { lives.old.first ≤ length lives.old.list.items }
     requires empty { row.old.items ≡ replicate (slots rules.now.params.now.first_lines) None }
     requires may { MayStop rules.now.stop_rule (M.facts meter.old) rules.now.params.now rules.now.bound }
     requires waits { rules.now.waits ≡ true → IsEven (M.facts meter.old) }
@@ -61,22 +62,23 @@ fn try_lines<M: Meter>(
         (length table.now) row.new.items }
     ensures live { is_forced ((M.facts meter.old).penalty place) ≡ false →
         IsActive (problem_leaving_out (M.facts meter.old) rules.now.params.now rules.now.bound rules.now.stop_rule)
-        (stops_at (M.facts meter.old) rules.now.params.now rules.now.stop_rule) table.now (place + 1) place 0 0 (groups_of lives.new.items) }
-    ensures over { AreOver (M.facts meter.old) rules.now.params.now (place + 1) lives.new.items }
-    ensures best { HaveBest table.now lives.new.items }
+        (stops_at (M.facts meter.old) rules.now.params.now rules.now.stop_rule) table.now (place + 1) place 0 0 (groups_of (live_of lives.new)) }
+    ensures over { AreOver (M.facts meter.old) rules.now.params.now (place + 1) (live_of lives.new) }
+    ensures best { HaveBest table.now (live_of lives.new) }
+    ensures first_bounded { lives.new.first ≤ length lives.new.list.items }
     ensures facts { M.facts meter.new ≡ M.facts meter.old }
     ensures trials { IsSwept (stops_at (M.facts meter.old) rules.now.params.now rules.now.stop_rule) place (M.trials meter.old) (M.trials meter.new) }
     ensures kept { TrialsOnlyGrow (M.trials meter.old) (M.trials meter.new) }
-    ensures tried { WasTried (groups_of lives.old.items) (M.trials meter.old) (M.trials meter.new) }
+    ensures tried { WasTried (groups_of (live_of lives.old)) (M.trials meter.old) (M.trials meter.new) }
     ensures untouched { result ≡ false → row.new.items ≡ row.old.items }
 {
     let at = meter.place(place);
     let mut offered = false;
-    let mut kept = 0;
-    let mut index = 0;
-    let mut end = lives.len();
+    let mut kept = lives.first;
+    let mut index = lives.first;
+    let mut end = lives.list.len();
     while index < end {
-        let live = &lives[index];
+        let live = &lives.list[index];
         let sums = meter.try_line(live.group.place, place);
         let width = sums.least_width();
         let left_out = rules.stop_rule.leaves_out(live.over, width);
@@ -88,13 +90,20 @@ fn try_lines<M: Meter>(
         let judgement = offer_line(left_out, row, table, live, rules, tried);
         offered = either(offered, judgement.offered);
         let stopped = rules.stop_rule.stops_after(judgement.overfull, left_out);
-        keep_over(lives, index, judgement.overfull, width);
+        keep_over(&mut lives.list, index, judgement.overfull, width);
         kept = keep_group(lives, stopped, kept, index);
         index += 1;
         end = first_waiting(judgement.loosest, rules.waits, index, end);
     }
-    let waiting = offer_waiting(row, table, rest_of(lives, end), rules, place, at.penalty);
-    remove_groups(lives, kept, end);
+    let waiting = offer_waiting(
+        row,
+        table,
+        rest_of(&lives.list, end),
+        rules,
+        place,
+        at.penalty,
+    );
+    remove_groups(&mut lives.list, kept, end);
     either(offered, waiting)
 }
 
@@ -118,9 +127,10 @@ fn add_place<M: Meter>(
     requires last { place ≤ (M.facts meter.old).places }
     requires places { place ≤ max_places }
     requires filled { IsFilled (problem_leaving_out (M.facts meter.old) rules.now.params.now rules.now.bound rules.now.stop_rule)
-        (stops_at (M.facts meter.old) rules.now.params.now rules.now.stop_rule) place reached.old.table.items (groups_of reached.old.live.items) }
-    requires over { AreOver (M.facts meter.old) rules.now.params.now place reached.old.live.items }
-    requires best { HaveBest reached.old.table.items reached.old.live.items }
+        (stops_at (M.facts meter.old) rules.now.params.now rules.now.stop_rule) place reached.old.table.items (groups_of (live_of reached.old.live)) }
+    requires over { AreOver (M.facts meter.old) rules.now.params.now place (live_of reached.old.live) }
+    requires best { HaveBest reached.old.table.items (live_of reached.old.live) }
+    requires first_bounded { reached.old.live.first ≤ length reached.old.live.list.items }
     requires empty { row.old.items ≡ replicate (slots rules.now.params.now.first_lines) None }
     requires may { MayStop rules.now.stop_rule (M.facts meter.old) rules.now.params.now rules.now.bound }
     requires waits { rules.now.waits ≡ true → IsEven (M.facts meter.old) }
@@ -128,14 +138,15 @@ fn add_place<M: Meter>(
     ensures filled { OnOk result (
         IsFilled (problem_leaving_out (M.facts meter.old) rules.now.params.now rules.now.bound rules.now.stop_rule)
         (stops_at (M.facts meter.old) rules.now.params.now rules.now.stop_rule) (place + 1)
-        reached.new.table.items (groups_of reached.new.live.items)) }
-    ensures over { OnOk result (AreOver (M.facts meter.old) rules.now.params.now (place + 1) reached.new.live.items) }
-    ensures best { OnOk result (HaveBest reached.new.table.items reached.new.live.items) }
+        reached.new.table.items (groups_of (live_of reached.new.live))) }
+    ensures over { OnOk result (AreOver (M.facts meter.old) rules.now.params.now (place + 1) (live_of reached.new.live)) }
+    ensures best { OnOk result (HaveBest reached.new.table.items (live_of reached.new.live)) }
+    ensures first_bounded { OnOk result (reached.new.live.first ≤ length reached.new.live.list.items) }
     ensures empty { OnOk result (row.new.items ≡ replicate (slots rules.now.params.now.first_lines) None) }
     ensures facts { M.facts meter.new ≡ M.facts meter.old }
     ensures trials { IsSwept (stops_at (M.facts meter.old) rules.now.params.now rules.now.stop_rule) place (M.trials meter.old) (M.trials meter.new) }
     ensures kept { TrialsOnlyGrow (M.trials meter.old) (M.trials meter.new) }
-    ensures tried { OnOk result (WasTried (groups_of reached.old.live.items) (M.trials meter.old) (M.trials meter.new)) }
+    ensures tried { OnOk result (WasTried (groups_of (live_of reached.old.live)) (M.trials meter.old) (M.trials meter.new)) }
 {
     let offered = try_lines(meter, rules, &reached.table, &mut reached.live, row, place);
     let forced = meter.place(place).is_forced();
@@ -177,7 +188,10 @@ pub(crate) fn fill<M: Meter>(
     let table = Vec::with_capacity(alloc, meter.places() + 1)?;
     let mut reached = FilledTable {
         table,
-        live: Vec::new(alloc),
+        live: LiveGroups {
+            list: Vec::new(alloc),
+            first: 0,
+        },
     };
     reached.table.push(Entry::first())?;
     let group = ActiveGroup {
@@ -186,7 +200,7 @@ pub(crate) fn fill<M: Meter>(
         end: 1,
     };
     let live = Live::new(&reached.table, group);
-    reached.live.push(live)?;
+    reached.live.list.push(live)?;
     // The row is reused for all places.
     let mut row = empty_row(alloc, rules.params.first_lines.get())?;
     for before in 0..meter.places() {

@@ -22,6 +22,7 @@ use Rattle.break_lines.specs.Steady.{IsSteady}
 use Rattle.break_core.specs.declared.pass_rules.StopRule.{StopRule}
 use Rattle.break_core.specs.declared.pass_rules.StopRule.TheVariants.{Never, Overfull, Long}
 use Rattle.break_core.specs.declared.active_list.Live.{Live}
+use Rattle.break_core.specs.declared.active_list.LiveGroups.{LiveGroups}
 use Rattle.break_core.specs.Passes.{problem_of, bound_of, IsBefore}
 use Rattle.break_core.specs.Trials.{is_overfull, IsStop, places_up_to, passes_run}
 use Rattle.break_core.specs.Private.LeftOut.{is_long, over_before, MayLeaveOut}
@@ -97,6 +98,10 @@ with_group groups g = if g.start == g.end then groups else groups ++ g ∷ []
 -- The groups of live groups.
 abbrev pub groups_of : List Live → List ActiveGroup
 groups_of lives = map (λ (live : Live). live.group) lives
+
+-- The live groups.
+abbrev pub live_of : LiveGroups → List Live
+live_of lives = drop lives.first lives.list.items
 
 -- Each live group has the right `over` for the lines from its place to the places before b.
 abbrev pub AreOver : Facts → Params → (b : ℕ) → List Live → Type 0

@@ -2,7 +2,7 @@ use Rattle.std.proofs.Common.{◌≡◌, ◌∙◌, ◌+◌, ◌++◌, [], None,
 use Rattle.break_lines.specs.declared.group.ActiveGroup.{ActiveGroup}
 use Rattle.break_lines.specs.Tables.{slots, IsRow, row_entries}
 use Rattle.break_lines.specs.Legal.{is_forced}
-use Rattle.break_core.specs.Private.Active.{stops_at, problem_leaving_out, groups_of, with_group, with_live, IsBestOf, HaveBest, IsActive, IsFilled}
+use Rattle.break_core.specs.Private.Active.{stops_at, problem_leaving_out, groups_of, live_of, with_group, with_live, IsBestOf, HaveBest, IsActive, IsFilled}
 use Rattle.break_core.proofs.Active.{filled_more, filled_none}
 use Rattle.break_core.proofs.Lives.{groups_put, over_put, best_put}
 use Rattle.break_core.proofs.Beaten.{best_longer}
@@ -16,7 +16,7 @@ returns-clause-filled g c =
     let stop = stops_at f rules_now.params.now rules_now.stop_rule in
     let table = c.args.reached.now.table.items in
     let row = c.try_lines-offered.new.row.items in
-    let lives = c.try_lines-offered.new.lives.items in
+    let lives = (live_of c.try_lines-offered.new.lives) in
     let next = groups_of lives in
     let full : IsRow p table c.args.place (length table) row =
     subst (λ t. IsRow p t c.args.place (length t) row) c.deref.ensures.value c.try_lines-offered.ensures.row in
@@ -28,14 +28,14 @@ returns-clause-filled g c =
     let began : c.len-start.result ≡ length table = search rules in
     let ended : c.len.result ≡ length c.flush_row.new.table.items = search rules in
     let group : ActiveGroup = record { place = c.args.place; start = c.len-start.result; end = c.len.result } in
-    let made : groups_of c.add_group.new.lives.items ≡ with_group (cond (p.forced c.args.place) [] next) group =
-    groups_put (p.forced c.args.place) lives c.add_group.new.lives.items c.new-live.result
-    (c.in_ok-add_group.ensures ∙ ap (λ t. with_live (cond t [] lives) c.new-live.result) forced)
+    let made : groups_of (live_of c.add_group.new.lives) ≡ with_group (cond (p.forced c.args.place) [] next) group =
+    groups_put (p.forced c.args.place) lives (live_of c.add_group.new.lives) c.new-live.result
+    (c.in_ok-add_group.ensures.groups ∙ ap (λ t. with_live (cond t [] lives) c.new-live.result) forced)
     ∙ ap (with_group (cond (p.forced c.args.place) [] next)) c.new-live.ensures.group in
-    let filled : IsFilled p stop (c.args.place + 1) (table ++ row_entries row) (groups_of c.add_group.new.lives.items) =
-    filled_more p stop c.args.place table row (groups_of c.args.reached.now.live.items) next (groups_of c.add_group.new.lives.items) group c.requires.first c.requires.filled full
+    let filled : IsFilled p stop (c.args.place + 1) (table ++ row_entries row) (groups_of (live_of c.add_group.new.lives)) =
+    filled_more p stop c.args.place table row (groups_of (live_of c.args.reached.now.live)) next (groups_of (live_of c.add_group.new.lives)) group c.requires.first c.requires.filled full
     active refl began (ended ∙ ap length held) made in
-    subst (λ t. IsFilled p stop (c.args.place + 1) t (groups_of c.add_group.new.lives.items)) (sym held) filled
+    subst (λ t. IsFilled p stop (c.args.place + 1) t (groups_of (live_of c.add_group.new.lives))) (sym held) filled
 
 pub returns-clause-empty : goal.returns-clause-empty
 returns-clause-empty g c =
@@ -46,12 +46,12 @@ pub returns-clause-over : goal.returns-clause-over
 returns-clause-over g c =
     let f = g.M.Meter.facts c.args.meter.now in
     let params = c.args.rules.now.params.now in
-    let lives = c.try_lines-offered.new.lives.items in
-    over_put f params c.args.place c.is_forced-forced.result lives c.add_group.new.lives.items c.new-live.result c.try_lines-offered.ensures.over
-    (ap (λ (x : ActiveGroup). x.place) c.new-live.ensures.group) c.new-live.ensures.over c.in_ok-add_group.ensures
+    let lives = (live_of c.try_lines-offered.new.lives) in
+    over_put f params c.args.place c.is_forced-forced.result lives (live_of c.add_group.new.lives) c.new-live.result c.try_lines-offered.ensures.over
+    (ap (λ (x : ActiveGroup). x.place) c.new-live.ensures.group) c.new-live.ensures.over c.in_ok-add_group.ensures.groups
 
 pub try_lines-offered-requires-clause-best : goal.try_lines-offered-requires-clause-best
-try_lines-offered-requires-clause-best g c = subst (λ t. HaveBest t c.args.reached.now.live.items) (sym c.deref.ensures.value) c.requires.best
+try_lines-offered-requires-clause-best g c = subst (λ t. HaveBest t (live_of c.args.reached.now.live)) (sym c.deref.ensures.value) c.requires.best
 
 pub new-live-requires : goal.new-live-requires
 new-live-requires g c =
@@ -62,8 +62,8 @@ pub returns-clause-best : goal.returns-clause-best
 returns-clause-best g c =
     let table = c.args.reached.now.table.items in
     let row = c.try_lines-offered.new.row.items in
-    let lives = c.try_lines-offered.new.lives.items in
-    let new = c.add_group.new.lives.items in
+    let lives = (live_of c.try_lines-offered.new.lives) in
+    let new = (live_of c.add_group.new.lives) in
     let live = c.new-live.result in
     let held : c.flush_row.new.table.items ≡ table ++ row_entries row = c.in_ok-flush_row.ensures.table in
     let began : c.len-start.result ≡ length table = search rules in
@@ -77,7 +77,7 @@ returns-clause-best g c =
     let is : live.group.start < live.group.end → IsBestOf c.flush_row.new.table.items live.group.start live.group.end live.best =
     λ some. subst (λ t. IsBestOf t live.group.start live.group.end live.best) c.deref-2.ensures.value
     (subst (λ (x : ActiveGroup). IsBestOf c.deref-2.result.now x.start x.end live.best) (sym c.new-live.ensures.group) (c.new-live.ensures.best (omega (arith, some, start, end)))) in
-    best_put c.flush_row.new.table.items c.is_forced-forced.result lives new live before rises is c.in_ok-add_group.ensures
+    best_put c.flush_row.new.table.items c.is_forced-forced.result lives new live before rises is c.in_ok-add_group.ensures.groups
 
 pub returns-then-is_passed_over-clause-filled : goal.returns-then-is_passed_over-clause-filled
 returns-then-is_passed_over-clause-filled g c =
@@ -87,7 +87,7 @@ returns-then-is_passed_over-clause-filled g c =
     let stop = stops_at f rules_now.params.now rules_now.stop_rule in
     let table = c.args.reached.now.table.items in
     let row = c.try_lines-offered.new.row.items in
-    let next = groups_of c.try_lines-offered.new.lives.items in
+    let next = groups_of (live_of c.try_lines-offered.new.lives) in
     let passed = c.is_passed_over.ensures c.if-is_passed_over.true in
     let full : IsRow p table c.args.place (length table) row =
     subst (λ t. IsRow p t c.args.place (length t) row) c.deref.ensures.value c.try_lines-offered.ensures.row in
@@ -96,12 +96,12 @@ returns-then-is_passed_over-clause-filled g c =
     let free : is_forced (f.penalty c.args.place) ≡ false = sym forced ∙ passed.1 in
     let active : IsActive p stop table (c.args.place + 1) c.args.place 0 0 next =
     subst (λ t. IsActive p stop t (c.args.place + 1) c.args.place 0 0 next) c.deref.ensures.value (c.try_lines-offered.ensures.live free) in
-    filled_none p stop c.args.place (slots rules_now.params.now.first_lines) table row (groups_of c.args.reached.now.live.items) next c.requires.first
+    filled_none p stop c.args.place (slots rules_now.params.now.first_lines) table row (groups_of (live_of c.args.reached.now.live)) next c.requires.first
     c.requires.filled full (c.try_lines-offered.ensures.untouched passed.0 ∙ c.requires.empty) free active
 
 pub returns-then-is_passed_over-clause-best : goal.returns-then-is_passed_over-clause-best
 returns-then-is_passed_over-clause-best g c =
-    subst (λ t. HaveBest t c.try_lines-offered.new.lives.items) c.deref.ensures.value c.try_lines-offered.ensures.best
+    subst (λ t. HaveBest t (live_of c.try_lines-offered.new.lives)) c.deref.ensures.value c.try_lines-offered.ensures.best
 
 pub returns-then-is_passed_over-clause-empty : goal.returns-then-is_passed_over-clause-empty
 returns-then-is_passed_over-clause-empty g c =

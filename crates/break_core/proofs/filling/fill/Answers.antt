@@ -1,10 +1,10 @@
-use Rattle.std.proofs.Common.{◌≡◌, ◌∙◌, ◌+◌, ℕ, [], ◌∷◌, None, vec_len, length, false, replicate, refl, ap, sym, subst, rules, arith}
+use Rattle.std.proofs.Common.{◌≡◌, ◌∙◌, ◌+◌, ℕ, [], ◌∷◌, None, length, false, replicate, refl, ap, sym, subst, rules, arith}
 use Rattle.break_lines.specs.Tables.{slots, first_entry}
 use Rattle.break_lines.specs.declared.group.ActiveGroup.{ActiveGroup}
-use Rattle.break_core.specs.Private.Active.{stops_at, problem_leaving_out, groups_of, AreOver, IsBestOf, IsFilled, IsSwept}
+use Rattle.break_core.specs.Private.Active.{stops_at, problem_leaving_out, groups_of, live_of, AreOver, IsBestOf, IsFilled, IsSwept}
 use Rattle.break_core.proofs.Active.{table_rest}
 use Rattle.break_core.proofs.Counts.{counted_none, counted_more, counted_longer, kept_none, kept_on, started_more, started_none, start_group}
-use Rattle.break_core.proofs.Lives.{filled_start, over_first, best_kept, no_groups}
+use Rattle.break_core.proofs.Lives.{filled_start, over_first, best_kept}
 use Rattle.break_core.proofs.filling.fill.Goals as goal
 
 pub loop-before-init : goal.loop-before-init
@@ -26,6 +26,7 @@ loop-before-init g c =
       filled = filled_start (problem_leaving_out f params c.args.rules.now.bound rule) stop c.push.new.self.items c.push-2.new.self.items live table lives
           (ap (λ (x : ActiveGroup). x.place) group) (ap (λ (x : ActiveGroup). x.start) group) (ap (λ (x : ActiveGroup). x.end) group);
       over = subst (AreOver f params 1) (sym lives) (over_first f params live (ap (λ (x : ActiveGroup). x.place) group) c.new-live.ensures.over);
+      first_bounded = omega arith;
       best = best_kept c.push.new.self.items false [] c.push-2.new.self.items live (λ k x there. absurd (cc)) best lives;
       kept = kept_none (g.M.Meter.trials c.args.meter.now);
       begins = λ _. ap groups_of lives ∙ ap (λ (x : ActiveGroup). x ∷ []) group;
@@ -49,12 +50,13 @@ loop-before-preserved g c =
       counted = counted_more (stops_at (g.M.Meter.facts c.args.meter.now) params rule) before first middle now inv.counted
           (subst (λ f. IsSwept (stops_at f params rule) (before + 1) middle now) inv.facts c.add_place.ensures.trials);
       filled = subst (λ f. IsFilled (problem_leaving_out f params bound rule) (stops_at f params rule) (before + 1 + 1) c.add_place.new.reached.table.items
-          (groups_of c.add_place.new.reached.live.items)) inv.facts next.filled;
-      over = subst (λ f. AreOver f params (before + 1 + 1) c.add_place.new.reached.live.items) inv.facts next.over;
+          (groups_of (live_of c.add_place.new.reached.live))) inv.facts next.filled;
+      over = subst (λ f. AreOver f params (before + 1 + 1) (live_of c.add_place.new.reached.live)) inv.facts next.over;
       best = next.best;
+      first_bounded = next.first_bounded;
       kept = kept_on first middle now inv.kept c.add_place.ensures.kept;
       begins = λ none. absurd (omega (arith, none));
-      started = λ some. started_more before (groups_of c.loop-before.reached.live.items) first middle now inv.begins inv.started inv.kept c.add_place.ensures.kept next.tried;
+      started = λ some. started_more before (groups_of (live_of c.loop-before.reached.live)) first middle now inv.begins inv.started inv.kept c.add_place.ensures.kept next.tried;
       empty = next.empty;
     }
 
@@ -67,9 +69,9 @@ returns-then-is_empty-clause-table g c =
     let f = g.M.Meter.facts c.args.meter.now in
     let rules_now = c.args.rules.now in
     let live = c.loop-before.reached.live in
-    let none = no_groups live.items (vec_len live) (sym c.is_empty.ensures ∙ c.if-is_empty.true) (omega (arith, live.ok.0)) in
+    let none : groups_of (live_of live) ≡ [] = ap groups_of (c.is_empty.ensures c.if-is_empty.true) in
     table_rest (problem_leaving_out f rules_now.params.now rules_now.bound rules_now.stop_rule) (stops_at f rules_now.params.now rules_now.stop_rule) (c.loop-before.before + 1) c.loop-before.reached.table.items
-    (groups_of live.items) (omega arith) (omega (arith, c.loop-before-test.true, c.places-before-end.ensures.count, ap (λ x. x.places) c.loop-before.invariant.facts))
+    (groups_of (live_of live)) (omega arith) (omega (arith, c.loop-before-test.true, c.places-before-end.ensures.count, ap (λ x. x.places) c.loop-before.invariant.facts))
     none c.loop-before.invariant.filled
 
 pub returns-then-is_empty-clause-trials : goal.returns-then-is_empty-clause-trials
@@ -82,8 +84,8 @@ pub returns-then-is_empty-clause-tried : goal.returns-then-is_empty-clause-tried
 returns-then-is_empty-clause-tried g c =
     let inv = c.loop-before.invariant in
     let live = c.loop-before.reached.live in
-    let none = no_groups live.items (vec_len live) (sym c.is_empty.ensures ∙ c.if-is_empty.true) (omega (arith, live.ok.0)) in
-    started_none c.loop-before.before (groups_of live.items) (g.M.Meter.trials c.args.meter.now) (g.M.Meter.trials c.loop-before.meter) none inv.begins inv.started
+    let none : groups_of (live_of live) ≡ [] = ap groups_of (c.is_empty.ensures c.if-is_empty.true) in
+    started_none c.loop-before.before (groups_of (live_of live)) (g.M.Meter.trials c.args.meter.now) (g.M.Meter.trials c.loop-before.meter) none inv.begins inv.started
 
 pub new-live-requires : goal.new-live-requires
 new-live-requires g c =

@@ -1,6 +1,6 @@
-use Rattle.std.proofs.Common.{◌≡◌, ◌+◌, ◌<◌, [], ◌∷◌, replicate, None}
+use Rattle.std.proofs.Common.{◌≡◌, ◌+◌, ◌<◌, ◌≤◌, length, [], ◌∷◌, replicate, None}
 use Rattle.break_lines.specs.Tables.{slots}
-use Rattle.break_core.specs.Private.Active.{stops_at, problem_leaving_out, groups_of, AreOver, HaveBest, IsFilled, IsCounted, TrialsOnlyGrow}
+use Rattle.break_core.specs.Private.Active.{stops_at, problem_leaving_out, groups_of, live_of, AreOver, HaveBest, IsFilled, IsCounted, TrialsOnlyGrow}
 use Rattle.break_core.proofs.Counts.{start_group}
 use Rattle.break_core.proofs.filling.fill.Given as goal
 
@@ -8,11 +8,12 @@ abbrev pub invariant-loop-before : goal.invariant-loop-before
 invariant-loop-before g l = record {
   facts : g.M.Meter.facts l.meter ≡ g.M.Meter.facts l.initial.meter;
   counted : IsCounted (stops_at (g.M.Meter.facts l.initial.meter) l.rules.params.now l.rules.stop_rule) l.before (g.M.Meter.trials l.initial.meter) (g.M.Meter.trials l.meter);
-  filled : IsFilled (problem_leaving_out (g.M.Meter.facts l.initial.meter) l.rules.params.now l.rules.bound l.rules.stop_rule) (stops_at (g.M.Meter.facts l.initial.meter) l.rules.params.now l.rules.stop_rule) (l.before + 1) l.reached.table.items (groups_of l.reached.live.items);
-  over : AreOver (g.M.Meter.facts l.initial.meter) l.rules.params.now (l.before + 1) l.reached.live.items;
-  best : HaveBest l.reached.table.items l.reached.live.items;
+  filled : IsFilled (problem_leaving_out (g.M.Meter.facts l.initial.meter) l.rules.params.now l.rules.bound l.rules.stop_rule) (stops_at (g.M.Meter.facts l.initial.meter) l.rules.params.now l.rules.stop_rule) (l.before + 1) l.reached.table.items (groups_of (live_of l.reached.live));
+  over : AreOver (g.M.Meter.facts l.initial.meter) l.rules.params.now (l.before + 1) (live_of l.reached.live);
+  best : HaveBest l.reached.table.items (live_of l.reached.live);
+  first_bounded : l.reached.live.first ≤ length l.reached.live.list.items;
   kept : TrialsOnlyGrow (g.M.Meter.trials l.initial.meter) (g.M.Meter.trials l.meter);
-  begins : l.before ≡ 0 → groups_of l.reached.live.items ≡ start_group ∷ [];
+  begins : l.before ≡ 0 → groups_of (live_of l.reached.live) ≡ start_group ∷ [];
   started : 0 < l.before → g.M.Meter.trials l.initial.meter 0 < g.M.Meter.trials l.meter 0;
   empty : l.row.items ≡ replicate (slots l.rules.params.now.first_lines) None;
 }

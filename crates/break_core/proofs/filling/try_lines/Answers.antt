@@ -1,9 +1,9 @@
-use Rattle.std.proofs.Common.{◌≡◌, ◌∙◌, ◌+◌, ◌≤◌, ◌<◌, ◌++◌, [], ◌∷◌, Some, None, Bool, true, false, ℕ, cond, length, length-set, take, drop, set, to_z, of_z, w32, w64, refl, ap, sym, subst, arith}
+use Rattle.std.proofs.Common.{◌≡◌, ◌∙◌, ◌+◌, ◌-◌, ◌≤◌, ◌<◌, ◌++◌, [], ◌∷◌, Some, None, Bool, true, false, ℕ, cond, length, length-set, take, drop, set, to_z, of_z, w32, w64, refl, ap, sym, subst, arith}
 use Rattle.std.specs.Prelude.{slice_get, ◌&&◌}
 use Rattle.std.proofs.Math.Logic.{◌⊎◌, inl, inr}
 use Rattle.std.proofs.lemmas.Bool.{cases_Bool, cond-true, cond-false}
 use Rattle.std.proofs.lemmas.Int.{ints}
-use Rattle.std.proofs.lemmas.List.{length-replicate, take-set-le}
+use Rattle.std.proofs.lemmas.List.{length-replicate, take-set-le, drop-map}
 use Rattle.std.proofs.lemmas.Option.{slice_get_read}
 use Rattle.break_lines.specs.Sizes.{least_width, fits_of_sums}
 use Rattle.break_core.specs.declared.active_list.Live.{Live}
@@ -16,10 +16,10 @@ use Rattle.break_lines.proofs.Entries.{get-set_same, get-set_other}
 use Rattle.break_core.proofs.Filled.{group_of}
 use Rattle.break_core.proofs.Overfull.{overfull_of, both_true}
 use Rattle.break_core.proofs.Stopping.{long_found, over_found, line_leaving_out, stopped_is, goes_on, stopped_silent}
-use Rattle.break_core.proofs.Lives.{group_at, groups_kept, over_kept, best_kept, next_live}
-use Rattle.break_core.proofs.Active.{row_silent, front_more}
+use Rattle.break_core.proofs.Lives.{group_at, groups_kept, over_kept, best_kept, next_live, from_first, none_between, both_parts, parts_long}
+use Rattle.break_core.proofs.Active.{row_silent, front_more, IsFront}
 use Rattle.break_core.proofs.Counts.{swept_more, fresh_more, kept_more, kept_none, tried_first}
-use Rattle.break_core.proofs.Waiting.{later_loosest, wait_from, rest_waits, can_wait, can_uncounted, costs_waiting, front_with_rest, over_with_rest, best_joined, first_tried}
+use Rattle.break_core.proofs.Waiting.{later_loosest, wait_from, rest_waits, can_wait, can_uncounted, costs_waiting, front_with_rest, over_with_rest, best_joined, first_tried_from}
 use Rattle.break_core.proofs.filling.try_lines.Goals as goal
 
 pub try_line-sums-requires-clause-later : goal.try_line-sums-requires-clause-later
@@ -28,12 +28,12 @@ try_line-sums-requires-clause-later g c =
     let rules_now = c.args.rules.now in
     let f = g.M.Meter.facts c.args.meter.now in
     let table = c.args.table.now in
-    let lives = c.args.lives.now.items in
+    let lives = c.args.lives.now.list.items in
     let index = c.loop-index.index in
     let live = c.index-live.result.now in
-    let within : index < length c.loop-index.lives.items = omega (arith, c.loop-index-test.true, inv.end_bounded, inv.count) in
+    let within : index < length c.loop-index.lives.list.items = omega (arith, c.loop-index-test.true, inv.end_bounded, inv.count) in
     let here : slice_get lives index ≡ Some live =
-    sym (inv.rest index (omega arith)) ∙ slice_get_read c.loop-index.lives.items (length c.loop-index.lives.items) index live refl within c.index-live.ensures in
+    sym (inv.rest index (omega arith)) ∙ slice_get_read c.loop-index.lives.list.items (length c.loop-index.lives.list.items) index live refl within c.index-live.ensures in
     let both = next_live f rules_now.params.now rules_now.bound rules_now.stop_rule table c.args.place inv.at inv.low lives index live here inv.live in
     let next = both.0 in
     next.group.earlier
@@ -44,12 +44,12 @@ try_line-sums-requires-clause-trials_bounded g c =
     let rules_now = c.args.rules.now in
     let f = g.M.Meter.facts c.args.meter.now in
     let table = c.args.table.now in
-    let lives = c.args.lives.now.items in
+    let lives = c.args.lives.now.list.items in
     let index = c.loop-index.index in
     let live = c.index-live.result.now in
-    let within : index < length c.loop-index.lives.items = omega (arith, c.loop-index-test.true, inv.end_bounded, inv.count) in
+    let within : index < length c.loop-index.lives.list.items = omega (arith, c.loop-index-test.true, inv.end_bounded, inv.count) in
     let here : slice_get lives index ≡ Some live =
-    sym (inv.rest index (omega arith)) ∙ slice_get_read c.loop-index.lives.items (length c.loop-index.lives.items) index live refl within c.index-live.ensures in
+    sym (inv.rest index (omega arith)) ∙ slice_get_read c.loop-index.lives.list.items (length c.loop-index.lives.list.items) index live refl within c.index-live.ensures in
     let both = next_live f rules_now.params.now rules_now.bound rules_now.stop_rule table c.args.place inv.at inv.low lives index live here inv.live in
     let next = both.0 in
     omega (arith, c.requires.trials_bounded live.group.place, inv.fresh live.group.place next.later)
@@ -60,12 +60,12 @@ offer_line-judgement-requires g c =
     let rules_now = c.args.rules.now in
     let f = g.M.Meter.facts c.args.meter.now in
     let table = c.args.table.now in
-    let lives = c.args.lives.now.items in
+    let lives = c.args.lives.now.list.items in
     let index = c.loop-index.index in
     let live = c.index-live.result.now in
-    let within : index < length c.loop-index.lives.items = omega (arith, c.loop-index-test.true, inv.end_bounded, inv.count) in
+    let within : index < length c.loop-index.lives.list.items = omega (arith, c.loop-index-test.true, inv.end_bounded, inv.count) in
     let here : slice_get lives index ≡ Some live =
-    sym (inv.rest index (omega arith)) ∙ slice_get_read c.loop-index.lives.items (length c.loop-index.lives.items) index live refl within c.index-live.ensures in
+    sym (inv.rest index (omega arith)) ∙ slice_get_read c.loop-index.lives.list.items (length c.loop-index.lives.list.items) index live refl within c.index-live.ensures in
     let both = next_live f rules_now.params.now rules_now.bound rules_now.stop_rule table c.args.place inv.at inv.low lives index live here inv.live in
     let next = both.0 in
     record {
@@ -79,7 +79,8 @@ offer_line-judgement-requires g c =
         penalty = omega (arith, ints, c.place-at.ensures.penalty_bounded);
         small = c.try_line-sums.ensures.sums_bounded;
       };
-      best = c.requires.best index live here;
+      best = c.requires.best (index - c.args.lives.now.first) live
+          (from_first lives c.args.lives.now.first (index - c.args.lives.now.first) index live (omega (arith, inv.begun)) here);
     }
 
 pub keep_over-requires : goal.keep_over-requires
@@ -87,7 +88,7 @@ keep_over-requires g c = record { index_bounded = omega (arith, c.loop-index-tes
 
 pub keep_group-kept-requires : goal.keep_group-kept-requires
 keep_group-kept-requires g c =
-    let items = c.loop-index.lives.items in
+    let items = c.loop-index.lives.list.items in
     let live = c.index-live.result.now in
     let overfull = c.offer_line-judgement.result.overfull in
     let within : c.loop-index.index < length items = omega (arith, c.loop-index-test.true, c.loop-index.invariant.end_bounded, c.loop-index.invariant.count) in
@@ -95,6 +96,7 @@ keep_group-kept-requires g c =
     let kept : Live =
     record { group = live.group; over = kept_over live.over overfull (to_z w64 (of_z w64 c.least_width-width.result)); best = live.best } in
     record {
+      first_bounded = c.loop-index.invariant.first_bounded;
       kept_bounded = c.loop-index.invariant.kept_bounded;
       index_bounded = omega (arith, within, ap length (c.keep_over.ensures live at_index), length-set items c.loop-index.index kept);
     }
@@ -105,12 +107,12 @@ loop-index-preserved g c =
     let rules_now = c.args.rules.now in
     let f = g.M.Meter.facts c.args.meter.now in
     let table = c.args.table.now in
-    let lives = c.args.lives.now.items in
+    let lives = c.args.lives.now.list.items in
     let index = c.loop-index.index in
     let live = c.index-live.result.now in
-    let within : index < length c.loop-index.lives.items = omega (arith, c.loop-index-test.true, inv.end_bounded, inv.count) in
+    let within : index < length c.loop-index.lives.list.items = omega (arith, c.loop-index-test.true, inv.end_bounded, inv.count) in
     let here : slice_get lives index ≡ Some live =
-    sym (inv.rest index (omega arith)) ∙ slice_get_read c.loop-index.lives.items (length c.loop-index.lives.items) index live refl within c.index-live.ensures in
+    sym (inv.rest index (omega arith)) ∙ slice_get_read c.loop-index.lives.list.items (length c.loop-index.lives.list.items) index live refl within c.index-live.ensures in
     let both = next_live f rules_now.params.now rules_now.bound rules_now.stop_rule table c.args.place inv.at inv.low lives index live here inv.live in
     let next = both.0 in
     let params = rules_now.params.now in
@@ -128,7 +130,9 @@ loop-index-preserved g c =
     let is_width : to_z w64 (of_z w64 c.least_width-width.result) ≡ least_width c.try_line-sums.result = exact ∙ c.least_width-width.ensures in
     let overfull = c.offer_line-judgement.result.overfull in
     let long = is_more live.over width in
-    let over = c.requires.over index live here in
+    let first = c.args.lives.now.first in
+    let there : slice_get (drop first lives) (index - first) ≡ Some live = from_first lives first (index - first) index live (omega (arith, inv.begun)) here in
+    let over = c.requires.over (index - first) live there in
     let penalty : to_z w32 (of_z w32 c.place-at.result.penalty) ≡ c.place-at.result.penalty = omega (arith, ints) in
     let is_over : overfull ≡ is_overfull f params group.place c.args.place =
     c.offer_line-judgement.ensures.overfull ∙ overfull_of f h params group.place c.args.place sums line refl c.try_line-sums.ensures.sums inv.facts in
@@ -139,19 +143,20 @@ loop-index-preserved g c =
     (penalty ∙ c.place-at.ensures.penalty) refl c.try_line-sums.ensures.sums inv.facts c.leaves_out-left_out.ensures is_long_line in
     let stopped : c.stops_after-stopped.result ≡ stops_after rule overfull long =
     c.stops_after-stopped.ensures ∙ ap (stops_after rule overfull) c.leaves_out-left_out.ensures ∙ stopped_is rule overfull long in
-    let items = c.loop-index.lives.items in
+    let items = c.loop-index.lives.list.items in
     let at_index = slice_get_read items (length items) index live refl within c.index-live.ensures in
     let next_over = kept_over live.over overfull width in
     let kept : Live = record { group = group; over = next_over; best = live.best } in
     let marked : c.keep_over.new.lives.items ≡ set items index kept = c.keep_over.ensures live at_index in
     let present : slice_get c.keep_over.new.lives.items index ≡ Some kept =
     ap (λ xs. slice_get xs index) marked ∙ get-set_same items index kept live at_index in
-    let old = take c.loop-index.kept items in
-    let new = take c.keep_group-kept.result c.keep_group-kept.new.lives.items in
-    let same_front : take c.loop-index.kept c.keep_over.new.lives.items ≡ old =
+    let passed = c.loop-index.lives.first in
+    let old = drop passed (take c.loop-index.kept items) in
+    let new = drop c.keep_group-kept.new.lives.first (take c.keep_group-kept.result c.keep_group-kept.new.lives.list.items) in
+    let same_front : take c.loop-index.kept c.keep_over.new.lives.items ≡ take c.loop-index.kept items =
     ap (take c.loop-index.kept) marked ∙ take-set-le c.loop-index.kept items index kept inv.kept_bounded in
     let made : new ≡ cond c.stops_after-stopped.result old (old ++ kept ∷ []) =
-    c.keep_group-kept.ensures.front kept present ∙ ap (λ xs. cond c.stops_after-stopped.result xs (xs ++ kept ∷ [])) same_front in
+    c.keep_group-kept.ensures.front kept present ∙ ap (λ xs. cond c.stops_after-stopped.result (drop passed xs) (drop passed xs ++ kept ∷ [])) same_front in
     record {
       wide = c.offer_line-judgement.ensures.wide;
       facts = c.try_line-sums.ensures.facts ∙ inv.facts;
@@ -160,8 +165,8 @@ loop-index-preserved g c =
           c.try_line-sums.ensures.others;
       kept = kept_more group.place (g.M.Meter.trials c.args.meter.now) (g.M.Meter.trials c.loop-index.meter) (g.M.Meter.trials c.try_line-sums.new.self) inv.kept
           c.try_line-sums.ensures.counted c.try_line-sums.ensures.others;
-      tried = λ some. tried_first groups index group (g.M.Meter.trials c.args.meter.now) (g.M.Meter.trials c.loop-index.meter)
-          (g.M.Meter.trials c.try_line-sums.new.self) inv.tried inv.kept (group_at lives index live here)
+      tried = λ some. tried_first (groups_of (drop first lives)) (index - first) group (g.M.Meter.trials c.args.meter.now) (g.M.Meter.trials c.loop-index.meter)
+          (g.M.Meter.trials c.try_line-sums.new.self) (λ more. inv.tried (omega (arith, more))) inv.kept (group_at (drop first lives) (index - first) live there)
           c.try_line-sums.ensures.counted c.try_line-sums.ensures.others;
       at = group.end;
       low = group.place + 1;
@@ -170,7 +175,9 @@ loop-index-preserved g c =
       live = both.1;
       row = c.offer_line-judgement.ensures.row p refl next.group.since tried
           (row_silent p table c.args.place inv.at group.start c.loop-index.row.items next.gap c.requires.last next.silent inv.row);
-      kept_bounded = omega (arith, inv.kept_bounded, c.keep_group-kept.ensures.result_bounded);
+      begun = omega (arith, inv.begun);
+      first_bounded = c.keep_group-kept.ensures.first_bounded;
+      kept_bounded = c.keep_group-kept.ensures.result_bounded;
       count = c.keep_group-kept.ensures.count ∙ ap length marked ∙ length-set items index kept ∙ inv.count;
       rest = λ k after. c.keep_group-kept.ensures.rest k (omega (arith, inv.kept_bounded)) ∙ ap (λ xs. slice_get xs k) marked
           ∙ get-set_other items index k kept (λ same. omega (arith, same)) ∙ inv.rest k (omega arith);
@@ -182,7 +189,7 @@ loop-index-preserved g c =
           (over_found f h params group.place c.args.place sums live.over next_over width overfull next.group.earlier
           refl over is_over is_width c.try_line-sums.ensures.sums inv.facts)
           made;
-      best = best_kept table c.stops_after-stopped.result old new kept inv.best (c.requires.best index live here) made;
+      best = best_kept table c.stops_after-stopped.result old new kept inv.best (c.requires.best (index - first) live there) made;
       index_bounded = next_bounded (cases_Bool both_wait);
       end_bounded = end_within (cases_Bool both_wait);
       begins = begins (cases_Bool both_wait);
@@ -214,13 +221,13 @@ loop-index-preserved g c =
     next_bounded (inl is) = omega (arith, next_waits is)
     next_bounded (inr is) = omega (arith, goes is, low)
 
-    end_within : (both_wait ≡ true) ⊎ (both_wait ≡ false) → end ≤ length c.args.lives.now.items
+    end_within : (both_wait ≡ true) ⊎ (both_wait ≡ false) → end ≤ length c.args.lives.now.list.items
     end_within (inl is) = omega (arith, next_waits is, low, c.loop-index.invariant.end_bounded)
     end_within (inr is) = omega (arith, goes is, c.loop-index.invariant.end_bounded)
 
-    begins : (both_wait ≡ true) ⊎ (both_wait ≡ false) → (length c.args.lives.now.items ≤ end) ⊎ (0 < end)
-    begins (inl is) = inr (omega (arith, next_waits is))
-    begins (inr is) = inr (omega (arith, goes is, low))
+    begins : (both_wait ≡ true) ⊎ (both_wait ≡ false) → (length c.args.lives.now.list.items ≤ end) ⊎ (c.args.lives.now.first < end)
+    begins (inl is) = inr (omega (arith, next_waits is, c.loop-index.invariant.begun))
+    begins (inr is) = inr (omega (arith, goes is, low, c.loop-index.invariant.begun))
 
     place : ℕ
     place = c.index-live.result.now.group.place
@@ -234,16 +241,16 @@ loop-index-preserved g c =
         let rules_now = c.args.rules.now in
         let index = c.loop-index.index in
         let live = c.index-live.result.now in
-        let within : index < length c.loop-index.lives.items = omega (arith, c.loop-index-test.true, inv.end_bounded, inv.count) in
-        let here : slice_get c.args.lives.now.items index ≡ Some live =
+        let within : index < length c.loop-index.lives.list.items = omega (arith, c.loop-index-test.true, inv.end_bounded, inv.count) in
+        let here : slice_get c.args.lives.now.list.items index ≡ Some live =
         sym (inv.rest index (omega arith))
-        ∙ slice_get_read c.loop-index.lives.items (length c.loop-index.lives.items) index live refl within c.index-live.ensures in
+        ∙ slice_get_read c.loop-index.lives.list.items (length c.loop-index.lives.list.items) index live refl within c.index-live.ensures in
         (next_live (g.M.Meter.facts c.args.meter.now) rules_now.params.now rules_now.bound rules_now.stop_rule c.args.table.now c.args.place inv.at inv.low
-        c.args.lives.now.items index live here inv.live).0
+        c.args.lives.now.list.items index live here inv.live).0
 
     waits :
         (both_wait ≡ true) ⊎ (both_wait ≡ false)
-        → (length c.args.lives.now.items ≤ end)
+        → (length c.args.lives.now.list.items ≤ end)
         ⊎ AreLoosest (g.M.Meter.facts c.args.meter.now) c.args.rules.now.params.now c.args.rules.now.bound (place + 1) c.args.place
     waits (inl is) =
         let both = both_true loosest c.args.rules.now.waits is in
@@ -251,16 +258,19 @@ loop-index-preserved g c =
         place c.args.place c.try_line-sums.result (c.requires.waits both.1) next.group.earlier c.requires.last c.try_line-sums.ensures.sums
         c.loop-index.invariant.facts (c.offer_line-judgement.ensures.uncounted both.0) (c.offer_line-judgement.ensures.loosest both.0))
     waits (inr is) =
-        subst (λ n. (length c.args.lives.now.items ≤ n)
+        subst (λ n. (length c.args.lives.now.list.items ≤ n)
         ⊎ AreLoosest (g.M.Meter.facts c.args.meter.now) c.args.rules.now.params.now c.args.rules.now.bound (place + 1) c.args.place) (sym (goes is))
         (wait_from (g.M.Meter.facts c.args.meter.now) c.args.rules.now.params.now c.args.rules.now.bound c.loop-index.invariant.low (place + 1)
-        c.args.place c.args.lives.now.items c.loop-index.end (omega (arith, next.later)) c.loop-index.invariant.waits)
+        c.args.place c.args.lives.now.list.items c.loop-index.end (omega (arith, next.later)) c.loop-index.invariant.waits)
 
 pub loop-index-init : goal.loop-index-init
 loop-index-init g c =
     let f = g.M.Meter.facts c.args.meter.now in
     let rules_now = c.args.rules.now in
     let p = problem_leaving_out f rules_now.params.now rules_now.bound rules_now.stop_rule in
+    let items = c.args.lives.now.list.items in
+    let first = c.args.lives.now.first in
+    let none : drop first (take first items) ≡ [] = none_between first items c.requires.first_bounded in
     record {
       wide = ap length c.requires.empty ∙ length-replicate (slots rules_now.params.now.first_lines) None;
       facts = refl;
@@ -270,15 +280,19 @@ loop-index-init g c =
       at = 0;
       low = 0;
       fresh = λ a less. omega arith;
-      live = c.requires.filled.is_active;
+      live = subst (IsActive p (stops_at f rules_now.params.now rules_now.stop_rule) c.args.table.now c.args.place c.args.place 0 0)
+          (sym (drop-map (λ (x : Live). x.group) first items)) c.requires.filled.is_active;
       row = subst (IsRow p c.args.table.now c.args.place 0) (sym c.requires.empty) (row_empty p c.args.table.now c.args.place);
+      begun = omega arith;
+      first_bounded = omega arith;
       kept_bounded = omega arith;
       count = refl;
       rest = λ k less. refl;
-      front = λ rest free active. active;
-      over = λ k x there. absurd (cc);
-      best = λ k x there. absurd (cc);
-      index_bounded = omega arith;
+      front = subst (λ xs. IsFront p (stops_at f rules_now.params.now rules_now.stop_rule) c.args.table.now c.args.place c.args.place 0 0 (groups_of xs)) (sym none)
+          (λ rest free active. active);
+      over = subst (AreOver f rules_now.params.now (c.args.place + 1)) (sym none) (λ k x there. absurd (cc));
+      best = subst (HaveBest c.args.table.now) (sym none) (λ k x there. absurd (cc));
+      index_bounded = omega (arith, c.len-end.ensures, c.requires.first_bounded);
       end_bounded = omega (arith, c.len-end.ensures);
       begins = inl (omega (arith, c.len-end.ensures));
       waits = inl (omega (arith, c.len-end.ensures));
@@ -294,10 +308,10 @@ offer_waiting-waiting-requires g c =
     let p = problem_leaving_out f params rules_now.bound rules_now.stop_rule in
     let stop = stops_at f params rules_now.stop_rule in
     let table = c.args.table.now in
-    let now = c.loop-index.lives.items in
+    let now = c.loop-index.lives.list.items in
     let last : c.loop-index.index ≡ c.loop-index.end = omega (arith, c.loop-index-test.false, inv.index_bounded) in
-    let waiting = rest_waits f params rules_now.bound rules_now.stop_rule table c.args.place inv.at inv.low c.loop-index.index c.loop-index.end
-    c.args.lives.now.items now last inv.count inv.rest inv.waits c.requires.over c.requires.best inv.live in
+    let waiting = rest_waits f params rules_now.bound rules_now.stop_rule table c.args.place inv.at inv.low c.args.lives.now.first c.loop-index.index c.loop-index.end
+    c.args.lives.now.list.items now inv.begun last inv.count inv.rest inv.waits c.requires.over c.requires.best inv.live in
     let slice : c.rest_of.result.now ≡ drop c.loop-index.end now = c.rest_of.ensures ∙ ap (drop c.loop-index.end) c.deref.ensures.value in
     record {
       can = record {
@@ -332,10 +346,10 @@ returns-clause-row g c =
     let stop = stops_at f params rule in
     let table = c.args.table.now in
     let place = c.args.place in
-    let now = c.loop-index.lives.items in
+    let now = c.loop-index.lives.list.items in
     let last : c.loop-index.index ≡ c.loop-index.end = omega (arith, c.loop-index-test.false, inv.index_bounded) in
-    let waiting = rest_waits f params bound rule table place inv.at inv.low c.loop-index.index c.loop-index.end
-    c.args.lives.now.items now last inv.count inv.rest inv.waits c.requires.over c.requires.best inv.live in
+    let waiting = rest_waits f params bound rule table place inv.at inv.low c.args.lives.now.first c.loop-index.index c.loop-index.end
+    c.args.lives.now.list.items now inv.begun last inv.count inv.rest inv.waits c.requires.over c.requires.best inv.live in
     let slice : c.rest_of.result.now ≡ drop c.loop-index.end now = c.rest_of.ensures ∙ ap (drop c.loop-index.end) c.deref.ensures.value in
     let penalty : to_z w32 (of_z w32 c.place-at.result.penalty) ≡ f.penalty place =
     omega (arith, ints, c.place-at.ensures.penalty) in
@@ -357,12 +371,15 @@ returns-clause-live g c = λ free.
     let rule = rules_now.stop_rule in
     let table = c.args.table.now in
     let place = c.args.place in
-    let now = c.loop-index.lives.items in
+    let now = c.loop-index.lives.list.items in
     let last : c.loop-index.index ≡ c.loop-index.end = omega (arith, c.loop-index-test.false, inv.index_bounded) in
-    let waiting = rest_waits f params bound rule table place inv.at inv.low c.loop-index.index c.loop-index.end
-    c.args.lives.now.items now last inv.count inv.rest inv.waits c.requires.over c.requires.best inv.live in
-    subst (λ xs. IsActive (problem_leaving_out f params bound rule) (stops_at f params rule) table (place + 1) place 0 0 (groups_of xs)) (sym c.remove_groups.ensures)
-    (front_with_rest f params bound rule table place inv.at inv.low (take c.loop-index.kept now) (drop c.loop-index.end now) c.requires.may c.requires.last
+    let waiting = rest_waits f params bound rule table place inv.at inv.low c.args.lives.now.first c.loop-index.index c.loop-index.end
+    c.args.lives.now.list.items now inv.begun last inv.count inv.rest inv.waits c.requires.over c.requires.best inv.live in
+    let first = c.loop-index.lives.first in
+    let within : c.loop-index.kept ≤ length now = omega (arith, inv.kept_bounded, inv.index_bounded, inv.end_bounded, inv.count) in
+    subst (λ xs. IsActive (problem_leaving_out f params bound rule) (stops_at f params rule) table (place + 1) place 0 0 (groups_of xs))
+    (sym (both_parts first c.loop-index.kept c.loop-index.end now c.remove_groups.new.lives.items inv.first_bounded within c.remove_groups.ensures))
+    (front_with_rest f params bound rule table place inv.at inv.low (drop first (take c.loop-index.kept now)) (drop c.loop-index.end now) c.requires.may c.requires.last
     free waiting inv.front)
 
 pub returns-clause-over : goal.returns-clause-over
@@ -375,34 +392,47 @@ returns-clause-over g c =
     let rule = rules_now.stop_rule in
     let table = c.args.table.now in
     let place = c.args.place in
-    let now = c.loop-index.lives.items in
+    let now = c.loop-index.lives.list.items in
     let last : c.loop-index.index ≡ c.loop-index.end = omega (arith, c.loop-index-test.false, inv.index_bounded) in
-    let waiting = rest_waits f params bound rule table place inv.at inv.low c.loop-index.index c.loop-index.end
-    c.args.lives.now.items now last inv.count inv.rest inv.waits c.requires.over c.requires.best inv.live in
-    subst (AreOver f params (place + 1)) (sym c.remove_groups.ensures)
-    (over_with_rest f params bound rule table place inv.at inv.low (take c.loop-index.kept now) (drop c.loop-index.end now) waiting inv.over)
+    let waiting = rest_waits f params bound rule table place inv.at inv.low c.args.lives.now.first c.loop-index.index c.loop-index.end
+    c.args.lives.now.list.items now inv.begun last inv.count inv.rest inv.waits c.requires.over c.requires.best inv.live in
+    let first = c.loop-index.lives.first in
+    let within : c.loop-index.kept ≤ length now = omega (arith, inv.kept_bounded, inv.index_bounded, inv.end_bounded, inv.count) in
+    subst (AreOver f params (place + 1))
+    (sym (both_parts first c.loop-index.kept c.loop-index.end now c.remove_groups.new.lives.items inv.first_bounded within c.remove_groups.ensures))
+    (over_with_rest f params bound rule table place inv.at inv.low (drop first (take c.loop-index.kept now)) (drop c.loop-index.end now) waiting inv.over)
 
 pub returns-clause-best : goal.returns-clause-best
 returns-clause-best g c =
     let inv = c.loop-index.invariant in
     let f = g.M.Meter.facts c.args.meter.now in
     let rules_now = c.args.rules.now in
-    let now = c.loop-index.lives.items in
+    let now = c.loop-index.lives.list.items in
     let table = c.args.table.now in
     let last : c.loop-index.index ≡ c.loop-index.end = omega (arith, c.loop-index-test.false, inv.index_bounded) in
-    let waiting = rest_waits f rules_now.params.now rules_now.bound rules_now.stop_rule table c.args.place inv.at inv.low c.loop-index.index c.loop-index.end
-    c.args.lives.now.items now last inv.count inv.rest inv.waits c.requires.over c.requires.best inv.live in
-    subst (HaveBest table) (sym c.remove_groups.ensures)
-    (best_joined table (take c.loop-index.kept now) (drop c.loop-index.end now) inv.best waiting.best)
+    let waiting = rest_waits f rules_now.params.now rules_now.bound rules_now.stop_rule table c.args.place inv.at inv.low c.args.lives.now.first c.loop-index.index c.loop-index.end
+    c.args.lives.now.list.items now inv.begun last inv.count inv.rest inv.waits c.requires.over c.requires.best inv.live in
+    let first = c.loop-index.lives.first in
+    let within : c.loop-index.kept ≤ length now = omega (arith, inv.kept_bounded, inv.index_bounded, inv.end_bounded, inv.count) in
+    subst (HaveBest table)
+    (sym (both_parts first c.loop-index.kept c.loop-index.end now c.remove_groups.new.lives.items inv.first_bounded within c.remove_groups.ensures))
+    (best_joined table (drop first (take c.loop-index.kept now)) (drop c.loop-index.end now) inv.best waiting.best)
 
 pub returns-clause-tried : goal.returns-clause-tried
 returns-clause-tried g c =
     let inv = c.loop-index.invariant in
     let last : c.loop-index.index ≡ c.loop-index.end = omega (arith, c.loop-index-test.false, inv.index_bounded) in
-    first_tried c.loop-index.index c.loop-index.end c.args.lives.now.items (g.M.Meter.trials c.args.meter.now) (g.M.Meter.trials c.loop-index.meter)
-    last inv.begins inv.tried
+    first_tried_from c.args.lives.now.first c.loop-index.index c.loop-index.end c.args.lives.now.list.items (g.M.Meter.trials c.args.meter.now) (g.M.Meter.trials c.loop-index.meter)
+    inv.begun last inv.begins inv.tried
 
 pub returns-clause-untouched : goal.returns-clause-untouched
 returns-clause-untouched g c = λ none.
     let neither = c.either.ensures none in
     c.offer_waiting-waiting.ensures.untouched neither.1 ∙ c.loop-index.invariant.untouched neither.0
+
+pub returns-clause-first_bounded : goal.returns-clause-first_bounded
+returns-clause-first_bounded g c =
+    let inv = c.loop-index.invariant in
+    let now = c.loop-index.lives.list.items in
+    let within : c.loop-index.kept ≤ length now = omega (arith, inv.kept_bounded, inv.index_bounded, inv.end_bounded, inv.count) in
+    parts_long c.loop-index.lives.first c.loop-index.kept c.loop-index.end now c.remove_groups.new.lives.items inv.first_bounded within c.remove_groups.ensures

@@ -1,7 +1,7 @@
 use Rattle.std.proofs.Common.{false, ◌≡◌, ◌+◌, ◌-◌, ◌≤◌, ◌<◌, ℕ, length, drop, take}
 use Rattle.std.specs.Prelude.{slice_get, ◌⊎◌}
 use Rattle.break_lines.specs.Tables.{slots, IsRow}
-use Rattle.break_core.specs.Private.Active.{stops_at, problem_leaving_out, groups_of, AreOver, HaveBest, IsActive, IsSwept, TrialsOnlyGrow, WasTried, AreLoosest}
+use Rattle.break_core.specs.Private.Active.{stops_at, problem_leaving_out, groups_of, live_of, AreOver, HaveBest, IsActive, IsSwept, TrialsOnlyGrow, WasTried, AreLoosest}
 use Rattle.break_core.proofs.Active.{IsFront}
 use Rattle.break_core.proofs.filling.try_lines.Given as goal
 
@@ -11,22 +11,24 @@ invariant-loop-index g l = record {
   facts : g.M.Meter.facts l.meter ≡ g.M.Meter.facts l.initial.meter;
   swept : IsSwept (stops_at (g.M.Meter.facts l.initial.meter) l.rules.params.now l.rules.stop_rule) l.place (g.M.Meter.trials l.initial.meter) (g.M.Meter.trials l.meter);
   kept : TrialsOnlyGrow (g.M.Meter.trials l.initial.meter) (g.M.Meter.trials l.meter);
-  tried : 0 < l.index → WasTried (groups_of l.initial.lives.items) (g.M.Meter.trials l.initial.meter) (g.M.Meter.trials l.meter);
+  tried : l.initial.lives.first < l.index → WasTried (groups_of (live_of l.initial.lives)) (g.M.Meter.trials l.initial.meter) (g.M.Meter.trials l.meter);
   at : ℕ;
   low : ℕ;
   fresh : (a : ℕ) → low ≤ a → g.M.Meter.trials l.meter a ≤ g.M.Meter.trials l.initial.meter a;
-  live : IsActive (problem_leaving_out (g.M.Meter.facts l.initial.meter) l.rules.params.now l.rules.bound l.rules.stop_rule) (stops_at (g.M.Meter.facts l.initial.meter) l.rules.params.now l.rules.stop_rule) l.table l.place l.place at low (drop l.index (groups_of l.initial.lives.items));
+  live : IsActive (problem_leaving_out (g.M.Meter.facts l.initial.meter) l.rules.params.now l.rules.bound l.rules.stop_rule) (stops_at (g.M.Meter.facts l.initial.meter) l.rules.params.now l.rules.stop_rule) l.table l.place l.place at low (drop l.index (groups_of l.initial.lives.list.items));
   row : IsRow (problem_leaving_out (g.M.Meter.facts l.initial.meter) l.rules.params.now l.rules.bound l.rules.stop_rule) l.table l.place at l.row.items;
+  begun : l.initial.lives.first ≤ l.index;
+  first_bounded : l.lives.first ≤ l.kept;
   kept_bounded : l.kept ≤ l.index;
-  count : length l.lives.items ≡ length l.initial.lives.items;
-  rest : (k : ℕ) → l.index ≤ k → slice_get l.lives.items k ≡ slice_get l.initial.lives.items k;
-  front : IsFront (problem_leaving_out (g.M.Meter.facts l.initial.meter) l.rules.params.now l.rules.bound l.rules.stop_rule) (stops_at (g.M.Meter.facts l.initial.meter) l.rules.params.now l.rules.stop_rule) l.table l.place l.place at low (groups_of (take l.kept l.lives.items));
-  over : AreOver (g.M.Meter.facts l.initial.meter) l.rules.params.now (l.place + 1) (take l.kept l.lives.items);
-  best : HaveBest l.table (take l.kept l.lives.items);
+  count : length l.lives.list.items ≡ length l.initial.lives.list.items;
+  rest : (k : ℕ) → l.index ≤ k → slice_get l.lives.list.items k ≡ slice_get l.initial.lives.list.items k;
+  front : IsFront (problem_leaving_out (g.M.Meter.facts l.initial.meter) l.rules.params.now l.rules.bound l.rules.stop_rule) (stops_at (g.M.Meter.facts l.initial.meter) l.rules.params.now l.rules.stop_rule) l.table l.place l.place at low (groups_of (drop l.lives.first (take l.kept l.lives.list.items)));
+  over : AreOver (g.M.Meter.facts l.initial.meter) l.rules.params.now (l.place + 1) (drop l.lives.first (take l.kept l.lives.list.items));
+  best : HaveBest l.table (drop l.lives.first (take l.kept l.lives.list.items));
   index_bounded : l.index ≤ l.end;
-  end_bounded : l.end ≤ length l.initial.lives.items;
-  begins : (length l.initial.lives.items ≤ l.end) ⊎ (0 < l.end);
-  waits : (length l.initial.lives.items ≤ l.end) ⊎ AreLoosest (g.M.Meter.facts l.initial.meter) l.rules.params.now l.rules.bound low l.place;
+  end_bounded : l.end ≤ length l.initial.lives.list.items;
+  begins : (length l.initial.lives.list.items ≤ l.end) ⊎ (l.initial.lives.first < l.end);
+  waits : (length l.initial.lives.list.items ≤ l.end) ⊎ AreLoosest (g.M.Meter.facts l.initial.meter) l.rules.params.now l.rules.bound low l.place;
   untouched : l.offered ≡ false → l.row.items ≡ l.initial.row.items;
 }
 
