@@ -1,13 +1,12 @@
 -- The best entry of a group, and groups that are beaten by the offer that is held.
-use Rattle.std.proofs.Common.{◌≡◌, ◌∙◌, ℕ, ◌+◌, ◌<◌, ◌≤◌, ◌++◌, true, false, List, length-append, ap, sym, subst, arith, Option, Some}
-use Rattle.std.specs.Prelude.{ℤ, pos, ◌+ℤ◌, ◌≤ℤ◌, slice_get}
+use Rattle.std.proofs.Common.{◌≡◌, ◌∙◌, ℕ, ◌+◌, ◌<◌, ◌≤◌, ◌++◌, List, length-append, ap, sym, subst, arith, Option, Some}
+use Rattle.std.specs.Prelude.{ℤ, ◌+ℤ◌, ◌≤ℤ◌, slice_get}
 use Rattle.std.proofs.Math.Logic.{◌⊎◌, inl, inr}
 use Rattle.std.proofs.lemmas.Int.{ints}
-use Rattle.std.proofs.lemmas.Bool.{cases_Bool, cases_lt, cond-true, cond-false}
+use Rattle.std.proofs.lemmas.Bool.{cases_lt}
 use Rattle.std.proofs.lemmas.Option.{same_Some, slice_get_within}
 use Rattle.node_core.specs.declared.params.Params.{Params}
 use Rattle.break_lines.specs.declared.group.ActiveGroup.{ActiveGroup}
-use Rattle.break_lines.specs.declared.state.Fitness.{Fitness}
 use Rattle.break_lines.specs.declared.state.LineCost.{LineCost}
 use Rattle.break_lines.specs.Orders.{NotAfter}
 use Rattle.break_lines.specs.Problems.{class_index}
@@ -15,7 +14,7 @@ use Rattle.break_lines.specs.Tables.{Entry, compared_numbers, slot, AreBelow, Is
 use Rattle.break_lines.proofs.Dictionary.{not_after_refl, not_after_trans}
 use Rattle.break_lines.proofs.Entries.{get_left}
 use Rattle.break_lines.proofs.Rows.{slot_apart, offered_at}
-use Rattle.break_lines.specs.Costs.{line_after, adjacent_demerits, is_apart}
+use Rattle.break_lines.specs.Costs.{line_after}
 use Rattle.break_core.specs.declared.active_list.Live.{Live}
 use Rattle.break_core.specs.Private.Active.{IsBestOf, HaveBest}
 use Rattle.break_core.specs.Private.Filling.{IsOf, IsLeastLine, IsBeaten, IsOfferingBest, offer_from}
@@ -102,16 +101,6 @@ best_longer table more lives are k live at =
       present = get_left table more live.best is.entry is.present;
       best = λ j f low high there. is.best j f low high (shorter table more j f (omega (arith, is.within)) there);
     }
-
--- Demerits for visually incompatible lines are at least adjdemerits or 0.
-pub adjacent_low :
-    (params : Params) (before class : Fitness) (n : ℤ) → n ≤ℤ params.adj_demerits → n ≤ℤ pos 0 → n ≤ℤ adjacent_demerits params before class
-unfolding adjacent_demerits
-adjacent_low params before class n most none = cases (cases_Bool (is_apart before class))
-  where
-    cases : (is_apart before class ≡ true) ⊎ (is_apart before class ≡ false) → n ≤ℤ adjacent_demerits params before class
-    cases (inl apart) = subst (λ x. n ≤ℤ x) (sym (cond-true (is_apart before class) params.adj_demerits (pos 0) apart)) most
-    cases (inr near) = subst (λ x. n ≤ℤ x) (sym (cond-false (is_apart before class) params.adj_demerits (pos 0) near)) none
 
 -- An entry whose costs are below those of the best one with a line comes before each offer with at least the demerits of this line.
 below_after :

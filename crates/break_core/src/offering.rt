@@ -153,6 +153,43 @@ fn best_offer(
     best
 }
 
+/// Whether the best entry of a group is known to make the best offer by a line: no demerits are added for its class, and none are subtracted for
+/// that of another entry.
+#[inline]
+fn decides(params: &Params, best: &Entry, alone: &LineCost) -> bool
+    requires costs_bounded { IsSmallAlone alone.now }
+    ensures free { result ≡ true → (line_after params.now best.now.end.class alone.now).demerits ≡ alone.now.demerits }
+    ensures some { result ≡ true → pos 0 ≤ℤ params.now.adj_demerits }
+{
+    if params.adj_demerits.get() < 0 {
+        return false;
+    }
+    line_after(params, best.end().class, alone).demerits == alone.demerits
+}
+
+/// The best offer of the entries of a group for a place by a line, if no lines are counted. Mostly it is that of the best entry.
+#[inline]
+fn group_offer(
+    table: &[Entry],
+    live: &Live,
+    params: &Params,
+    place: usize,
+    alone: &LineCost,
+) -> Entry
+    requires group_bounded { live.now.group.end ≤ length table.now }
+    requires earlier { live.now.group.place < place }
+    requires entries { IsOf 0 table.now live.now.group }
+    requires best { IsBestOf table.now live.now.group.start live.now.group.end live.now.best }
+    requires places { place ≤ max_places }
+    requires costs_bounded { IsSmallAlone alone.now }
+    ensures { IsBestOffer table.now params.now place alone.now live.now.group.start live.now.group.end result }
+{
+    if decides(params, &table[live.best], alone) {
+        return offer_from(table, live.best, params, place, alone);
+    }
+    best_offer(table, live.group, params, place, alone)
+}
+
 /// Puts the best offer of the entries of a group into the row, if no lines are counted. All offers are for one state then, so this has the effect of
 /// all of them. The function is not inlined, so that the loop over the groups has more registers; and it takes the line by value, which then is in
 /// memory only for a call.
@@ -165,10 +202,10 @@ fn put_best(
     line: OfferedLine,
 )
     requires wide { length row.old.items ≡ slots 0 }
-    requires has_entries { live.now.group.start < live.now.group.end }
     requires group_bounded { live.now.group.end ≤ length table.now }
     requires earlier { live.now.group.place < line.place }
     requires entries { IsOf 0 table.now live.now.group }
+    requires best { IsBestOf table.now live.now.group.start live.now.group.end live.now.best }
     requires places { line.place ≤ max_places }
     requires costs_bounded { IsSmallAlone line.alone }
     ensures row { IsOfferingBest table.now params.now live.now.group line.place line.alone row.old.items row.new.items }
@@ -176,7 +213,7 @@ fn put_best(
 {
     put(
         row,
-        best_offer(table, live.group, params, line.place, &line.alone),
+        group_offer(table, live, params, line.place, &line.alone),
         0,
     );
 }

@@ -1,7 +1,7 @@
 use Rattle.std.proofs.Common.{arith}
 use Rattle.std.specs.Prelude.{pos}
 use Rattle.std.proofs.lemmas.Int.{ints}
-use Rattle.break_core.proofs.Beaten.{adjacent_low}
+use Rattle.break_core.proofs.BestOffers.{adjacent_low}
 use Rattle.break_core.proofs.offering.least_line.Goals as goal
 
 pub returns-then-adjacent-ge0-clause-demerits : goal.returns-then-adjacent-ge0-clause-demerits

@@ -4,9 +4,6 @@ use Rattle.std.proofs.lemmas.Option.{slice_get_read}
 use Rattle.break_core.proofs.Beaten.{beaten_offered}
 use Rattle.break_core.proofs.offering.offer_best.Goals as goal
 
-pub put_best-requires-clause-has_entries : goal.put_best-requires-clause-has_entries
-put_best-requires-clause-has_entries c = omega (arith, c.requires.best.low, c.requires.best.high)
-
 pub returns-then-is_beaten-clause-row : goal.returns-then-is_beaten-clause-row
 returns-then-is_beaten-clause-row c =
     let table = c.args.table.now in
