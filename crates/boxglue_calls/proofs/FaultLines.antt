@@ -46,12 +46,12 @@ bad_short bad below =
 pub line_short : (fault : DviFault) → ((bad : BadDvi) → fault ≡ faults.Bad bad → bad.place < 2 ^ 64) → length (fault_line fault) ≤ 64
 unfolding fault_line refusal_line refusal_text digits
 line_short faults.OutOfMemory below = lit≤ tt
-line_short (faults.Font DimensionTooLarge) below = lit≤ tt
+line_short (faults.Font (DimensionTooLarge number)) below = lit≤ tt
 line_short (faults.Font (NoFont name)) below = lit≤ tt
-line_short (faults.Font (BadTfm causes.TooShort)) below = lit≤ tt
-line_short (faults.Font (BadTfm causes.Counts)) below = lit≤ tt
-line_short (faults.Font (BadTfm causes.DesignSize)) below = lit≤ tt
-line_short (faults.Font (BadTfm causes.CharInfo)) below = lit≤ tt
-line_short (faults.Font (BadTfm causes.FixWord)) below = lit≤ tt
-line_short (faults.Font (BadTfm causes.LigKern)) below = lit≤ tt
+line_short (faults.Font (BadTfm number causes.TooShort)) below = lit≤ tt
+line_short (faults.Font (BadTfm number causes.Counts)) below = lit≤ tt
+line_short (faults.Font (BadTfm number causes.DesignSize)) below = lit≤ tt
+line_short (faults.Font (BadTfm number causes.CharInfo)) below = lit≤ tt
+line_short (faults.Font (BadTfm number causes.FixWord)) below = lit≤ tt
+line_short (faults.Font (BadTfm number causes.LigKern)) below = lit≤ tt
 line_short (faults.Bad bad) below = bad_short bad (below bad refl)

@@ -63,4 +63,4 @@ has_page files bytes options text accepted (inr refuses) lacks = refuses.none la
 -- The known lines, computed by the definitions.
 pub known_lines : KnownLines
 unfolding fault_line refusal_line refusal_text digits
-known_lines = (refl, refl, (λ name. refl), refl, refl)
+known_lines = (refl, (λ number. refl), (λ name. refl), (λ number. refl), (λ number. refl))

@@ -1,5 +1,5 @@
 -- The lines of refusals (own).
-use Rattle.std.specs.Prelude.{◌≡◌, ℕ, List, ◌++◌, codes, decimal}
+use Rattle.std.specs.Prelude.{◌≡◌, ℕ, ℤ, List, ◌++◌, codes, decimal}
 use Rattle.std.specs.Borrow.{Bor}
 use Rattle.dvi_scan.specs.declared.fault.BadDvi.{BadDvi}
 use Rattle.dvi_scan.specs.declared.fault.DviCause.{DviCause}
@@ -33,16 +33,16 @@ bad_line bad = codes "refused 20 BadDvi " ++ (decimal bad.place ++ (codes " " ++
 -- The line of a refusal. Those that a job has too have its numbers and names.
 unfoldable pub fault_line : DviFault → List ℕ
 fault_line faults.OutOfMemory = refusal_line refusals.OutOfMemory
-fault_line (faults.Font DimensionTooLarge) = refusal_line refusals.DimensionTooLarge
+fault_line (faults.Font (DimensionTooLarge number)) = refusal_line refusals.DimensionTooLarge
 fault_line (faults.Font (NoFont name)) = refusal_line refusals.NoFont
-fault_line (faults.Font (BadTfm cause)) = refusal_line (refusals.BadTfm cause)
+fault_line (faults.Font (BadTfm number cause)) = refusal_line (refusals.BadTfm cause)
 fault_line (faults.Bad bad) = bad_line bad
 
 -- Known lines of refusals.
 abbrev pub KnownLines : Type 0
 KnownLines =
     (fault_line faults.OutOfMemory ≡ codes "refused 1 OutOfMemory\n")
-    × (fault_line (faults.Font DimensionTooLarge) ≡ codes "refused 3 DimensionTooLarge\n")
+    × ((number : ℤ) → fault_line (faults.Font (DimensionTooLarge number)) ≡ codes "refused 3 DimensionTooLarge\n")
     × ((name : Bor (List ℕ)) → fault_line (faults.Font (NoFont name)) ≡ codes "refused 4 NoFont\n")
-    × (fault_line (faults.Font (BadTfm TooShort)) ≡ codes "refused 5 BadTfm TooShort\n")
-    × (fault_line (faults.Font (BadTfm LigKern)) ≡ codes "refused 5 BadTfm LigKern\n")
+    × ((number : ℤ) → fault_line (faults.Font (BadTfm number TooShort)) ≡ codes "refused 5 BadTfm TooShort\n")
+    × ((number : ℤ) → fault_line (faults.Font (BadTfm number LigKern)) ≡ codes "refused 5 BadTfm LigKern\n")

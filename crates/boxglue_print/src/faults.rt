@@ -48,11 +48,11 @@ pub(crate) fn push_fault(fault: DviFault<'_>, out: &mut Vec<u8>) -> Result<(), A
 {
     match fault {
         DviFault::OutOfMemory => Err(AllocError),
-        DviFault::Font(FontRefusal::DimensionTooLarge) => {
+        DviFault::Font(FontRefusal::DimensionTooLarge { .. }) => {
             push_refusal_line(Refusal::DimensionTooLarge, out)
         }
         DviFault::Font(FontRefusal::NoFont(_)) => push_refusal_line(Refusal::NoFont, out),
-        DviFault::Font(FontRefusal::BadTfm(cause)) => {
+        DviFault::Font(FontRefusal::BadTfm { cause, .. }) => {
             push_refusal_line(Refusal::BadTfm(cause), out)
         }
         DviFault::Bad(bad) => push_bad(&bad, out),

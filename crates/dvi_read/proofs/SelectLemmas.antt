@@ -3,7 +3,8 @@ use Rattle.std.proofs.Common.{◌≡◌, ◌++◌, ◌||◌, [], ◌∷◌, List
 use Rattle.std.specs.Prelude.{◌⊎◌, IsSome, cond, slice_get}
 use Rattle.std.proofs.Math.Seq.{get_or-append_seam}
 use Rattle.std.proofs.lemmas.Option.{slice_get_read}
-use Rattle.std.specs.BTreeMap.{Updates}
+use Rattle.std.specs.BTreeMap.{Updates, is_at}
+use Rattle.std.specs.Map.{lookup}
 use Rattle.std.specs.List.{AllByRecursion}
 use Rattle.std.specs.Ordering.{int_cmp, int_eq}
 use Rattle.std.proofs.lemmas.Bool.Decides.{Decides-int_eq}
@@ -12,7 +13,7 @@ use Rattle.dvi_ops.specs.Instruction.{Definition}
 use Rattle.dvi_scan.specs.Reached.{has_number}
 use Rattle.dvi_scan.proofs.FontLemmas.{defined_more, has_definition, some_definition}
 use Rattle.dvi_read.specs.Faults.{of_read}
-use Rattle.dvi_read.specs.ReadFonts.{AreSound, HasWidthsAt, FontIsRead, read_font_at, font_place}
+use Rattle.dvi_read.specs.ReadFonts.{AreSound, AreUnchanged, HasWidthsAt, HaveByteCodes, IsPlaceOfSame, FontIsRead, read_font_at, font_place}
 use Rattle.dvi_read.specs.declared.fonts.ReadFonts.{ReadFonts}
 use Rattle.dvi_read.specs.Steps.{IsSelectFault, Selects}
 use Rattle.dvi_read.specs.declared.fault.StepFault.TheVariants.{Pass, Font}
@@ -77,14 +78,57 @@ number_kept : (b : Bool) (mine : ℕ) (rest : Option ℕ) → IsSome rest → Is
 number_kept true mine rest some = refl
 number_kept false mine rest some = some
 
+-- A number gets the place of a font that has its widths, and the fonts that were there stay.
+module _ (metrics : WidthsByName) (after_post : List ℤ) (known : List Definition) (f : ℤ) (old new : ReadFonts) (mine : ℕ) (read : SizedFont)
+    (sound : AreSound metrics known old) (updates : Updates int_cmp old.places new.places f (Some mine))
+    (stays : (place : ℕ) (other : SizedFont) → read_font_at old place ≡ Some other → read_font_at new place ≡ Some other) where
+  before_it : (g : ℤ) (place : ℕ) → font_place g old ≡ Some place → HasWidthsAt metrics known new g place
+  before_it g place later = let (other, e, w) = sound.widths g place later in (other, stays place other e, w)
+
+  pub selects_at : has_number after_post f ≡ true → new.current ≡ mine → read_font_at new mine ≡ Some read → font metrics known f ≡ Some (width_at read)
+      → HaveByteCodes new → Selects metrics after_post known f old new
+  selects_at named current last widths codes = record {
+    named = named;
+    widths = is_some (font metrics known f) (width_at read) widths;
+    current = updates.1 ∙ ap (λ (n : ℕ). Some n) (sym current);
+    sound = record {
+      widths = λ g place at.
+          by_number (HasWidthsAt metrics known new) (int_eq f g) f g mine place (font_place g old) refl (read, last, widths) (before_it g place) (sym (updates.0 g) ∙ at);
+      codes = codes;
+    };
+    kept = λ g some. subst (λ (o : Option ℕ). IsSome o) (sym (updates.0 g)) (number_kept (int_eq f g) mine (font_place g old) some);
+  }
+
+-- The fonts, their places and the selected one are unchanged.
+module _ (old mid : ReadFonts) (same : AreUnchanged old mid) where
+  place_stays : (g : ℤ) → font_place g mid ≡ font_place g old
+  place_stays g = ap (λ (entries : List (ℤ × ℕ)). lookup (is_at (int_cmp g)) entries) same.places
+
+  font_stays : (place : ℕ) → read_font_at mid place ≡ read_font_at old place
+  font_stays place = ap (λ (fonts : List SizedFont). slice_get fonts place) same.all
+
+  pub sound_stays : (metrics : WidthsByName) (known : List Definition) → AreSound metrics known old → AreSound metrics known mid
+  sound_stays metrics known sound = record {
+    widths = λ g place at. (let (read, e, w) = sound.widths g place (sym (place_stays g) ∙ at) in (read, font_stays place ∙ e, w));
+    codes = λ place other e. sound.codes place other (sym (font_stays place) ∙ e);
+  }
+
+  pub selects_on : (metrics : WidthsByName) (after_post : List ℤ) (known : List Definition) (f : ℤ) (new : ReadFonts)
+      → Selects metrics after_post known f mid new → Selects metrics after_post known f old new
+  selects_on metrics after_post known f new selects = record {
+    named = selects.named;
+    widths = selects.widths;
+    current = selects.current;
+    sound = selects.sound;
+    kept = λ g some. selects.kept g (subst (λ (o : Option ℕ). IsSome o) (sym (place_stays g)) some);
+  }
+
 -- The font is read now.
 module _ (files : List NamedBytes) (after_post : List ℤ) (known : List Definition) (d : Definition) (f : ℤ) (old new : ReadFonts) (read : SizedFont)
     (sound : AreSound (file_widths files) known old)
     (updates : Updates int_cmp old.places new.places f (Some (length old.all.items))) (all : new.all.items ≡ old.all.items ++ read ∷ []) where
-  before_it : (g : ℤ) (place : ℕ) → font_place g old ≡ Some place → HasWidthsAt (file_widths files) known new g place
-  before_it g place later =
-      let (other, e, w) = sound.widths g place later in
-      (other, ap (λ (fonts : List SizedFont). slice_get fonts place) all ∙ item_before old.all.items read other place e, w)
+  stays_before : (place : ℕ) (other : SizedFont) → read_font_at old place ≡ Some other → read_font_at new place ≡ Some other
+  stays_before place other e = ap (λ (fonts : List SizedFont). slice_get fonts place) all ∙ item_before old.all.items read other place e
 
   by_item : (place : ℕ) (other : SizedFont) → HasBytes read → (read_font_at old place ≡ Some other) ⊎ (read ≡ other) → HasBytes other
   by_item place other codes (inl e) = sound.codes place other e
@@ -96,20 +140,28 @@ module _ (files : List NamedBytes) (after_post : List ℤ) (known : List Definit
   selects_new named there current given codes =
       let metrics : WidthsByName = file_widths files in
       let mine : ℕ = length old.all.items in
-      let widths : font metrics known f ≡ Some (width_at read) = ap (widths_in metrics) there ∙ given in
       let last : read_font_at new mine ≡ Some read = ap (λ (fonts : List SizedFont). slice_get fonts mine) all ∙ item_last old.all.items read in
-      record {
-        named = named;
-        widths = is_some (font metrics known f) (width_at read) widths;
-        current = updates.1 ∙ ap (λ (n : ℕ). Some n) (sym current);
-        sound = record {
-          widths = λ g place at.
-              by_number (HasWidthsAt metrics known new) (int_eq f g) f g mine place (font_place g old) refl (read, last, widths) (before_it g place) (sym (updates.0 g) ∙ at);
-          codes = λ place other e.
-              by_item place other codes (item_back old.all.items read other place (sym (ap (λ (fonts : List SizedFont). slice_get fonts place) all) ∙ e));
-        };
-        kept = λ g some. subst (λ (o : Option ℕ). IsSome o) (sym (updates.0 g)) (number_kept (int_eq f g) mine (font_place g old) some);
-      }
+      selects_at metrics after_post known f old new mine read sound updates stays_before named current last (ap (widths_in metrics) there ∙ given)
+      (λ place other e.
+      by_item place other codes (item_back old.all.items read other place (sym (ap (λ (fonts : List SizedFont). slice_get fonts place) all) ∙ e)))
+
+-- The font was read for another number with the same name and size.
+module _ (files : List NamedBytes) (known : List Definition) (d : Definition) (f : ℤ) (old : ReadFonts) (place : ℕ)
+    (sound : AreSound (file_widths files) known old) (same : IsPlaceOfSame known d old place) where
+  pub given_by_same : (read : SizedFont) × (read_font_at old place ≡ Some read) × (file_widths files d.name d.size ≡ Some (width_at read))
+  given_by_same =
+      let metrics : WidthsByName = file_widths files in
+      let (g, other, found, name, size, at) = same in
+      let (read, there, widths) = sound.widths g place at in
+      (read, there, ap (λ (n : List ℕ). metrics n d.size) (sym name) ∙ (ap (λ (z : ℤ). metrics other.name z) (sym size) ∙ (sym (ap (widths_in metrics) found) ∙ widths)))
+
+  pub selects_same : (after_post : List ℤ) (new : ReadFonts) → Updates int_cmp old.places new.places f (Some place) → new.all.items ≡ old.all.items
+      → has_number after_post f ≡ true → first_definition_of f known ≡ Some d → new.current ≡ place → Selects (file_widths files) after_post known f old new
+  selects_same after_post new updates all named found current =
+      let (read, there, given) = given_by_same in
+      let at : (n : ℕ) → read_font_at new n ≡ read_font_at old n = λ n. ap (λ (fonts : List SizedFont). slice_get fonts n) all in
+      selects_at (file_widths files) after_post known f old new place read sound updates (λ n other e. at n ∙ e) named current (at place ∙ there)
+      (ap (widths_in (file_widths files)) found ∙ given) (λ n other e. sound.codes n other (sym (at n) ∙ e))
 
 -- More definitions change no width of a font that was read.
 pub sound_more : (metrics : WidthsByName) (xs ys : List Definition) (fonts : ReadFonts) → AreSound metrics xs fonts → AreSound metrics (xs ++ ys) fonts
@@ -140,11 +192,11 @@ module _ (files : List NamedBytes) (after_post : List ℤ) (known : List Definit
 
   -- The first file with the name gives no font at the size.
   pub not_read_from : (file : NamedBytes) (fault : FontReadFault) → font_place f fonts ≡ None → file_named d.name files ≡ Some file
-      → IsReadRefusal file.bytes (Some d.size) fault → IsSelectFault files after_post known fonts f (of_read fault)
+      → IsReadRefusal file.bytes (Some d.size) fault → IsSelectFault files after_post known fonts f (of_read d.number fault)
   not_read_from file reads.OutOfMemory new is refused = lacks_memory new (file, is, refused)
-  not_read_from file (reads.BadTfm cause) new is refused = refused_font (refusals.BadTfm cause) (file, is, refused)
+  not_read_from file (reads.BadTfm cause) new is refused = refused_font (refusals.BadTfm d.number cause) (refl, file, is, refused)
   not_read_from file reads.DimensionTooLarge new is refused =
-      refused_font refusals.DimensionTooLarge (file, is, refused.0, refused.1, refused.2)
+      refused_font (refusals.DimensionTooLarge d.number) (refl, file, is, refused.0, refused.1, refused.2)
 
 -- A font that was not read was not selected.
 or_both : (a b : Bool) → a ≡ false → b ≡ false → (a || b) ≡ false

@@ -81,19 +81,20 @@ impl<'a> From<FontRefusal<'a>> for StepFault<'a> {
     }
 }
 
-impl From<FontReadFault> for StepFault<'_> {
-    ghost from_gives = { λ read fault. fault ≡ of_read read };
-
-    fn from(fault: FontReadFault) -> Self {
+impl<'a> StepFault<'a> {
+    /// The fault of the font with this number, which was not read.
+    pub(crate) fn of_read(font: i32, fault: FontReadFault) -> StepFault<'a>
+        ensures { result ≡ of_read font fault }
+    {
         match fault {
             FontReadFault::OutOfMemory => StepFault::Pass(PassFault::OutOfMemory),
-            FontReadFault::BadTfm(cause) => StepFault::Font(FontRefusal::BadTfm(cause)),
-            FontReadFault::DimensionTooLarge => StepFault::Font(FontRefusal::DimensionTooLarge),
+            FontReadFault::BadTfm(cause) => StepFault::Font(FontRefusal::BadTfm { font, cause }),
+            FontReadFault::DimensionTooLarge => {
+                StepFault::Font(FontRefusal::DimensionTooLarge { font })
+            }
         }
     }
-}
 
-impl<'a> StepFault<'a> {
     /// The fault of the instruction at a place.
     pub fn at(self, place: usize) -> DviFault<'a>
         ensures { result ≡ fault_in place self.entry }

@@ -7,7 +7,7 @@ ghost use Rattle.dvi_scan.specs.Widths.{HasBytes};
 ghost use Rattle.dvi_scan.specs.declared.widths.FontRefusal.TheVariants.{NoFont};
 ghost use Rattle.dvi_ops.specs.View.{view, definition};
 ghost use Rattle.dvi_read.specs.PageMarks.{read_width};
-ghost use Rattle.dvi_read.specs.ReadFonts.{AreSound, AreUnchanged, HaveByteCodes};
+ghost use Rattle.dvi_read.specs.ReadFonts.{AreSound, AreUnchanged, HaveByteCodes, IsPlaceOfSame};
 ghost use Rattle.dvi_read.specs.ReadFonts.{asked_width, code_in, font_place, read_font_at, width_in, with_current};
 ghost use Rattle.tfm_core.specs.FileWidths.{width_at, file_widths};
 ghost use Rattle.tfm_core.specs.NamedBytes.{file_named};
@@ -28,7 +28,7 @@ use std::collections::BTreeMap;
 use tfm_core::{Font, FontFile, file_named};
 
 /// The fonts that were read, in the order of their first selections; the place of each number among them; and the place of the font that was selected
-/// last.
+/// last. Numbers with the same name and size have one font: a file may define thousands of them.
 ///
 /// A number is searched only at a selection, in time logarithmic in the count of fonts. A character takes its width from the font at `current`,
 /// without a search. Whoever reads the pages of a checked file again has a `current` of its own.
@@ -37,6 +37,17 @@ pub struct ReadFonts {
     pub all: Vec<Font>,
     pub places: BTreeMap<i32, usize>,
     pub current: usize,
+    /// A number that was read, by the key of its font. It only leads to a definition that is then compared: no clause depends on it.
+    numbers: BTreeMap<u64, i32>,
+}
+
+/// A number for each pair of one of the first 2^37 metric files and a size, if the font has a file.
+fn key_of(files: &[FontFile], font: &FontDefinition<'_>) -> Option<u64> {
+    let place = files
+        .iter()
+        .position(|file| file.name().as_bytes() == font.name)?;
+    let size = u64::try_from(font.size).ok()?;
+    (place as u64).checked_mul(1 << 27)?.checked_add(size)
 }
 
 /// The number of a character.
@@ -65,6 +76,7 @@ impl ReadFonts {
             all: Vec::new(alloc),
             places: BTreeMap::new(alloc),
             current: 0,
+            numbers: BTreeMap::new(alloc),
         }
     }
 
@@ -89,6 +101,50 @@ impl ReadFonts {
             }
             None => false,
         }
+    }
+
+    /// The place of a font that was read for another number with the same name and size, if one was. It takes no memory.
+    fn place_of_same(
+        &self,
+        key: Option<u64>,
+        known: &KnownFonts<'_>,
+        font: &FontDefinition<'_>,
+    ) -> Option<usize>
+        ensures { IfSome result (IsPlaceOfSame known.now (definition font.now) self.now) }
+    {
+        let number = FontNumber {
+            value: *self.numbers.get(&key?)?,
+        };
+        let other = known.get(number)?;
+        if other.size != font.size {
+            return None;
+        }
+        if other.name != font.name {
+            return None;
+        }
+        self.place_of(number)
+    }
+
+    /// Gives a number the font at a place, and selects it. It takes memory for the number.
+    fn share(&mut self, number: FontNumber, place: usize) -> Result<(), AllocError>
+        ensures places { OnOk result (Updates int_cmp self.old.places self.new.places number.value (Some place)) }
+        ensures all { self.new.all.items ≡ self.old.all.items }
+        ensures current { OnOk result (self.new.current ≡ place) }
+        ensures err { OnErr result (AreUnchanged self.old self.new) }
+    {
+        self.places.insert(number.value, place)?;
+        self.current = place;
+        Ok(())
+    }
+
+    /// Keeps the number of a font that is read next, by the font's key. It takes memory.
+    fn keep_number(&mut self, key: Option<u64>, number: FontNumber) -> Result<(), AllocError>
+        ensures { AreUnchanged self.old self.new }
+    {
+        if let Some(key) = key {
+            self.numbers.insert(key, number.value)?;
+        }
+        Ok(())
     }
 
     /// Adds the font of a number, and selects it. It takes memory for both.
@@ -176,6 +232,40 @@ fn font_file<'f, 'a>(
     file_named(files, font.name).ok_or(FontRefusal::NoFont(font.name))
 }
 
+/// Reads the font of a number that was not read before, and selects it; or gives the number a font that was read for the same name and size. The
+/// faults are those of `select`. A file has few such selections, and `select` stays small without them.
+fn select_first<'a>(
+    alloc: Global,
+    source: &Source<'_, 'a>,
+    known: &KnownFonts<'a>,
+    fonts: &mut ReadFonts,
+    number: FontNumber,
+) -> Result<(), StepFault<'a>>
+    requires sizes { AllByRecursion (λ d. IsFontSize d.size) known.now }
+    requires sound { AreSound (file_widths source.now.files.now) known.now fonts.old }
+    requires new { font_place number.value fonts.old ≡ None }
+    ensures ok { OnOk result (Selects (file_widths source.now.files.now) source.now.after_post.now.keys known.now number.value fonts.old fonts.new) }
+    ensures bad { IfErr result (IsSelectFault source.now.files.now source.now.after_post.now.keys known.now fonts.old number.value) }
+    ensures unchanged { OnErr result (AreUnchanged fonts.old fonts.new) }
+{
+    let Some(font) = definition_in(source.after_post, known, number) else {
+        return Err(StepFault::Pass(PassFault::Broken(DviCause::Font)));
+    };
+    let key = key_of(source.files, font);
+    if let Some(place) = fonts.place_of_same(key, known, font) {
+        fonts.share(number, place)?;
+        return Ok(());
+    }
+    let file = font_file(source.files, font)?;
+    let read = match read_font(alloc, file.bytes(), font) {
+        Ok(read) => read,
+        Err(fault) => return Err(StepFault::of_read(font.number, fault)),
+    };
+    fonts.keep_number(key, number)?;
+    fonts.add(number, read)?;
+    Ok(())
+}
+
 /// Selects the font of a number, and reads it where it was not read before. The fault is Font where no definition of the number is before the
 /// selection, or none is after post. It is a refusal of the font where no metric file with the name in its first definition is given, or the first
 /// such file is bad; or OutOfMemory.
@@ -193,14 +283,11 @@ pub fn select<'a>(
     ensures bad { IfErr result (IsSelectFault source.now.files.now source.now.after_post.now.keys known.now fonts.old number.value) }
     ensures unchanged { OnErr result (AreUnchanged fonts.old fonts.new) }
 {
-    let Some(font) = definition_in(source.after_post, known, number) else {
+    let Some(_font) = definition_in(source.after_post, known, number) else {
         return Err(StepFault::Pass(PassFault::Broken(DviCause::Font)));
     };
     if fonts.choose(number) {
         return Ok(());
     }
-    let file = font_file(source.files, font)?;
-    let read = read_font(alloc, file.bytes(), font)?;
-    fonts.add(number, read)?;
-    Ok(())
+    select_first(alloc, source, known, fonts, number)
 }

@@ -15,8 +15,8 @@ use Rattle.tfm_core.proofs.FontReading.{front_holds}
 pub no_widths : (files : List NamedBytes) (d : Definition) (refusal : FontRefusal) → IsFontRefusal files d refusal
     → file_widths files d.name d.size ≡ None
 no_widths files d (NoFont name) (named, none) = rw none refl
-no_widths files d (BadTfm cause) (file, named, bad) = rw named (rw bad refl)
-no_widths files d DimensionTooLarge (file, named, metrics, is, unfit) = rw named (rw is (rw unfit refl))
+no_widths files d (BadTfm number cause) (same, file, named, bad) = rw named (rw bad refl)
+no_widths files d (DimensionTooLarge number) (same, file, named, metrics, is, unfit) = rw named (rw is (rw unfit refl))
 
 -- Where a font has widths, the first file with its name breaks no rule that needs no table.
 pub widths_space : (files : List NamedBytes) (d : Definition) (w : ℤ → Option ℤ) → file_widths files d.name d.size ≡ Some w → MayAllocate files d

@@ -18,11 +18,12 @@ HasBytes font = (code : ℕ) (size : Sizes) → glyph_of font code ≡ Some size
 abbrev pub MayAllocate : List NamedBytes → Definition → Type 0
 MayAllocate files d = (file : NamedBytes) × (file_named d.name files ≡ Some file) × (broken_in_front file.bytes ≡ None)
 
--- The reason of a refusal: no file with the font's name was given, and the refusal has the name; or the first one is no metric file; or one of its
--- dimensions at the font's size does not fit.
+-- The reason of a refusal: no file with the font's name was given, and the refusal has the name; or the first one is no metric file, or one of its
+-- dimensions at the font's size does not fit, and the refusal has the font's number.
 abbrev pub IsFontRefusal : List NamedBytes → Definition → FontRefusal → Type 0
 IsFontRefusal files d (NoFont name) = (name.now ≡ d.name) × (file_named d.name files ≡ None)
-IsFontRefusal files d (BadTfm cause) = (file : NamedBytes) × (file_named d.name files ≡ Some file) × (metric_file file.bytes ≡ Err cause)
-IsFontRefusal files d DimensionTooLarge =
-    (file : NamedBytes) × (file_named d.name files ≡ Some file) × (metrics : MetricFile) × (metric_file file.bytes ≡ Ok metrics)
-    × (fits_at metrics d.size ≡ false)
+IsFontRefusal files d (BadTfm number cause) =
+    (number ≡ d.number) × (file : NamedBytes) × (file_named d.name files ≡ Some file) × (metric_file file.bytes ≡ Err cause)
+IsFontRefusal files d (DimensionTooLarge number) =
+    (number ≡ d.number) × (file : NamedBytes) × (file_named d.name files ≡ Some file) × (metrics : MetricFile)
+    × (metric_file file.bytes ≡ Ok metrics) × (fits_at metrics d.size ≡ false)

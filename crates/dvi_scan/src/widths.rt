@@ -18,12 +18,12 @@ pub enum FontRefusal<'a> {
     /// No file with the font's name was given, and this is the name.
     #[error("there is no file of this font")]
     NoFont(&'a [u8]),
-    /// The metric file breaks this rule.
-    #[error("{0}")]
-    BadTfm(TfmCause),
-    /// A dimension of the font at its size does not fit.
+    /// The metric file of the font with this number breaks a rule.
+    #[error("{cause}")]
+    BadTfm { font: i32, cause: TfmCause },
+    /// A dimension of the font with this number does not fit at its size.
     #[error("a dimension of the font is too large")]
-    DimensionTooLarge,
+    DimensionTooLarge { font: i32 },
 }
 
 /// The size of a definition.
