@@ -139,6 +139,20 @@ struct boxglue_mark_sizes {
     int32_t mag;
 };
 
+/* Why a file is refused. What its refusal does not have is 0. */
+struct boxglue_fault {
+    /* One of enum boxglue_refusal, or 0 where nothing was refused. */
+    uint32_t number;
+    /* One of enum boxglue_dvi_cause if the number is BOXGLUE_REFUSAL_BAD_DVI, and of enum boxglue_tfm_cause if it is BOXGLUE_REFUSAL_BAD_TFM. */
+    uint32_t cause;
+    /* The number by which the DVI file selects the font whose metric file is refused. */
+    int32_t font;
+    /* Where the DVI file breaks a rule: the number of bytes before that place. */
+    uint64_t place;
+    /* How many bytes the name of the missing font has. */
+    size_t name_size;
+};
+
 /* Runs a script with these fonts.
  *
  * answers takes the answers to the commands, one line each (docs/FORMATS.md), or the one line of a script that is refused as a whole.
@@ -203,6 +217,17 @@ uint32_t boxglue_marks(const uint8_t *dvi, size_t dvi_size,
                        struct boxglue_mark *marks, size_t mark_room,
                        uint8_t *text, size_t text_room,
                        struct boxglue_mark_sizes *sizes);
+
+/* Checks a DVI file, as boxglue_list does, and gives the reason of a refusal in numbers.
+ *
+ * *fault takes the reason, or zeros where the file is accepted.
+ * name takes the name of the font that is missing, if the refusal is BOXGLUE_REFUSAL_NO_FONT. The rest of the buffer is as it was. A name has at most 255 bytes.
+ *
+ * Returns 0, 1, 2, 3 or 4. At 2 the fault is BOXGLUE_REFUSAL_OUT_OF_MEMORY. At 4 fault->name_size says what the buffer needs. At 3 *fault is as it was. */
+uint32_t boxglue_check(const uint8_t *dvi, size_t dvi_size,
+                       const struct boxglue_font *fonts, size_t font_count,
+                       struct boxglue_fault *fault,
+                       uint8_t *name, size_t name_room);
 
 /* Returns the version of the library, as BOXGLUE_VERSION counts it. A program compares the two. */
 uint32_t boxglue_version(void);
@@ -300,7 +325,7 @@ enum boxglue_reply_kind {
     BOXGLUE_REPLY_END = 12
 };
 
-/* Why a command, the end of a job, a piece or a script is refused: the numbers of docs/REFUSALS.md. */
+/* Why a command, the end of a job, a piece, a script or a file is refused: the numbers of docs/REFUSALS.md. */
 enum boxglue_refusal {
     BOXGLUE_REFUSAL_OUT_OF_MEMORY = 1,
     BOXGLUE_REFUSAL_BAD_SCRIPT = 2,
@@ -321,6 +346,8 @@ enum boxglue_refusal {
     BOXGLUE_REFUSAL_LISTS_OPEN = 17,
     BOXGLUE_REFUSAL_DEVICE = 18,
     BOXGLUE_REFUSAL_JOB_OVER = 19,
+    /* Only a DVI file is refused for this. */
+    BOXGLUE_REFUSAL_BAD_DVI = 20,
     BOXGLUE_REFUSAL_VOID_BOX = 21,
     BOXGLUE_REFUSAL_TOO_MUCH_SPECIAL = 22
 };
@@ -333,6 +360,21 @@ enum boxglue_tfm_cause {
     BOXGLUE_TFM_CHAR_INFO = 4,
     BOXGLUE_TFM_FIX_WORD = 5,
     BOXGLUE_TFM_LIG_KERN = 6
+};
+
+/* Which rule a DVI file breaks (docs/FORMATS.md, section 7). */
+enum boxglue_dvi_cause {
+    BOXGLUE_DVI_TRAILER = 1,
+    BOXGLUE_DVI_VERSION = 2,
+    BOXGLUE_DVI_OPCODE = 3,
+    BOXGLUE_DVI_POINTER = 4,
+    BOXGLUE_DVI_COUNT = 5,
+    BOXGLUE_DVI_PREAMBLE = 6,
+    BOXGLUE_DVI_TRUNCATED = 7,
+    BOXGLUE_DVI_STACK = 8,
+    BOXGLUE_DVI_FONT = 9,
+    BOXGLUE_DVI_GLYPH = 10,
+    BOXGLUE_DVI_RANGE = 11
 };
 
 /* Why a line is bad (docs/FORMATS.md, section 2). */
@@ -452,6 +494,29 @@ static inline const char *boxglue_status_text(uint32_t status) {
     }
 }
 
+/* The name of a refusal, such as "NoFont", as answers have it. */
+static inline const char *boxglue_refusal_name(uint32_t number) {
+    static const char *const names[] = {
+        "OutOfMemory", "BadScript", "DimensionTooLarge", "NoFont", "BadTfm", "SlotTaken", "NoOpenList", "WrongMode", "WrongKind", "ListTooLong", "TooDeep",
+        "InfiniteShrink", "TooManyBreaks", "HugePage", "TooManyPages", "TooMuchShipped", "ListsOpen", "Device", "JobOver", "BadDvi", "VoidBox", "TooMuchSpecial"
+    };
+    return number >= 1 && number <= sizeof names / sizeof *names ? names[number - 1] : "unknown";
+}
+
+/* The name of the rule that a DVI file breaks, such as "Trailer", as answers have it. */
+static inline const char *boxglue_bad_dvi_name(uint32_t cause) {
+    static const char *const names[] = {
+        "Trailer", "Version", "Opcode", "Pointer", "Count", "Preamble", "Truncated", "Stack", "Font", "Glyph", "Range"
+    };
+    return cause >= 1 && cause <= sizeof names / sizeof *names ? names[cause - 1] : "unknown";
+}
+
+/* The name of the rule that a metric file breaks, such as "TooShort", as answers have it. */
+static inline const char *boxglue_bad_tfm_name(uint32_t cause) {
+    static const char *const names[] = {"TooShort", "Counts", "DesignSize", "CharInfo", "FixWord", "LigKern"};
+    return cause >= 1 && cause <= sizeof names / sizeof *names ? names[cause - 1] : "unknown";
+}
+
 static inline const uint8_t *boxglue_bytes_at(const uint8_t *at, size_t size) {
     static uint8_t none;
     return size ? at : &none;
@@ -545,6 +610,16 @@ static inline uint32_t boxglue_marks_or_null(const uint8_t *dvi, size_t dvi_size
                          sizes);
 }
 
+static inline uint32_t boxglue_check_or_null(const uint8_t *dvi, size_t dvi_size,
+                                             const struct boxglue_font *fonts, size_t font_count,
+                                             struct boxglue_fault *fault,
+                                             uint8_t *name, size_t name_room) {
+    return boxglue_check(boxglue_bytes_at(dvi, dvi_size), dvi_size,
+                         boxglue_fonts_at(fonts, font_count), font_count,
+                         fault,
+                         boxglue_room_at(name, name_room), name_room);
+}
+
 static inline uint32_t boxglue_job_new_or_null(struct boxglue_job *job,
                                                const struct boxglue_font *fonts, size_t font_count) {
     return boxglue_job_new(job, boxglue_fonts_at(fonts, font_count), font_count);
@@ -595,6 +670,7 @@ static inline uint32_t boxglue_run_replies_or_null(const uint8_t *script, size_t
 #define boxglue_paint boxglue_paint_or_null
 #define boxglue_fonts boxglue_fonts_or_null
 #define boxglue_marks boxglue_marks_or_null
+#define boxglue_check boxglue_check_or_null
 #define boxglue_job_new boxglue_job_new_or_null
 #define boxglue_job_commands boxglue_job_commands_or_null
 #define boxglue_job_answers boxglue_job_answers_or_null

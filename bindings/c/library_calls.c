@@ -5,6 +5,7 @@
  *     library_calls [--refuse] paint PAGE DPI WIDTH HEIGHT DVI [NAME=TFM ..]
  *     library_calls [--refuse] fonts DVI
  *     library_calls [--refuse] marks DVI [NAME=TFM ..]
+ *     library_calls [--refuse] check DVI [NAME=TFM ..]
  *     library_calls [--refuse] run_replies SCRIPT [NAME=TFM ..]
  *     library_calls [--refuse] job MOST SCRIPT [NAME=TFM ..]
  *     library_calls [--refuse] job_replies MOST SCRIPT [NAME=TFM ..]
@@ -14,11 +15,13 @@
  *     library_calls handles
  *     library_calls version
  *
- * It prints a line with the status and the sizes of both outputs, and then the outputs; `marks` prints the status and the units, and then a listing. `job` runs the
+ * It prints a line with the status and the sizes of both outputs, and then the outputs; `marks` prints the status and the units, and then a listing;
+ * `check` the status, the number of a font and the name of one, and then the line of a refusal. `job` runs the
  * script on a job, in pieces of at most MOST lines, or in one piece where MOST is 0.
  * `run_replies` and `job_replies` print the texts of the replies that came as numbers.
  * `frees` frees jobs after each line of the script. With --refuse each growth of memory is refused in turn instead, and the ways in which the calls ended are counted.
  * Where something is wrong, a line on standard error says so, and the status of the program is 1. */
+#include "check_calls.h"
 #include "job_calls.h"
 #include "mark_calls.h"
 #include "random_inputs.h"
@@ -94,12 +97,12 @@ static void run_frees(char **words, int count) {
     free_after_each_line(&pieces);
 }
 
-static void run_marks(char **words, int count, int refuses) {
-    REQUIRE(count >= 1, "marks needs DVI");
+/* Calls a function with a DVI file and fonts. */
+static void run_on_file(char **words, int count, void (*call)(const struct input *dvi, const struct fonts *fonts)) {
+    REQUIRE(count >= 1, "a DVI file is missing");
     struct input dvi = read_file(words[0]);
     struct fonts fonts = read_fonts(words + 1, count - 1);
-    if (refuses) refuse_mark_growths(&dvi, &fonts);
-    else print_marks(&dvi, &fonts);
+    call(&dvi, &fonts);
 }
 
 static void run_job(char **words, int count, int refuses, int as_replies) {
@@ -140,7 +143,8 @@ int main(int count, char **words) {
     if (!strcmp(words[0], "job")) return run_job(words + 1, count - 1, refuses, 0), 0;
     if (!strcmp(words[0], "job_replies")) return run_job(words + 1, count - 1, refuses, 1), 0;
     if (!strcmp(words[0], "frees")) return run_frees(words + 1, count - 1), 0;
-    if (!strcmp(words[0], "marks")) return run_marks(words + 1, count - 1, refuses), 0;
+    if (!strcmp(words[0], "marks")) return run_on_file(words + 1, count - 1, refuses ? refuse_mark_growths : print_marks), 0;
+    if (!strcmp(words[0], "check")) return run_on_file(words + 1, count - 1, refuses ? refuse_check_growths : print_check), 0;
     if (!strcmp(words[0], "handles")) return require_handles(), 0;
     int call = RUN;
     while (strcmp(words[0], CALLS[call])) REQUIRE(++call <= REPLIES, "no call %s", words[0]);

@@ -23,6 +23,7 @@ JOBS = f"{CALLS}/jobs"
 COUNTS = "crates/scaled_core/src/counts.rt"
 REFUSALS = "crates/boxglue_program/src/refusals.rt"
 STATUSES_OF_PYTHON = "bindings/python/boxglue/_status.py"
+REPLIES_OF_PYTHON = "bindings/python/boxglue/_replies.py"
 RUST = "bindings/rust/boxglue-sys/src/lib.rs"
 CALLS_OF_C = "#ifndef BOXGLUE_NO_INLINE"
 # The calls, structs and numbers of the header, each with the version that added it. A version that CHANGELOG.md dates is released, and has a row with the
@@ -126,7 +127,7 @@ def null_calls(root):
 
 def structs(root):
     """What is wrong with the structs."""
-    sources = "".join(read(root, f"{CALLS}/{it}.rt") for it in ("runs", "given", "font_table", "mark_table"))
+    sources = "".join(read(root, f"{CALLS}/{it}.rt") for it in ("runs", "given", "font_table", "mark_table", "faults"))
     sources += "".join(read(root, f"{JOBS}/{it}.rt") for it in ("handle", "rows", "whole"))
     counts = re.search(r"const COUNTS: usize = (\d+);", read(root, COUNTS))[1]
     wanted = {}
@@ -163,7 +164,9 @@ def reply_kinds(root):
 def numbers_of_replies(root):
     """What is wrong with the numbers of refusals, of their causes, and of kinds of boxes."""
     rows = f"{JOBS}/rows.rt"
-    wrong = (numbers(root, "boxglue_refusal", "BOXGLUE_REFUSAL_", REFUSALS, rows, row=r"(?:Refusal::|const )(\w+)\S* (?:=> \(|u32 = )(\d+)"),
+    faults = f"{CALLS}/faults.rt"
+    wrong = (numbers(root, "boxglue_refusal", "BOXGLUE_REFUSAL_", REFUSALS, rows, faults, row=r"(?:Refusal::|const )(\w+)\S* (?:=> \(|u32 = )(\d+)"),
+             numbers(root, "boxglue_dvi_cause", "BOXGLUE_DVI_", faults, row=r"\bDviCause::(\w+) => (\d+)"),
              numbers(root, "boxglue_tfm_cause", "BOXGLUE_TFM_", rows, row=r"\bTfmCause::(\w+) => (\d+)"),
              numbers(root, "boxglue_line_cause", "BOXGLUE_LINE_", rows, row=r"\bCause::(\w+) => (\d+)"),
              numbers(root, "boxglue_box_kind", "BOXGLUE_BOX_", rows, row=r"\bKind::(\w+) => (\d+)"))
@@ -177,6 +180,16 @@ def status_texts(root):
     names = re.findall(r"BOXGLUE_(\w+) = \d+", re.search(r"enum boxglue_status \{([^}]*)\}", declared(root))[1])
     if [name for name, _ in found] != names:
         return f"the header has texts of {[name for name, _ in found]}, and the statuses {names}"
+    return None if found == wanted else f"the header has {found}, and Python has {wanted}"
+
+
+def refusal_names(root):
+    """What is wrong with the names of refusals and of their causes: C and Python have the same ones."""
+    lists = re.findall(r"const names\[\] = \{([^}]*)\}", declared(root))
+    found = [re.findall(r'"(\w+)"', it) for it in lists]
+    python_text = read(root, REPLIES_OF_PYTHON)
+    wanted = [re.findall(r'\d+: "(\w+)"', re.search(r"_REFUSALS = \{(.*?)\}", python_text, flags=re.S)[1])]
+    wanted += [re.findall(r'"(\w+)"', re.search(rf"{it} = (.*)", python_text)[1]) for it in ("_DVI_CAUSES", "_METRIC_CAUSES")]
     return None if found == wanted else f"the header has {found}, and Python has {wanted}"
 
 
@@ -209,7 +222,7 @@ def rust(root):
 PRINT_PYTHON = """
 import ctypes, json
 from boxglue import MarkKind, ReplyKind, Status, _library, _replies
-NAMES = {"Font": "font", "DviFontRow": "dvi_font", "FontSizes": "font_sizes", "PageRow": "page", "MarkRow": "mark", "MarkSizes": "mark_sizes", "BoxSizes": "box_sizes",
+NAMES = {"Font": "font", "DviFontRow": "dvi_font", "FontSizes": "font_sizes", "PageRow": "page", "MarkRow": "mark", "MarkSizes": "mark_sizes", "FaultRow": "fault", "BoxSizes": "box_sizes",
          "ReplyRow": "reply", "ReplySizes": "reply_sizes", "JobHandle": "job", "c_int": "int32_t", "c_uint": "uint32_t", "c_long": "int64_t", "c_ulong": "size_t",
          "c_char": "uint8_t", "c_char_p": "const uint8_t *", "c_void_p": "void *"}
 def text(kind):
@@ -223,6 +236,7 @@ structs = {text(it): [f"{text(kind)} {name.rstrip('_')}" for name, kind in it._f
 calls = {f"boxglue_{name}": [*map(text, kinds)] for name, kinds in _library._CALLS.items()}
 enums = {"status": Status.__members__, "mark_kind": MarkKind.__members__, "reply_kind": ReplyKind.__members__,
          "refusal": {name: number for number, name in _replies._REFUSALS.items()}, "tfm_cause": {it: at for at, it in enumerate(_replies._METRIC_CAUSES) if at},
+         "dvi_cause": {it: at for at, it in enumerate(_replies._DVI_CAUSES) if at},
          "line_cause": {it: at for at, it in enumerate(_replies._LINE_CAUSES) if at}}
 print(json.dumps({**structs, **calls, **{f"enum boxglue_{name}": [*found.items()] for name, found in enums.items()}}))
 """
@@ -347,6 +361,6 @@ def new_call(root):
 
 def cases(_programs, root):
     """A case for each kind of declaration."""
-    for check in (functions, null_calls, structs, statuses, reply_kinds, numbers_of_replies, status_texts, rust, python, version, new_version, interface,
+    for check in (functions, null_calls, structs, statuses, reply_kinds, numbers_of_replies, status_texts, refusal_names, rust, python, version, new_version, interface,
                   new_call):
         yield check.__name__, partial(check, root)

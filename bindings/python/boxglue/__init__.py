@@ -35,7 +35,7 @@ Calls may run in several threads at once, and release the GIL while the library 
 A KeyboardInterrupt comes at the end of a call that is under way.
 """
 from ._dimensions import points, scaled_points
-from ._files import Bitmap, DviFont, fonts, listing, paint
+from ._files import Bitmap, DviFont, Fault, check, fonts, listing, paint
 from ._fonts import FontFolder
 from ._job import Job
 from ._library import proved, version
@@ -45,9 +45,9 @@ from ._runs import Answers, Run, run
 from ._status import AnswersLost, BadFontName, BoxglueError, NoJob, NoSuchPage, OutOfMemory, OutOfRange, Refused, Status
 
 __all__ = [
-    "Added", "Answers", "AnswersLost", "BadFontName", "Bitmap", "BoxglueError", "Document", "DviFont", "End", "FontFolder", "Glyph", "Job", "Mark", "MarkKind",
+    "Added", "Answers", "AnswersLost", "BadFontName", "Bitmap", "BoxglueError", "Document", "DviFont", "End", "Fault", "FontFolder", "Glyph", "Job", "Mark", "MarkKind",
     "Marks", "Measured", "NoJob", "NoSuchPage", "Ok", "OutOfMemory", "OutOfRange", "Packed", "Page", "Pages", "Paragraph", "Refused", "Replies", "Reply",
-    "ReplyKind", "Rule", "Run", "Shipped", "Sizes", "Special", "Split", "Status", "Units", "fonts", "listing", "marks", "paint", "points", "proved", "run",
+    "ReplyKind", "Rule", "Run", "Shipped", "Sizes", "Special", "Split", "Status", "Units", "check", "fonts", "listing", "marks", "paint", "points", "proved", "run",
     "scaled_points", "version",
 ]
 __version__ = "1.2.0"

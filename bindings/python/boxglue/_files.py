@@ -10,9 +10,12 @@ from dataclasses import dataclass
 from typing import Any
 
 from ._fonts import FontFolder
-from ._library import DVI_ROOM, FONT_ROOM, TEXT_ROOM, Data, DviFontRow, Fonts, FontSizes, data_of, given_fonts, library, new_buffer, one_output, sized
+from ._library import DVI_ROOM, FONT_ROOM, TEXT_ROOM, Data, DviFontRow, FaultRow, Fonts, FontSizes, data_of, given_fonts, library, new_buffer, one_output, sized
+from ._replies import _DVI_CAUSES, _METRIC_CAUSES, _REFUSALS
 from ._status import BoxglueError, Refused, Status, fail
 
+# The most bytes that the name of a font in a DVI file has.
+NAME_ROOM = 255
 _REFUSAL = re.compile(r"refused (\d+) (\w+)(?: (.*))?\n")
 
 
@@ -47,6 +50,22 @@ class Bitmap:
         return [pixels[at:at + width] for at in range(0, len(pixels), width)]
 
 
+@dataclass(frozen=True, slots=True)
+class Fault:
+    """Why a DVI file is refused, in numbers and names (docs/REFUSALS.md).
+
+    `name` and `number` name the refusal, such as "BadDvi" and 20. `cause` is the name of the broken rule, such as "Trailer", and `place` the number of bytes before
+    it in the file. `missing` is the name of the font that is missing. `font` is the number by which the file selects the font whose metric file is refused. Each is
+    None where the refusal does not have it.
+    """
+    name: str
+    number: int
+    cause: str | None = None
+    place: int | None = None
+    missing: str | None = None
+    font: int | None = None
+
+
 def refusal_in(line: bytes) -> Refused:
     """The refusal of a file, in the line that a call writes for it."""
     found = _REFUSAL.fullmatch(line.decode("ascii"))
@@ -77,6 +96,25 @@ def listing(dvi: Data, fonts: Fonts = ()) -> str:
     """The listing of the marks of all pages of a DVI file. Raises Refused, OutOfMemory or BadFontName."""
     words = file_words(data_of(dvi, "a DVI file"), fonts)
     return _text(lambda *room: library().boxglue_list(*words, *room), DVI_ROOM)
+
+
+def check(dvi: Data, fonts: Fonts = ()) -> Fault | None:
+    """Checks a DVI file as `listing` does, and returns why it is refused, or None for a file that is accepted. Raises OutOfMemory or BadFontName."""
+    words, fault, name = file_words(data_of(dvi, "a DVI file"), fonts), FaultRow(), new_buffer(NAME_ROOM)
+    status = library().boxglue_check(*words, byref(fault), name, NAME_ROOM)
+    if status == Status.ACCEPTED:
+        return None
+    if status != Status.REFUSED:
+        fail(status)
+    return _fault(fault, ctypes.string_at(name, fault.name_size))
+
+
+def _fault(row: FaultRow, name: bytes) -> Fault:
+    """A fault of its row, with the name of a missing font."""
+    named = _REFUSALS[row.number]
+    causes = {"BadDvi": _DVI_CAUSES, "BadTfm": _METRIC_CAUSES}.get(named)
+    return Fault(named, row.number, causes[row.cause] if causes else None, row.place if named == "BadDvi" else None,
+                 name.decode("utf-8", "surrogateescape") if named == "NoFont" else None, row.font if named in ("BadTfm", "DimensionTooLarge") else None)
 
 
 def paint(dvi: Data, fonts: Fonts = (), *, page: int = 1, dpi: int = 100, width: int = 850, height: int = 1100) -> Bitmap:

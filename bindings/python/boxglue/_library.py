@@ -46,6 +46,10 @@ class MarkSizes(Structure):
     _fields_ = [("pages", c_size_t), ("marks", c_size_t), ("text", c_size_t), ("num", c_int32), ("den", c_int32), ("mag", c_int32)]
 
 
+class FaultRow(Structure):
+    _fields_ = [("number", c_uint32), ("cause", c_uint32), ("font", c_int32), ("place", c_uint64), ("name_size", c_size_t)]
+
+
 class BoxSizes(Structure):
     _fields_ = [("width", c_int32), ("height", c_int32), ("depth", c_int32)]
 
@@ -74,6 +78,7 @@ _CALLS = {
     "paint": [*_INPUT, *_GIVEN, *[c_uint32] * 4, *_OUTPUT, *_SIZE],
     "fonts": [*_INPUT, POINTER(DviFontRow), c_size_t, *_OUTPUT, POINTER(FontSizes)],
     "marks": [*_INPUT, *_GIVEN, POINTER(PageRow), c_size_t, POINTER(MarkRow), c_size_t, *_OUTPUT, POINTER(MarkSizes)],
+    "check": [*_INPUT, *_GIVEN, POINTER(FaultRow), *_OUTPUT],
     "job_new": [POINTER(JobHandle), *_GIVEN],
     "job_run": [POINTER(JobHandle), *_INPUT, *_REPLIES, *_SIZE],
     "job_take": [POINTER(JobHandle), *_OUTPUT, *_SIZE],

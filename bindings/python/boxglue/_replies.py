@@ -11,12 +11,13 @@ from ._status import Refused
 from ._tables import Table
 
 _BOX_KINDS: tuple[Literal["hbox"], Literal["vbox"]] = "hbox", "vbox"
-# The names of refusals and of their causes by their numbers (docs/REFUSALS.md; docs/FORMATS.md, sections 9 and 2).
+# The names of refusals and of their causes by their numbers (docs/REFUSALS.md; docs/FORMATS.md, sections 7, 9 and 2).
 _REFUSALS = {
     1: "OutOfMemory", 2: "BadScript", 3: "DimensionTooLarge", 4: "NoFont", 5: "BadTfm", 6: "SlotTaken", 7: "NoOpenList", 8: "WrongMode", 9: "WrongKind",
     10: "ListTooLong", 11: "TooDeep", 12: "InfiniteShrink", 13: "TooManyBreaks", 14: "HugePage", 15: "TooManyPages", 16: "TooMuchShipped", 17: "ListsOpen",
-    18: "Device", 19: "JobOver", 21: "VoidBox", 22: "TooMuchSpecial",
+    18: "Device", 19: "JobOver", 20: "BadDvi", 21: "VoidBox", 22: "TooMuchSpecial",
 }
+_DVI_CAUSES = "", "Trailer", "Version", "Opcode", "Pointer", "Count", "Preamble", "Truncated", "Stack", "Font", "Glyph", "Range"
 _METRIC_CAUSES = "", "TooShort", "Counts", "DesignSize", "CharInfo", "FixWord", "LigKern"
 _LINE_CAUSES = "", "Byte", "Word", "Missing", "Extra", "Number", "Dimension", "Name"
 

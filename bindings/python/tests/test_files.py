@@ -26,6 +26,17 @@ class Pages(unittest.TestCase):
                 call(dvi)
             self.assertEqual(caught.exception.name, "NoFont")
 
+    def test_check(self):
+        dvi = boxglue.run(TEXT, plain()).dvi
+        cut = plain()["plain"][:8]
+        self.assertIsNone(boxglue.check(self.dvi))
+        self.assertIsNone(boxglue.check(dvi, plain()))
+        self.assertEqual(boxglue.check(self.dvi[:74]), boxglue.Fault("BadDvi", 20, cause="Trailer", place=74))
+        self.assertEqual(boxglue.check(dvi), boxglue.Fault("NoFont", 4, missing="plain"))
+        self.assertEqual(boxglue.check(dvi, {"plain": cut}), boxglue.Fault("BadTfm", 5, cause="TooShort", font=0))
+        self.assertEqual(boxglue.check(dvi.replace(b"\xf3\x00", b"\xf3\x09").replace(b"\xab", b"\xb4"), {"plain": cut}).font, 9)
+        self.assertRaises(boxglue.BadFontName, boxglue.check, dvi, {"": b""})
+
     def test_bitmap(self):
         bitmap = boxglue.paint(self.dvi, width=4, height=3)
         self.assertEqual((bitmap.pbm, bitmap.rows), ("P1\n4 3\n1100\n1100\n0000\n", ["1100", "1100", "0000"]))

@@ -10,11 +10,11 @@ ghost use Rattle.boxglue_calls.specs.Pieces.{DoesCommands, FinishesKept, HandsAn
 ghost use Rattle.boxglue_calls.specs.Replies.{RepliesTo, RepliesToEnd, row_space};
 ghost use Rattle.raster_core.specs.PaintOptions.{options_of};
 ghost use Rattle.boxglue_calls.specs.Calls.{HasSpaceForMarks, IsStatusOfNew, KeepsUndone, KeepsUnpainted, KeepsUnread, KeepsWithoutJob, Lists};
-ghost use Rattle.boxglue_calls.specs.Calls.{MakesJob, NeedsJob, NoticesNoPage, OnJob, Paints, ReadsFonts, ReadsMarks, RefusesJob, RefusesNames};
+ghost use Rattle.boxglue_calls.specs.Calls.{Checks, KeepsUnnamed, MakesJob, NeedsJob, NoticesNoPage, OnJob, Paints, ReadsFonts, ReadsMarks, RefusesJob, RefusesNames};
 ghost use Rattle.boxglue_calls.specs.Calls.{RefusesNamesOfJob, RefusesNumbers, RefusesPage, Runs, RunsInRows};
 
 use boxglue_calls::jobs::{JobHandle, ReplyRow, ReplySizes};
-use boxglue_calls::{DviFont, DviMark, DviPage, Font, FontSizes, Lengths, MarkSizes};
+use boxglue_calls::{DviFont, DviMark, DviPage, Fault, Font, FontSizes, Lengths, MarkSizes};
 use std::alloc::Global;
 
 /// Runs a script with these fonts. The answers and the bytes of the DVI file go into the buffers, and the numbers of these bytes into `lengths`.
@@ -120,6 +120,23 @@ pub extern "C" fn boxglue_marks(
     ensures sizes { KeepsUndone result sizes.old sizes.new }
 {
     boxglue_calls::marks(alloc, dvi, fonts, pages, marks, text, sizes)
+}
+
+/// Checks a DVI file with these fonts. Why it is refused goes into `fault`, and the name of a font that is missing into `name`.
+#[unsafe(no_mangle)]
+pub extern "C" fn boxglue_check(
+    alloc: Global,
+    dvi: &[u8],
+    fonts: &[Font<'_>],
+    fault: &mut Fault,
+    name: &mut [u8],
+) -> u32
+    ensures named { RefusesNames fonts.now result }
+    ensures done { Checks dvi.now fonts.now (name.old, name.new) fault.new result }
+    ensures fault { KeepsUnnamed result fault.old fault.new }
+    ensures name { KeepsUndone result name.old name.new }
+{
+    boxglue_calls::check(alloc, dvi, fonts, fault, name)
 }
 
 /// The version of the library: 10,000 times the first of its three numbers, 100 times the second, and the third.

@@ -2,7 +2,9 @@
 use Rattle.std.specs.Prelude.{◌≡◌, ◌≢◌, ◌≤◌, ◌↔◌, ◌⊎◌, ◌/◌, ℕ, true, false, List, length, Option, Some, None}
 use Rattle.boxglue_program.specs.Reports.{Reports}
 use Rattle.boxglue_print.specs.Outputs.{IsListed, IsPainted, LacksPage}
+use Rattle.dvi_read.specs.declared.fault.DviFault.TheVariants.{OutOfMemory}
 use Rattle.raster_core.specs.PaintOptions.{options_of, PaintOptionsView}
+use Rattle.boxglue_calls.specs.FileFaults.{ChecksFile, fault_numbers}
 use Rattle.boxglue_calls.specs.Fonts.{are_named, files_of}
 use Rattle.boxglue_calls.specs.FontTables.{HandsOverFonts}
 use Rattle.boxglue_calls.specs.Jobs.{IsNewJob, KeptState}
@@ -10,6 +12,7 @@ use Rattle.boxglue_calls.specs.MarkTables.{HandsOverMarks, MarkOutputs}
 use Rattle.boxglue_calls.specs.Pages.{HandsOverPages, is_in_range}
 use Rattle.boxglue_calls.specs.Runs.{HandsOverRun, IsRun}
 use Rattle.boxglue_calls.specs.Whole.{IsReplied}
+use Rattle.boxglue_calls.specs.declared.faults.Fault.{Fault}
 use Rattle.boxglue_calls.specs.declared.font_table.DviFont.{DviFont}
 use Rattle.boxglue_calls.specs.declared.font_table.FontSizes.{FontSizes}
 use Rattle.boxglue_calls.specs.declared.given.Font.{Font}
@@ -78,6 +81,15 @@ KeepsUnread status old new = status ≡ 2 → new ≡ old
 -- The marks of a DVI file with these fonts, or the line of its refusal, are handed over, unless nothing is done.
 abbrev pub ReadsMarks : (dvi : List ℕ) → List Font → (old new : MarkOutputs) → MarkSizes → (status : ℕ) → Type 0
 ReadsMarks dvi fonts old new sizes status = (status ≡ 2) ⊎ (status ≡ 3) ⊎ HandsOverMarks (files_of fonts) dvi old new sizes status
+
+-- A DVI file with these fonts is checked. `name` is the buffer for the name of a missing font, before and after. If memory is refused, the fault says so.
+abbrev pub Checks : (dvi : List ℕ) → List Font → (name : List ℕ × List ℕ) → Fault → (status : ℕ) → Type 0
+Checks dvi fonts name fault status =
+    ((status ≡ 2) × (fault ≡ fault_numbers OutOfMemory)) ⊎ (status ≡ 3) ⊎ ChecksFile (files_of fonts) dvi name fault status
+
+-- A call that does nothing, since a font has no name, leaves this as it was.
+abbrev pub KeepsUnnamed : {A : Type 0} → (status : ℕ) → (old new : A) → Type 0
+KeepsUnnamed status old new = status ≡ 3 → new ≡ old
 
 -- These buffers are large enough for the marks of any file of this size.
 abbrev pub HasSpaceForMarks : (dvi : List ℕ) → MarkOutputs → (status : ℕ) → Type 0

@@ -1,4 +1,5 @@
 pub mod Buffers
+pub mod FileFaults
 pub mod Fonts
 pub mod FontTables
 pub mod MarkTables

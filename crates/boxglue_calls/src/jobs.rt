@@ -15,5 +15,6 @@ mod whole;
 pub use handle::JobHandle;
 pub use jobs::{answers, commands, end, finish, free, new, run, take};
 pub use kept_job::KeptJob;
+pub(crate) use rows::refusal_cause;
 pub use rows::{BoxSizes, ReplyRow};
 pub use whole::{ReplySizes, run_replies};

@@ -5,7 +5,9 @@
 #![tactic(auto)]
 
 pub mod buffers;
+mod checks;
 mod edition;
+mod faults;
 mod font_table;
 mod given;
 pub mod jobs;
@@ -18,7 +20,9 @@ pub mod run_status;
 mod runs;
 pub mod status;
 
+pub use checks::check;
 pub use edition::{is_proved, version};
+pub use faults::Fault;
 pub use font_table::{DviFont, FontSizes, fonts};
 pub use given::{Font, are_named, font_files};
 pub use mark_table::{DviMark, DviPage, MarkSizes, marks};

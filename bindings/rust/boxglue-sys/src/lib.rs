@@ -57,6 +57,7 @@ pub const BOXGLUE_REFUSAL_TOO_MUCH_SHIPPED: u32 = 16;
 pub const BOXGLUE_REFUSAL_LISTS_OPEN: u32 = 17;
 pub const BOXGLUE_REFUSAL_DEVICE: u32 = 18;
 pub const BOXGLUE_REFUSAL_JOB_OVER: u32 = 19;
+pub const BOXGLUE_REFUSAL_BAD_DVI: u32 = 20;
 pub const BOXGLUE_REFUSAL_VOID_BOX: u32 = 21;
 pub const BOXGLUE_REFUSAL_TOO_MUCH_SPECIAL: u32 = 22;
 
@@ -66,6 +67,18 @@ pub const BOXGLUE_TFM_DESIGN_SIZE: u32 = 3;
 pub const BOXGLUE_TFM_CHAR_INFO: u32 = 4;
 pub const BOXGLUE_TFM_FIX_WORD: u32 = 5;
 pub const BOXGLUE_TFM_LIG_KERN: u32 = 6;
+
+pub const BOXGLUE_DVI_TRAILER: u32 = 1;
+pub const BOXGLUE_DVI_VERSION: u32 = 2;
+pub const BOXGLUE_DVI_OPCODE: u32 = 3;
+pub const BOXGLUE_DVI_POINTER: u32 = 4;
+pub const BOXGLUE_DVI_COUNT: u32 = 5;
+pub const BOXGLUE_DVI_PREAMBLE: u32 = 6;
+pub const BOXGLUE_DVI_TRUNCATED: u32 = 7;
+pub const BOXGLUE_DVI_STACK: u32 = 8;
+pub const BOXGLUE_DVI_FONT: u32 = 9;
+pub const BOXGLUE_DVI_GLYPH: u32 = 10;
+pub const BOXGLUE_DVI_RANGE: u32 = 11;
 
 pub const BOXGLUE_LINE_BYTE: u32 = 1;
 pub const BOXGLUE_LINE_WORD: u32 = 2;
@@ -143,6 +156,16 @@ pub struct boxglue_mark_sizes {
     pub num: i32,
     pub den: i32,
     pub mag: i32,
+}
+
+#[repr(C)]
+#[derive(Clone, Copy, Debug, Default, PartialEq, Eq)]
+pub struct boxglue_fault {
+    pub number: u32,
+    pub cause: u32,
+    pub font: i32,
+    pub place: u64,
+    pub name_size: usize,
 }
 
 /// A handle goes to one call at a time, and is never copied.
@@ -242,6 +265,15 @@ extern "C" {
         text: *mut u8,
         text_room: usize,
         sizes: *mut boxglue_mark_sizes,
+    ) -> u32;
+    pub fn boxglue_check(
+        dvi: *const u8,
+        dvi_size: usize,
+        fonts: *const boxglue_font,
+        font_count: usize,
+        fault: *mut boxglue_fault,
+        name: *mut u8,
+        name_room: usize,
     ) -> u32;
     pub fn boxglue_version() -> u32;
     pub fn boxglue_proved() -> u32;

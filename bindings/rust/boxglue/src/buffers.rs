@@ -7,6 +7,8 @@ use boxglue_sys as sys;
 pub(crate) const TEXT_ROOM: usize = 1 << 14;
 pub(crate) const DVI_ROOM: usize = 1 << 16;
 pub(crate) const FONT_ROOM: usize = 64;
+/// The most bytes that the name of a font in a DVI file has.
+pub(crate) const NAME_ROOM: usize = 255;
 
 /// The fonts as C takes them.
 pub(crate) fn given(fonts: &[Font<'_>]) -> Vec<sys::boxglue_font> {

@@ -84,6 +84,38 @@ impl fmt::Display for Refusal {
 
 impl std::error::Error for Refusal {}
 
+/// Why a DVI file is refused. What a fault does not have is `None`.
+#[derive(Clone, Debug, PartialEq, Eq, Hash)]
+#[non_exhaustive]
+pub struct Fault {
+    /// The number of the refusal (docs/REFUSALS.md), such as `boxglue_sys::BOXGLUE_REFUSAL_BAD_DVI`.
+    pub number: u32,
+    /// The number of the rule that the file or a metric file breaks, such as `boxglue_sys::BOXGLUE_DVI_TRAILER` or `BOXGLUE_TFM_TOO_SHORT`.
+    pub cause: Option<u32>,
+    /// The number of bytes before the place at which the file breaks a rule.
+    pub place: Option<u64>,
+    /// The name of the font that is missing.
+    pub missing: Option<Vec<u8>>,
+    /// The number by which the file selects the font whose metric file is refused.
+    pub font: Option<i32>,
+}
+
+impl Fault {
+    /// The fault of its row, with the name of a missing font.
+    pub(crate) fn of(row: &sys::boxglue_fault, name: &[u8]) -> Fault {
+        let number = row.number;
+        let is = |numbers: &[u32]| numbers.contains(&number);
+        let (dvi, metrics, large) = (sys::BOXGLUE_REFUSAL_BAD_DVI, sys::BOXGLUE_REFUSAL_BAD_TFM, sys::BOXGLUE_REFUSAL_DIMENSION_TOO_LARGE);
+        Fault {
+            number,
+            cause: is(&[dvi, metrics]).then_some(row.cause),
+            place: is(&[dvi]).then_some(row.place),
+            missing: is(&[sys::BOXGLUE_REFUSAL_NO_FONT]).then(|| name[..row.name_size].to_vec()),
+            font: is(&[metrics, large]).then_some(row.font),
+        }
+    }
+}
+
 /// What stops a call. A refused command of a script does not: it is among the answers.
 #[derive(Clone, Debug, PartialEq, Eq)]
 #[non_exhaustive]

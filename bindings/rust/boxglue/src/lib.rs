@@ -21,13 +21,13 @@ mod marks;
 mod replies;
 mod texts;
 
-pub use error::{Error, Refusal};
+pub use error::{Error, Fault, Refusal};
 pub use job::{Answers, Job};
 pub use marks::{marks, Document, Mark, Page, Units};
 pub use replies::{run_replies, Answer, BoxKind, BoxSizes, RepliedRun, Reply};
 
 use boxglue_sys as sys;
-use buffers::{buffer, given, one_text, text, DVI_ROOM, FONT_ROOM, TEXT_ROOM};
+use buffers::{buffer, given, one_text, text, DVI_ROOM, FONT_ROOM, NAME_ROOM, TEXT_ROOM};
 
 /// False, since a constant cannot ask the library that runs.
 #[deprecated(since = "1.2.0", note = "ask the library that runs, by `is_proved`")]
@@ -137,6 +137,28 @@ pub fn listing(dvi: &[u8], fonts: &[Font<'_>]) -> Result<String, Error> {
     let fonts = given(fonts);
     // SAFETY: as for `run`.
     one_text(DVI_ROOM, |at, room, size| unsafe { sys::boxglue_list(dvi.as_ptr(), dvi.len(), fonts.as_ptr(), fonts.len(), at, room, size) })
+}
+
+/// Checks a DVI file as [`listing`] does: why it is refused, or `None` for a file that is accepted.
+///
+/// # Errors
+///
+/// [`Error::OutOfMemory`] and [`Error::BadFontName`].
+///
+/// ```
+/// let fault = boxglue::check(b"no DVI file", &[])?.unwrap();
+/// assert_eq!((fault.number, fault.place), (20, Some(11)));
+/// # Ok::<(), boxglue::Error>(())
+/// ```
+pub fn check(dvi: &[u8], fonts: &[Font<'_>]) -> Result<Option<Fault>, Error> {
+    let (fonts, mut fault, mut name) = (given(fonts), sys::boxglue_fault::default(), [0; NAME_ROOM]);
+    // SAFETY: as for `run`.
+    let status = unsafe { sys::boxglue_check(dvi.as_ptr(), dvi.len(), fonts.as_ptr(), fonts.len(), &mut fault, name.as_mut_ptr(), name.len()) };
+    match status {
+        sys::BOXGLUE_ACCEPTED => Ok(None),
+        sys::BOXGLUE_REFUSED => Ok(Some(Fault::of(&fault, &name))),
+        other => Err(Error::of(other)),
+    }
 }
 
 /// Which page is painted, and how.

@@ -1,5 +1,5 @@
 //! The calls, on pages of one rule and on inputs that are refused.
-use boxglue::{fonts, listing, run, Error, Font, Job, Refusal};
+use boxglue::{check, fonts, listing, run, Error, Font, Job, Refusal};
 
 const RULE: &str = "hbox into 0\nrule 1pt 1pt 0pt\nend\nship 0\n";
 
@@ -16,6 +16,22 @@ fn a_file_that_is_cut() {
     let refusal = Refusal { line: None, number: 20, name: "BadDvi".into(), detail: "74 Trailer".into() };
     assert_eq!(listing(&ran.dvi[..74], &[]), Err(Error::Refused(refusal.clone())));
     assert_eq!(fonts(&ran.dvi[..74]), Err(Error::Refused(refusal)));
+}
+
+#[test]
+fn checks_of_files() {
+    let script = "font 0 plain\nuse 0\nhbox into 0\ntext a\nend\nship 0\n";
+    let metrics = std::fs::read(concat!(env!("CARGO_MANIFEST_DIR"), "/../../../examples/plain.tfm")).unwrap();
+    let plain = [Font::new("plain", &metrics)];
+    let dvi = run(script, &plain).unwrap().check().unwrap().dvi;
+    assert_eq!(check(&dvi, &plain), Ok(None));
+    let missing = check(&dvi, &[]).unwrap().unwrap();
+    assert_eq!((missing.number, missing.missing.as_deref(), missing.font, missing.cause), (4, Some(&b"plain"[..]), None, None));
+    let bad = check(&dvi, &[Font::new("plain", &metrics[..8])]).unwrap().unwrap();
+    assert_eq!((bad.number, bad.cause, bad.font, bad.place), (5, Some(1), Some(0), None));
+    let cut = check(&dvi[..74], &plain).unwrap().unwrap();
+    assert_eq!((cut.number, cut.cause, cut.place, cut.missing), (20, Some(1), Some(74), None));
+    assert_eq!(check(&dvi, &[Font::new("", b"")]), Err(Error::BadFontName));
 }
 
 #[test]

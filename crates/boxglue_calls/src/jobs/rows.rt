@@ -200,7 +200,7 @@ fn metric_cause(cause: TfmCause) -> u32
 }
 
 /// The number of the cause of a refusal; 0 where it names none.
-fn refusal_cause(refusal: Refusal) -> u32
+pub(crate) fn refusal_cause(refusal: Refusal) -> u32
     ensures { result ≡ refusal_cause refusal }
 {
     match refusal {
