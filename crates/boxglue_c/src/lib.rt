@@ -10,7 +10,8 @@ ghost use Rattle.boxglue_calls.specs.Pieces.{DoesCommands, FinishesKept, HandsAn
 ghost use Rattle.boxglue_calls.specs.Replies.{RepliesTo, RepliesToEnd, row_space};
 ghost use Rattle.raster_core.specs.PaintOptions.{options_of};
 ghost use Rattle.boxglue_calls.specs.Calls.{HasSpaceForMarks, IsStatusOfNew, KeepsUndone, KeepsUnpainted, KeepsUnread, KeepsWithoutJob, Lists};
-ghost use Rattle.boxglue_calls.specs.Calls.{Checks, KeepsUnnamed, MakesJob, NeedsJob, NoticesNoPage, OnJob, Paints, ReadsFonts, ReadsMarks, RefusesJob, RefusesNames};
+ghost use Rattle.boxglue_calls.specs.Calls.{Checks, KeepsUnnamed, MakesJob, NeedsJob, NoticesNoPage, OnJob, Paints};
+ghost use Rattle.boxglue_calls.specs.Calls.{ReadsFonts, ReadsMarks, RefusesJob, RefusesNames};
 ghost use Rattle.boxglue_calls.specs.Calls.{RefusesNamesOfJob, RefusesNumbers, RefusesPage, Runs, RunsInRows};
 
 use boxglue_calls::jobs::{JobHandle, ReplyRow, ReplySizes};

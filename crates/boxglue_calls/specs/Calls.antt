@@ -82,7 +82,8 @@ KeepsUnread status old new = status ≡ 2 → new ≡ old
 abbrev pub ReadsMarks : (dvi : List ℕ) → List Font → (old new : MarkOutputs) → MarkSizes → (status : ℕ) → Type 0
 ReadsMarks dvi fonts old new sizes status = (status ≡ 2) ⊎ (status ≡ 3) ⊎ HandsOverMarks (files_of fonts) dvi old new sizes status
 
--- A DVI file with these fonts is checked. `name` is the buffer for the name of a missing font, before and after. If memory is refused, the fault says so.
+-- A DVI file with these fonts is checked. `name` is the buffer for the name of a missing font, before and after. If memory is refused, the fault says
+-- so.
 abbrev pub Checks : (dvi : List ℕ) → List Font → (name : List ℕ × List ℕ) → Fault → (status : ℕ) → Type 0
 Checks dvi fonts name fault status =
     ((status ≡ 2) × (fault ≡ fault_numbers OutOfMemory)) ⊎ (status ≡ 3) ⊎ ChecksFile (files_of fonts) dvi name fault status

@@ -40,8 +40,8 @@ no_fault = record { number = 0; cause = 0; font = pos 0; place = 0; name_size = 
 abbrev pub refusal_fault : Refusal → Fault
 refusal_fault refusal = record no_fault { number = (refusal_row refusal).0; cause = refusal_cause refusal }
 
--- The numbers of a DVI file's fault: a broken rule with its place; a missing font with the length of its name; a refused metric file with the number of
--- the font in the DVI file.
+-- The numbers of a DVI file's fault: a broken rule with its place; a missing font with the length of its name; a refused metric file with the number
+-- of the font in the DVI file.
 abbrev pub fault_numbers : DviFault → Fault
 fault_numbers faults.OutOfMemory = refusal_fault refusals.OutOfMemory
 fault_numbers (faults.Bad bad) = record no_fault { number = 20; cause = dvi_cause bad.cause; place = bad.place }

@@ -1,6 +1,7 @@
 //! The active list: the groups of entries from which lines are still tried.
 
-ghost use Rattle.std.specs.Prelude.{◌≡◌, ◌<◌, ◌≤◌, ◌+◌, ◌++◌, ◌&&◌, ℕ, true, [], ◌∷◌, length, take, drop, set, slice_get, Some, None, if◌then◌else◌, OnOk};
+ghost use Rattle.std.specs.Prelude.{◌≡◌, ◌<◌, ◌≤◌, ◌+◌, ◌++◌, ◌&&◌, ℕ, true, [], ◌∷◌, length, take, drop, set, slice_get};
+ghost use Rattle.std.specs.Prelude.{Some, None, if◌then◌else◌, OnOk};
 ghost use Rattle.break_core.specs.Private.LeftOut.{is_more, kept_over};
 ghost use Rattle.break_core.specs.Private.Active.{with_live, live_of, IsBestOf};
 
@@ -183,7 +184,7 @@ pub(crate) fn remove_groups(lives: &mut Vec<Live>, kept: usize, next: usize)
 
 /// Removes the groups from which trying has stopped, if there are many, or all groups.
 #[inline]
-fn make_room(lives: &mut LiveGroups, all: bool)
+fn remove_stopped(lives: &mut LiveGroups, all: bool)
     requires first_bounded { lives.old.first ≤ length lives.old.list.items }
     ensures left { live_of lives.new ≡ (if all then [] else live_of lives.old) }
     ensures first_bounded { lives.new.first ≤ length lives.new.list.items }
@@ -208,7 +209,7 @@ pub(crate) fn add_group(lives: &mut LiveGroups, forced: bool, live: Live) -> Res
     ensures groups { OnOk result (live_of lives.new ≡ with_live (if forced then [] else live_of lives.old) live) }
     ensures first_bounded { lives.new.first ≤ length lives.new.list.items }
 {
-    make_room(lives, forced);
+    remove_stopped(lives, forced);
     if live.group.start != live.group.end {
         lives.list.push(live)?;
     }

@@ -6,7 +6,8 @@ ghost use Rattle.break_lines.specs.Problems.{max_places};
 ghost use Rattle.break_lines.specs.Even.{IsEven};
 ghost use Rattle.break_lines.specs.Legal.{is_forced};
 ghost use Rattle.break_core.specs.Private.Filling.{CountsMayGrow};
-ghost use Rattle.break_core.specs.Private.Active.{stops_at, problem_leaving_out, groups_of, live_of, MayStop, AreOver, HaveBest, IsActive, IsFilled, IsSwept};
+ghost use Rattle.break_core.specs.Private.Active.{stops_at, problem_leaving_out, groups_of, live_of, MayStop};
+ghost use Rattle.break_core.specs.Private.Active.{AreOver, HaveBest, IsActive, IsFilled, IsSwept};
 ghost use Rattle.break_core.specs.Private.Active.{IsCounted};
 ghost use Rattle.break_core.specs.Private.Active.{TrialsOnlyGrow, WasTried};
 
