@@ -1,0 +1,2 @@
+-- What no contract reaches that another crate or a user can call: only proofs and private functions speak of these definitions.
+pub mod Written
