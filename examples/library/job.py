@@ -2,8 +2,8 @@
 import boxglue
 
 with boxglue.Job() as job, open("page.dvi", "wb") as out:
-    print(job.commands("hbox into 0\nrule 1pt 1pt 0pt\n").check().answers, end="")
-    print(job.commands("end\nship 0\n").check().answers, end="")
+    print(job.commands("hbox into 0\nrule 1pt 1pt 0pt\n").check().answers_text, end="")
+    print(job.commands("end\nship 0\n").check().answers_text, end="")
     out.write(job.take())  # the page
-    print(job.finish().check().answers, end="")
+    print(job.finish().check().answers_text, end="")
     out.write(job.take())  # the end of the file

@@ -6,5 +6,5 @@ import boxglue
 
 script, metrics, out = map(Path, sys.argv[1:])
 ran = boxglue.run(script.read_bytes(), {"cmtt10": metrics.read_bytes()})
-print(ran.answers, end="")
+print(ran.answers_text, end="")
 out.write_bytes(ran.check().dvi)

@@ -37,7 +37,7 @@ def run_pieces(boxglue, script, fonts, most):
             dvi.append(job.take())
         answers.append(job.finish())
         dvi.append(job.take())
-    return int(not all(it.accepted for it in answers)), "".join(it.answers for it in answers), b"".join(dvi)
+    return int(not all(it.accepted for it in answers)), "".join(it.answers_text for it in answers), b"".join(dvi)
 
 
 def answer(boxglue, call, words):
@@ -49,7 +49,7 @@ def answer(boxglue, call, words):
         if call == "job":
             return run_pieces(boxglue, data, fonts, most)
         ran = boxglue.run(data, fonts)
-        return int(not ran.accepted), ran.answers, ran.dvi
+        return int(not ran.accepted), ran.answers_text, ran.dvi
     if call == "fonts":
         return 0, "".join(f"{it.number} {it.size} {it.name} {it.design_size} {it.check_sum}\n" for it in boxglue.fonts(data)), b""
     if call == "marks":

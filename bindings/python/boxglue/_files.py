@@ -11,6 +11,7 @@ from typing import Any
 
 from ._fonts import FontFolder
 from ._library import DVI_ROOM, FONT_ROOM, TEXT_ROOM, Data, DviFontRow, FaultRow, Fonts, FontSizes, data_of, given_fonts, library, new_buffer, one_output, sized
+from ._public import public
 from ._replies import _DVI_CAUSES, _METRIC_CAUSES, _REFUSALS
 from ._status import BoxglueError, Refused, Status, fail
 
@@ -19,6 +20,7 @@ NAME_ROOM = 255
 _REFUSAL = re.compile(r"refused (\d+) (\w+)(?: (.*))?\n")
 
 
+@public
 @dataclass(frozen=True, slots=True)
 class DviFont:
     """A font that a DVI file defines: its number, its name, its size and design size in DVI units (scaled points in boxglue's own files), and its check sum."""
@@ -29,6 +31,7 @@ class DviFont:
     check_sum: int
 
 
+@public
 @dataclass(frozen=True, slots=True)
 class Bitmap:
     """A bitmap as plain PBM."""
@@ -50,6 +53,7 @@ class Bitmap:
         return [pixels[at:at + width] for at in range(0, len(pixels), width)]
 
 
+@public
 @dataclass(frozen=True, slots=True)
 class Fault:
     """Why a DVI file is refused, in numbers and names (docs/REFUSALS.md).
@@ -92,12 +96,14 @@ def file_words(dvi: bytes, given: Fonts) -> tuple[Any, ...]:
     return (*sized(dvi), *given_fonts(given))
 
 
+@public
 def listing(dvi: Data, fonts: Fonts = ()) -> str:
     """The listing of the marks of all pages of a DVI file. Raises Refused, OutOfMemory or BadFontName."""
     words = file_words(data_of(dvi, "a DVI file"), fonts)
     return _text(lambda *room: library().boxglue_list(*words, *room), DVI_ROOM)
 
 
+@public
 def check(dvi: Data, fonts: Fonts = ()) -> Fault | None:
     """Checks a DVI file as `listing` does, and returns why it is refused, or None for a file that is accepted. Raises OutOfMemory or BadFontName."""
     words, fault, name = file_words(data_of(dvi, "a DVI file"), fonts), FaultRow(), new_buffer(NAME_ROOM)
@@ -117,6 +123,7 @@ def _fault(row: FaultRow, name: bytes) -> Fault:
                  name.decode("utf-8", "surrogateescape") if named == "NoFont" else None, row.font if named in ("BadTfm", "DimensionTooLarge") else None)
 
 
+@public
 def paint(dvi: Data, fonts: Fonts = (), *, page: int = 1, dpi: int = 100, width: int = 850, height: int = 1100) -> Bitmap:
     """Paints the rules of a page of a DVI file: a page counted from 1, pixels an inch, and the size of the bitmap in pixels, 1 to 10,000.
 
@@ -130,6 +137,7 @@ def paint(dvi: Data, fonts: Fonts = (), *, page: int = 1, dpi: int = 100, width:
     return Bitmap(_text(lambda *buffer: library().boxglue_paint(*words, *buffer), max(room, TEXT_ROOM)))
 
 
+@public
 def fonts(dvi: Data) -> list[DviFont]:
     """The fonts that a DVI file defines after its pages, in the order of the file: their names are those that the other calls need.
 

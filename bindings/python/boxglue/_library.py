@@ -6,14 +6,19 @@ import functools
 import os
 from collections.abc import Callable, Iterable, Mapping
 from ctypes import POINTER, Structure, byref, c_char, c_char_p, c_int32, c_int64, c_size_t, c_uint32, c_uint64, c_void_p
-from typing import Any
+from typing import TYPE_CHECKING, Any, TypeAlias
 
+from ._public import public
 from ._status import BoxglueError, Status, fail
 
-# Anything that is like bytes, as bytearray, memoryview or mmap; Python before 3.12 has no name for all of them.
-Data = bytes | bytearray | memoryview
-Text = str | Data
-Fonts = Mapping[str, Data] | Mapping[bytes, Data] | Iterable[tuple[Text, Data]]
+if TYPE_CHECKING:
+    from array import array
+    from mmap import mmap
+
+# What is like bytes. Python before 3.12 has no name for all of it.
+Data: TypeAlias = "bytes | bytearray | memoryview | mmap | array[Any]"
+Text: TypeAlias = "str | Data"
+Fonts: TypeAlias = "Mapping[str, Data] | Mapping[bytes, Data] | Iterable[tuple[Text, Data]]"
 
 # The name of the library that the system's loader looks for.
 SYSTEM_LIBRARY = "libboxglue.so.1"
@@ -124,11 +129,13 @@ def library() -> Any:
     return found
 
 
+@public
 def version() -> str:
     """The version of the library that is loaded, such as "1.2.0"."""
     return shown_version(library().boxglue_version())
 
 
+@public
 def proved() -> bool:
     """Whether the library that is loaded is proved: it says so itself. One that is not (`./install --unproved`) has run-time checks, and a fault of its own
     ends the process."""
@@ -158,17 +165,25 @@ def new_buffer(room: int) -> Any:
     return (c_char * max(room, 1))()
 
 
-def given_fonts(given: Fonts) -> tuple[Any, int]:
-    """Fonts as a call takes them. The array keeps the bytes."""
+def pairs_of(given: Fonts) -> list[tuple[Text, Data]]:
+    """Fonts as pairs of a name and the bytes of a metric file."""
     if isinstance(given, (str, bytes, bytearray, memoryview)):
         raise TypeError(f"fonts must be a mapping or pairs, not {type(given).__name__}")
-    pairs = list(given.items() if isinstance(given, Mapping) else given)
-    array = (Font * max(len(pairs), 1))()
-    for at, pair in enumerate(pairs):
+    pairs: list[tuple[Text, Data]] = []
+    for pair in given.items() if isinstance(given, Mapping) else given:
         try:
             name, metrics = pair
         except (TypeError, ValueError):
             raise TypeError(f"a font must be a pair of its name and the bytes of its metric file, not {pair!r:.40}") from None
+        pairs.append((name, metrics))
+    return pairs
+
+
+def given_fonts(given: Fonts) -> tuple[Any, int]:
+    """Fonts as a call takes them. The array keeps the bytes."""
+    pairs = pairs_of(given)
+    array = (Font * max(len(pairs), 1))()
+    for at, (name, metrics) in enumerate(pairs):
         array[at] = Font(*sized(text_of(name, "the name of a font")), *sized(data_of(metrics, "a metric file")))
     if not pairs:
         array[0] = Font(b"", 0, b"", 0)

@@ -12,6 +12,7 @@ from typing import Any
 
 from ._files import file_words, refusal_in
 from ._library import Data, Fonts, MarkRow, MarkSizes, PageRow, data_of, library, new_buffer
+from ._public import public
 from ._status import Status, fail
 from ._tables import Table, new_table, part_of
 
@@ -23,6 +24,7 @@ _MOST_ROOM = 1 << 24
 _POINTS_NUM, _POINTS_DEN = 25400000, 473628672
 
 
+@public
 class MarkKind(enum.IntEnum):
     """The kind of a mark in a row of `Marks.rows`."""
     GLYPH = 1
@@ -30,6 +32,7 @@ class MarkKind(enum.IntEnum):
     SPECIAL = 3
 
 
+@public
 @dataclass(frozen=True, slots=True)
 class Glyph:
     """A character of a font, with its reference point at (h, v), and its width by the metric file."""
@@ -40,6 +43,7 @@ class Glyph:
     width: int
 
 
+@public
 @dataclass(frozen=True, slots=True)
 class Rule:
     """A black rectangle, with its lower left corner at (h, v)."""
@@ -49,6 +53,7 @@ class Rule:
     width: int
 
 
+@public
 @dataclass(frozen=True, slots=True)
 class Special:
     """A special at (h, v), and its text."""
@@ -60,6 +65,7 @@ class Special:
 Mark = Glyph | Rule | Special
 
 
+@public
 @dataclass(frozen=True, slots=True)
 class Units:
     """The units of a file: one is num / den times 10^-7 m, enlarged by mag / 1000."""
@@ -73,6 +79,7 @@ class Units:
         return Fraction(self.num * self.mag * _POINTS_DEN, self.den * 1000 * _POINTS_NUM)
 
 
+@public
 class Marks(Table[Mark]):
     """Marks in order. Each is made when it is asked for, as a Glyph, a Rule or a Special.
 
@@ -97,6 +104,7 @@ class Marks(Table[Mark]):
         return struct.iter_unpack("=I6iIQ", self._rows)
 
 
+@public
 @dataclass(frozen=True, slots=True)
 class Page:
     """A page: its ten counts, and its marks."""
@@ -104,6 +112,7 @@ class Page:
     marks: Marks
 
 
+@public
 class Pages(Table[Page]):
     """The pages of a DVI file in order. Each is made when it is asked for."""
 
@@ -115,6 +124,7 @@ class Pages(Table[Page]):
         return Page(tuple(row.counts), self._marks[row.first_mark:row.first_mark + row.marks])
 
 
+@public
 @dataclass(frozen=True, slots=True)
 class Document:
     """What a DVI file shows: its pages, all marks of all pages, one page after the other, and the units."""
@@ -123,6 +133,7 @@ class Document:
     units: Units
 
 
+@public
 def marks(dvi: Data, fonts: Fonts = ()) -> Document:
     """The pages of a DVI file and their marks. It reads the whole file. Raises Refused, OutOfMemory or BadFontName."""
     data, sizes = data_of(dvi, "a DVI file"), MarkSizes()

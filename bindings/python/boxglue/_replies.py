@@ -1,12 +1,11 @@
 """Replies to commands: what a command did, in numbers, or why it was refused. Dimensions are scaled points."""
-from __future__ import annotations
-
 import enum
 from collections.abc import Callable
 from dataclasses import dataclass
 from typing import Any, Literal
 
 from ._dimensions import points
+from ._public import public
 from ._status import Refused
 from ._tables import Table
 
@@ -22,6 +21,7 @@ _METRIC_CAUSES = "", "TooShort", "Counts", "DesignSize", "CharInfo", "FixWord", 
 _LINE_CAUSES = "", "Byte", "Word", "Missing", "Extra", "Number", "Dimension", "Name"
 
 
+@public
 class ReplyKind(enum.IntEnum):
     """The kind of a reply in a row of `Replies.rows`."""
     OK = 0
@@ -39,6 +39,7 @@ class ReplyKind(enum.IntEnum):
     END = 12
 
 
+@public
 @dataclass(frozen=True, slots=True)
 class Sizes:
     """The sizes of a box."""
@@ -50,6 +51,7 @@ class Sizes:
         return f"{points(self.width)} {points(self.height)} {points(self.depth)}"
 
 
+@public
 @dataclass(frozen=True, slots=True)
 class Ok:
     """The command was done, and has nothing to report."""
@@ -59,6 +61,7 @@ class Ok:
         return f"{self.line}: ok"
 
 
+@public
 @dataclass(frozen=True, slots=True)
 class Packed:
     """A list was packed into a box. Its badness is 0 to 10,000, or 1,000,000 where it is overfull."""
@@ -72,6 +75,7 @@ class Packed:
         return f"{self.line}: packed {Sizes(self.width, self.height, self.depth)} badness {self.badness}"
 
 
+@public
 @dataclass(frozen=True, slots=True)
 class Measured:
     """A box was measured: an "hbox" or a "vbox", a vtop being one too; or the register is "void", and all sizes are 0."""
@@ -86,6 +90,7 @@ class Measured:
         return f"{self.line}: measured {self.kind}{sizes}"
 
 
+@public
 @dataclass(frozen=True, slots=True)
 class Added:
     """Items were added to the list; of a text also how many of its characters the font has not (2^32 - 1 stands for more, too), else None."""
@@ -97,6 +102,7 @@ class Added:
         return f"{self.line}: added {self.items}" + ("" if self.missing is None else f" missing {self.missing}")
 
 
+@public
 @dataclass(frozen=True, slots=True)
 class Paragraph:
     """A paragraph was broken into lines: how many, the pass that decided (1 to 3), by how much they are overfull, and their demerits. An empty one has 0 four times."""
@@ -110,6 +116,7 @@ class Paragraph:
         return f"{self.line}: paragraph lines {self.lines} pass {self.deciding_pass} overhang {self.overhang} demerits {self.demerits}"
 
 
+@public
 @dataclass(frozen=True, slots=True)
 class Split:
     """A vertical box was split: the sizes of its front, the badness of that, and the sizes of the rest, or None where nothing is left. Of a void register there is no
@@ -125,6 +132,7 @@ class Split:
         return f"{self.line}: split {self.front} badness {self.badness} rest {'void' if self.rest is None else self.rest}"
 
 
+@public
 @dataclass(frozen=True, slots=True)
 class Shipped:
     """A page was shipped: the number of pages that the file has then."""
@@ -135,6 +143,7 @@ class Shipped:
         return f"{self.line}: shipped {self.pages}"
 
 
+@public
 @dataclass(frozen=True, slots=True)
 class End:
     """The job was ended: how many pages and how many bytes its file has."""
@@ -164,6 +173,11 @@ def _split(row: Any) -> Split:
     return Split(row.line, Sizes(*_sizes(row.box)), row.badness, Sizes(*_sizes(row.rest)) if row.has_rest else None)
 
 
+def reply_of(row: Any) -> Reply:
+    """The reply that a row has."""
+    return _REPLIES[row.kind](row)
+
+
 _REFUSED: dict[int, Callable[[Any], Refused]] = {ReplyKind.REFUSED: _refused, ReplyKind.BAD_LINE: _bad_line}
 _REPLIES: dict[int, Callable[[Any], Reply]] = {
     **_REFUSED,
@@ -189,6 +203,7 @@ def _answer(reply: Reply) -> str:
     return said if reply.name == "BadScript" else f"{'end' if reply.line is None else reply.line}: {said}"
 
 
+@public
 class Replies(Table[Reply]):
     """The replies to commands, in order. Each is made when it is asked for, and is the one class or the other: Ok, Packed, Measured, Added, Paragraph, Split,
     Shipped, End, or the exception Refused, which is not raised here.
@@ -197,7 +212,7 @@ class Replies(Table[Reply]):
     """
 
     def _item(self, row: Any) -> Reply:
-        return _REPLIES[row.kind](row)
+        return reply_of(row)
 
     @property
     def refusals(self) -> list[Refused]:
@@ -205,6 +220,6 @@ class Replies(Table[Reply]):
         return [_REFUSED[row.kind](row) for row in self._rows if row.kind in _REFUSED]
 
     @property
-    def answers(self) -> str:
+    def answers_text(self) -> str:
         """Them as texts, a line each (docs/FORMATS.md, section 3)."""
         return "".join(f"{_answer(it)}\n" for it in self)

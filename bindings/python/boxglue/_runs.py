@@ -9,6 +9,7 @@ from typing import TypeVar
 
 from ._fonts import FontFolder, names_in_script
 from ._library import DVI_ROOM, Fonts, ReplyRow, ReplySizes, Text, given_fonts, library, new_buffer, sized, text_of
+from ._public import public
 from ._replies import Replies
 from ._status import Refused, Status, fail
 from ._tables import new_table, part_of
@@ -22,9 +23,14 @@ class _Answered:
     accepted: bool
 
     @functools.cached_property
-    def answers(self) -> str:
+    def answers_text(self) -> str:
         """The replies as texts, a line each (docs/FORMATS.md, section 3). They are made when they are asked for."""
-        return self.replies.answers
+        return self.replies.answers_text
+
+    @property
+    def answers(self) -> str:
+        """The same as `answers_text`: its name in version 1.1."""
+        return self.answers_text
 
     @property
     def refusals(self) -> list[Refused]:
@@ -41,6 +47,7 @@ class _Answered:
 _Given = TypeVar("_Given", bound=_Answered)
 
 
+@public
 @dataclass(frozen=True)
 class Run(_Answered):
     """A run: the replies to its commands, the last one that to its end, the bytes of the DVI file, and whether nothing was refused.
@@ -52,6 +59,7 @@ class Run(_Answered):
     accepted: bool
 
 
+@public
 @dataclass(frozen=True)
 class Answers(_Answered):
     """The replies to the commands of a piece, or to the end of a job; and whether nothing was refused."""
@@ -59,6 +67,7 @@ class Answers(_Answered):
     accepted: bool
 
 
+@public
 def run(script: Text, fonts: Fonts = ()) -> Run:
     """Runs a script with these fonts.
 

@@ -44,8 +44,11 @@ class Table(Sequence[Item]):
 
     @property
     def rows(self) -> memoryview:
-        """The table as a memoryview, which cannot be written."""
+        """The table as a memoryview, which cannot be written. From Python 3.12 on `memoryview` of this gives the same."""
         return memoryview(self._rows).toreadonly()
+
+    def __buffer__(self, _flags: int) -> memoryview:
+        return self.rows
 
     def __len__(self) -> int:
         return len(self._rows)

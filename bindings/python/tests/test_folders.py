@@ -8,10 +8,10 @@ import boxglue
 
 from .samples import TEXT, plain, refusal_of
 
-# A stand-in for TeX's program: it knows one font, and writes down each name that it is asked for.
+# A stand-in for TeX's program: it knows two fonts, and writes down the names that it is asked for, a line each time.
 KPSEWHICH = """#!/bin/sh
-echo "$1" >> "$(dirname "$0")/asked"
-test "$1" = far.tfm && echo "$(dirname "$0")/other/far.tfm"
+echo "$@" >> "$(dirname "$0")/asked"
+for it; do case "$it" in far.tfm | farther.tfm) echo "$(dirname "$0")/other/$it" ;; esac; done
 """
 
 
@@ -20,7 +20,7 @@ class Folders(unittest.TestCase):
         room = tempfile.TemporaryDirectory()
         self.addCleanup(room.cleanup)
         self.room, self.metrics = pathlib.Path(room.name), plain()["plain"]
-        for name in ("one/plain", "one/both", "two/both", "two/second", "other/far"):
+        for name in ("one/plain", "one/both", "two/both", "two/second", "other/far", "other/farther"):
             path = self.room / f"{name}.tfm"
             path.parent.mkdir(exist_ok=True)
             path.write_bytes(self.metrics if name != "two/both" else b"")
@@ -78,6 +78,15 @@ class Folders(unittest.TestCase):
         self.assertEqual([folder.get(it) for it in ("plain", "far", "far", "near", "near", "../x")], [self.metrics] * 3 + [None] * 3)
         self.assertEqual((self.room / "asked").read_text(), "far.tfm\nnear.tfm\n")
         self.assertTrue(boxglue.run("font 0 far\n", folder).accepted)
+
+    def test_kpsewhich_is_called_once(self):
+        folder = self.with_kpsewhich()
+        names = ["near", "far", "plain", "farther", "../x", "far"]
+        self.assertEqual([*folder.choose(names)], ["far", "plain", "farther"])
+        self.assertEqual((self.room / "asked").read_text(), "near.tfm far.tfm farther.tfm\n")
+        folder = self.with_kpsewhich()
+        self.assertTrue(boxglue.run("font 0 far\nfont 1 farther\nfont 2 plain\n", folder).accepted)
+        self.assertEqual((self.room / "asked").read_text(), "near.tfm far.tfm farther.tfm\nfar.tfm farther.tfm\n")
 
 
 if __name__ == "__main__":

@@ -36,13 +36,13 @@ def run_pieces(script, fonts, most):
             taken.append(job.take())
         answered.append(job.finish())
         taken.append(job.take())
-    return "".join(it.answers for it in answered), b"".join(taken), all(it.accepted for it in answered)
+    return "".join(it.answers_text for it in answered), b"".join(taken), all(it.accepted for it in answered)
 
 
 def whole(script, fonts):
     """The same of one run."""
     ran = boxglue.run(script, fonts)
-    return ran.answers, ran.dvi, ran.accepted
+    return ran.answers_text, ran.dvi, ran.accepted
 
 
 class Jobs(unittest.TestCase):
@@ -63,12 +63,12 @@ class Jobs(unittest.TestCase):
     def test_answers_of_a_piece(self):
         with boxglue.Job() as job:
             answers = job.commands("hbox into 0\n")
-            self.assertEqual(([*answers.replies], answers.answers, answers.accepted), ([boxglue.Ok(1)], "1: ok\n", True))
+            self.assertEqual(([*answers.replies], answers.answers_text, answers.accepted), ([boxglue.Ok(1)], "1: ok\n", True))
             answers = job.commands("rule 1pt 1pt 0pt\nship 9")
-            self.assertEqual((answers.answers, answers.accepted), ("2: ok\n3: refused 21 VoidBox\n", False))
+            self.assertEqual((answers.answers_text, answers.accepted), ("2: ok\n3: refused 21 VoidBox\n", False))
             self.assertRaises(boxglue.Refused, answers.check)
             self.assertEqual(([*job.commands("").replies], job.commands("").accepted), ([], True))
-            self.assertEqual(job.commands("end\n").check().answers, "4: packed 1.0pt 1.0pt 0.0pt badness 0\n")
+            self.assertEqual(job.commands("end\n").check().answers_text, "4: packed 1.0pt 1.0pt 0.0pt badness 0\n")
 
     def test_bad_piece_leaves_the_job(self):
         with boxglue.Job() as job:
@@ -76,8 +76,8 @@ class Jobs(unittest.TestCase):
             refused, = job.commands("end\nship 0\nkern x\n").refusals
             self.assertEqual((refused.line, refused.name, refused.cause), (5, "BadScript", "Dimension"))
             self.assertEqual(job.take(), b"")
-            self.assertEqual(job.commands("end\nship 0\n").answers, "".join(ANSWERS.splitlines(True)[2:4]))
-            self.assertEqual(job.finish().answers + str(len(job.take())), "end: pages 1 bytes 116\n116")
+            self.assertEqual(job.commands("end\nship 0\n").answers_text, "".join(ANSWERS.splitlines(True)[2:4]))
+            self.assertEqual(job.finish().answers_text + str(len(job.take())), "end: pages 1 bytes 116\n116")
 
     def test_bytes_go_out_with_each_page(self):
         with boxglue.Job() as job:
@@ -95,7 +95,7 @@ class Jobs(unittest.TestCase):
         script = "".join(RULE.replace("1pt 0pt", f"{it}pt 0pt") for it in range(1, 3001))
         with boxglue.Job() as job:
             answers, end = job.commands(script).check(), job.finish().check()
-            self.assertEqual((answers.answers + end.answers, job.take(), True), whole(script, {}))
+            self.assertEqual((answers.answers_text + end.answers_text, job.take(), True), whole(script, {}))
 
     def test_end_with_an_open_list(self):
         with boxglue.Job() as job:
@@ -151,7 +151,7 @@ class Jobs(unittest.TestCase):
                 it.start()
             for it in threads:
                 it.join()
-            self.assertEqual(job.commands("void 0\n").answers, "801: ok\n")
+            self.assertEqual(job.commands("void 0\n").answers_text, "801: ok\n")
 
 
 # A program that ends while a daemon thread is inside a call on a job. The library is a stand-in whose call waits, and which says what is freed meanwhile.
@@ -219,10 +219,10 @@ class Ends(unittest.TestCase):
                 with mock.patch.object(_job, "replies_of", side_effect=error):
                     self.assertRaises(error, job.commands, "ship 3\n")
                 answers = job.commands("hbox into 0\n")
-                self.assertEqual((answers.answers, answers.accepted), ("2: ok\n", True))
+                self.assertEqual((answers.answers_text, answers.accepted), ("2: ok\n", True))
                 with mock.patch.object(_job, "replies_of", side_effect=error):
                     self.assertRaises(error, job.finish)
-                self.assertEqual(job.commands("end\n").check().answers, "3: packed 0.0pt 0.0pt 0.0pt badness 0\n")
+                self.assertEqual(job.commands("end\n").check().answers_text, "3: packed 0.0pt 0.0pt 0.0pt badness 0\n")
 
     def test_bytes_that_were_cut_off(self):
         """Bytes of the file that were not handed on are in those of the next call."""

@@ -2,6 +2,7 @@
 import copy
 import gc
 import pickle
+import sys
 import unittest
 from fractions import Fraction
 from unittest import mock
@@ -87,6 +88,9 @@ class Sequences(unittest.TestCase):
         rows = self.document.marks.rows
         self.assertEqual((rows.shape, rows.itemsize, rows.readonly), ((505,), 40, True))
         self.assertEqual(self.document.pages[6].marks.rows.tobytes(), rows[6:7].tobytes())
+        marks = self.document.marks
+        view = memoryview(marks) if sys.version_info >= (3, 12) else marks.__buffer__(0)  # Python before 3.12 does not ask classes
+        self.assertEqual((view.shape, view.readonly, view.tobytes()), ((505,), True, rows.tobytes()))
 
     def test_kinds(self):
         marks = boxglue.marks(boxglue.run(TEXT + SPECIALS, plain()).dvi, plain()).marks

@@ -1,5 +1,7 @@
 """Tests of what is refused, and of what is raised for it."""
+import array
 import copy
+import mmap
 import multiprocessing
 import pickle
 import unittest
@@ -57,7 +59,7 @@ class Inputs(unittest.TestCase):
         for fonts in ({"cmr10": "cmr10.tfm"}, {"cmr10": 5}, {"cmr10": None}, {7: b""}, "cmr10", b"cmr10", 7):
             for call in (boxglue.run, boxglue.listing, boxglue.Job):
                 self.assertRaises(TypeError, *(call,) if call is boxglue.Job else (call, dvi), fonts)
-        self.assertEqual(job.commands(RULE[:12]).answers, "1: ok\n")
+        self.assertEqual(job.commands(RULE[:12]).answers_text, "1: ok\n")
         self.assertRaisesRegex(TypeError, "^a script must be str or bytes, not list$", boxglue.run, [1])
         self.assertRaisesRegex(TypeError, "^a DVI file must be bytes, not str$", boxglue.marks, "page.dvi")
         for words in ({"page": 1.5}, {"dpi": "100"}, {"width": None}):
@@ -67,7 +69,9 @@ class Inputs(unittest.TestCase):
 
     def test_types_of_bytes(self):
         dvi = boxglue.run(RULE).dvi
-        for given in (bytearray(dvi), memoryview(dvi)):
+        room = mmap.mmap(-1, len(dvi))
+        room.write(dvi)
+        for given in (bytearray(dvi), memoryview(dvi), array.array("B", dvi), room):
             self.assertEqual(boxglue.listing(given), boxglue.listing(dvi))
         every_second = memoryview(bytes(it for byte in dvi for it in (byte, 0)))[::2]
         self.assertEqual(boxglue.listing(every_second), boxglue.listing(dvi))

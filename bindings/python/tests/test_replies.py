@@ -62,7 +62,7 @@ class EachKind(unittest.TestCase):
         self.assertEqual(self.ran.replies[-1], End(1, len(self.ran.dvi)))
 
     def test_texts(self):
-        texts = self.ran.answers.splitlines()
+        texts = self.ran.answers_text.splitlines()
         for number, (line, _, wanted) in enumerate(LINES, 1):
             self.assertEqual(texts[number - 1], f"{number}: {wanted}", line)
         self.assertEqual(texts[-1], f"end: pages 1 bytes {len(self.ran.dvi)}")
@@ -86,7 +86,7 @@ class Numbers(unittest.TestCase):
             return boxglue.Status.REFUSED_MEMORY
         with mock.patch.object(_runs, "library", lambda: types.SimpleNamespace(boxglue_run_replies=call)):
             ran = boxglue.run("hbox into 0\n")
-        self.assertEqual((ran.answers, ran.accepted), ("1: refused 1 OutOfMemory\n", False))
+        self.assertEqual((ran.answers_text, ran.accepted), ("1: refused 1 OutOfMemory\n", False))
 
     def test_memory_for_nothing(self):
         for status, error in ((2, boxglue.OutOfMemory), (3, boxglue.BadFontName)):
@@ -150,21 +150,22 @@ class Sequences(unittest.TestCase):
         ran = boxglue.run("ship 3\n")
         self.assertEqual(pickle.loads(pickle.dumps(ran)), boxglue.run("ship 3\n"))
         self.assertNotEqual(ran, boxglue.run("ship 4\n\nship 4\n"))
-        self.assertIs(ran.answers, ran.answers)
+        self.assertIs(ran.answers_text, ran.answers_text)
+        self.assertIs(ran.answers, ran.answers_text)  # the name of version 1.1
         self.assertEqual((pickle.loads(pickle.dumps(ran)), hash(ran)), (ran, hash(boxglue.run("ship 3\n"))))
 
 
 class Refusals(unittest.TestCase):
     def test_end(self):
         ran = boxglue.run("hbox into 0\n")
-        self.assertEqual(([*ran.replies][1:], ran.answers), ([Refused("ListsOpen", 17)], "1: ok\nend: refused 17 ListsOpen\n"))
+        self.assertEqual(([*ran.replies][1:], ran.answers_text), ([Refused("ListsOpen", 17)], "1: ok\nend: refused 17 ListsOpen\n"))
 
     def test_bad_lines(self):
         """A line for each cause, from docs/FORMATS.md, section 2."""
         lines = {"text \t": "Byte", "texta": "Word", "hbox to": "Missing", "end text a": "Extra", "penalty 1pt": "Number", "kern 1": "Dimension", "font 0 a/b": "Name"}
         for line, cause in lines.items():
             ran = boxglue.run(f"hbox into 0\n\n{line}\n")
-            self.assertEqual(([*ran.replies], ran.answers), ([Refused("BadScript", 2, None, f"3 {cause}")], f"refused 2 BadScript 3 {cause}\n"))
+            self.assertEqual(([*ran.replies], ran.answers_text), ([Refused("BadScript", 2, None, f"3 {cause}")], f"refused 2 BadScript 3 {cause}\n"))
             with boxglue.Job() as job:
                 job.commands("hbox into 0\n")
                 self.assertEqual([*job.commands(f"\n{line}").replies], [*ran.replies])

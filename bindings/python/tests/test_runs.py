@@ -11,7 +11,7 @@ from .samples import ANSWERS, RULE, TEXT, plain
 class Runs(unittest.TestCase):
     def test_page_of_one_rule(self):
         ran = boxglue.run(RULE)
-        self.assertEqual((ran.answers, len(ran.dvi), ran.accepted), (ANSWERS, 116, True))
+        self.assertEqual((ran.answers_text, len(ran.dvi), ran.accepted), (ANSWERS, 116, True))
         self.assertIs(ran.check(), ran)
         self.assertEqual(repr(ran), "Run(replies=<Replies: 5>, accepted=True)")
 
@@ -21,7 +21,7 @@ class Runs(unittest.TestCase):
 
     def test_empty_script(self):
         ran = boxglue.run("")
-        self.assertEqual(([*ran.replies], ran.answers, ran.dvi, ran.accepted), ([boxglue.End(0, 0)], "end: pages 0 bytes 0\n", b"", True))
+        self.assertEqual(([*ran.replies], ran.answers_text, ran.dvi, ran.accepted), ([boxglue.End(0, 0)], "end: pages 0 bytes 0\n", b"", True))
 
     def test_refused_command(self):
         ran = boxglue.run("ship 3\nend\n" + RULE)
@@ -45,8 +45,8 @@ class Runs(unittest.TestCase):
 
     def test_outputs_that_need_larger_buffers(self):
         ran = boxglue.run(RULE + "copy 0\nmeasure 1\n" * 5000 + "".join(RULE.replace("1pt 0pt", f"{it}pt 0pt") for it in range(1, 2001)))
-        self.assertEqual(ran.answers.count("\n"), 4 + 10_000 + 8000 + 1)
-        self.assertEqual(ran.answers.splitlines()[-1], f"end: pages 2001 bytes {len(ran.dvi)}")
+        self.assertEqual(ran.answers_text.count("\n"), 4 + 10_000 + 8000 + 1)
+        self.assertEqual(ran.answers_text.splitlines()[-1], f"end: pages 2001 bytes {len(ran.dvi)}")
         self.assertEqual(boxglue.listing(ran.dvi).count("\nrule"), 2001)
 
     def test_many_runs_in_threads(self):

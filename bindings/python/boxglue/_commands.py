@@ -1,0 +1,357 @@
+"""The commands of scripts as typed calls. A job runs each at once, and a batch keeps them; so what they return is a parameter of the class."""
+from __future__ import annotations
+
+from abc import ABC, abstractmethod
+from typing import TYPE_CHECKING, Generic, Literal, SupportsIndex, TypeVar
+
+from . import _metrics
+from ._encoded import codes_of, encoded, refuse_missing
+from ._encodings import ASCII
+from ._lists import LoadedFont, OpenBox, OpenParagraph, Register
+from ._scripts import (
+    CHARACTERS, COUNTS, LARGEST_FONT, MOST_FIRST_LINES, MOST_PENALTY, SLOTS, Glue, dimension, glue, glue_parameter, name_of_font, number, quote, register,
+    size_of_rule, target,
+)
+from ._status import BoxglueError
+
+if TYPE_CHECKING:
+    from ._encodings import Encoding
+    from ._lists import State
+    from ._metrics import Metrics
+    from ._scripts import Stretch
+
+    Missing = Literal["count", "raise"]
+
+OkT = TypeVar("OkT")
+AddedT = TypeVar("AddedT")
+SplitT = TypeVar("SplitT")
+MeasuredT = TypeVar("MeasuredT")
+ShippedT = TypeVar("ShippedT")
+_DIMENSIONS = {*"boxmaxdepth splitmaxdepth lineskiplimit hsize firstsize hoffset voffset".split()}
+_GLUES = {*"splittopskip baselineskip lineskip parfillskip".split()}
+
+
+class Commands(ABC, Generic[OkT, AddedT, SplitT, MeasuredT, ShippedT]):
+    """The commands of docs/COMMANDS.md, section 3, as calls. A `Job` runs each at once and returns its reply; a `Batch` returns a `Handle` that has it later.
+
+    Dimensions are whole numbers of scaled points, as `pt`, `inch` and the other units give them. A register is a number, or a `Register` of `register()`.
+
+    All calls raise, before anything is sent:
+        TypeError: An argument is of another type. A float is not a dimension.
+        ValueError: A number is out of the range that scripts have for it; BadCharacter is one, for a text.
+        NeedsRecovery: An exception left a list open: see `recover`.
+        NoJob: The job is closed.
+    Then they raise:
+        Refused: The command is refused, with the command and the line of the call. A refused command changes nothing.
+        OutOfMemory: Nothing was done.
+
+    Use these calls of one job in one thread at a time: a list that one thread opens is open for all.
+    """
+    _state: State
+
+    # What a job and a batch do with a command.
+
+    @abstractmethod
+    def _check(self) -> None: ...
+
+    @abstractmethod
+    def _ok(self, line: str) -> OkT: ...
+
+    @abstractmethod
+    def _added(self, line: str) -> AddedT: ...
+
+    @abstractmethod
+    def _text(self, lines: list[str]) -> AddedT: ...
+
+    @abstractmethod
+    def _split(self, line: str) -> SplitT: ...
+
+    @abstractmethod
+    def _measured(self, line: str) -> MeasuredT: ...
+
+    @abstractmethod
+    def _shipped(self, line: str) -> ShippedT: ...
+
+    @abstractmethod
+    def _load(self, font: LoadedFont, line: str) -> None: ...
+
+    @abstractmethod
+    def _box(self, form: str, size: str) -> OpenBox: ...
+
+    @abstractmethod
+    def _paragraph(self) -> OpenParagraph: ...
+
+    # Fonts.
+
+    def load(self, name: str, *, at: SupportsIndex | None = None, slot: SupportsIndex | None = None) -> LoadedFont:
+        """Loads a font, unless it is loaded at this size already.
+
+        Args:
+            name: Its name among the fonts of the job.
+            at: Its size; None is its design size.
+            slot: The number of its slot, 0 to 255; None is the first one that is free.
+
+        Returns:
+            The font, for `use`.
+
+        Raises:
+            Refused: No file has this name (NoFont), the file is bad (BadTfm), or the slot has a font (SlotTaken).
+            BoxglueError: No slot is free.
+        """
+        size = None if at is None else number(at, 1, LARGEST_FONT, "the size of a font")
+        found = self._state.loaded(name, size) if slot is None else None
+        if found:
+            return found
+        words = f"{name_of_font(name)}{'' if size is None else f' at {size}sp'}\n"
+        while True:
+            chosen = self._state.free_slot() if slot is None else number(slot, 0, SLOTS - 1, "a slot")
+            font = LoadedFont(chosen, name, size)
+            self._load(font, f"font {chosen} {words}")
+            if slot is not None or self._state.fonts.get(chosen) is font:
+                return font
+
+    def use(self, font: LoadedFont | SupportsIndex) -> OkT:
+        """Makes a font the current one.
+
+        Args:
+            font: A font of `load`, or the number of its slot.
+        """
+        slot = number(font, 0, SLOTS - 1, "a slot")
+        done = self._ok(f"use {slot}\n")
+        self._state.current = font if isinstance(font, LoadedFont) else self._state.fonts.get(slot)
+        return done
+
+    # Lists.
+
+    def hbox(self, *, to: SupportsIndex | None = None, spread: SupportsIndex | None = None, into: SupportsIndex | None = None) -> OpenBox:
+        """Opens the list of an hbox, for a `with`.
+
+        Args:
+            to: The width of the box.
+            spread: By how much it is wider than its contents. Without both it has its natural width.
+            into: The register for the box; None is the enclosing list.
+
+        Returns:
+            The list. After its end it has the sizes of the box.
+        """
+        return self._box("hbox", target(to, spread, into))
+
+    def vbox(self, *, to: SupportsIndex | None = None, spread: SupportsIndex | None = None, into: SupportsIndex | None = None) -> OpenBox:
+        """Opens the list of a vbox, as `hbox` does. `to` and `spread` are about its height."""
+        return self._box("vbox", target(to, spread, into))
+
+    def vtop(self, *, to: SupportsIndex | None = None, spread: SupportsIndex | None = None, into: SupportsIndex | None = None) -> OpenBox:
+        """Opens the list of a vtop, as `vbox` does."""
+        return self._box("vtop", target(to, spread, into))
+
+    def par(self) -> OpenParagraph:
+        """Opens a paragraph in a vertical list, for a `with`.
+
+        Returns:
+            The list. After its end it has the number of lines, and how well they fit.
+        """
+        return self._paragraph()
+
+    def recover(self, *lists: OpenBox | OpenParagraph) -> None:
+        """Lets typed calls go on after an exception left a list open.
+
+        No call closes a list that the exception left. End those that you do not want by a script, such as `job.commands("end\\nend\\n")`, and give the others here:
+        they are ended by their `end`.
+
+        Args:
+            lists: The lists of typed calls that are open, in any order.
+
+        Raises:
+            ValueError: One of them was not open.
+        """
+        self._state.recover(lists)
+
+    # Items.
+
+    def text(self, text: str, *, encoding: Encoding | None = None, missing: Missing = "count") -> AddedT:
+        """Adds a text in the current font, with its kerns and ligatures.
+
+        Args:
+            text: The text. Without an encoding it has the characters 32 to 126 alone.
+            encoding: The codes of the characters in the font, such as `OT1` and `T1`, or any mapping of yours. A text that needs it is sent as several commands,
+                with the font's kerns between them, and their replies are one.
+            missing: "raise" asks for the metrics of the font first, and raises for a character that the font lacks. "count" drops such characters, and the reply
+                counts them.
+
+        Returns:
+            How many items were added, and how many characters are missing.
+
+        Raises:
+            BadCharacter: A script, the encoding or the font does not have a character. The exception has its place.
+        """
+        if encoding is None and missing == "count":
+            return self._added(f"text {quote(text)}\n")
+        codes, metrics = codes_of(text, ASCII if encoding is None else encoding), self._metrics()
+        if missing == "raise":
+            self._needed(metrics, text, codes)
+        return self._text(encoded(codes, metrics))
+
+    def char(self, code: SupportsIndex) -> AddedT:
+        """Adds a character of the current font.
+
+        Args:
+            code: Its number, 0 to 255.
+        """
+        return self._added(f"char {number(code, 0, CHARACTERS - 1, 'a character')}\n")
+
+    def kern(self, amount: SupportsIndex) -> OkT:
+        """Adds a kern."""
+        return self._ok(f"kern {dimension(amount)}sp\n")
+
+    def glue(self, width: SupportsIndex, plus: Stretch = 0, minus: Stretch = 0) -> OkT:
+        """Adds glue.
+
+        Args:
+            width: Its natural width.
+            plus: Its stretch: a dimension, or an amount and an order, such as (1, "fil").
+            minus: Its shrink, in the same way.
+        """
+        return self._ok(f"glue {glue(width, plus, minus)}\n")
+
+    def penalty(self, penalty: SupportsIndex) -> OkT:
+        """Adds a penalty: -10,000 and below force a break, and 10,000 and above forbid one."""
+        return self._ok(f"penalty {number(penalty, -MOST_PENALTY, MOST_PENALTY, 'a penalty')}\n")
+
+    def rule(self, width: SupportsIndex | None, height: SupportsIndex | None, depth: SupportsIndex | None) -> OkT:
+        """Adds a rule. A size that is None is the one of the box around the rule."""
+        return self._ok(f"rule {size_of_rule(width)} {size_of_rule(height)} {size_of_rule(depth)}\n")
+
+    def special(self, text: str | bytes) -> OkT:
+        """Adds a special, whose text is for the file's reader."""
+        return self._ok(f"special {quote(text)}\n")
+
+    # Boxes in registers.
+
+    def register(self) -> Register:
+        """Chooses a register that no other call of this got, from 32,767 down. Give it back by its `release`, or use it in a `with`.
+
+        Raises:
+            BoxglueError: All registers are in use.
+        """
+        self._check()
+        state = self._state
+        if state.free_registers:
+            self._ok(f"void {state.free_registers[-1]}\n")
+            return Register(state.free_registers.pop(), state)
+        if state.next_register < 0:
+            raise BoxglueError("all registers are in use")
+        state.next_register -= 1
+        return Register(state.next_register + 1, state)
+
+    def box(self, box: SupportsIndex, *, shift: SupportsIndex = 0) -> AddedT:
+        """Adds the box of a register, which is void then.
+
+        Args:
+            box: The register.
+            shift: How far it is moved down in a horizontal list, and to the right in a vertical one.
+        """
+        return self._added(f"box {register(box)}{f' shift {dimension(shift)}sp' if shift else ''}\n")
+
+    def copy(self, box: SupportsIndex, *, shift: SupportsIndex = 0) -> AddedT:
+        """Adds a copy of the box of a register, as `box` adds the box."""
+        return self._added(f"copy {register(box)}{f' shift {dimension(shift)}sp' if shift else ''}\n")
+
+    def unhbox(self, box: SupportsIndex) -> AddedT:
+        """Adds the items of the hbox of a register, which is void then."""
+        return self._added(f"unhbox {register(box)}\n")
+
+    def unhcopy(self, box: SupportsIndex) -> AddedT:
+        """Adds copies of the items of the hbox of a register."""
+        return self._added(f"unhcopy {register(box)}\n")
+
+    def unvbox(self, box: SupportsIndex) -> AddedT:
+        """Adds the items of the vbox of a register, which is void then."""
+        return self._added(f"unvbox {register(box)}\n")
+
+    def unvcopy(self, box: SupportsIndex) -> AddedT:
+        """Adds copies of the items of the vbox of a register."""
+        return self._added(f"unvcopy {register(box)}\n")
+
+    def lastbox(self, into: SupportsIndex) -> OkT:
+        """Moves the last item of the list into a register if it is a box; else the register becomes void."""
+        return self._ok(f"lastbox {register(into)}\n")
+
+    def vsplit(self, box: SupportsIndex, *, to: SupportsIndex, into: SupportsIndex) -> SplitT:
+        """Splits the vbox of a register.
+
+        Args:
+            box: The register, which keeps the rest.
+            to: The height of the front.
+            into: The register for the front.
+        """
+        return self._split(f"vsplit {register(box)} to {dimension(to)}sp into {register(into)}\n")
+
+    def measure(self, box: SupportsIndex) -> MeasuredT:
+        """Measures the box of a register."""
+        return self._measured(f"measure {register(box)}\n")
+
+    def void(self, box: SupportsIndex) -> OkT:
+        """Makes a register void."""
+        return self._ok(f"void {register(box)}\n")
+
+    # Parameters and pages.
+
+    def set(self, *, boxmaxdepth: SupportsIndex | None = None, splitmaxdepth: SupportsIndex | None = None, splittopskip: Glue | SupportsIndex | None = None,
+            baselineskip: Glue | SupportsIndex | None = None, lineskip: Glue | SupportsIndex | None = None, lineskiplimit: SupportsIndex | None = None,
+            hsize: SupportsIndex | None = None, firstsize: SupportsIndex | None = None, firstlines: SupportsIndex | None = None,
+            parfillskip: Glue | SupportsIndex | None = None, pretolerance: SupportsIndex | None = None, tolerance: SupportsIndex | None = None,
+            linepenalty: SupportsIndex | None = None, adjdemerits: SupportsIndex | None = None, clubpenalty: SupportsIndex | None = None,
+            widowpenalty: SupportsIndex | None = None, interlinepenalty: SupportsIndex | None = None, hoffset: SupportsIndex | None = None,
+            voffset: SupportsIndex | None = None) -> list[OkT]:
+        """Sets parameters (docs/COMMANDS.md, section 1). Those that are not given stay.
+
+        Dimensions are scaled points, and glues a `Glue` or the scaled points of one without stretch and shrink. The others are numbers.
+
+        Returns:
+            What each of the commands gives.
+        """
+        given = {name: it for name, it in locals().items() if name != "self" and it is not None}
+        lines = [f"set {name} {_value(name, it)}\n" for name, it in given.items()]
+        done = []
+        for line in lines:  # no comprehension, which has a frame of its own
+            done.append(self._ok(line))
+        return done
+
+    def count(self, which: SupportsIndex, value: SupportsIndex) -> OkT:
+        """Sets one of the ten counts of the pages that follow.
+
+        Args:
+            which: Its number, 0 to 9.
+            value: A whole number of 32 bits.
+        """
+        return self._ok(f"count {number(which, 0, COUNTS - 1, 'a count')} {number(value, -1 << 31, (1 << 31) - 1, 'the value of a count')}\n")
+
+    def ship(self, box: SupportsIndex) -> ShippedT:
+        """Ships the box of a register as the next page. The register is void then."""
+        return self._shipped(f"ship {register(box)}\n")
+
+    # Metrics.
+
+    def _metrics(self) -> Metrics | None:
+        """The metrics of the current font; None where they are not known."""
+        font = self._state.current
+        return None if font is None or font.name not in self._state.files else _metrics.metrics_of(self._state.files[font.name], font.size)
+
+    def _needed(self, metrics: Metrics | None, text: str, codes: list[int]) -> None:
+        """Raises for what the font lacks."""
+        if metrics is None:
+            raise BoxglueError("missing=\"raise\" needs the metrics of the current font, which are not known here")
+        refuse_missing(text, codes, metrics)
+
+
+def _value(name: str, given: Glue | SupportsIndex) -> str:
+    """The value of a parameter."""
+    if name in _GLUES:
+        return glue_parameter(given)
+    if isinstance(given, Glue):
+        raise TypeError(f"{name} is not a glue")
+    if name in _DIMENSIONS:
+        return f"{dimension(given)}sp"
+    if name == "firstlines":
+        return str(number(given, 0, MOST_FIRST_LINES, name))
+    return str(number(given, -MOST_PENALTY, MOST_PENALTY, name))
