@@ -9,7 +9,8 @@ import re
 import sys
 from fractions import Fraction
 
-COUNT = 2000
+# The types of the calls in Rust can say 2,000 of them: those in which the end of no list is refused.
+COUNT, SAID = 2150, 2000
 UNITS = {"pt": (1, 1), "pc": (12, 1), "in": (7227, 100), "bp": (7227, 7200), "cm": (7227, 254), "mm": (7227, 2540), "dd": (1238, 1157), "cc": (14856, 1157), "sp": (1, 65536)}
 ORDERS = "", "fil", "fill", "filll"
 DIMENSIONS = "boxmaxdepth splitmaxdepth lineskiplimit hsize firstsize hoffset voffset".split()

@@ -10,6 +10,16 @@ pub(crate) const FONT_ROOM: usize = 64;
 /// The most bytes that the name of a font in a DVI file has.
 pub(crate) const NAME_ROOM: usize = 255;
 
+/// The room for the file of a script, which is rarely longer than two times the script; where it is, the script is run again.
+pub(crate) fn dvi_room(script: &[u8]) -> usize {
+    DVI_ROOM.max(2 * script.len())
+}
+
+/// The room for the answers to a script. Few lines of them are longer than 64 bytes.
+pub(crate) fn answers_room(lines: usize) -> usize {
+    TEXT_ROOM.max(64 * lines)
+}
+
 /// The fonts as C takes them.
 pub(crate) fn given(fonts: &[Font<'_>]) -> Vec<sys::boxglue_font> {
     let font = |it: &Font<'_>| sys::boxglue_font { name: it.name.as_ptr(), name_size: it.name.len(), bytes: it.metrics.as_ptr(), bytes_size: it.metrics.len() };
@@ -49,5 +59,20 @@ pub(crate) fn one_text(room: usize, call: impl FnMut(*mut u8, usize, &mut usize)
     match one_output(room, call)? {
         (sys::BOXGLUE_ACCEPTED, bytes) => Ok(text(bytes)),
         (_, bytes) => Err(Error::refused(&text(bytes))),
+    }
+}
+
+#[cfg(test)]
+mod tests {
+    use super::{answers_room, dvi_room, DVI_ROOM, TEXT_ROOM};
+    use crate::{run, run_text};
+
+    /// The file and the answers of a script above the least rooms fit into the first buffers, so it is run once.
+    #[test]
+    fn a_long_script_is_run_once() {
+        let script = "hbox into 0\nrule 1pt 1pt 0pt\nend\nship 0\n".repeat(3_000);
+        let (ran, texts) = (run(&script, &[]).unwrap(), run_text(&script, &[]).unwrap());
+        assert!(ran.dvi.len() > DVI_ROOM && ran.dvi.len() <= dvi_room(script.as_bytes()));
+        assert!(texts.answers.len() > TEXT_ROOM && texts.answers.len() <= answers_room(script.lines().count()));
     }
 }

@@ -1,10 +1,12 @@
 //! What stops a call.
 
+use crate::{Answer, Cause, RefusalKind};
 use boxglue_sys as sys;
 use std::fmt;
 
 /// A refusal: of a command, a script, the end of a job, or a DVI file.
 #[derive(Clone, Debug, PartialEq, Eq, Hash)]
+#[non_exhaustive]
 pub struct Refusal {
     /// The line of the command that was refused; none where no command was.
     pub line: Option<u64>,
@@ -14,6 +16,8 @@ pub struct Refusal {
     pub name: String,
     /// What follows the name, such as "74 Trailer" after "BadDvi".
     pub detail: String,
+    /// The command, where a typed call sent it, such as "use 7".
+    pub command: Option<String>,
 }
 
 impl Refusal {
@@ -23,18 +27,26 @@ impl Refusal {
         let mut words = rest.strip_prefix("refused ")?.splitn(3, ' ');
         let number = words.next()?.parse().ok()?;
         let name = words.next()?.to_string();
-        Some(Refusal { line: line.parse().ok(), number, name, detail: words.next().unwrap_or_default().to_string() })
+        Some(Refusal { line: line.parse().ok(), number, name, detail: words.next().unwrap_or_default().to_string(), command: None })
+    }
+
+    /// Its kind, by its number.
+    pub fn kind(&self) -> RefusalKind {
+        RefusalKind::of(self.number)
     }
 
     /// What is wrong with a line of a script, a metric file or a DVI file; none where the refusal names no cause.
     ///
     /// ```
-    /// let refusal = boxglue::run("kern 12px\n", &[])?.refusals().next().unwrap();
-    /// assert_eq!((refusal.name.as_str(), refusal.bad_line(), refusal.cause()), ("BadScript", Some(1), Some("Dimension")));
+    /// use boxglue::{Cause, RefusalKind};
+    ///
+    /// let ran = boxglue::run("kern 12px\n", &[])?;
+    /// let refusal = ran.refusals().next().unwrap();
+    /// assert_eq!((refusal.kind(), refusal.bad_line(), refusal.cause()), (RefusalKind::BadScript, Some(1), Some(Cause::Dimension)));
     /// # Ok::<(), boxglue::Error>(())
     /// ```
-    pub fn cause(&self) -> Option<&str> {
-        self.detail.rsplit(' ').next().filter(|it| !it.is_empty())
+    pub fn cause(&self) -> Option<Cause> {
+        self.detail.rsplit(' ').next().filter(|it| !it.is_empty()).map(Cause::of)
     }
 
     /// The number of the bad line for which a script or a piece was refused as a whole.
@@ -46,7 +58,7 @@ impl Refusal {
     ///
     /// ```
     /// let refused = boxglue::fonts(b"no DVI file").unwrap_err();
-    /// assert!(matches!(refused, boxglue::Error::Refused(it) if it.place() == Some(11) && it.cause() == Some("Trailer")));
+    /// assert!(matches!(refused, boxglue::Error::Refused(it) if it.place() == Some(11) && it.cause() == Some(boxglue::Cause::Trailer)));
     /// ```
     pub fn place(&self) -> Option<u64> {
         self.where_in("BadDvi")
@@ -78,7 +90,11 @@ impl fmt::Display for Refusal {
         if let Some(line) = self.line {
             write!(out, "line {line}: ")?;
         }
-        self.write_said(out)
+        self.write_said(out)?;
+        match &self.command {
+            Some(command) => write!(out, ": {command:?}"),
+            None => Ok(()),
+        }
     }
 }
 
@@ -88,10 +104,10 @@ impl std::error::Error for Refusal {}
 #[derive(Clone, Debug, PartialEq, Eq, Hash)]
 #[non_exhaustive]
 pub struct Fault {
-    /// The number of the refusal (docs/REFUSALS.md), such as `boxglue_sys::BOXGLUE_REFUSAL_BAD_DVI`.
-    pub number: u32,
-    /// The number of the rule that the file or a metric file breaks, such as `boxglue_sys::BOXGLUE_DVI_TRAILER` or `BOXGLUE_TFM_TOO_SHORT`.
-    pub cause: Option<u32>,
+    /// The refusal (docs/REFUSALS.md).
+    pub kind: RefusalKind,
+    /// The rule that the file or a metric file breaks.
+    pub cause: Option<Cause>,
     /// The number of bytes before the place at which the file breaks a rule.
     pub place: Option<u64>,
     /// The name of the font that is missing.
@@ -103,15 +119,17 @@ pub struct Fault {
 impl Fault {
     /// The fault of its row, with the name of a missing font.
     pub(crate) fn of(row: &sys::boxglue_fault, name: &[u8]) -> Fault {
-        let number = row.number;
-        let is = |numbers: &[u32]| numbers.contains(&number);
-        let (dvi, metrics, large) = (sys::BOXGLUE_REFUSAL_BAD_DVI, sys::BOXGLUE_REFUSAL_BAD_TFM, sys::BOXGLUE_REFUSAL_DIMENSION_TOO_LARGE);
+        let kind = RefusalKind::of(row.number);
         Fault {
-            number,
-            cause: is(&[dvi, metrics]).then_some(row.cause),
-            place: is(&[dvi]).then_some(row.place),
-            missing: is(&[sys::BOXGLUE_REFUSAL_NO_FONT]).then(|| name[..row.name_size].to_vec()),
-            font: is(&[metrics, large]).then_some(row.font),
+            kind,
+            cause: match kind {
+                RefusalKind::BadDvi => Some(Cause::of_dvi(row.cause)),
+                RefusalKind::BadTfm => Some(Cause::of_metrics(row.cause)),
+                _ => None,
+            },
+            place: (kind == RefusalKind::BadDvi).then_some(row.place),
+            missing: (kind == RefusalKind::NoFont).then(|| name[..row.name_size].to_vec()),
+            font: matches!(kind, RefusalKind::BadTfm | RefusalKind::DimensionTooLarge).then_some(row.font),
         }
     }
 }
@@ -128,8 +146,19 @@ pub enum Error {
     BadFontName,
     /// The DVI file is good and has no page of this number.
     NoSuchPage,
-    /// The number of a page, of pixels an inch, or of a bitmap's pixels is out of its range.
+    /// A number is out of its range: that of a page, of pixels an inch, of a bitmap's pixels, or what a command takes. Nothing was sent.
     OutOfRange,
+    /// A text has a byte at this place that scripts do not have. Nothing was sent.
+    BadByte {
+        /// The place, from 0.
+        place: usize,
+    },
+    /// A text is not a dimension.
+    BadDimension,
+    /// The command needs another list than the innermost one, which was dropped without its end. Nothing was sent.
+    ListOpen,
+    /// The library gave another answer than the command has. No library of today does.
+    OtherAnswer(Answer),
     /// The commands were run, or the job was finished, and memory was refused for the text of the answers.
     AnswersLost,
     /// A status that this version does not know.
@@ -163,6 +192,10 @@ impl fmt::Display for Error {
             Error::BadFontName => out.write_str("the name of a font has not 1 to 255 bytes"),
             Error::NoSuchPage => out.write_str("the DVI file has no page of this number"),
             Error::OutOfRange => out.write_str("a number is out of its range"),
+            Error::BadByte { place } => write!(out, "a text has a byte at {place} that scripts do not have"),
+            Error::BadDimension => out.write_str("a text is not a dimension"),
+            Error::ListOpen => out.write_str("a list was dropped without its end, and is open"),
+            Error::OtherAnswer(answer) => write!(out, "the answer is {answer}"),
             Error::AnswersLost => out.write_str("memory was refused for the text of the answers"),
             Error::Other(status) => write!(out, "status {status}"),
         }

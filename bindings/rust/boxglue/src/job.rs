@@ -1,20 +1,47 @@
 //! A job that is kept between calls.
 
-use crate::buffers::{buffer, given, one_output, one_text, DVI_ROOM, TEXT_ROOM};
+use crate::buffers::{answers_room, buffer, given, one_output, one_text, DVI_ROOM};
 use crate::replies::lines_of;
-use crate::{Error, Font, Refusal, Reply};
+use crate::values::Line;
+use crate::{Answer, Error, Font, Refusal, Reply};
 use boxglue_sys as sys;
+
+/// The replies to the commands of a piece.
+#[derive(Clone, Debug, PartialEq, Eq)]
+pub struct Answers {
+    /// A reply to each command, in order; or the one refusal of a piece with a bad line.
+    pub replies: Vec<Reply>,
+    /// Whether nothing was refused.
+    pub accepted: bool,
+}
+
+impl Answers {
+    /// The refusals among the replies, in order.
+    pub fn refusals(&self) -> impl Iterator<Item = &Refusal> + '_ {
+        self.replies.iter().filter_map(|it| it.answer.as_ref().err())
+    }
+
+    /// These replies, or the first refusal as an error.
+    ///
+    /// # Errors
+    ///
+    /// [`Error::Refused`].
+    pub fn check(self) -> Result<Answers, Error> {
+        let first = self.refusals().next().cloned();
+        first.map_or(Ok(self), |it| Err(it.into()))
+    }
+}
 
 /// The answers to the commands of a piece, a line each, or the line of the end of a job.
 #[derive(Clone, Debug, PartialEq, Eq)]
-pub struct Answers {
+pub struct TextAnswers {
     /// The lines.
     pub text: String,
     /// Whether nothing was refused.
     pub accepted: bool,
 }
 
-impl Answers {
+impl TextAnswers {
     /// The refusals among the answers, in order.
     pub fn refusals(&self) -> impl Iterator<Item = Refusal> + '_ {
         Refusal::all(&self.text)
@@ -25,7 +52,7 @@ impl Answers {
     /// # Errors
     ///
     /// [`Error::Refused`].
-    pub fn check(self) -> Result<Answers, Error> {
+    pub fn check(self) -> Result<TextAnswers, Error> {
         if self.accepted {
             Ok(self)
         } else {
@@ -34,18 +61,22 @@ impl Answers {
     }
 }
 
-/// A job that is kept between calls, for a script that comes piece by piece.
+/// A job that is kept between calls. Its calls are the commands of scripts: those that need a list are calls of the [`List`](crate::List) that a job opens.
+/// [`Job::commands`] takes a script piece by piece.
 ///
 /// ```
-/// use boxglue::Job;
+/// use boxglue::{Error, Job, Sp, Target};
 ///
-/// let mut job = Job::new(&[])?;
-/// job.commands("hbox into 0\nrule 1pt 1pt 0pt\n")?.check()?;
-/// assert_eq!(job.commands("end\nship 0\n")?.check()?.text, "3: packed 1.0pt 1.0pt 0.0pt badness 0\n4: shipped 1\n");
-/// let page = job.take()?;
-/// assert_eq!(job.finish()?.check()?.text, "end: pages 1 bytes 116\n");
-/// assert_eq!(page.len() + job.take()?.len(), 116);
-/// # Ok::<(), boxglue::Error>(())
+/// fn main() -> Result<(), Error> {
+///     let mut job = Job::new(&[])?;
+///     let mut page = job.hbox(0, Target::Natural)?;
+///     page.rule("1pt".parse()?, Some(Sp::points(1)), Some(Sp::ZERO))?;
+///     assert_eq!(page.end()?.sizes.width, 65_536);
+///     job.ship(0)?;
+///     job.finish()?.answer?;
+///     assert_eq!(job.take()?.len(), 116);
+///     Ok(())
+/// }
 /// ```
 ///
 /// A job goes from one thread to another, and two threads do not share one:
@@ -63,6 +94,11 @@ impl Answers {
 #[derive(Debug)]
 pub struct Job {
     handle: sys::boxglue_job,
+    /// The line of a typed call, which is made in one piece of memory again and again.
+    pub(crate) line: Line,
+    /// How many lists typed calls opened, and the number of the innermost one that is not dropped.
+    pub(crate) open: usize,
+    pub(crate) held: usize,
 }
 
 // SAFETY: the library allows that a handle moves to another thread between two calls where a lock orders them, and a move of Rust orders as much.
@@ -79,37 +115,24 @@ impl Job {
         let (mut handle, fonts) = (sys::boxglue_job { at: std::ptr::null_mut() }, given(fonts));
         // SAFETY: the handle has no job, and the pointer is that of a slice with its length.
         match unsafe { sys::boxglue_job_new(&mut handle, fonts.as_ptr(), fonts.len()) } {
-            sys::BOXGLUE_ACCEPTED => Ok(Job { handle }),
+            sys::BOXGLUE_ACCEPTED => Ok(Job { handle, line: Line::default(), open: 0, held: 0 }),
             other => Err(Error::of(other)),
         }
     }
 
     /// The answers after a call with this status.
-    fn answers(&mut self, status: u32) -> Result<Answers, Error> {
-        if !matches!(status, sys::BOXGLUE_ACCEPTED | sys::BOXGLUE_REFUSED | sys::BOXGLUE_REFUSED_MEMORY) {
+    fn answers(&mut self, status: u32, lines: usize) -> Result<TextAnswers, Error> {
+        if !has_run(status) {
             return Err(Error::of(status));
         }
         // SAFETY: the buffer is a slice.
-        let text = one_text(TEXT_ROOM, |at, room, size| unsafe { sys::boxglue_job_answers(&mut self.handle, at, room, size) })?;
-        Ok(Answers { text, accepted: status == sys::BOXGLUE_ACCEPTED })
+        let text = one_text(answers_room(lines), |at, room, size| unsafe { sys::boxglue_job_answers(&mut self.handle, at, room, size) })?;
+        Ok(TextAnswers { text, accepted: status == sys::BOXGLUE_ACCEPTED })
     }
 
-    /// Runs a piece of a script, which is whole lines, and returns the answers to its commands. Lines are numbered on from piece to piece.
+    /// Runs a piece of a script, which is whole lines, and returns the replies to its commands. Lines are numbered on from piece to piece.
     ///
-    /// A piece with a bad line is refused as a whole: its answer is the line of this refusal, nothing of it is run, and the job goes on.
-    ///
-    /// # Errors
-    ///
-    /// [`Error::OutOfMemory`], and then nothing was run; [`Error::AnswersLost`].
-    pub fn commands(&mut self, script: impl AsRef<[u8]>) -> Result<Answers, Error> {
-        let script = script.as_ref();
-        // SAFETY: the pointer is that of a slice with its length.
-        let status = unsafe { sys::boxglue_job_commands(&mut self.handle, script.as_ptr(), script.len()) };
-        self.answers(status)
-    }
-
-    /// Runs a piece of a script as [`Job::commands`] does, and returns the reply to each of its commands: or the one refusal of a piece with a bad line. No answer is
-    /// kept, and none can be lost.
+    /// A piece with a bad line is refused as a whole: its one reply is this refusal, nothing of it is run, and the job goes on.
     ///
     /// # Errors
     ///
@@ -119,34 +142,71 @@ impl Job {
     /// use boxglue::{Answer, BoxSizes, Job};
     ///
     /// let mut job = Job::new(&[])?;
-    /// let replies = job.run("hbox into 0\nrule 1pt 1pt 0pt\nend\n")?;
+    /// let replies = job.commands("hbox into 0\nrule 1pt 1pt 0pt\nend\n")?.check()?.replies;
     /// assert_eq!(replies[2].answer, Ok(Answer::Packed { sizes: BoxSizes { width: 65_536, height: 65_536, depth: 0 }, badness: 0 }));
-    /// assert_eq!(job.end()?.answer?, Answer::End { pages: 0, bytes: 0 });
+    /// assert_eq!(job.finish()?.answer?, Answer::End { pages: 0, bytes: 0 });
     /// # Ok::<(), boxglue::Error>(())
     /// ```
-    pub fn run(&mut self, script: impl AsRef<[u8]>) -> Result<Vec<Reply>, Error> {
+    pub fn commands(&mut self, script: impl AsRef<[u8]>) -> Result<Answers, Error> {
         let script = script.as_ref();
         let (mut rows, mut count) = (buffer(lines_of(script), sys::boxglue_reply::default())?, 0);
-        // SAFETY: each pointer is that of a slice with its length, and they do not overlap.
-        match unsafe { sys::boxglue_job_run(&mut self.handle, script.as_ptr(), script.len(), rows.as_mut_ptr(), rows.len(), &mut count) } {
-            sys::BOXGLUE_ACCEPTED | sys::BOXGLUE_REFUSED | sys::BOXGLUE_REFUSED_MEMORY => Ok(rows[..count].iter().map(Reply::of).collect()),
-            // A room of a reply to each line suffices, so status 4 is not among these.
-            other => Err(Error::of(other)),
+        // SAFETY: each pointer is that of a slice with its length, and they do not overlap. A room of a reply to each line suffices, so status 4 is not returned.
+        let status = unsafe { sys::boxglue_job_run(&mut self.handle, script.as_ptr(), script.len(), rows.as_mut_ptr(), rows.len(), &mut count) };
+        if !has_run(status) {
+            return Err(Error::of(status));
         }
+        Ok(Answers { replies: rows[..count].iter().map(Reply::of).collect(), accepted: status == sys::BOXGLUE_ACCEPTED })
     }
 
-    /// Ends the job as [`Job::finish`] does, and returns the reply to its end.
+    /// Runs a piece of a script as [`Job::commands`] does, and returns the answers as a text.
+    ///
+    /// # Errors
+    ///
+    /// [`Error::OutOfMemory`], and then nothing was run; [`Error::AnswersLost`].
+    pub fn commands_text(&mut self, script: impl AsRef<[u8]>) -> Result<TextAnswers, Error> {
+        let script = script.as_ref();
+        // SAFETY: the pointer is that of a slice with its length.
+        let status = unsafe { sys::boxglue_job_commands(&mut self.handle, script.as_ptr(), script.len()) };
+        self.answers(status, lines_of(script))
+    }
+
+    /// Sends the line, which is one command, and returns its answer.
+    pub(crate) fn send(&mut self) -> Result<Answer, Error> {
+        let script = self.line.end()?.as_bytes();
+        let (mut rows, mut count) = ([sys::boxglue_reply::default(); 2], 0);
+        // SAFETY: as in `commands`.
+        let status = unsafe { sys::boxglue_job_run(&mut self.handle, script.as_ptr(), script.len(), rows.as_mut_ptr(), rows.len(), &mut count) };
+        if !has_run(status) {
+            return Err(Error::of(status));
+        }
+        Reply::of(&rows[0]).answer.map_err(|it| Error::Refused(Refusal { command: Some(self.line.shown()), ..it }))
+    }
+
+    /// Ends the job, and returns the reply to its end. Take the last bytes then. A refusal is the reply, as ListsOpen, after which the job goes on.
     ///
     /// # Errors
     ///
     /// None of today's library: a refusal is a reply.
-    pub fn end(&mut self) -> Result<Reply, Error> {
+    pub fn finish(&mut self) -> Result<Reply, Error> {
         let mut row = sys::boxglue_reply::default();
         // SAFETY: the handle has a job.
-        match unsafe { sys::boxglue_job_end(&mut self.handle, &mut row) } {
-            sys::BOXGLUE_ACCEPTED | sys::BOXGLUE_REFUSED | sys::BOXGLUE_REFUSED_MEMORY => Ok(Reply::of(&row)),
-            other => Err(Error::of(other)),
+        let status = unsafe { sys::boxglue_job_end(&mut self.handle, &mut row) };
+        if has_run(status) {
+            Ok(Reply::of(&row))
+        } else {
+            Err(Error::of(status))
         }
+    }
+
+    /// Ends the job as [`Job::finish`] does, and returns the line of its end.
+    ///
+    /// # Errors
+    ///
+    /// [`Error::AnswersLost`], and then the next call shows whether the job has ended: its answer is JobOver.
+    pub fn finish_text(&mut self) -> Result<TextAnswers, Error> {
+        // SAFETY: the handle has a job.
+        let status = unsafe { sys::boxglue_job_finish(&mut self.handle) };
+        self.answers(status, 1)
     }
 
     /// The bytes of the DVI file that went out since the last call: pages as they were shipped, and the end of the file after [`Job::finish`].
@@ -158,17 +218,11 @@ impl Job {
         // SAFETY: the buffer is a slice.
         one_output(DVI_ROOM, |at, room, size| unsafe { sys::boxglue_job_take(&mut self.handle, at, room, size) }).map(|(_, bytes)| bytes)
     }
+}
 
-    /// Ends the job, and returns the line of its end. Take the last bytes then. A refusal is in the line, as ListsOpen, after which the job goes on.
-    ///
-    /// # Errors
-    ///
-    /// [`Error::AnswersLost`], and then the next call shows whether the job has ended: its answer is JobOver.
-    pub fn finish(&mut self) -> Result<Answers, Error> {
-        // SAFETY: the handle has a job.
-        let status = unsafe { sys::boxglue_job_finish(&mut self.handle) };
-        self.answers(status)
-    }
+/// Whether a call with this status has run its commands.
+fn has_run(status: u32) -> bool {
+    matches!(status, sys::BOXGLUE_ACCEPTED | sys::BOXGLUE_REFUSED | sys::BOXGLUE_REFUSED_MEMORY)
 }
 
 impl Drop for Job {

@@ -1,14 +1,20 @@
 //! Boxglue from Rust: scripts are run, and the pages of DVI files are read, listed and painted.
 //!
 //! ```
-//! let ran = boxglue::run("hbox into 0\nrule 1pt 1pt 0pt\nend\nship 0\n", &[])?.check()?;
-//! assert_eq!(ran.answers.lines().last(), Some("end: pages 1 bytes 116"));
-//! assert_eq!(ran.dvi.len(), 116); // for std::fs::write
-//! # Ok::<(), boxglue::Error>(())
+//! use boxglue::{Error, Job, Sp, Target};
+//!
+//! let mut job = Job::new(&[])?;
+//! let mut page = job.hbox(0, Target::Natural)?;
+//! page.rule(Sp::points(1), Some(Sp::points(1)), Some(Sp::ZERO))?;
+//! println!("{} wide", Sp(page.end()?.sizes.width));
+//! job.ship(0)?;
+//! job.finish()?.answer?;
+//! assert_eq!(job.take()?.len(), 116); // for std::fs::write
+//! # Ok::<(), Error>(())
 //! ```
 //!
-//! A [`Job`] is kept between calls, and takes a script piece by piece. [`run_replies`] and [`Job::run`] give replies as numbers in place of texts, and [`marks`] the
-//! pages of a DVI file with their marks.
+//! A [`Job`] has a call for each command, and a [`List`] that it opens those of its mode. [`run`] runs a script, and [`run_text`] gives its answers as texts; what gives
+//! texts is called so everywhere. [`marks`] gives the pages of a DVI file with their marks.
 //!
 //! Scripts and answers are those of docs/FORMATS.md of boxglue, and the commands those of docs/COMMANDS.md. A font has the name by which scripts and DVI
 //! files mean it, and the bytes of its metric file (TFM); of several with one name the first counts. Calls may run in several threads at once.
@@ -17,17 +23,26 @@
 mod buffers;
 mod error;
 mod job;
+mod lists;
 mod marks;
+mod names;
 mod replies;
+mod sp;
 mod texts;
+mod values;
 
 pub use error::{Error, Fault, Refusal};
-pub use job::{Answers, Job};
+pub use job::{Answers, Job, TextAnswers};
+pub use lists::{EndRefused, HboxList, Horizontal, InHbox, InParagraph, InVbox, List, Mode, Packed, Paragraph, ParagraphList, Shaped, Split, VboxList};
 pub use marks::{marks, Document, Mark, Page, Units};
-pub use replies::{run_replies, Answer, BoxKind, BoxSizes, RepliedRun, Reply};
+pub use names::{Cause, RefusalKind};
+pub use replies::{run, Answer, BoxKind, BoxSizes, Reply, Run};
+pub use sp::Sp;
+pub use values::{quote, Glue, Parameter, Stretch, Target};
 
 use boxglue_sys as sys;
-use buffers::{buffer, given, one_text, text, DVI_ROOM, FONT_ROOM, NAME_ROOM, TEXT_ROOM};
+use buffers::{answers_room, buffer, dvi_room, given, one_text, text, DVI_ROOM, FONT_ROOM, NAME_ROOM, TEXT_ROOM};
+use replies::lines_of;
 
 /// False, since a constant cannot ask the library that runs.
 #[deprecated(since = "1.2.0", note = "ask the library that runs, by `is_proved`")]
@@ -49,9 +64,9 @@ impl<'a> Font<'a> {
     }
 }
 
-/// A run of a script.
+/// A run of a script, with its answers as texts.
 #[derive(Clone, Debug, PartialEq, Eq)]
-pub struct Run {
+pub struct TextRun {
     /// The answers to the commands, a line each.
     pub answers: String,
     /// The bytes of the DVI file; none where no page was shipped. Where the end was refused they are no whole file.
@@ -60,7 +75,7 @@ pub struct Run {
     pub accepted: bool,
 }
 
-impl Run {
+impl TextRun {
     /// The refusals among the answers, in order.
     pub fn refusals(&self) -> impl Iterator<Item = Refusal> + '_ {
         Refusal::all(&self.answers)
@@ -71,7 +86,7 @@ impl Run {
     /// # Errors
     ///
     /// [`Error::Refused`].
-    pub fn check(self) -> Result<Run, Error> {
+    pub fn check(self) -> Result<TextRun, Error> {
         if self.accepted {
             Ok(self)
         } else {
@@ -80,20 +95,20 @@ impl Run {
     }
 }
 
-/// Runs a script with these fonts. A refused command is among the answers, and [`Run::check`] makes it an error.
+/// Runs a script with these fonts as [`run`] does, with its answers as texts. A refused command is among the answers, and [`TextRun::check`] makes it an error.
 ///
 /// # Errors
 ///
 /// [`Error::OutOfMemory`] and [`Error::BadFontName`].
 ///
 /// ```
-/// let ran = boxglue::run("ship 3\n", &[])?;
+/// let ran = boxglue::run_text("ship 3\n", &[])?;
 /// assert_eq!((ran.answers.as_str(), ran.accepted), ("1: refused 21 VoidBox\nend: pages 0 bytes 0\n", false));
 /// # Ok::<(), boxglue::Error>(())
 /// ```
-pub fn run(script: impl AsRef<[u8]>, fonts: &[Font<'_>]) -> Result<Run, Error> {
+pub fn run_text(script: impl AsRef<[u8]>, fonts: &[Font<'_>]) -> Result<TextRun, Error> {
     let (script, fonts) = (script.as_ref(), given(fonts));
-    let mut sizes = sys::boxglue_lengths { answers: TEXT_ROOM, dvi: DVI_ROOM };
+    let mut sizes = sys::boxglue_lengths { answers: answers_room(lines_of(script) + 1), dvi: dvi_room(script) };
     loop {
         let (mut answers, mut dvi) = (buffer(sizes.answers, 0)?, buffer(sizes.dvi, 0)?);
         // SAFETY: each pointer is that of a slice with its length, none of which overlap, and no slice has a null pointer.
@@ -115,7 +130,7 @@ pub fn run(script: impl AsRef<[u8]>, fonts: &[Font<'_>]) -> Result<Run, Error> {
             sys::BOXGLUE_ACCEPTED | sys::BOXGLUE_REFUSED | sys::BOXGLUE_REFUSED_MEMORY => {
                 answers.truncate(sizes.answers);
                 dvi.truncate(sizes.dvi);
-                return Ok(Run { answers: text(answers), dvi, accepted: status == sys::BOXGLUE_ACCEPTED });
+                return Ok(TextRun { answers: text(answers), dvi, accepted: status == sys::BOXGLUE_ACCEPTED });
             }
             other => return Err(Error::of(other)),
         }
@@ -147,7 +162,7 @@ pub fn listing(dvi: &[u8], fonts: &[Font<'_>]) -> Result<String, Error> {
 ///
 /// ```
 /// let fault = boxglue::check(b"no DVI file", &[])?.unwrap();
-/// assert_eq!((fault.number, fault.place), (20, Some(11)));
+/// assert_eq!((fault.kind, fault.cause, fault.place), (boxglue::RefusalKind::BadDvi, Some(boxglue::Cause::Trailer), Some(11)));
 /// # Ok::<(), boxglue::Error>(())
 /// ```
 pub fn check(dvi: &[u8], fonts: &[Font<'_>]) -> Result<Option<Fault>, Error> {

@@ -1,6 +1,6 @@
 //! Replies to commands, as numbers.
 
-use crate::buffers::{buffer, given, DVI_ROOM};
+use crate::buffers::{buffer, dvi_room, given};
 use crate::{Error, Font, Refusal};
 use boxglue_sys as sys;
 
@@ -198,24 +198,24 @@ fn refusal(row: &sys::boxglue_reply) -> Refusal {
     let text = |name: Option<&str>, number: u32| name.map_or_else(|| number.to_string(), str::to_string);
     let (number, name) = (row.refusal, text(refusal_name(row.refusal), row.refusal));
     if row.kind == sys::BOXGLUE_REPLY_BAD_LINE {
-        return Refusal { line: None, number, name, detail: format!("{} {}", row.line, text(line_cause(row.cause), row.cause)) };
+        return Refusal { line: None, number, name, detail: format!("{} {}", row.line, text(line_cause(row.cause), row.cause)), command: None };
     }
     let detail = if row.cause == 0 { String::new() } else { text(tfm_cause(row.cause), row.cause) };
-    Refusal { line: (row.line > 0).then_some(row.line), number, name, detail }
+    Refusal { line: (row.line > 0).then_some(row.line), number, name, detail, command: None }
 }
 
-/// A run of a script whose replies are numbers.
+/// A run of a script.
 #[derive(Clone, Debug, PartialEq, Eq)]
-pub struct RepliedRun {
+pub struct Run {
     /// A reply to each command, in order, and that to the end; or the one refusal of a script with a bad line.
     pub replies: Vec<Reply>,
-    /// The bytes of the DVI file, as those of [`Run`](crate::Run).
+    /// The bytes of the DVI file; none where no page was shipped. Where the end was refused they are no whole file.
     pub dvi: Vec<u8>,
     /// Whether nothing was refused.
     pub accepted: bool,
 }
 
-impl RepliedRun {
+impl Run {
     /// The refusals among the replies, in order.
     pub fn refusals(&self) -> impl Iterator<Item = &Refusal> + '_ {
         self.replies.iter().filter_map(|it| it.answer.as_ref().err())
@@ -226,32 +226,32 @@ impl RepliedRun {
     /// # Errors
     ///
     /// [`Error::Refused`].
-    pub fn check(self) -> Result<RepliedRun, Error> {
+    pub fn check(self) -> Result<Run, Error> {
         let first = self.refusals().next().cloned();
         first.map_or(Ok(self), |it| Err(it.into()))
     }
 }
 
-/// Runs a script with these fonts as [`run`](crate::run) does, with its replies as numbers.
+/// Runs a script with these fonts. A refused command is among the replies, and [`Run::check`] makes it an error.
 ///
 /// # Errors
 ///
 /// [`Error::OutOfMemory`] and [`Error::BadFontName`].
 ///
 /// ```
-/// use boxglue::{run_replies, Answer, BoxSizes};
+/// use boxglue::{run, Answer, BoxSizes};
 ///
-/// let ran = run_replies("hbox into 0\nrule 1pt 1pt 0pt\nend\nship 0\n", &[])?.check()?;
+/// let ran = run("hbox into 0\nrule 1pt 1pt 0pt\nend\nship 0\n", &[])?.check()?;
 /// let sizes = BoxSizes { width: 65_536, height: 65_536, depth: 0 };
 /// assert_eq!(ran.replies[2].answer, Ok(Answer::Packed { sizes, badness: 0 }));
 /// assert_eq!((ran.replies[3].line, &ran.replies[3].answer), (Some(4), &Ok(Answer::Shipped { pages: 1 })));
 /// assert_eq!((ran.replies[4].line, &ran.replies[4].answer), (None, &Ok(Answer::End { pages: 1, bytes: 116 })));
 /// # Ok::<(), boxglue::Error>(())
 /// ```
-pub fn run_replies(script: impl AsRef<[u8]>, fonts: &[Font<'_>]) -> Result<RepliedRun, Error> {
+pub fn run(script: impl AsRef<[u8]>, fonts: &[Font<'_>]) -> Result<Run, Error> {
     let (script, fonts) = (script.as_ref(), given(fonts));
     // A reply to each line, and one to the end.
-    let mut sizes = sys::boxglue_reply_sizes { replies: lines_of(script) + 1, dvi: DVI_ROOM };
+    let mut sizes = sys::boxglue_reply_sizes { replies: lines_of(script) + 1, dvi: dvi_room(script) };
     loop {
         let (mut rows, mut dvi) = (buffer(sizes.replies, sys::boxglue_reply::default())?, buffer(sizes.dvi, 0)?);
         // SAFETY: each pointer is that of a slice with its length, none of which overlap, and no slice has a null pointer.
@@ -273,7 +273,7 @@ pub fn run_replies(script: impl AsRef<[u8]>, fonts: &[Font<'_>]) -> Result<Repli
             sys::BOXGLUE_ACCEPTED | sys::BOXGLUE_REFUSED | sys::BOXGLUE_REFUSED_MEMORY => {
                 dvi.truncate(sizes.dvi);
                 let replies = rows[..sizes.replies].iter().map(Reply::of).collect();
-                return Ok(RepliedRun { replies, dvi, accepted: status == sys::BOXGLUE_ACCEPTED });
+                return Ok(Run { replies, dvi, accepted: status == sys::BOXGLUE_ACCEPTED });
             }
             other => return Err(Error::of(other)),
         }

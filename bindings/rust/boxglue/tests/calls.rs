@@ -1,11 +1,11 @@
 //! The calls, on pages of one rule and on inputs that are refused.
-use boxglue::{check, fonts, listing, run, Error, Font, Job, Refusal};
+use boxglue::{check, fonts, listing, run, run_text, Cause, Error, Font, Job, RefusalKind};
 
 const RULE: &str = "hbox into 0\nrule 1pt 1pt 0pt\nend\nship 0\n";
 
 #[test]
 fn a_page_of_a_rule() {
-    let ran = run(RULE, &[]).unwrap().check().unwrap();
+    let ran = run_text(RULE, &[]).unwrap().check().unwrap();
     assert_eq!((ran.answers.lines().last(), ran.dvi.len()), (Some("end: pages 1 bytes 116"), 116));
     assert_eq!(listing(&ran.dvi, &[]).unwrap(), "page 1 counts 0 0 0 0 0 0 0 0 0 0\nrule 0 65536 65536 65536\n");
 }
@@ -13,9 +13,11 @@ fn a_page_of_a_rule() {
 #[test]
 fn a_file_that_is_cut() {
     let ran = run(RULE, &[]).unwrap();
-    let refusal = Refusal { line: None, number: 20, name: "BadDvi".into(), detail: "74 Trailer".into() };
-    assert_eq!(listing(&ran.dvi[..74], &[]), Err(Error::Refused(refusal.clone())));
-    assert_eq!(fonts(&ran.dvi[..74]), Err(Error::Refused(refusal)));
+    for error in [listing(&ran.dvi[..74], &[]).unwrap_err(), fonts(&ran.dvi[..74]).unwrap_err()] {
+        let Error::Refused(refusal) = error else { panic!("{error}") };
+        assert_eq!((refusal.line, refusal.number, refusal.name.as_str(), refusal.detail.as_str()), (None, 20, "BadDvi", "74 Trailer"));
+        assert_eq!((refusal.kind(), refusal.cause(), refusal.place()), (RefusalKind::BadDvi, Some(Cause::Trailer), Some(74)));
+    }
 }
 
 #[test]
@@ -26,11 +28,11 @@ fn checks_of_files() {
     let dvi = run(script, &plain).unwrap().check().unwrap().dvi;
     assert_eq!(check(&dvi, &plain), Ok(None));
     let missing = check(&dvi, &[]).unwrap().unwrap();
-    assert_eq!((missing.number, missing.missing.as_deref(), missing.font, missing.cause), (4, Some(&b"plain"[..]), None, None));
+    assert_eq!((missing.kind, missing.missing.as_deref(), missing.font, missing.cause), (RefusalKind::NoFont, Some(&b"plain"[..]), None, None));
     let bad = check(&dvi, &[Font::new("plain", &metrics[..8])]).unwrap().unwrap();
-    assert_eq!((bad.number, bad.cause, bad.font, bad.place), (5, Some(1), Some(0), None));
+    assert_eq!((bad.kind, bad.cause, bad.font, bad.place), (RefusalKind::BadTfm, Some(Cause::TooShort), Some(0), None));
     let cut = check(&dvi[..74], &plain).unwrap().unwrap();
-    assert_eq!((cut.number, cut.cause, cut.place, cut.missing), (20, Some(1), Some(74), None));
+    assert_eq!((cut.kind, cut.cause, cut.place, cut.missing), (RefusalKind::BadDvi, Some(Cause::Trailer), Some(74), None));
     assert_eq!(check(&dvi, &[Font::new("", b"")]), Err(Error::BadFontName));
 }
 
@@ -50,7 +52,7 @@ fn a_bad_script() {
 
 #[test]
 fn empty_inputs_and_bad_names() {
-    assert_eq!(run("", &[]).unwrap().answers, "end: pages 0 bytes 0\n");
+    assert_eq!(run_text("", &[]).unwrap().answers, "end: pages 0 bytes 0\n");
     assert_eq!(run("", &[Font::new("", b"")]), Err(Error::BadFontName));
 }
 
@@ -58,12 +60,13 @@ fn empty_inputs_and_bad_names() {
 fn fonts_of_a_file() {
     let script = "font 0 none at 5pt\nuse 0\nhbox into 0\nend\nship 0\n";
     let ran = run(script, &[Font::new("none", b"no metrics")]).unwrap();
-    assert_eq!(ran.refusals().map(|it| it.name).collect::<Vec<_>>(), ["BadTfm", "NoFont"]);
+    assert_eq!(ran.refusals().map(|it| it.kind()).collect::<Vec<_>>(), [RefusalKind::BadTfm, RefusalKind::NoFont]);
+    assert_eq!(ran.refusals().next().unwrap().cause(), Some(Cause::TooShort));
 }
 
 #[test]
 fn buffers_grow() {
-    let ran = run(RULE.repeat(5_000), &[]).unwrap();
+    let ran = run_text(RULE.repeat(5_000), &[]).unwrap();
     assert_eq!((ran.answers.lines().count(), ran.accepted), (20_001, true));
     assert_eq!(listing(&ran.dvi, &[]).unwrap().lines().count(), 10_000);
 }
@@ -73,13 +76,13 @@ fn a_job_in_pieces_is_one_run() {
     let mut job = Job::new(&[]).unwrap();
     let (mut answers, mut dvi) = (String::new(), Vec::new());
     for line in RULE.lines() {
-        answers += &job.commands(line).unwrap().check().unwrap().text;
+        answers += &job.commands_text(line).unwrap().check().unwrap().text;
         dvi.extend(job.take().unwrap());
     }
-    assert_eq!(job.commands("kern 12px\n").unwrap().text, "refused 2 BadScript 5 Dimension\n");
-    answers += &job.finish().unwrap().text;
+    assert_eq!(job.commands_text("kern 12px\n").unwrap().text, "refused 2 BadScript 5 Dimension\n");
+    answers += &job.finish_text().unwrap().text;
     dvi.extend(job.take().unwrap());
-    let whole = run(RULE, &[]).unwrap();
+    let whole = run_text(RULE, &[]).unwrap();
     assert_eq!((answers, dvi), (whole.answers, whole.dvi));
 }
 
@@ -94,5 +97,5 @@ fn a_job_moves_between_threads() {
         .join()
         .unwrap();
     }
-    assert_eq!(job.finish().unwrap().text, "end: pages 1 bytes 116\n");
+    assert_eq!(job.finish_text().unwrap().text, "end: pages 1 bytes 116\n");
 }

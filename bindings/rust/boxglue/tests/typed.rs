@@ -1,5 +1,5 @@
 //! Replies and marks are the answers and the listing.
-use boxglue::{fonts, listing, marks, points, run, run_replies, Answer, BoxKind, BoxSizes, Error, Font, Job, Mark};
+use boxglue::{fonts, listing, marks, points, run, run_text, Answer, BoxKind, BoxSizes, Error, Font, Job, Mark};
 use std::fmt::Write;
 
 /// A script with refusals of commands, of a metric file, and of the end.
@@ -59,13 +59,13 @@ fn each_kind_of_answer() {
     ];
     let script: String = lines.iter().map(|(line, _)| format!("{line}\n")).collect();
     let fonts = [Font::new("plain", &METRICS)];
-    let ran = run_replies(&script, &fonts).unwrap().check().unwrap();
+    let ran = run(&script, &fonts).unwrap().check().unwrap();
     for (number, ((line, wanted), reply)) in (1..).zip(lines.iter().zip(&ran.replies)) {
         assert_eq!((reply.line, reply.answer.as_ref()), (Some(number), Ok(wanted)), "{line}");
     }
     assert_eq!(ran.replies.last().unwrap().answer, Ok(Answer::End { pages: 1, bytes: ran.dvi.len() as u64 }));
     let texts: String = ran.replies.iter().map(|it| format!("{it}\n")).collect();
-    assert_eq!(texts, run(script, &fonts).unwrap().answers);
+    assert_eq!(texts, run_text(script, &fonts).unwrap().answers);
 }
 
 /// A rule of 20pt in lines of 10pt: one line, which the third pass takes, 10pt overfull. A front of 5pt leaves a rest,
@@ -73,10 +73,10 @@ fn each_kind_of_answer() {
 #[test]
 fn numbers_of_a_paragraph_and_of_a_rest() {
     let script = "set hsize 10pt\nset parfillskip 0pt\nvbox into 0\npar\nrule 20pt 1pt 0pt\nend\nend\n";
-    let answer = run_replies(script, &[]).unwrap().replies.swap_remove(5).answer.unwrap();
+    let answer = run(script, &[]).unwrap().replies.swap_remove(5).answer.unwrap();
     assert!(matches!(answer, Answer::Paragraph { lines: 1, pass: 3, overhang, .. } if overhang == i64::from(10 * PT)), "{answer:?}");
     let script = "vbox into 2\nrule 10pt 5pt 0pt\nspecial a\nglue 2pt\nrule 10pt 5pt 0pt\nend\nvsplit 2 to 5pt into 3\n";
-    let answer = run_replies(script, &[]).unwrap().replies.swap_remove(6).answer.unwrap();
+    let answer = run(script, &[]).unwrap().replies.swap_remove(6).answer.unwrap();
     assert_eq!(answer, Answer::Split { front: sizes(10, 5), badness: 0, rest: Some(sizes(10, 10)) });
 }
 
@@ -85,7 +85,7 @@ fn numbers_of_a_paragraph_and_of_a_rest() {
 fn dimensions_are_read_again() {
     let widths: Vec<_> = (0..PT).step_by(7).chain([1, 65_535, 1_073_741_823]).flat_map(|it| [it, -it]).collect();
     let script: String = widths.iter().map(|it| format!("hbox into 0\nkern {}\nend\n", points(*it))).collect();
-    let replies = run_replies(script, &[]).unwrap().check().unwrap().replies;
+    let replies = run(script, &[]).unwrap().check().unwrap().replies;
     for (width, reply) in widths.into_iter().zip(replies.chunks(3).map(|it| &it[2])) {
         assert_eq!(reply.answer, Ok(Answer::Packed { sizes: BoxSizes { width, height: 0, depth: 0 }, badness: 0 }));
     }
@@ -115,7 +115,7 @@ fn a_glyph_and_its_font() {
 fn replies_are_the_answers() {
     let fonts = [Font::new("none", b"no metrics")];
     for script in [REFUSED, BOXES, "kern 12px\n", "hbox\nend\ntexta\n", "kern \t\n", "char\n", "end end\n", "penalty x\n", "font 0 a/b at 5pt\n"] {
-        let (texts, replied) = (run(script, &fonts).unwrap(), run_replies(script, &fonts).unwrap());
+        let (texts, replied) = (run_text(script, &fonts).unwrap(), run(script, &fonts).unwrap());
         assert_eq!(replied.replies.iter().map(|it| format!("{it}\n")).collect::<String>(), texts.answers, "{script}");
         assert_eq!(replied.refusals().cloned().collect::<Vec<_>>(), texts.refusals().collect::<Vec<_>>(), "{script}");
         assert_eq!((replied.accepted, &replied.dvi, replied.replies.len()), (texts.accepted, &texts.dvi, texts.answers.lines().count()), "{script}");
@@ -126,11 +126,11 @@ fn replies_are_the_answers() {
 fn a_job_in_pieces_replies_as_one_run() {
     let (mut job, mut found) = (Job::new(&[]).unwrap(), Vec::new());
     for line in BOXES.lines() {
-        found.extend(job.run(line).unwrap());
+        found.extend(job.commands(line).unwrap().replies);
     }
-    let refused = job.run("kern 12px\n").unwrap().remove(0);
+    let refused = job.commands("kern 12px\n").unwrap().replies.remove(0);
     assert_eq!((refused.line, refused.answer.unwrap_err().to_string()), (Some(12), "refused 2 BadScript 12 Dimension".into()));
-    found.push(job.end().unwrap());
-    assert_eq!(found, run_replies(BOXES, &[]).unwrap().replies);
-    assert!(matches!(job.end().unwrap().answer, Err(it) if it.name == "JobOver"));
+    found.push(job.finish().unwrap());
+    assert_eq!(found, run(BOXES, &[]).unwrap().replies);
+    assert!(matches!(job.finish().unwrap().answer, Err(it) if it.name == "JobOver"));
 }
