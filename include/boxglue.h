@@ -37,6 +37,10 @@ extern "C" {
  * The second number rises where calls, statuses and structs are added. From 1.2.0 on, none of those that are there changes before the first number does, so a program
  * runs with each library that has its first number and is not older than its header. In 1.2.0 struct boxglue_dvi_font got two fields. */
 #define BOXGLUE_VERSION 10200
+#define BOXGLUE_VERSION_MAJOR (BOXGLUE_VERSION / 10000)
+#define BOXGLUE_VERSION_MINOR (BOXGLUE_VERSION / 100 % 100)
+#define BOXGLUE_VERSION_PATCH (BOXGLUE_VERSION % 100)
+#define BOXGLUE_VERSION_STRING "1.2.0"
 
 enum boxglue_status {
     /* All was accepted. The outputs are written. */
@@ -472,7 +476,8 @@ void boxglue_job_free(struct boxglue_job *job);
 
 /* What is below is for C and C++ alone, and not in the library: texts of the statuses, and calls by the names above.
  *
- * A call passes an address of its own where a size, a count or a room is 0, so that the pointer beside it may be null. (boxglue_run)(..) in parentheses calls the
+ * A call passes an address of its own where a size, a count or a room is 0, so that the pointer beside it may be null. A script may be at any address, such as one of
+ * char. boxglue_typed.h has the commands of scripts as calls. (boxglue_run)(..) in parentheses calls the
  * library itself, and so does each call where BOXGLUE_NO_INLINE is defined before this header. Strict C89 has no inline functions, and needs BOXGLUE_NO_INLINE. */
 #ifndef BOXGLUE_NO_INLINE
 
@@ -517,9 +522,9 @@ static inline const char *boxglue_bad_tfm_name(uint32_t cause) {
     return cause >= 1 && cause <= sizeof names / sizeof *names ? names[cause - 1] : "unknown";
 }
 
-static inline const uint8_t *boxglue_bytes_at(const uint8_t *at, size_t size) {
+static inline const uint8_t *boxglue_bytes_at(const void *at, size_t size) {
     static uint8_t none;
-    return size ? at : &none;
+    return size ? (const uint8_t *)at : &none;
 }
 
 static inline uint8_t *boxglue_room_at(uint8_t *at, size_t size) {
@@ -552,7 +557,7 @@ static inline struct boxglue_reply *boxglue_replies_at(struct boxglue_reply *at,
     return size ? at : &none;
 }
 
-static inline uint32_t boxglue_run_or_null(const uint8_t *script, size_t script_size,
+static inline uint32_t boxglue_run_or_null(const void *script, size_t script_size,
                                            const struct boxglue_font *fonts, size_t font_count,
                                            uint8_t *answers, size_t answers_room,
                                            uint8_t *dvi, size_t dvi_room,
@@ -626,7 +631,7 @@ static inline uint32_t boxglue_job_new_or_null(struct boxglue_job *job,
 }
 
 static inline uint32_t boxglue_job_commands_or_null(struct boxglue_job *job,
-                                                    const uint8_t *script, size_t script_size) {
+                                                    const void *script, size_t script_size) {
     return boxglue_job_commands(job, boxglue_bytes_at(script, script_size), script_size);
 }
 
@@ -645,7 +650,7 @@ static inline uint32_t boxglue_job_take_or_null(struct boxglue_job *job,
 }
 
 static inline uint32_t boxglue_job_run_or_null(struct boxglue_job *job,
-                                               const uint8_t *script, size_t script_size,
+                                               const void *script, size_t script_size,
                                                struct boxglue_reply *replies, size_t reply_room,
                                                size_t *count) {
     return boxglue_job_run(job, boxglue_bytes_at(script, script_size), script_size,
@@ -653,7 +658,7 @@ static inline uint32_t boxglue_job_run_or_null(struct boxglue_job *job,
                            count);
 }
 
-static inline uint32_t boxglue_run_replies_or_null(const uint8_t *script, size_t script_size,
+static inline uint32_t boxglue_run_replies_or_null(const void *script, size_t script_size,
                                                    const struct boxglue_font *fonts, size_t font_count,
                                                    struct boxglue_reply *replies, size_t reply_room,
                                                    uint8_t *dvi, size_t dvi_room,

@@ -13,6 +13,7 @@ HEADER, DEFINED = "include/boxglue.h", r"(?<=#define BOXGLUE_VERSION )\d+"
 DOTTED, NUMBER = r"\d+\.\d+\.\d+", r"[1-9][\d_]{4,}"
 PLACES = [
     (HEADER, rf"(?<=the library that this header describes, ){DOTTED}"),
+    (HEADER, rf'(?<=#define BOXGLUE_VERSION_STRING "){DOTTED}'),
     ("crates/boxglue_words/src/task.rt", rf'(?<=VERSION_LINE: &str = "boxglue ){DOTTED}'),
     ("crates/boxglue_calls/src/edition.rt", rf"(?<=ensures {{ result ≡ ){NUMBER}"),
     ("crates/boxglue_calls/src/edition.rt", rf"(?<=\n    ){NUMBER}(?=\n)"),

@@ -1,5 +1,5 @@
 """include/boxglue.h: the functions, structs, statuses and the version that it declares are those of the exports, and each function that has a pointer with a size has
-a call that takes a null pointer where the size is 0. What bindings/rust and bindings/python declare is what the header does.
+a call that takes a null pointer where the size is 0, and a script at any address. What bindings/rust and bindings/python declare is what the header does.
 tests/interface.tsv lists by version what a program can see, so a call that is added to a released version raises its number.
 Only texts are compared: names, numbers, the order and the width of parameters and fields. No program is built, and Python loads no library."""
 import hashlib
@@ -120,7 +120,8 @@ def null_calls(root):
     for name, parameters in re.findall(r"uint32_t (boxglue_\w+)\(([^)]*)\);", before):
         passed = ", ".join(words_of(parameters))
         if "_at(" in passed:
-            wanted.append((name, f"static inline uint32_t {name}_or_null({parameters}) {{ return {name}({passed}); }}"))
+            taken = parameters.replace("const uint8_t *script", "const void *script")
+            wanted.append((name, f"static inline uint32_t {name}_or_null({taken}) {{ return {name}({passed}); }}"))
     missing = [call for name, call in wanted if call not in after or f"#define {name} {name}_or_null " not in f"{after} "]
     return f"the header has not {missing}" if missing or not wanted else None
 

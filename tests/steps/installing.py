@@ -22,7 +22,7 @@ MODES = {"bin/boxglue": 0o755, "share/man/man1/boxglue.1": 0o644, "share/bash-co
 LIST = "share/boxglue/installed.tsv"
 # The files of the library, below the prefix; the version stands for itself, and LIBDIR for the folder of libraries.
 SHARED, STATIC, WHEEL_FILE, CARGO = "LIBDIR/libboxglue.so.1", "LIBDIR/libboxglue.a", "share/boxglue/python/boxglue-1-py3-none-any.whl", "share/boxglue/rust/Cargo.toml"
-LIBRARY = {"include/boxglue.h", "LIBDIR/libboxglue.so.VERSION", SHARED, "LIBDIR/libboxglue.so", STATIC, "LIBDIR/pkgconfig/boxglue.pc",
+LIBRARY = {"include/boxglue.h", "include/boxglue_typed.h", "LIBDIR/libboxglue.so.VERSION", SHARED, "LIBDIR/libboxglue.so", STATIC, "LIBDIR/pkgconfig/boxglue.pc",
            "LIBDIR/cmake/boxglue/boxglue-config.cmake", "LIBDIR/cmake/boxglue/boxglue-config-version.cmake", WHEEL_FILE, CARGO,
            "share/boxglue/rust/boxglue-sys/libdir"}
 # Answers an empty script, as boxglue does.
@@ -68,7 +68,7 @@ print(f"{{sys.argv[2]}}/{{name}}")
 # A repository of four crates, and two that the program does not use.
 CRATES = "# NAME: what it uses\nleft:\nother: left\nright: left itoa\nupper: left right\nboxglue: upper clap\nboxglue_c staticlib: upper\n"
 NAMES = ["left", "right", "upper", "boxglue"]
-COPIED = ["install", "docs/boxglue.1", "completions/boxglue.bash", "completions/_boxglue", "completions/boxglue.fish", "include/boxglue.h", "tools/version.py",
+COPIED = ["install", "docs/boxglue.1", "completions/boxglue.bash", "completions/_boxglue", "completions/boxglue.fish", "include/boxglue.h", "include/boxglue_typed.h", "tools/version.py",
           "tools/commands.py", "tools/crates.py", "tools/machine.py", "tools/progress.py", "tools/side_by_side.py", "bindings/boxglue.pc.in", "bindings/boxglue-config.cmake.in",
           "bindings/boxglue-config-version.cmake.in"]
 
