@@ -16,7 +16,7 @@ int main(void) {
     struct boxglue_job job = {0}; /* no copy is made of it, and each job is freed once */
     uint32_t status = boxglue_job_new(&job, NULL, 0);
     for (int at = 0; at < 2 && status == BOXGLUE_ACCEPTED; at++) {
-        status = boxglue_job_commands(&job, (const uint8_t *)pieces[at], strlen(pieces[at]));
+        status = boxglue_job_commands(&job, pieces[at], strlen(pieces[at]));
         print_answers(&job);
     }
     if (status == BOXGLUE_ACCEPTED) status = boxglue_job_finish(&job);

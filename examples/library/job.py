@@ -1,9 +1,12 @@
-"""Runs a script in two pieces on a job that is kept: prints its answers as they come, and writes its pages to page.dvi. Calls of several threads on it wait for each other."""
+"""Sets a page by the calls of a kept job: prints their replies as they come, and writes the pages to page.dvi. Calls of several threads on a job wait for each other."""
 import boxglue
+from boxglue import pt
 
 with boxglue.Job() as job, open("page.dvi", "wb") as out:
-    print(job.commands("hbox into 0\nrule 1pt 1pt 0pt\n").check().answers_text, end="")
-    print(job.commands("end\nship 0\n").check().answers_text, end="")
+    with job.hbox(into=0) as box:
+        job.rule(pt(1), pt(1), 0)
+    print(box.reply)
+    print(job.ship(0))
     out.write(job.take())  # the page
     print(job.finish().check().answers_text, end="")
     out.write(job.take())  # the end of the file

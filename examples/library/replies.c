@@ -1,18 +1,15 @@
-/* Takes replies as numbers: packs a box, and prints its width. */
-#include <boxglue.h>
+/* Sets a box by typed calls, and prints its width. */
+#include <boxglue_typed.h>
 #include <inttypes.h>
 #include <stdio.h>
-#include <string.h>
 
 int main(void) {
-    static const char piece[] = "hbox into 0\nrule 1pt 1pt 0pt\nend\n";
-    struct boxglue_reply replies[4]; /* a piece with three line feeds has at most four replies */
-    struct boxglue_job job = {0};
-    size_t count = 0;
-    uint32_t status = boxglue_job_new(&job, NULL, 0);
-    if (status == BOXGLUE_ACCEPTED) status = boxglue_job_run(&job, (const uint8_t *)piece, strlen(piece), replies, 4, &count);
-    for (size_t at = 0; status <= BOXGLUE_REFUSED && at < count; at++)
-        if (replies[at].kind == BOXGLUE_REPLY_PACKED) printf("line %" PRIu64 ": %" PRId32 " sp wide\n", replies[at].line, replies[at].box.width);
-    boxglue_job_free(&job);
+    struct boxglue_typed page;
+    uint32_t status = boxglue_typed_new(&page, NULL, 0);
+    if (!status) status = boxglue_do_hbox(&page, BOXGLUE_NATURAL, 0, 0);
+    if (!status) status = boxglue_do_rule(&page, BOXGLUE_PT(1), BOXGLUE_PT(1), 0);
+    if (!status) status = boxglue_do_end(&page);
+    if (!status) printf("line %" PRIu64 ": %" PRId32 " sp wide\n", page.reply.line, page.reply.box.width);
+    boxglue_typed_free(&page);
     return (int)status;
 }

@@ -78,14 +78,14 @@ def compiled_in_c(text, root, archive, folder, wanted=WANTED):
     return compile_c(root, archive, [f"{folder}/caller.c"], f"{folder}/caller", []) or run_wrong([f"{folder}/caller"], folder=folder, wanted=wanted)
 
 
-def caller_in_c(name, root, archive, folder):
-    return compiled_in_c(text_of(root, name), root, archive, folder) or file_wrong(folder)
+def caller_in_c(name, wanted, root, archive, folder):
+    return compiled_in_c(text_of(root, name), root, archive, folder, wanted) or file_wrong(folder)
 
 
-def refused_in_c(name, root, archive, folder):
-    """The same caller over a script with a bad line, and over one with a refused command: its status is 1, and it writes no file."""
-    text, line = text_of(root, name), "rule 1pt 1pt 0pt"
-    for other in ("rule 1em 1pt 0pt", "penalty 0\\nunhbox 7\\npar"):
+def refused_in_c(name, line, others, root, archive, folder):
+    """The same caller over a script with a bad line, and with a refused command: its status is 1, and it writes no file."""
+    text = text_of(root, name)
+    for other in others:
         write(f"{folder}/caller.c", text.replace(line, other))
         wrong = compile_c(root, archive, [f"{folder}/caller.c"], f"{folder}/caller", [])
         status = None if wrong else subprocess.run([f"{folder}/caller"], cwd=folder, capture_output=True, timeout=LIMIT).returncode
@@ -101,7 +101,7 @@ def replies_in_c(root, archive, folder):
 def job_in_python(root, archive, folder):
     write(f"{folder}/caller.py", text_of(root, "job.py"))
     words, env = python_words(root, archive, [f"{folder}/caller.py"])
-    return run_wrong(words, env, folder=folder) or file_wrong(folder)
+    return run_wrong(words, env, b"".join(WANTED.splitlines(True)[2:]), folder) or file_wrong(folder)
 
 
 def caller_in_python(root, archive, folder):
@@ -118,7 +118,7 @@ def caller_in_rust(root, archive, folder):
     write(f"{folder}/src/main.rs", text_of(root, "rs"))
     env = {**os.environ, "BOXGLUE_LIB_DIR": folder, "CARGO_TARGET_DIR": f"{folder}/target"}
     words = ["cargo", "run", "--quiet", "--offline", "--manifest-path", f"{folder}/Cargo.toml"]
-    return run_build([f"{root}/bindings/build", "--static", archive, f"{folder}/libboxglue.a"]) or run_wrong(words, env)
+    return run_build([f"{root}/bindings/build", "--static", archive, f"{folder}/libboxglue.a"]) or run_wrong(words, env, b"1.0pt\nend: pages 1 bytes 116\n")
 
 
 def null_pointers(language, root, archive, folder):
@@ -218,8 +218,9 @@ def outcome(call, root, archive=None, *_programs):
 
 def cases(programs, root):
     """The callers."""
-    calls = {"LIBRARY.md in C": partial(caller_in_c, "c"), "LIBRARY.md in C, refused": partial(refused_in_c, "c"), "examples/library/job.c": partial(caller_in_c, "job.c"),
-             "examples/library/job.c, refused": partial(refused_in_c, "job.c"), "examples/library/replies.c": replies_in_c,
+    scripts = "rule 1pt 1pt 0pt", ("rule 1em 1pt 0pt", "penalty 0\\nunhbox 7\\npar")
+    calls = {"LIBRARY.md in C": partial(caller_in_c, "c", b"65536 sp wide\n"), "LIBRARY.md in C, refused": partial(refused_in_c, "c", "ship(&page, 0)", ["ship(&page, 7)"]),
+             "examples/library/job.c": partial(caller_in_c, "job.c", WANTED), "examples/library/job.c, refused": partial(refused_in_c, "job.c", *scripts), "examples/library/replies.c": replies_in_c,
              "LIBRARY.md in Python": caller_in_python, "examples/library/job.py": job_in_python, "LIBRARY.md in Rust": caller_in_rust, "tests of bindings/python": partial(binding, "test_*.py"),
              "types of bindings/python": types_of_binding, "marks of bindings/python in numpy": marks_in_numpy, "examples/markdown": partial(client, page_of_markdown, 1),
              "examples/library/svg_pages.py": driver, "examples/markdown in 1,000 pages": partial(client, book_of_markdown, 1000)}

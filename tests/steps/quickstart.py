@@ -20,12 +20,12 @@ from dataclasses import dataclass, field
 from functools import partial
 
 from steps.examples import Wrong, characters, commands, require, run, shown_on_pages
-from steps.library_build import folder, lacking
+from steps.library_build import folder, lacking, python_words
 from steps.outcome import lacks, without
 from steps.texts import last_lines
 from tools.unproved import SAYS
 
-TITLE = "docs/QUICKSTART.md: its commands in a fresh folder and a fresh HOME, what they print, and the page; its times; the script and the first commands of README.md"
+TITLE = "docs/QUICKSTART.md: its commands in a fresh folder and a fresh HOME, what they print, and the page; its times; the calls and the first commands of README.md"
 PROGRAM = "library"
 NEEDS_PROGRAM = True
 LIMIT = 120
@@ -222,20 +222,22 @@ def times(root):
     return f"docs/QUICKSTART.md does not say {' and '.join(lost)}" if lost else None
 
 
-def first_page(root, _archive=None, program=None, *_programs):
-    """Whether README.md shows the last answers to its script, and begins with this document's line that builds and sets a page, and with tests/run."""
-    script, answers, builds, *_ = (textwrap.dedent(it) for it in re.findall(r"(?:^    +.*\n)+", document(root, "README.md"), re.M))
-    if program is None:
+def first_page(root, archive=None, program=None, *_programs):
+    """Whether README.md shows what its calls print, and begins with this document's line that builds and sets a page, and with tests/run."""
+    fence = re.compile(r"(?ms)^```python\n(.*?)^```$")
+    calls = fence.search(document(root, "README.md"))[1]
+    answers, builds, *_ = (textwrap.dedent(it) for it in re.findall(r"(?:^    +.*\n)+", fence.sub("", document(root, "README.md")), re.M))
+    if program is None or lacking():
         return lacking()
-    with tempfile.TemporaryDirectory() as path:
-        printed = run(program, path, ["typeset", "page.dvi", f"cmtt10={root}/examples/plain.tfm"], script)
-    wrong = {f"its script answers {printed[-300:]!r}": not printed.endswith(f"\n{answers}"),
+    words, env = python_words(root, archive, ["-c", calls])
+    printed = subprocess.run(words, cwd=root, env=env, capture_output=True, text=True, timeout=60).stdout
+    wrong = {f"its calls print {printed!r}": printed != answers,
              f"its first commands are {builds!r}": builds != f"{steps(document(root))[0].commands.rstrip()}\ntests/run\n"}
     return "; ".join(it for it, is_wrong in wrong.items() if is_wrong) or None
 
 
 def cases(programs, root):
-    """The form of the document, its times, its steps, and README.md's script and first commands."""
+    """The form of the document, its times, its steps, and README.md's calls and first commands."""
     yield "form", partial(form, root)
     yield "times", partial(times, root)
     yield "README.md", partial(first_page, root, *programs)

@@ -61,7 +61,7 @@ def _words(codes: Sequence[int]) -> Iterator[Sequence[int]]:
 
 def _plain(sources: Sequence[int]) -> str | None:
     """The characters of a text that a command `text` can have; None if one is another."""
-    made = "".join(" " if it == SPACE else chr(it) if 32 < it < 127 else "\n" for it in sources)
+    made = "".join([" " if it == SPACE else chr(it) if 32 < it < 127 else "\n" for it in sources])
     return None if "\n" in made else made
 
 
@@ -71,6 +71,9 @@ def encoded(codes: Sequence[int], metrics: Metrics | None) -> list[str]:
     What scripts can write is in `text`, which looks for the font's steps itself. Kerns on the two sides of a `char` are commands of their own, and a ligature
     with such a character is the `char` of that.
     """
+    whole = _plain(codes)
+    if whole is not None:
+        return [f"text {whole}\n"]
     lines: list[str] = []
     text, kern, was_plain = "", 0, False
     for sources, code, next_kern in (glyph for word in _words(codes) for glyph in _shaped(word, metrics)):
@@ -85,4 +88,4 @@ def encoded(codes: Sequence[int], metrics: Metrics | None) -> list[str]:
         else:
             text += plain
         kern, was_plain = next_kern, plain is not None
-    return [*lines, f"text {text}\n"] if text or not lines else lines
+    return [*lines, f"text {text}\n"] if text else lines
