@@ -72,6 +72,9 @@ class Handle(Generic[ReplyT]):
         return self._batch.refusal(self._at)
 
 
+_new_handle = Handle.__new__
+
+
 class TextHandle(Handle[Added]):
     """The handle of a text that is sent as several commands: one reply for all of them."""
     __slots__ = ("_count",)
@@ -210,8 +213,10 @@ class Batch(Commands["Handle[Ok]", "Handle[Added]", "Handle[Split]", "Handle[Mea
             frame = _getframe(2)
         self._callers.append((frame.f_code, frame.f_lasti))
         lines = self._lines
+        handle: Handle[Any] = _new_handle(Handle)  # a quarter quicker than by __init__
+        handle._batch, handle._at = self, len(lines)
         lines.append(line)
-        return Handle(self, len(lines) - 1)
+        return handle
 
     _ok = _added = _split = _measured = _shipped = _add
 
