@@ -9,8 +9,8 @@ from ._encoded import codes_of, encoded, refuse_missing
 from ._encodings import ASCII
 from ._lists import LoadedFont, OpenBox, OpenParagraph, Register
 from ._scripts import (
-    CHARACTERS, COUNTS, LARGEST_FONT, MOST_FIRST_LINES, MOST_PENALTY, SLOTS, Glue, dimension, glue, glue_parameter, name_of_font, number, quote, register,
-    size_of_rule, target,
+    CHARACTERS, COUNTS, LARGEST_FONT, MOST_FIRST_LINES, MOST_PENALTY, SLOTS, Glue, dimension, glue, glue_parameter, length, name_of_font, number, quote, register,
+    sizes_of_rule, target,
 )
 from ._status import BoxglueError
 
@@ -201,7 +201,7 @@ class Commands(ABC, Generic[OkT, AddedT, SplitT, MeasuredT, ShippedT]):
 
     def kern(self, amount: SupportsIndex) -> OkT:
         """Adds a kern."""
-        return self._ok(f"kern {dimension(amount)}sp\n")
+        return self._ok(f"kern {length(amount)}\n")
 
     def glue(self, width: SupportsIndex, plus: Stretch = 0, minus: Stretch = 0) -> OkT:
         """Adds glue.
@@ -219,7 +219,7 @@ class Commands(ABC, Generic[OkT, AddedT, SplitT, MeasuredT, ShippedT]):
 
     def rule(self, width: SupportsIndex | None, height: SupportsIndex | None, depth: SupportsIndex | None) -> OkT:
         """Adds a rule. A size that is None is the one of the box around the rule."""
-        return self._ok(f"rule {size_of_rule(width)} {size_of_rule(height)} {size_of_rule(depth)}\n")
+        return self._ok(f"rule {sizes_of_rule(width, height, depth)}\n")
 
     def special(self, text: str | bytes) -> OkT:
         """Adds a special, whose text is for the file's reader."""

@@ -83,11 +83,19 @@ def dimension(given: SupportsIndex) -> int:
     raise ValueError(f"too large for a dimension: {found:,} scaled points")
 
 
-def size_of_rule(given: SupportsIndex | None) -> str:
-    """A size of a rule. None is a running size."""
+def length(given: SupportsIndex) -> str:
+    """A dimension that fits, as scripts have it."""
     if type(given) is int and -1_073_741_823 <= given <= 1_073_741_823:
         return f"{given}sp"
-    return "*" if given is None else f"{dimension(given)}sp"
+    return f"{dimension(given)}sp"
+
+
+def sizes_of_rule(width: SupportsIndex | None, height: SupportsIndex | None, depth: SupportsIndex | None) -> str:
+    """The sizes of a rule. None is a running size."""
+    if type(width) is int and type(height) is int and type(depth) is int:
+        if -1_073_741_823 <= width <= 1_073_741_823 and -1_073_741_823 <= height <= 1_073_741_823 and -1_073_741_823 <= depth <= 1_073_741_823:
+            return f"{width}sp {height}sp {depth}sp"
+    return " ".join(["*" if it is None else length(it) for it in (width, height, depth)])
 
 
 def register(given: SupportsIndex) -> int:
