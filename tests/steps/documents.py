@@ -12,7 +12,7 @@ from functools import partial
 
 TITLE = "the documents: the README.md of each crate, links, lengths, figures, and no run of ten words that stands in two of them"
 TRIES = False
-DOCUMENTS = ("README.md", "CHANGELOG.md", "docs/*.md", "docs/internal/*.md", "crates/README.md", "crates/*/README.md", "tests/CASES.md", "bench/*/README.md", "examples/README.md", "examples/*/README.md",
+DOCUMENTS = ("README.md", "CHANGELOG.md", "SECURITY.md", "docs/*.md", "docs/internal/*.md", "crates/README.md", "crates/*/README.md", "tests/CASES.md", "bench/*/README.md", "examples/README.md", "examples/*/README.md",
              "bindings/python/README.md", "bindings/rust/*/README.md")
 RUN = 10
 SECTIONS = ["Proved", "Only tested", "Limits"]

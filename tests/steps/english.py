@@ -12,7 +12,7 @@ from steps.sentences import sentences
 
 TITLE = "the English of README.md and of other documents: no sentence has one of the habits that a test can find"
 TRIES = False
-FILES = ("README.md", "CHANGELOG.md", "docs/QUICKSTART.md", "docs/FAQ.md", "docs/PROVED.md", "docs/TOUR.md", "docs/REFUSALS.md", "docs/SPEED.md", "docs/internal/EVIDENCE.md",
+FILES = ("README.md", "CHANGELOG.md", "SECURITY.md", "docs/QUICKSTART.md", "docs/FAQ.md", "docs/PROVED.md", "docs/TOUR.md", "docs/REFUSALS.md", "docs/SPEED.md", "docs/internal/EVIDENCE.md",
          "docs/internal/GATE.md", "docs/internal/MEASURING.md")
 # "alone" says with these verbs how something is done, as it does with participles and with forms in -ing.
 VERBS = {*"act acts am are be come comes do does go goes is live lives run runs ran sit sits stand stands stood swim swims walk walks was were work works".split()}
