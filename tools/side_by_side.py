@@ -40,14 +40,19 @@ def move_kept(crates, source, target):
             shutil.move(f"{source}/{path}", f"{target}/{path}")
 
 
+def write_lists(root, tree, crates):
+    """Writes what `rt` has to know of a tree of these crates."""
+    shutil.copyfile(f"{root}/HANDLES", f"{tree}/HANDLES")
+    with open(f"{root}/crates.txt", encoding="ascii") as lines, open(f"{tree}/crates.txt", "w", encoding="ascii") as it:
+        it.writelines(line for line in lines if re.match(r"\w*", line)[0] in crates)
+
+
 def make_tree(root, tree, crates):
     """Makes a tree of these crates alone."""
     for path in [f"crates/{crate}/{part}" for crate in crates for part in PARTS]:
         if os.path.isdir(f"{root}/{path}"):
             shutil.copytree(f"{root}/{path}", f"{tree}/{path}")
-    shutil.copyfile(f"{root}/HANDLES", f"{tree}/HANDLES")
-    with open(f"{root}/crates.txt", encoding="ascii") as lines, open(f"{tree}/crates.txt", "w", encoding="ascii") as it:
-        it.writelines(line for line in lines if re.match(r"\w*", line)[0] in crates)
+    write_lists(root, tree, crates)
 
 
 @contextlib.contextmanager

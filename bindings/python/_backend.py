@@ -52,10 +52,11 @@ def _sources():
 
 
 def build_sdist(sdist_directory, config_settings=None):
-    """Writes the source distribution, and returns its name. The same sources give the same bytes."""
+    """Writes the source distribution, and returns its name. The same sources give the same bytes. The setting `version` names another version, as of a release without proofs."""
     script = _wheel_script()
-    name = f"boxglue-{script.package_version()}"
-    files = {"PKG-INFO": script.metadata(script.package_version()).encode(), **{it: script.read(path) for it, path in _sources().items()}}
+    version = (config_settings or {}).get("version") or script.package_version()
+    name = f"boxglue-{version}"
+    files = {"PKG-INFO": script.metadata(version).encode(), **{it: script.read(path) for it, path in _sources().items()}}
     with (open(f"{sdist_directory}/{name}.tar.gz", "wb") as out, gzip.GzipFile("", "wb", 9, out, DAY) as packed,
           tarfile.open(fileobj=packed, mode="w", format=tarfile.PAX_FORMAT) as it):
         for path, data in files.items():
