@@ -21,6 +21,8 @@ PLACES = [
     ("crates/tests_calls/src/scripts.rt", rf"(?<=version\(\), ){NUMBER}"),
     ("docs/boxglue.1", rf'(?<=\.BR "boxglue ){DOTTED}'),
     ("bindings/python/boxglue/__init__.py", rf'(?<=__version__ = "){DOTTED}'),
+    *(("bindings/python/README.md", rf"(?<={before}){DOTTED}") for before in ("has its version, such as ", "the wheel of one without proofs is ")),
+    *(("bindings/wheel", rf"(?<={before}){DOTTED}") for before in ("\nthe version ", "which sorts below ")),
     ("bindings/rust/Cargo.toml", rf'(?<=\nversion = "){DOTTED}'),
     ("bindings/rust/boxglue/Cargo.toml", rf'(?<="../boxglue-sys", version = "){DOTTED}'),
     *(("bindings/rust/Cargo.lock", rf'(?<=\nname = "{name}"\nversion = "){DOTTED}') for name in ("boxglue", "boxglue-sys")),

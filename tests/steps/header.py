@@ -2,6 +2,7 @@
 a call that takes a null pointer where the size is 0, and a script at any address. What bindings/rust and bindings/python declare is what the header does.
 tests/interface.tsv lists by version what a program can see, so a call that is added to a released version raises its number.
 Only texts are compared: names, numbers, the order and the width of parameters and fields. No program is built, and Python loads no library."""
+import glob
 import hashlib
 import json
 import os
@@ -292,6 +293,19 @@ def new_version(root):
         return "; ".join(wrong) or (None if (tools_version.number(room), tools_version.dotted(room)) == (12304, "1.23.4") else "the header has another version")
 
 
+def other_places(root):
+    """Lines of the program, the library, their documents and packages that have the version, and that tools/version.py does not write. A line may tell of its history."""
+    number, wrong = tools_version.dotted(root), []
+    patterns = ("install", "include/*", "completions/*", "docs/boxglue.1", "bindings/**/*", "crates/*/src/**/*.rt", "tools/**/*")
+    for path in sorted({os.path.relpath(it, root) for pattern in patterns for it in glob.glob(f"{root}/{pattern}", recursive=True) if os.path.isfile(it)}):
+        with open(f"{root}/{path}", encoding="utf-8", errors="replace") as it:
+            text = it.read()
+        for place in (pattern for name, pattern in [(tools_version.HEADER, tools_version.DEFINED), *tools_version.PLACES] if name == path):
+            text = re.sub(place, "", text)
+        wrong += [f"{path}: {line.strip()}" for line in text.splitlines() if number in line and not re.search(r"since = |such as|as 1|From |In 1|tools/version\.py", line)]
+    return "; ".join(wrong) or None
+
+
 def interface_of(text):
     """What a program can see of a header: its calls, its structs and the numbers of its enums."""
     structs_of = re.findall(r"struct boxglue_\w+ \{[^}]*\};", text)
@@ -347,6 +361,10 @@ def new_call(root):
     """Whether a call is found that is added without a new number, whatever row it has; and one that is gone."""
     text, rows, number = declared(root), listed(root), tools_version.dotted(root)
     call, released = "uint32_t boxglue_new(void);", re.findall(RELEASED, read(root, "CHANGELOG.md"))
+    # A version that is released takes no row, so the next one stands for it.
+    if number in released:
+        number = f"{number.partition('.')[0]}.{int(number.split('.')[1]) + 1}.0"
+        rows = {**rows, number: []}
     longer = f"{call} {text}"
     with_row = lambda its, at, what=call: {**its, at: [*its.get(at, []), what]}
     frozen, old = with_row(rows, number, digest_of(rows[number])), functions_of(text)[0]
@@ -362,6 +380,6 @@ def new_call(root):
 
 def cases(_programs, root):
     """A case for each kind of declaration."""
-    for check in (functions, null_calls, structs, statuses, reply_kinds, numbers_of_replies, status_texts, refusal_names, rust, python, version, new_version, interface,
-                  new_call):
+    for check in (functions, null_calls, structs, statuses, reply_kinds, numbers_of_replies, status_texts, refusal_names, rust, python, version, new_version,
+                  other_places, interface, new_call):
         yield check.__name__, partial(check, root)
