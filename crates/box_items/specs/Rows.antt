@@ -17,7 +17,8 @@ use Rattle.node_core.specs.declared.tree.Rule.{Rule}
 use Rattle.node_core.specs.declared.tree.RuleSize.{RuleSize}
 use Rattle.node_core.specs.declared.tree.RuleSize.TheVariants.{Running, Fixed}
 use Rattle.node_core.specs.declared.tree.BoxNode.{BoxNode}
-use Rattle.node_core.specs.Items.{Leaf, glyph, font_kern, kern, glue, penalty, rule, special, BoxFrame, Items, none, leaf, box, items_text, text_size_in}
+use Rattle.node_core.specs.Items.{Leaf, glyph, font_kern, kern, glue, penalty, rule, special, BoxFrame, Items, none, leaf, box}
+use Rattle.node_core.specs.Items.{items_text, text_size_in}
 use Rattle.node_core.specs.Nodes.{box_of, frame_of, node_of}
 use Rattle.pack_core.specs.Items.{own_size}
 use Rattle.pack_core.specs.Places.{place}

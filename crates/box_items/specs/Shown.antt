@@ -16,8 +16,8 @@ use Rattle.box_items.specs.declared.row.ItemKind.TheVariants as kinds
 abbrev pub number_in : WideDimen → ℤ
 number_in words = pos words.low +ℤ (words.high *ℤ pos (2 ^ 64))
 
--- The mark of a row, as a list of one or none, if the reference point of the outermost box is at (h, v) and the texts are these: a glyph, a special, or
--- a rule whose height plus depth and whose width are positive.
+-- The mark of a row, as a list of one or none, if the reference point of the outermost box is at (h, v) and the texts are these: a glyph, a special,
+-- or a rule whose height plus depth and whose width are positive.
 abbrev pub marks_of_row : (h v : ℤ) → (texts : List ℕ) → BoxItem → List Mark
 marks_of_row h v texts row =
     if nat_eq row.kind (kind_number kinds.Glyph)

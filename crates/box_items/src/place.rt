@@ -27,7 +27,7 @@ pub(crate) struct RowPlace {
 
 impl RowPlace {
     /// The place at these distances to the right and down.
-    pub(crate) fn moved(&self, right: i128, down: i128) -> RowPlace
+    pub(crate) fn at_offset(&self, right: i128, down: i128) -> RowPlace
         ensures { (exact : ItemPlace) → IsPlace self.now exact → IsPlace result (moved_by exact right down) }
     {
         RowPlace {

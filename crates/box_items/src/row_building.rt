@@ -181,7 +181,7 @@ fn rule_row(box_node: &BoxNode, at: &RowPlace, rule: &Rule) -> BoxItem
     ensures { (exact : ItemPlace) → IsPlace at.now exact → result ≡ rule_row box_node.now exact rule.now }
 {
     let below = rule_below(box_node, rule);
-    let corner = at.moved(0, i128::from(below));
+    let corner = at.at_offset(0, i128::from(below));
     let corner_row = empty_row(ItemKind::Rule, &corner);
     let width = if_running(1, rule.width);
     let height = if_running(2, rule.height);

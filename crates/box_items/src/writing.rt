@@ -27,7 +27,7 @@ pub struct ItemSizes {
 
 /// How many rows and bytes are written.
 #[derive(Clone, Copy, Debug)]
-struct Written {
+struct Progress {
     items: usize,
     text: usize,
 }
@@ -85,12 +85,13 @@ impl ListWalk {
 
 /// The place of an item at a distance from the start of the list of a box.
 fn place_after(box_node: &BoxNode, begin: &RowPlace, distance: i128, text: usize) -> RowPlace
-    ensures { (exact : ItemPlace) (before : List Node) → IsPlace begin.now exact → distance ≡ int_wrap w128 (place box_node.now.kind box_node.now.setting before)
+    ensures { (exact : ItemPlace) (before : List Node) → IsPlace begin.now exact
+        → distance ≡ int_wrap w128 (place box_node.now.kind box_node.now.setting before)
         → IsPlace result (record (place_after box_node.now exact before) { text = text }) }
 {
     match box_node.kind {
-        Kind::Horizontal => begin.moved(distance, 0).after_text(text as u64),
-        Kind::Vertical => begin.moved(0, distance).after_text(text as u64),
+        Kind::Horizontal => begin.at_offset(distance, 0).after_text(text as u64),
+        Kind::Vertical => begin.at_offset(0, distance).after_text(text as u64),
     }
 }
 
@@ -103,8 +104,8 @@ fn place_of_node(kind: Kind, at: &RowPlace, node: &Node) -> RowPlace
     };
     let shift = i128::from(shift.get());
     match kind {
-        Kind::Horizontal => at.moved(0, shift),
-        Kind::Vertical => at.moved(shift, i128::from(inner.height.get())),
+        Kind::Horizontal => at.at_offset(0, shift),
+        Kind::Vertical => at.at_offset(shift, i128::from(inner.height.get())),
     }
 }
 
@@ -114,12 +115,12 @@ fn list_place(box_node: &BoxNode, at: &RowPlace) -> RowPlace
 {
     match box_node.kind {
         Kind::Horizontal => at.deeper(),
-        Kind::Vertical => at.moved(0, -i128::from(box_node.height.get())).deeper(),
+        Kind::Vertical => at.at_offset(0, -i128::from(box_node.height.get())).deeper(),
     }
 }
 
 /// Writes a row.
-fn put_row(row: BoxItem, written: &mut Written, items: &mut [BoxItem])
+fn put_row(row: BoxItem, written: &mut Progress, items: &mut [BoxItem])
     requires { written.old.items < length items.old }
     ensures count { written.new.items ≡ written.old.items + 1 }
     ensures bytes { written.new.text ≡ written.old.text }
@@ -130,7 +131,7 @@ fn put_row(row: BoxItem, written: &mut Written, items: &mut [BoxItem])
 }
 
 /// Writes the text of a special.
-fn put_text(bytes: &[u8], written: &mut Written, text: &mut [u8])
+fn put_text(bytes: &[u8], written: &mut Progress, text: &mut [u8])
     requires { written.old.text + length bytes.now ≤ length text.old }
     ensures count { written.new.items ≡ written.old.items }
     ensures bytes { written.new.text ≡ written.old.text + length bytes.now }
@@ -144,7 +145,7 @@ fn put_text(bytes: &[u8], written: &mut Written, text: &mut [u8])
 fn write_list(
     box_node: &BoxNode,
     begin: &RowPlace,
-    written: &mut Written,
+    written: &mut Progress,
     items: &mut [BoxItem],
     text: &mut [u8],
 )
@@ -204,7 +205,7 @@ pub fn write_items(box_node: &BoxNode, items: &mut [BoxItem], text: &mut [u8]) -
         v: 0,
         text: 0,
     };
-    let mut written = Written { items: 0, text: 0 };
+    let mut written = Progress { items: 0, text: 0 };
     put_row(box_row(&origin, Dimen::ZERO, box_node), &mut written, items);
     write_list(
         box_node,

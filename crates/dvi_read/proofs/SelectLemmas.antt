@@ -12,8 +12,9 @@ use Rattle.dvi_ops.specs.Fonts.{WidthsByName, first_definition_of, font, widths_
 use Rattle.dvi_ops.specs.Instruction.{Definition}
 use Rattle.dvi_scan.specs.Reached.{has_number}
 use Rattle.dvi_scan.proofs.FontLemmas.{defined_more, has_definition, some_definition}
-use Rattle.dvi_read.specs.Faults.{of_read}
-use Rattle.dvi_read.specs.ReadFonts.{AreSound, AreUnchanged, HasWidthsAt, HaveByteCodes, IsPlaceOfSame, FontIsRead, read_font_at, font_place}
+use Rattle.dvi_read.specs.Private.Faults.{of_read}
+use Rattle.dvi_read.specs.ReadFonts.{AreSound, AreUnchanged, HasWidthsAt, HaveByteCodes, FontIsRead, read_font_at, font_place}
+use Rattle.dvi_read.specs.Private.ReadFonts.{IsPlaceOfSame}
 use Rattle.dvi_read.specs.declared.fonts.ReadFonts.{ReadFonts}
 use Rattle.dvi_read.specs.Steps.{IsSelectFault, Selects}
 use Rattle.dvi_read.specs.declared.fault.StepFault.TheVariants.{Pass, Font}

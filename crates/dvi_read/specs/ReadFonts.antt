@@ -4,7 +4,7 @@ use Rattle.std.specs.Prelude.{◌≡◌, List, slice_get, ℕ, ℤ, Option, Some
 use Rattle.std.specs.BTreeMap.{IsUnchanged, get}
 use Rattle.std.specs.Ordering.{int_cmp}
 use Rattle.dvi_scan.specs.Widths.{HasBytes}
-use Rattle.dvi_ops.specs.Fonts.{WidthsByName, first_definition_of, font}
+use Rattle.dvi_ops.specs.Fonts.{WidthsByName, font}
 use Rattle.dvi_ops.specs.Instruction.{Definition, SetChar, PutChar, Instruction, Do}
 use Rattle.dvi_scan.specs.declared.executing.PassState.{PassState}
 use Rattle.dvi_scan.specs.declared.executing.PassState.TheVariants.{Between, Inside}
@@ -43,12 +43,6 @@ HaveByteCodes fonts = (place : ℕ) (read : SizedFont) → read_font_at fonts pl
 -- At the place of a number there is a font with the widths that the metric files give for the number among these definitions.
 abbrev pub HasWidthsAt : WidthsByName → (table : List Definition) → ReadFonts → (f : ℤ) → (place : ℕ) → Type 0
 HasWidthsAt metrics table fonts f place = (read : SizedFont) × (read_font_at fonts place ≡ Some read) × (font metrics table f ≡ Some (width_at read))
-
--- At the place is the font of a number that is defined with the same name and size.
-abbrev pub IsPlaceOfSame : (known : List Definition) → Definition → ReadFonts → (place : ℕ) → Type 0
-IsPlaceOfSame known d fonts place =
-    (g : ℤ) × (other : Definition) × (first_definition_of g known ≡ Some other) × (other.name ≡ d.name) × (other.size ≡ d.size)
-    × (font_place g fonts ≡ Some place)
 
 -- Each number has such a font at its place, and the codes of the characters are bytes.
 pub record AreSound (metrics : WidthsByName) (table : List Definition) (fonts : ReadFonts) : Type 0 where

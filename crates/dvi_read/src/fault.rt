@@ -1,7 +1,8 @@
 //! Why a DVI file is refused.
 
 ghost use Rattle.std.specs.Prelude.{◌≡◌};
-ghost use Rattle.dvi_read.specs.Faults.{fault_in, of_frame, of_read};
+ghost use Rattle.dvi_read.specs.Faults.{fault_in, of_frame};
+ghost use Rattle.dvi_read.specs.Private.Faults.{of_read};
 
 pub(crate) mod laws;
 

@@ -12,7 +12,7 @@ pub returns : goal.returns
 returns c exact is =
     let b = c.args.box_node.now in
     let r = c.args.rule.now in
-    let moved = c.moved-corner.ensures exact is in
+    let moved = c.at_offset-corner.ensures exact is in
     let below = widened c.rule_below-below.result c.from.result (search rules) c.from.ensures ∙ c.rule_below-below.ensures in
     let row = c.empty_row-corner_row.ensures _ moved ∙ ap (empty_row kinds.Rule) (corner exact _ _ below) in
     let w : to_z w32 (of_z w32 c.get.result) ≡ rule_wide b.kind b r = to_z-of_z w32 c.get.result (search rules) ∙ (c.get.ensures.value ∙ c.rule_width.ensures) in

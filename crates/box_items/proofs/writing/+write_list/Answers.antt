@@ -11,7 +11,7 @@ use Rattle.page_core.proofs.Places.{few_passed, inner_depth, reached-none, reach
 use Rattle.pack_core.specs.Cursors.{WalkSums, one_more}
 use Rattle.pack_core.proofs.Walks.{reached-more}
 use Rattle.box_items.specs.declared.row.BoxItem.{BoxItem}
-use Rattle.box_items.specs.declared.writing.Written.{Written}
+use Rattle.box_items.specs.declared.writing.Progress.{Progress}
 use Rattle.box_items.specs.Rows.{ItemPlace, list_place, place_after, reference_point, rows_after, set_width_of, texts_in}
 use Rattle.box_items.specs.Private.Written.{IsPlace, count_inside, place_of_node, put_from, row_of_node, rows_inside, text_inside, texts_inside}
 use Rattle.box_items.proofs.Buffers.{put_is, put_three, put_two}
@@ -147,9 +147,9 @@ loop-node-preserved t c =
             c.loop-node.invariant.text_space,
             c.requires.text,
           ) in (
-            omega (arith, ap (λ (r : Written). r.items) w.written-is, w.put_text.ensures.count, ap count_inside is),
+            omega (arith, ap (λ (r : Progress). r.items) w.written-is, w.put_text.ensures.count, ap count_inside is),
             (
-              omega (arith, ap (λ (r : Written). r.text) w.written-is, w.put_text.ensures.bytes, ap length text, ap text_inside is),
+              omega (arith, ap (λ (r : Progress). r.text) w.written-is, w.put_text.ensures.bytes, ap length text, ap text_inside is),
               (
                 λ from at. w.items-is ∙ sym (ap (λ (y : Node). put_from first n (rows_inside (place_of_node b.kind (place from) y) y)) is),
                 w.text-is
@@ -163,9 +163,9 @@ loop-node-preserved t c =
           let inner = w.in-Box.inner in
           let shift = w.in-Box.field-0 in
           let is : x ≡ nodes.Box shift inner = w.in-Box.is in (
-            omega (arith, ap (λ (r : Written). r.items) w.written-is, w.write_list.ensures.count, ap (λ (d : BoxNode). items_count d.list) w.deref.ensures, ap count_inside is),
+            omega (arith, ap (λ (r : Progress). r.items) w.written-is, w.write_list.ensures.count, ap (λ (d : BoxNode). items_count d.list) w.deref.ensures, ap count_inside is),
             (
-              omega (arith, ap (λ (r : Written). r.text) w.written-is, w.write_list.ensures.bytes, ap (λ (d : BoxNode). items_text d.list) w.deref.ensures, ap text_inside is),
+              omega (arith, ap (λ (r : Progress). r.text) w.written-is, w.write_list.ensures.bytes, ap (λ (d : BoxNode). items_text d.list) w.deref.ensures, ap text_inside is),
               (
                 λ from at.
                     let point = reference_point b.kind (place from) shift (frame_of inner) in
@@ -184,9 +184,9 @@ loop-node-preserved t c =
           )
       | in_default w ↦
           let none = no_texts x w.in_default.not-Box w.in_default.not-Special in (
-            omega (arith, ap (λ (r : Written). r.items) w.written-is, no_count x w.in_default.not-Box),
+            omega (arith, ap (λ (r : Progress). r.items) w.written-is, no_count x w.in_default.not-Box),
             (
-              omega (arith, ap (λ (r : Written). r.text) w.written-is, ap length none, length-texts_inside x),
+              omega (arith, ap (λ (r : Progress). r.text) w.written-is, ap length none, length-texts_inside x),
               (
                 λ from at. w.items-is ∙ sym (ap (put_from first n) (no_rows x w.in_default.not-Box (place_of_node b.kind (place from) x))),
                 w.text-is ∙ sym (ap (put_from c.loop-node.text m) none),

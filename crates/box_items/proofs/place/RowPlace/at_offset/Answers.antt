@@ -1,6 +1,6 @@
 use Rattle.std.proofs.Common.{rules}
 use Rattle.box_items.proofs.Wrapped.{add_wrapped}
-use Rattle.box_items.proofs.place.RowPlace.moved.Goals as goal
+use Rattle.box_items.proofs.place.RowPlace.at_offset.Goals as goal
 
 pub returns : goal.returns
 returns c exact is =
