@@ -157,6 +157,62 @@ struct boxglue_fault {
     size_t name_size;
 };
 
+/* A number of scaled points: 65,536 of them are a point. Where the metric file has a number that is too large, is_unfit is 1, and value is 0. */
+struct boxglue_measure {
+    int32_t value;
+    uint32_t is_unfit;
+};
+
+/* A character of a font, in scaled points. What is not there has zeros. */
+struct boxglue_glyph {
+    /* 1 if the font has the character, else 0. */
+    uint32_t is_there;
+    int32_t width;
+    int32_t height;
+    int32_t depth;
+    /* The italic correction. */
+    struct boxglue_measure italic;
+};
+
+/* The characters of a font: the row with the number of each. */
+struct boxglue_glyph_table {
+    struct boxglue_glyph rows[256];
+};
+
+/* The numbers of a font beside its characters, in scaled points. A parameter that the metric file does not have is 0. */
+struct boxglue_font_parameters {
+    /* The size at which the font was measured, and the design size in the metric file. */
+    int32_t size;
+    int32_t design_size;
+    /* The check sum in the metric file: four bytes, the highest first. */
+    uint32_t check_sum;
+    /* Parameter 1, as it stands in the file: a ratio in units of 1/2^20, by which characters lean. It does not depend on the size. */
+    int32_t slant;
+    /* Parameters 2 to 4: the width of a space, and by how much it stretches and shrinks. */
+    int32_t space;
+    int32_t stretch;
+    int32_t shrink;
+    /* Parameters 5 to 7: the height of an x, the width of an em, and the space that is added at the end of a sentence. */
+    struct boxglue_measure x_height;
+    struct boxglue_measure quad;
+    struct boxglue_measure extra_space;
+};
+
+enum boxglue_step_kind { BOXGLUE_STEP_KERN = 1, BOXGLUE_STEP_LIGATURE = 2 };
+
+/* What a font puts between two characters, or in their place. What its kind does not have is 0. */
+struct boxglue_font_step {
+    /* The two characters, 0 to 255. */
+    uint32_t character;
+    uint32_t following;
+    /* One of enum boxglue_step_kind. */
+    uint32_t kind;
+    /* The width of the kern between them, in scaled points. */
+    int32_t kern;
+    /* The character that stands for both. */
+    uint32_t ligature;
+};
+
 /* Runs a script with these fonts.
  *
  * answers takes the answers to the commands, one line each (docs/FORMATS.md), or the one line of a script that is refused as a whole.
@@ -193,6 +249,19 @@ uint32_t boxglue_paint(const uint8_t *dvi, size_t dvi_size,
                        uint32_t page, uint32_t dpi, uint32_t width, uint32_t height,
                        uint8_t *text, size_t text_room,
                        size_t *size);
+
+/* Paints the rules of a page of a DVI file as boxglue_paint does, as bits.
+ *
+ * bits takes the rows of the bitmap from the top, or the line of the refusal, and *size the number of bytes. The rest of the buffer is as it was.
+ * A byte has eight pixels of a row, the leftmost in the highest bit, 1 for black. A row has (width + 7) / 8 bytes; the bits after its last pixel are 0. After the line
+ * "P4", a line with width and height, they are a raw PBM file.
+ *
+ * Returns 0 to 6, as boxglue_paint. */
+uint32_t boxglue_paint_bits(const uint8_t *dvi, size_t dvi_size,
+                            const struct boxglue_font *fonts, size_t font_count,
+                            uint32_t page, uint32_t dpi, uint32_t width, uint32_t height,
+                            uint8_t *bits, size_t bits_room,
+                            size_t *size);
 
 /* Reads the fonts that a DVI file defines after its pages, where each font that a page selects is defined. It needs no metric files, so it says which
  * names the other calls need. It checks the beginning and the end of the file and the chain of its pages, and does not read the pages.
@@ -232,6 +301,24 @@ uint32_t boxglue_check(const uint8_t *dvi, size_t dvi_size,
                        const struct boxglue_font *fonts, size_t font_count,
                        struct boxglue_fault *fault,
                        uint8_t *name, size_t name_room);
+
+/* Reads the metrics of a font, for a program that sets text itself: all sizes are those with which a job sets it.
+ *
+ * tfm is a metric file, and size a size in scaled points, 1 to 2^27 - 1, or 0 for its design size.
+ * *glyphs takes the characters 0 to 255, and *parameters the other numbers.
+ * steps takes a step for each two characters between which the font puts a kern, or for which it has a ligature, in the order of the first one and then of the following
+ * one; *count takes their number. The rest of the buffer is as it was. 65,536 steps always suffice, and most fonts have below 1,000.
+ * *fault takes the reason of a refusal, which is BOXGLUE_REFUSAL_BAD_TFM or BOXGLUE_REFUSAL_DIMENSION_TOO_LARGE, or zeros where the file is accepted.
+ *
+ * Returns 0, 1, 2, 4 or 6. The size is tested first: 6 if it is none of these. At 1 only *fault is written, and at 4 only *count, which says what the buffer needs. At 2 and 6
+ * nothing is written. */
+uint32_t boxglue_metrics(const uint8_t *tfm, size_t tfm_size,
+                         int32_t size,
+                         struct boxglue_glyph_table *glyphs,
+                         struct boxglue_font_parameters *parameters,
+                         struct boxglue_font_step *steps, size_t step_room,
+                         size_t *count,
+                         struct boxglue_fault *fault);
 
 /* Returns the version of the library, as BOXGLUE_VERSION counts it. A program compares the two. */
 uint32_t boxglue_version(void);
@@ -552,6 +639,11 @@ static inline struct boxglue_mark *boxglue_marks_at(struct boxglue_mark *at, siz
     return size ? at : &none;
 }
 
+static inline struct boxglue_font_step *boxglue_font_steps_at(struct boxglue_font_step *at, size_t size) {
+    static struct boxglue_font_step none;
+    return size ? at : &none;
+}
+
 static inline struct boxglue_reply *boxglue_replies_at(struct boxglue_reply *at, size_t size) {
     static struct boxglue_reply none;
     return size ? at : &none;
@@ -591,6 +683,18 @@ static inline uint32_t boxglue_paint_or_null(const uint8_t *dvi, size_t dvi_size
                          size);
 }
 
+static inline uint32_t boxglue_paint_bits_or_null(const uint8_t *dvi, size_t dvi_size,
+                                                  const struct boxglue_font *fonts, size_t font_count,
+                                                  uint32_t page, uint32_t dpi, uint32_t width, uint32_t height,
+                                                  uint8_t *bits, size_t bits_room,
+                                                  size_t *size) {
+    return boxglue_paint_bits(boxglue_bytes_at(dvi, dvi_size), dvi_size,
+                              boxglue_fonts_at(fonts, font_count), font_count,
+                              page, dpi, width, height,
+                              boxglue_room_at(bits, bits_room), bits_room,
+                              size);
+}
+
 static inline uint32_t boxglue_fonts_or_null(const uint8_t *dvi, size_t dvi_size,
                                              struct boxglue_dvi_font *fonts, size_t font_room,
                                              uint8_t *text, size_t text_room,
@@ -623,6 +727,22 @@ static inline uint32_t boxglue_check_or_null(const uint8_t *dvi, size_t dvi_size
                          boxglue_fonts_at(fonts, font_count), font_count,
                          fault,
                          boxglue_room_at(name, name_room), name_room);
+}
+
+static inline uint32_t boxglue_metrics_or_null(const uint8_t *tfm, size_t tfm_size,
+                                               int32_t size,
+                                               struct boxglue_glyph_table *glyphs,
+                                               struct boxglue_font_parameters *parameters,
+                                               struct boxglue_font_step *steps, size_t step_room,
+                                               size_t *count,
+                                               struct boxglue_fault *fault) {
+    return boxglue_metrics(boxglue_bytes_at(tfm, tfm_size), tfm_size,
+                           size,
+                           glyphs,
+                           parameters,
+                           boxglue_font_steps_at(steps, step_room), step_room,
+                           count,
+                           fault);
 }
 
 static inline uint32_t boxglue_job_new_or_null(struct boxglue_job *job,
@@ -673,9 +793,11 @@ static inline uint32_t boxglue_run_replies_or_null(const void *script, size_t sc
 #define boxglue_run boxglue_run_or_null
 #define boxglue_list boxglue_list_or_null
 #define boxglue_paint boxglue_paint_or_null
+#define boxglue_paint_bits boxglue_paint_bits_or_null
 #define boxglue_fonts boxglue_fonts_or_null
 #define boxglue_marks boxglue_marks_or_null
 #define boxglue_check boxglue_check_or_null
+#define boxglue_metrics boxglue_metrics_or_null
 #define boxglue_job_new boxglue_job_new_or_null
 #define boxglue_job_commands boxglue_job_commands_or_null
 #define boxglue_job_answers boxglue_job_answers_or_null

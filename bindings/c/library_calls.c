@@ -3,9 +3,11 @@
  *     library_calls [--refuse] run SCRIPT [NAME=TFM ..]
  *     library_calls [--refuse] list DVI [NAME=TFM ..]
  *     library_calls [--refuse] paint PAGE DPI WIDTH HEIGHT DVI [NAME=TFM ..]
+ *     library_calls [--refuse] paint_bits PAGE DPI WIDTH HEIGHT DVI [NAME=TFM ..]
  *     library_calls [--refuse] fonts DVI
  *     library_calls [--refuse] marks DVI [NAME=TFM ..]
  *     library_calls [--refuse] check DVI [NAME=TFM ..]
+ *     library_calls [--refuse] metrics SIZE TFM ..
  *     library_calls [--refuse] run_replies SCRIPT [NAME=TFM ..]
  *     library_calls [--refuse] job MOST SCRIPT [NAME=TFM ..]
  *     library_calls [--refuse] job_replies MOST SCRIPT [NAME=TFM ..]
@@ -16,7 +18,8 @@
  *     library_calls version
  *
  * It prints a line with the status and the sizes of both outputs, and then the outputs; `marks` prints the status and the units, and then a listing;
- * `check` the status, the number of a font and the name of one, and then the line of a refusal. `job` runs the
+ * `check` the status, the number of a font and the name of one, and then the line of a refusal;
+ * `metrics` the status, the numbers, the characters and the steps of each file at a size. `job` runs the
  * script on a job, in pieces of at most MOST lines, or in one piece where MOST is 0.
  * `run_replies` and `job_replies` print the texts of the replies that came as numbers.
  * `frees` frees jobs after each line of the script. With --refuse each growth of memory is refused in turn instead, and the ways in which the calls ended are counted.
@@ -24,6 +27,7 @@
 #include "check_calls.h"
 #include "job_calls.h"
 #include "mark_calls.h"
+#include "metric_calls.h"
 #include "random_inputs.h"
 #include "random_pieces.h"
 #include "reply_text.h"
@@ -105,6 +109,18 @@ static void run_on_file(char **words, int count, void (*call)(const struct input
     call(&dvi, &fonts);
 }
 
+static void run_metrics(char **words, int count, int refuses) {
+    REQUIRE(count >= 2, "metrics needs SIZE TFM");
+    char *end;
+    long size = strtol(words[0], &end, 10);
+    REQUIRE(*words[0] && !*end && size >= INT32_MIN && size <= INT32_MAX, "not a size: %s", words[0]);
+    for (int at = 1; at < count; at++) {
+        struct input tfm = read_file(words[at]);
+        if (refuses) refuse_metric_growths(&tfm, (int32_t)size);
+        else print_metrics(&tfm, (int32_t)size);
+    }
+}
+
 static void run_job(char **words, int count, int refuses, int as_replies) {
     REQUIRE(count >= 2, "a job needs MOST SCRIPT");
     struct pieces pieces = {read_file(words[1]), read_fonts(words + 2, count - 2), number(words[0]), as_replies};
@@ -120,7 +136,7 @@ static void run_job(char **words, int count, int refuses, int as_replies) {
 /* The request of the words of a call. */
 static struct request read_request(enum call call, char **words, int count) {
     struct request request = {.call = call};
-    if (call == PAINT) {
+    if (call == PAINT || call == PAINT_BITS) {
         REQUIRE(count >= 4, "paint needs PAGE DPI WIDTH HEIGHT");
         request.page = number(words[0]), request.dpi = number(words[1]), request.width = number(words[2]), request.height = number(words[3]);
         words += 4, count -= 4;
@@ -132,7 +148,7 @@ static struct request read_request(enum call call, char **words, int count) {
 }
 
 int main(int count, char **words) {
-    static const char *const CALLS[] = {[RUN] = "run", [LIST] = "list", [PAINT] = "paint", [FONTS] = "fonts", [REPLIES] = "run_replies"};
+    static const char *const CALLS[] = {[RUN] = "run", [LIST] = "list", [PAINT] = "paint", [PAINT_BITS] = "paint_bits", [FONTS] = "fonts", [REPLIES] = "run_replies"};
     int refuses = count > 1 && !strcmp(words[1], "--refuse");
     words += 1 + refuses, count -= 1 + refuses;
     REQUIRE(count >= 1, "the name of a call is missing");
@@ -145,6 +161,7 @@ int main(int count, char **words) {
     if (!strcmp(words[0], "frees")) return run_frees(words + 1, count - 1), 0;
     if (!strcmp(words[0], "marks")) return run_on_file(words + 1, count - 1, refuses ? refuse_mark_growths : print_marks), 0;
     if (!strcmp(words[0], "check")) return run_on_file(words + 1, count - 1, refuses ? refuse_check_growths : print_check), 0;
+    if (!strcmp(words[0], "metrics")) return run_metrics(words + 1, count - 1, refuses), 0;
     if (!strcmp(words[0], "handles")) return require_handles(), 0;
     int call = RUN;
     while (strcmp(words[0], CALLS[call])) REQUIRE(++call <= REPLIES, "no call %s", words[0]);

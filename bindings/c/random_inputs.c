@@ -1,4 +1,5 @@
 #include "random_inputs.h"
+#include "metric_calls.h"
 #include "whole_calls.h"
 
 #include <stdio.h>
@@ -41,7 +42,7 @@ static struct input next_string(const struct input *good, size_t number) {
 
 /* Makes a call, and counts its status. */
 static void count_call(const struct request *request, size_t statuses[STATUSES]) {
-    static const uint32_t ALLOWED[] = {[RUN] = 0x13, [LIST] = 0x13, [PAINT] = 0x33, [FONTS] = 0x13}; /* a bit for each status */
+    static const uint32_t ALLOWED[] = {[RUN] = 0x13, [LIST] = 0x13, [PAINT] = 0x33, [PAINT_BITS] = 0x33, [FONTS] = 0x13}; /* a bit for each status */
     size_t rooms[2] = {ROOM, ROOM};
     if (request->call == FONTS) rooms[0] -= ROOM % sizeof(struct boxglue_dvi_font);
     struct result result = make_call(request, rooms);
@@ -56,8 +57,8 @@ static void count_script(const struct input *script, const struct boxglue_font *
 }
 
 static void count_dvi(const struct input *dvi, const struct boxglue_font *font, size_t statuses[STATUSES]) {
-    static const enum call CALLS[] = {LIST, PAINT, FONTS};
-    for (int at = 0; at < 3; at++) {
+    static const enum call CALLS[] = {LIST, PAINT, PAINT_BITS, FONTS};
+    for (size_t at = 0; at < sizeof CALLS / sizeof *CALLS; at++) {
         struct request request = {.call = CALLS[at], .input = *dvi, .fonts = {.all = {*font}, .count = 1}, .page = 1, .dpi = 72, .width = 40, .height = 30};
         count_call(&request, statuses);
     }
@@ -71,6 +72,7 @@ static void count_role(enum role role, const struct samples *samples, const stru
         font.bytes = string->bytes, font.bytes_size = string->size;
         count_script(&samples->script, &font, statuses);
         count_dvi(&samples->dvi, &font, statuses);
+        statuses[random_metrics(string, (int32_t)below(1 << 27))]++;
     }
 }
 

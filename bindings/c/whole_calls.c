@@ -39,6 +39,9 @@ static uint32_t call_library(const struct request *request, struct result *resul
     case PAINT:
         status = boxglue_paint(input->bytes, input->size, fonts, count, request->page, request->dpi, request->width, request->height, first, rooms[0], &sizes[0]);
         break;
+    case PAINT_BITS:
+        status = boxglue_paint_bits(input->bytes, input->size, fonts, count, request->page, request->dpi, request->width, request->height, first, rooms[0], &sizes[0]);
+        break;
     case FONTS:
         status = boxglue_fonts(input->bytes, input->size, (struct boxglue_dvi_font *)first, rooms[0] / item_size(FONTS), second, rooms[1], &font_sizes);
         sizes[0] = font_sizes.fonts == UNSET ? UNSET : font_sizes.fonts * item_size(FONTS), sizes[1] = font_sizes.text;

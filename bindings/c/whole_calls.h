@@ -4,7 +4,7 @@
 
 #include "inputs.h"
 
-enum call { RUN, LIST, PAINT, FONTS, REPLIES };
+enum call { RUN, LIST, PAINT, PAINT_BITS, FONTS, REPLIES };
 
 /* What a call is given. */
 struct request {

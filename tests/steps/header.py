@@ -129,7 +129,7 @@ def null_calls(root):
 
 def structs(root):
     """What is wrong with the structs."""
-    sources = "".join(read(root, f"{CALLS}/{it}.rt") for it in ("runs", "given", "font_table", "mark_table", "faults"))
+    sources = "".join(read(root, f"{CALLS}/{it}.rt") for it in ("runs", "given", "font_table", "mark_table", "faults", "font_rows"))
     sources += "".join(read(root, f"{JOBS}/{it}.rt") for it in ("handle", "rows", "whole"))
     counts = re.search(r"const COUNTS: usize = (\d+);", read(root, COUNTS))[1]
     wanted = {}

@@ -70,18 +70,24 @@ def check_step(step, at, counts, characters):
     require(skip == 128 or at + skip + 1 < counts["nl"], "LigKern")
 
 
-def read_metrics(data):
-    """Reads a file, or raises Refused with the first rule that it breaks."""
-    counts = counts_of(data)
+def tables_of(data, counts):
+    """The words of the characters, and by the names of their numbers those of the tables."""
     words = [data[at:at + 4] for at in range(0, 4 * counts["lf"], 4)]
-    design_size = signed(words[7])
-    require(design_size >= 0 and design_size // 16 >= 65536, "DesignSize")
     at = 6 + counts["lh"]
     characters = words[at:at + counts["ec"] - counts["bc"] + 1]
     at, tables = at + len(characters), {}
     for name in TABLES:
         tables[name] = words[at:at + counts[name]]
         at += counts[name]
+    return characters, tables
+
+
+def read_metrics(data):
+    """Reads a file, or raises Refused with the first rule that it breaks."""
+    counts = counts_of(data)
+    design_size = signed(data[28:32])
+    require(design_size >= 0 and design_size // 16 >= 65536, "DesignSize")
+    characters, tables = tables_of(data, counts)
     for word in characters:
         check_character(word, counts)
     sizes = [tables[it] for it in ("nw", "nh", "nd", "ni")]

@@ -6,16 +6,20 @@
 ghost use Rattle.std.specs.Prelude.{◌≡◌, ◌≢◌, None};
 ghost use Rattle.boxglue_program.specs.Reports.{any_bytes, written_bytes};
 ghost use Rattle.boxglue_calls.specs.MarkTables.{mark_outputs};
+ghost use Rattle.boxglue_calls.specs.Metrics.{metric_outputs};
 ghost use Rattle.boxglue_calls.specs.Pieces.{DoesCommands, FinishesKept, HandsAnswers, HandsBytes};
 ghost use Rattle.boxglue_calls.specs.Replies.{RepliesTo, RepliesToEnd, row_space};
 ghost use Rattle.raster_core.specs.PaintOptions.{options_of};
-ghost use Rattle.boxglue_calls.specs.Calls.{HasSpaceForMarks, IsStatusOfNew, KeepsUndone, KeepsUnpainted, KeepsUnread, KeepsWithoutJob, Lists};
-ghost use Rattle.boxglue_calls.specs.Calls.{Checks, KeepsUnnamed, MakesJob, NeedsJob, NoticesNoPage, OnJob, Paints};
-ghost use Rattle.boxglue_calls.specs.Calls.{ReadsFonts, ReadsMarks, RefusesJob, RefusesNames};
-ghost use Rattle.boxglue_calls.specs.Calls.{RefusesNamesOfJob, RefusesNumbers, RefusesPage, Runs, RunsInRows};
+ghost use Rattle.boxglue_calls.specs.Calls.{Checks, HasSpaceForMarks, IsStatusOfNew, KeepsUndone, KeepsUnnamed, KeepsUnpainted, KeepsUnread};
+ghost use Rattle.boxglue_calls.specs.Calls.{KeepsWithoutJob, Lists, MakesJob, NeedsJob, NoticesNoPage, OnJob, Paints, PaintsBits, ReadsFonts};
+ghost use Rattle.boxglue_calls.specs.Calls.{ReadsMarks, ReadsMetrics, RefusesJob, RefusesNames, RefusesNamesOfJob, RefusesNumbers, RefusesPage};
+ghost use Rattle.boxglue_calls.specs.Calls.{RefusesSize, Runs, RunsInRows};
 
 use boxglue_calls::jobs::{JobHandle, ReplyRow, ReplySizes};
-use boxglue_calls::{DviFont, DviMark, DviPage, Fault, Font, FontSizes, Lengths, MarkSizes};
+use boxglue_calls::{
+    DviFont, DviMark, DviPage, Fault, Font, FontParameters, FontSizes, FontStep, GlyphTable,
+    Lengths, MarkSizes,
+};
 use std::alloc::Global;
 
 /// Runs a script with these fonts. The answers and the bytes of the DVI file go into the buffers, and the numbers of these bytes into `lengths`.
@@ -81,6 +85,31 @@ pub extern "C" fn boxglue_paint(
     boxglue_calls::paint(alloc, dvi, fonts, page, dpi, width, height, text, size)
 }
 
+/// Paints the rules of a page of a DVI file with these fonts, as `boxglue_paint`. The bitmap as bytes, eight pixels in each, or the line of the
+/// refusal, goes into `bits`, and the number of its bytes into `size`.
+#[unsafe(no_mangle)]
+pub extern "C" fn boxglue_paint_bits(
+    alloc: Global,
+    dvi: &[u8],
+    fonts: &[Font<'_>],
+    page: u32,
+    dpi: u32,
+    width: u32,
+    height: u32,
+    bits: &mut [u8],
+    size: &mut usize,
+) -> u32
+    ensures named { RefusesNames fonts.now result }
+    ensures range { RefusesNumbers fonts.now page dpi width height result }
+    ensures lacking { RefusesPage dvi.now fonts.now page result }
+    ensures found { NoticesNoPage dvi.now fonts.now page dpi width height result }
+    ensures done { PaintsBits dvi.now fonts.now (options_of page dpi width height) (bits.old, bits.new) size.new result }
+    ensures bits { KeepsUnpainted result bits.old bits.new }
+    ensures size { KeepsUnpainted result size.old size.new }
+{
+    boxglue_calls::paint_bits(alloc, dvi, fonts, page, dpi, width, height, bits, size)
+}
+
 /// Reads the fonts that a DVI file defines after its pages. They go into `fonts`, their names or the line of the refusal into `text`, and the numbers
 /// of both into `sizes`.
 #[unsafe(no_mangle)]
@@ -138,6 +167,25 @@ pub extern "C" fn boxglue_check(
     ensures name { KeepsUndone result name.old name.new }
 {
     boxglue_calls::check(alloc, dvi, fonts, fault, name)
+}
+
+/// Reads the metrics of a font in the bytes of a metric file, at a size in scaled points, or at its design size for 0.
+#[unsafe(no_mangle)]
+pub extern "C" fn boxglue_metrics(
+    alloc: Global,
+    tfm: &[u8],
+    size: i32,
+    glyphs: &mut GlyphTable,
+    parameters: &mut FontParameters,
+    steps: &mut [FontStep],
+    count: &mut usize,
+    fault: &mut Fault,
+) -> u32
+    ensures size { RefusesSize size result }
+    ensures done { ReadsMetrics tfm.now size (metric_outputs glyphs.old parameters.old steps.old count.old fault.old)
+        (metric_outputs glyphs.new parameters.new steps.new count.new fault.new) result }
+{
+    boxglue_calls::metrics(alloc, tfm, size, glyphs, parameters, steps, count, fault)
 }
 
 /// The version of the library: 10,000 times the first of its three numbers, 100 times the second, and the third.

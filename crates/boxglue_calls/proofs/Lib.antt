@@ -2,6 +2,9 @@ pub mod FaultLines
 pub mod FontTableLaws
 pub mod MarkRowLaws
 pub mod MarkTableLaws
+pub mod MeasuredFonts
+pub mod MetricBytes
+pub mod MetricLaws
 pub mod PageLaws
 pub mod WrittenParts
 pub mod RowSteps

@@ -1,7 +1,16 @@
 -- What is handed over has a status that says so.
-use Rattle.std.proofs.Common.{◌≡◌, ◌⊎◌, List, ℕ, Bool, true, false, inl, inr, refl, arith, ◌∙◌}
+use Rattle.std.proofs.Common.{◌≡◌, ◌⊎◌, List, ℕ, Bool, true, false, inl, inr, refl, subst, arith, ◌∙◌}
+use Rattle.raster_core.specs.PackedRows.{pixel_bytes}
+use Rattle.raster_core.specs.PaintOptions.{PaintOptionsView}
+use Rattle.raster_core.specs.PixelGrids.{PixelGrid}
+use Rattle.tfm_core.specs.NamedBytes.{NamedBytes}
+use Rattle.boxglue_print.specs.Outputs.{IsPageBitmap, LacksPage}
+use Rattle.boxglue_print.specs.declared.output.Output.{Output}
+use Rattle.boxglue_print.specs.declared.output.Painting.{Painting}
+use Rattle.boxglue_print.specs.declared.output.Painting.TheVariants.{Painted, Refusal}
+use Rattle.boxglue_print.proofs.PrintLemmas.{shown_page}
 use Rattle.boxglue_calls.specs.Buffers.{HandsOver}
-use Rattle.boxglue_calls.specs.Pages.{HandsOverPages, read_status}
+use Rattle.boxglue_calls.specs.Pages.{HandsOverPages, IsPaintedInBits, read_status}
 
 -- The status of what is handed over is 0, 1 or 4.
 done_small : (accepted : Bool) (done : ℕ) → done ≡ read_status accepted → (done ≡ 0) ⊎ (done ≡ 1)
@@ -37,3 +46,22 @@ pages_loud Is old new size status h silent = not_silent status (handed_status ol
     wider : (status ≡ 2) ⊎ (status ≡ 3) → (status ≡ 2) ⊎ ((status ≡ 3) ⊎ ((status ≡ 5) ⊎ (status ≡ 6)))
     wider (inl two) = inl two
     wider (inr three) = inr (inl three)
+
+-- A page as bytes, or the line of the refusal.
+pub painted_bits : (files other : List NamedBytes) (bytes : List ℕ) (options : PaintOptionsView) (painting : Painting) (grid : PixelGrid) (text : List ℕ) (accepted : Bool)
+    → files ≡ other → IsPageBitmap files bytes options painting → painting ≡ Painted grid → text ≡ pixel_bytes grid → accepted ≡ true
+    → IsPaintedInBits other bytes options text accepted
+painted_bits files other bytes options painting grid text accepted same is painted text_is accepted_is =
+    let shows = subst (λ (p : Painting). IsPageBitmap other bytes options p) painted (subst (λ (f : List NamedBytes). IsPageBitmap f bytes options painting) same is) in
+    inl (grid, shows, text_is, accepted_is)
+
+pub refused_bits : (files other : List NamedBytes) (bytes : List ℕ) (options : PaintOptionsView) (painting : Painting) (output : Output)
+    → files ≡ other → IsPageBitmap files bytes options painting → painting ≡ Refusal output → IsPaintedInBits other bytes options output.text.items output.accepted
+refused_bits files other bytes options painting output same is refused =
+    inr (subst (λ (p : Painting). IsPageBitmap other bytes options p) refused (subst (λ (f : List NamedBytes). IsPageBitmap f bytes options painting) same is))
+
+-- A file whose page is painted has that page.
+pub bits_have_page : (files : List NamedBytes) (bytes : List ℕ) (options : PaintOptionsView) (text : List ℕ) (accepted : Bool)
+    → IsPaintedInBits files bytes options text accepted → LacksPage files bytes options.page → ⊥
+bits_have_page files bytes options text accepted (inl (grid, shows, text_is, accepted_is)) lacks = shown_page files bytes options grid shows lacks
+bits_have_page files bytes options text accepted (inr refuses) lacks = refuses.none lacks.pages lacks.file

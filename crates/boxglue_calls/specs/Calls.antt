@@ -1,15 +1,18 @@
 -- What the calls promise: `boxglue_c` states of each export what `boxglue_calls` proves of the call (own).
-use Rattle.std.specs.Prelude.{◌≡◌, ◌≢◌, ◌≤◌, ◌↔◌, ◌⊎◌, ◌/◌, ℕ, true, false, List, length, Option, Some, None}
+use Rattle.std.specs.Prelude.{◌≡◌, ◌≢◌, ◌≤◌, ◌↔◌, ◌⊎◌, ◌/◌, ℕ, ℤ, pos, true, false, if◌then◌else◌, List, length, Option, Some, None}
+use Rattle.std.specs.Ordering.{int_eq}
 use Rattle.boxglue_program.specs.Reports.{Reports}
 use Rattle.boxglue_print.specs.Outputs.{IsListed, IsPainted, LacksPage}
 use Rattle.dvi_read.specs.declared.fault.DviFault.TheVariants.{OutOfMemory}
 use Rattle.raster_core.specs.PaintOptions.{options_of, PaintOptionsView}
+use Rattle.tfm_core.specs.Scaling.{IsFontSize}
 use Rattle.boxglue_calls.specs.FileFaults.{ChecksFile, fault_numbers}
 use Rattle.boxglue_calls.specs.Fonts.{are_named, files_of}
 use Rattle.boxglue_calls.specs.FontTables.{HandsOverFonts}
 use Rattle.boxglue_calls.specs.Jobs.{IsNewJob, KeptState}
 use Rattle.boxglue_calls.specs.MarkTables.{HandsOverMarks, MarkOutputs}
-use Rattle.boxglue_calls.specs.Pages.{HandsOverPages, is_in_range}
+use Rattle.boxglue_calls.specs.Metrics.{MeasuresFont, MetricOutputs}
+use Rattle.boxglue_calls.specs.Pages.{HandsOverPages, IsPaintedInBits, is_in_range}
 use Rattle.boxglue_calls.specs.Runs.{HandsOverRun, IsRun}
 use Rattle.boxglue_calls.specs.Whole.{IsReplied}
 use Rattle.boxglue_calls.specs.declared.faults.Fault.{Fault}
@@ -66,6 +69,12 @@ abbrev pub Paints : (dvi : List ℕ) → List Font → PaintOptionsView → (tex
 Paints dvi fonts options text size status =
     (status ≡ 2) ⊎ (status ≡ 3) ⊎ (status ≡ 5) ⊎ (status ≡ 6) ⊎ HandsOverPages (IsPainted (files_of fonts) dvi options) text.0 text.1 size status
 
+-- The bitmap of a page as bytes, or the line of the file's refusal, is handed over, unless nothing is done.
+abbrev pub PaintsBits : (dvi : List ℕ) → List Font → PaintOptionsView → (bits : List ℕ × List ℕ) → (size status : ℕ) → Type 0
+PaintsBits dvi fonts options bits size status =
+    (status ≡ 2) ⊎ (status ≡ 3) ⊎ (status ≡ 5) ⊎ (status ≡ 6)
+    ⊎ HandsOverPages (IsPaintedInBits (files_of fonts) dvi options) bits.0 bits.1 size status
+
 -- A call that paints no page leaves this as it was.
 abbrev pub KeepsUnpainted : {A : Type 0} → (status : ℕ) → (old new : A) → Type 0
 KeepsUnpainted status old new = (status ≡ 2) ⊎ (status ≡ 3) ⊎ (status ≡ 5) ⊎ (status ≡ 6) → new ≡ old
@@ -91,6 +100,22 @@ Checks dvi fonts name fault status =
 -- A call that does nothing, since a font has no name, leaves this as it was.
 abbrev pub KeepsUnnamed : {A : Type 0} → (status : ℕ) → (old new : A) → Type 0
 KeepsUnnamed status old new = status ≡ 3 → new ≡ old
+
+-- A call may be asked for the design size, by 0, or for another size of a font.
+abbrev pub IsAskedSize : (size : ℤ) → Type 0
+IsAskedSize size = (size ≡ pos 0) ⊎ IsFontSize size
+
+-- A call says 6 exactly if no size of a font is asked for.
+abbrev pub RefusesSize : (size : ℤ) → (status : ℕ) → Type 0
+RefusesSize size status = status ≡ 6 ↔ ¬ IsAskedSize size
+
+-- The size that is asked for; none for the design size.
+abbrev pub asked_size : ℤ → Option ℤ
+asked_size size = if int_eq size (pos 0) then None else Some size
+
+-- The metrics of a file at a size are written, or the file is refused, unless nothing is done.
+abbrev pub ReadsMetrics : (tfm : List ℕ) → (size : ℤ) → (old new : MetricOutputs) → (status : ℕ) → Type 0
+ReadsMetrics tfm size old new status = ((status ≡ 6) × (new ≡ old)) ⊎ MeasuresFont tfm (asked_size size) old new status
 
 -- These buffers are large enough for the marks of any file of this size.
 abbrev pub HasSpaceForMarks : (dvi : List ℕ) → MarkOutputs → (status : ℕ) → Type 0

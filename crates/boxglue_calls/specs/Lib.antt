@@ -6,6 +6,7 @@ pub mod MarkTables
 pub mod Pages
 pub mod RunStatus
 pub mod Runs
+pub mod Metrics
 pub mod Calls
 pub mod Jobs
 pub mod Numbers

@@ -1,6 +1,10 @@
 -- Listings and bitmaps of DVI files (own).
-use Rattle.std.specs.Prelude.{◌≡◌, ◌&&◌, ℕ, Bool, if◌then◌else◌, List, length, nat_le}
-use Rattle.raster_core.specs.PaintOptions.{is_paintable, options_of}
+use Rattle.std.specs.Prelude.{◌≡◌, ◌⊎◌, ◌&&◌, ℕ, Bool, true, if◌then◌else◌, List, length, nat_le}
+use Rattle.boxglue_print.specs.Outputs.{RefusesFile, ShowsPage}
+use Rattle.raster_core.specs.PackedRows.{pixel_bytes}
+use Rattle.raster_core.specs.PaintOptions.{PaintOptionsView, is_paintable, options_of}
+use Rattle.raster_core.specs.PixelGrids.{PixelGrid}
+use Rattle.tfm_core.specs.NamedBytes.{NamedBytes}
 use Rattle.boxglue_calls.specs.Buffers.{HandsOver}
 
 -- The status of a DVI file that was read: 0 where it is accepted, 1 where it is refused.
@@ -18,3 +22,8 @@ pub record HandsOverPages (Is : (text : List ℕ) → (accepted : Bool) → Type
   pub output : Is text accepted
   pub handed : HandsOver old new text (read_status accepted) status
   pub size_is : size ≡ length text
+
+-- The bitmap of a page as bytes, eight pixels in each; or the line of the file's refusal. And whether the file was accepted.
+abbrev pub IsPaintedInBits : List NamedBytes → List ℕ → PaintOptionsView → (bits : List ℕ) → (accepted : Bool) → Type 0
+IsPaintedInBits files bytes options bits accepted =
+    ((grid : PixelGrid) × ShowsPage files bytes options grid × (bits ≡ pixel_bytes grid) × (accepted ≡ true)) ⊎ RefusesFile files bytes bits accepted

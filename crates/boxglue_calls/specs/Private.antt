@@ -2,4 +2,5 @@
 pub mod KeptCode
 pub mod MarkFiles
 pub mod MarkRows
+pub mod MetricPlaces
 pub mod Owned

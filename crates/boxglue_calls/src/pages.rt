@@ -13,7 +13,9 @@ use crate::buffers::hand_over;
 use crate::given::{Font, are_named, font_files};
 use crate::listings::list_opened;
 use crate::status::{ACCEPTED, BAD_FONT_NAME, NO_SUCH_PAGE, OUT_OF_MEMORY, OUT_OF_RANGE, REFUSED};
-use boxglue_print::{Dvi, Output, PaintFault, PaintOptions, paint_text, refusal};
+use boxglue_print::{
+    Dvi, Output, PaintFault, PaintOptions, Painting, page_bitmap, paint_text, refusal,
+};
 use std::alloc::{AllocError, Global};
 
 /// The status of a DVI file that was read.
@@ -24,7 +26,7 @@ pub(crate) fn file_status(accepted: bool) -> u32
 }
 
 /// Hands a text over, and sets the size to its length.
-fn hand_over_output(output: &Output, text: &mut [u8], size: &mut usize) -> u32
+pub(crate) fn hand_over_output(output: &Output, text: &mut [u8], size: &mut usize) -> u32
     ensures handed { HandsOver text.old text.new output.now.text.items (read_status output.now.accepted) result }
     ensures size { size.new ≡ length output.now.text.items }
 {
@@ -77,7 +79,7 @@ pub fn list(alloc: Global, dvi: &[u8], fonts: &[Font<'_>], text: &mut [u8], size
 }
 
 /// The options with these numbers, if they are in their ranges: the page 1 or more, the pixels an inch, width and height 1 to 10,000.
-fn options_in_range(page: u32, dpi: u32, width: u32, height: u32) -> Option<PaintOptions>
+pub(crate) fn options_in_range(page: u32, dpi: u32, width: u32, height: u32) -> Option<PaintOptions>
     ensures { SomeIff result (IsTrue (is_in_range page dpi width height)) (options_of page dpi width height) }
 {
     if dpi < 1 {

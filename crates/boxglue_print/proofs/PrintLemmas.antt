@@ -8,7 +8,7 @@ use Rattle.dvi_ops.specs.Instruction.{Units}
 use Rattle.std.specs.Fmt.{digits}
 use Rattle.boxglue_program.specs.Texts.{refusal_line, refusal_text}
 use Rattle.boxglue_print.specs.Faults.{KnownLines, fault_line}
-use Rattle.boxglue_print.specs.Outputs.{IsPainted, LacksPage, Paints, RefusesFile}
+use Rattle.boxglue_print.specs.Outputs.{IsPainted, LacksPage, Paints, RefusesFile, ShowsPage}
 use Rattle.dvi_read.specs.Opened.{IsNoFile}
 use Rattle.dvi_read.specs.Opening.{IsDviFault}
 use Rattle.dvi_read.specs.declared.fault.DviFault.{DviFault}
@@ -48,6 +48,30 @@ paints files bytes options pages units shown grid file same page_is picture_is =
       (same file.frame);
   accepted_is = refl;
 }
+
+-- The bitmap of a page, by its pixels.
+pub shows : (files : List NamedBytes) (bytes : List ℕ) (options : PaintOptionsView) (pages : List MarkedPage) (units : Units) (shown : MarkedPage)
+    (grid : PixelGrid)
+    → IsFile (file_widths files) bytes pages → ((f : Frame bytes) → units ≡ f.postamble.units) → slice_get pages (options.page - 1) ≡ Some shown
+    → grid ≡ painted_grid (is_covered (scale_of units options.dpi) shown.marks) (white options.width options.height)
+    → ShowsPage files bytes options grid
+shows files bytes options pages units shown grid file same page_is picture_is = record {
+  pages = pages;
+  file = file;
+  shown = shown;
+  page_is = page_is;
+  grid_is = picture_is
+      ∙ ap (λ (u : Units). painted_grid (is_covered (scale_of u options.dpi) shown.marks) (white options.width options.height)) (same file.frame);
+}
+
+-- A page that is shown is there.
+pub shown_page : (files : List NamedBytes) (bytes : List ℕ) (options : PaintOptionsView) (grid : PixelGrid) → ShowsPage files bytes options grid
+    → LacksPage files bytes options.page → ⊥
+shown_page files bytes options grid shows lacks =
+    let same = ap (λ (pages : List MarkedPage). length pages) (one_list_of_pages (file_widths files) bytes shows.pages lacks.pages shows.file lacks.file) in
+    let within = slice_get_within shows.pages (options.page - 1) shows.shown shows.page_is in
+    let few = lacks.few in
+    absurd (omega arith)
 
 -- A file whose page is painted has that page.
 pub has_page : (files : List NamedBytes) (bytes : List ℕ) (options : PaintOptionsView) (text : List ℕ) (accepted : Bool)

@@ -6,7 +6,7 @@ use Rattle.dvi_read.specs.Opened.{IsNoFile}
 use Rattle.dvi_read.specs.Opening.{IsDviFault}
 use Rattle.dvi_read.specs.declared.fault.DviFault.{DviFault}
 use Rattle.dvi_read.specs.declared.fault.DviFault.TheVariants.{OutOfMemory}
-use Rattle.raster_core.specs.PixelGrids.{painted_grid, white}
+use Rattle.raster_core.specs.PixelGrids.{PixelGrid, painted_grid, white}
 use Rattle.raster_core.specs.Pixels.{is_covered, scale_of}
 use Rattle.raster_core.specs.PlainText.{pbm}
 use Rattle.raster_core.specs.PaintOptions.{PaintOptionsView}
@@ -42,6 +42,14 @@ pub record Paints (files : List NamedBytes) (bytes : List ℕ) (options : PaintO
       ≡ pbm (painted_grid (is_covered (scale_of file.frame.postamble.units options.dpi) shown.marks) (white options.width options.height))
   pub accepted_is : accepted ≡ true
 
+-- The bytes are a file with this page, counted from 1, and the grid is its bitmap: its rules black, the rest white.
+pub record ShowsPage (files : List NamedBytes) (bytes : List ℕ) (options : PaintOptionsView) (grid : PixelGrid) : Type 0 where
+  pub pages : List MarkedPage
+  pub file : IsFile (file_widths files) bytes pages
+  pub shown : MarkedPage
+  pub page_is : slice_get pages (options.page - 1) ≡ Some shown
+  pub grid_is : grid ≡ painted_grid (is_covered (scale_of file.frame.postamble.units options.dpi) shown.marks) (white options.width options.height)
+
 -- The bytes are a file that has no such page.
 pub record LacksPage (files : List NamedBytes) (bytes : List ℕ) (page : ℕ) : Type 0 where
   pub pages : List MarkedPage
@@ -60,3 +68,8 @@ IsPainted files bytes options text accepted = Paints files bytes options text ac
 abbrev pub IsPainting : List NamedBytes → List ℕ → PaintOptionsView → Painting → Type 0
 IsPainting files bytes options (Painted grid) = Paints files bytes options (pbm grid) true
 IsPainting files bytes options (Refusal output) = RefusesFile files bytes output.text.items output.accepted
+
+-- The bitmap of a page, by its pixels; or the text of the file's refusal.
+abbrev pub IsPageBitmap : List NamedBytes → List ℕ → PaintOptionsView → Painting → Type 0
+IsPageBitmap files bytes options (Painted grid) = ShowsPage files bytes options grid
+IsPageBitmap files bytes options (Refusal output) = RefusesFile files bytes output.text.items output.accepted

@@ -6,7 +6,7 @@ ghost use Rattle.dvi_ops.specs.View.{units as units_of};
 ghost use Rattle.dvi_scan.specs.View.{marked_page};
 ghost use Rattle.boxglue_print.specs.Faults.{fault_line};
 ghost use Rattle.boxglue_print.specs.declared.output.PaintFault.TheVariants.{OutOfMemory};
-ghost use Rattle.boxglue_print.specs.Outputs.{IsPainted, IsPainting, LacksPage};
+ghost use Rattle.boxglue_print.specs.Outputs.{IsPageBitmap, IsPainted, IsPainting, LacksPage};
 ghost use Rattle.raster_core.specs.PixelGrids.{painted_grid, white};
 ghost use Rattle.raster_core.specs.Pixels.{is_covered, scale_of};
 
@@ -94,6 +94,7 @@ pub fn page_bitmap(
     options: PaintOptions,
 ) -> Result<Painting, PaintFault>
     ensures ok { IfOk result (IsPainting files.now dvi.now options) }
+    ensures pixels { IfOk result (IsPageBitmap files.now dvi.now options) }
     ensures missing { result ≡ Err PaintFault.NoSuchPage → LacksPage files.now dvi.now options.page }
     ensures found { LacksPage files.now dvi.now options.page → (result ≡ Err PaintFault.NoSuchPage) ⊎ (result ≡ Err PaintFault.OutOfMemory) }
 {

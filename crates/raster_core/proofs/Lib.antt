@@ -7,4 +7,5 @@ pub mod PaintedMarks
 pub mod DrawnPixels
 pub mod TextRuns
 pub mod RowLines
+pub mod PackedBytes
 pub mod TextLeftLemmas

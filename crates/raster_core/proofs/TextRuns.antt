@@ -36,7 +36,7 @@ row_more n size = let e : n + 1 ≡ suc n = omega arith in ap (λ k. k * size) e
 pub same_digit : (b c e f : Bool) → b ≡ c → e ≡ f → digit_text b e ≡ digit_text c f
 same_digit b c e f p q = ap (λ x. digit_text x e) p ∙ ap (digit_text c) q
 
-same_from : (f g : ℕ → List ℕ) (a n : ℕ) → ((k : ℕ) → k < a + n → f k ≡ g k) → flat_map f (range_with_len a n) ≡ flat_map g (range_with_len a n)
+pub same_from : (f g : ℕ → List ℕ) (a n : ℕ) → ((k : ℕ) → k < a + n → f k ≡ g k) → flat_map f (range_with_len a n) ≡ flat_map g (range_with_len a n)
 same_from f g a zero same = refl
 same_from f g a (suc n) same =
     ap (λ l. l ++ flat_map f (range_with_len (a + 1) n)) (same a (omega arith)) ∙ ap (λ l. g a ++ l) (same_from f g (a + 1) n (λ k h. same k (omega arith)))

@@ -6,6 +6,7 @@
 mod lanes;
 pub mod laws;
 mod masks;
+mod packing;
 mod paint_options;
 mod painting;
 mod pixels;

@@ -8,8 +8,11 @@ ghost use Rattle.raster_core.specs.Words.{AreFull, in_rows};
 ghost use Rattle.raster_core.specs.Pixels.{covers, is_covered, scale_of};
 ghost use Rattle.raster_core.specs.PixelGrids.{is_size, painted_grid, white};
 ghost use Rattle.raster_core.specs.PlainText.{header_text, pbm, rows_text};
+ghost use Rattle.raster_core.specs.PackedRows.{packed_rows, pixel_bytes};
+ghost use Rattle.raster_core.specs.Private.PackedRows.{pixel};
 ghost use Rattle.raster_core.specs.TextLeft.{pbm_text_left};
 
+use crate::packing::packed_rows;
 use crate::pixels::Scale;
 use crate::printing::append_text;
 use crate::rows::Rows;
@@ -100,10 +103,20 @@ impl Bitmap {
         PbmText::new(self.rows())
     }
 
+    /// The pixels of the bitmap as bytes, in rows from the top: eight pixels in each byte, the leftmost in the highest bit, 1 for black. A row is
+    /// filled up to a whole byte with 0 (Netpbm, the raster of raw PBM).
+    pub fn pixel_bytes(&self, alloc: Global) -> Result<Vec<u8>, AllocError>
+        ensures { IfOk result (λ bytes. bytes.items ≡ pixel_bytes self.now) }
+    {
+        packed_rows(alloc, self.rows())
+    }
+
     /// The rows.
     fn rows(&self) -> Rows<'_>
-        ensures { header_text result.width result.height ++ rows_text result.width result.height (in_rows result.words.now result.stride)
+        ensures text { header_text result.width result.height ++ rows_text result.width result.height (in_rows result.words.now result.stride)
             ≡ pbm self.now }
+        ensures bytes { packed_rows result.width result.height (λ x y. pixel result.width (in_rows result.words.now result.stride) y x)
+            ≡ pixel_bytes self.now }
     {
         Rows {
             words: &self.words,

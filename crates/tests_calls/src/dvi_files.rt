@@ -3,7 +3,7 @@
 use crate::samples::{NESTED, TINY};
 use boxglue_calls::status::{ACCEPTED, BUFFER_TOO_SMALL, NO_SUCH_PAGE, OUT_OF_RANGE, REFUSED};
 use boxglue_calls::{
-    DviFont, DviMark, DviPage, Font, FontSizes, MarkSizes, fonts, list, marks, paint,
+    DviFont, DviMark, DviPage, Font, FontSizes, MarkSizes, fonts, list, marks, paint, paint_bits,
 };
 
 /// The font of the file.
@@ -64,6 +64,28 @@ fn a_page_is_painted(rt: HostRuntime) {
     assert_eq!(rt; paint_page(&rt, 1, 0, 3), (OUT_OF_RANGE, 0));
     assert_eq!(rt; paint_page(&rt, 1, 10_001, 3), (OUT_OF_RANGE, 0));
     assert_eq!(rt; paint_page(&rt, 1, 72, 10_001), (OUT_OF_RANGE, 0));
+}
+
+#[test]
+fn a_page_is_painted_in_bits(rt: HostRuntime) {
+    let mut bits = [255u8; 4];
+    let mut size = 0;
+    assert_eq!(rt;
+        paint_bits(
+            rt.alloc(),
+            &NESTED,
+            &[FONT],
+            1,
+            72,
+            9,
+            2,
+            &mut bits,
+            &mut size
+        ),
+        ACCEPTED
+    );
+    assert_eq!(rt; size, 4);
+    assert_eq!(rt; bits.as_slice(), [0, 0, 0, 0].as_slice());
 }
 
 #[test]

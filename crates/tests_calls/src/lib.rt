@@ -6,6 +6,8 @@ mod dvi_files;
 #[cfg(test)]
 mod jobs;
 #[cfg(test)]
+mod metrics;
+#[cfg(test)]
 mod replies;
 #[cfg(test)]
 mod samples;

@@ -24,6 +24,9 @@ pub const BOXGLUE_GLYPH: u32 = 1;
 pub const BOXGLUE_RULE: u32 = 2;
 pub const BOXGLUE_SPECIAL: u32 = 3;
 
+pub const BOXGLUE_STEP_KERN: u32 = 1;
+pub const BOXGLUE_STEP_LIGATURE: u32 = 2;
+
 pub const BOXGLUE_REPLY_OK: u32 = 0;
 pub const BOXGLUE_REPLY_REFUSED: u32 = 1;
 pub const BOXGLUE_REPLY_BAD_LINE: u32 = 2;
@@ -168,6 +171,54 @@ pub struct boxglue_fault {
     pub name_size: usize,
 }
 
+#[repr(C)]
+#[derive(Clone, Copy, Debug, Default, PartialEq, Eq)]
+pub struct boxglue_measure {
+    pub value: i32,
+    pub is_unfit: u32,
+}
+
+#[repr(C)]
+#[derive(Clone, Copy, Debug, Default, PartialEq, Eq)]
+pub struct boxglue_glyph {
+    pub is_there: u32,
+    pub width: i32,
+    pub height: i32,
+    pub depth: i32,
+    pub italic: boxglue_measure,
+}
+
+#[repr(C)]
+#[derive(Clone, Copy, Debug, PartialEq, Eq)]
+pub struct boxglue_glyph_table {
+    pub rows: [boxglue_glyph; 256],
+}
+
+#[repr(C)]
+#[derive(Clone, Copy, Debug, Default, PartialEq, Eq)]
+pub struct boxglue_font_parameters {
+    pub size: i32,
+    pub design_size: i32,
+    pub check_sum: u32,
+    pub slant: i32,
+    pub space: i32,
+    pub stretch: i32,
+    pub shrink: i32,
+    pub x_height: boxglue_measure,
+    pub quad: boxglue_measure,
+    pub extra_space: boxglue_measure,
+}
+
+#[repr(C)]
+#[derive(Clone, Copy, Debug, Default, PartialEq, Eq)]
+pub struct boxglue_font_step {
+    pub character: u32,
+    pub following: u32,
+    pub kind: u32,
+    pub kern: i32,
+    pub ligature: u32,
+}
+
 /// A handle goes to one call at a time, and is never copied.
 #[repr(C)]
 #[derive(Debug)]
@@ -244,6 +295,19 @@ extern "C" {
         text_room: usize,
         size: *mut usize,
     ) -> u32;
+    pub fn boxglue_paint_bits(
+        dvi: *const u8,
+        dvi_size: usize,
+        fonts: *const boxglue_font,
+        font_count: usize,
+        page: u32,
+        dpi: u32,
+        width: u32,
+        height: u32,
+        bits: *mut u8,
+        bits_room: usize,
+        size: *mut usize,
+    ) -> u32;
     pub fn boxglue_fonts(
         dvi: *const u8,
         dvi_size: usize,
@@ -274,6 +338,17 @@ extern "C" {
         fault: *mut boxglue_fault,
         name: *mut u8,
         name_room: usize,
+    ) -> u32;
+    pub fn boxglue_metrics(
+        tfm: *const u8,
+        tfm_size: usize,
+        size: i32,
+        glyphs: *mut boxglue_glyph_table,
+        parameters: *mut boxglue_font_parameters,
+        steps: *mut boxglue_font_step,
+        step_room: usize,
+        count: *mut usize,
+        fault: *mut boxglue_fault,
     ) -> u32;
     pub fn boxglue_version() -> u32;
     pub fn boxglue_proved() -> u32;

@@ -3,13 +3,16 @@ use Rattle.std.proofs.Common.{◌≡◌, ◌-◌, Some, ℕ, slice_get, true, ap
 use Rattle.dvi_ops.specs.View.{units as units_of}
 use Rattle.dvi_scan.specs.View.{marked_page}
 use Rattle.raster_core.specs.PlainText.{pbm}
-use Rattle.boxglue_print.proofs.PrintLemmas.{has_page, paints, refuses}
+use Rattle.boxglue_print.proofs.PrintLemmas.{has_page, paints, refuses, shows}
 use Rattle.boxglue_print.proofs.output.page_bitmap.Goals as goal
 
 pub returns-in-Err-clause-ok : goal.returns-in-Err-clause-ok
 returns-in-Err-clause-ok c =
     refuses c.args.files.now c.args.dvi.now _ c.in-Err.fault _ c.in_ok-refusal-in-Err.ensures.other c.in-Err.ensures.bad c.in-Err.ensures.refused
     c.in_ok-refusal-in-Err.ensures.text c.in_ok-refusal-in-Err.ensures.refused
+
+pub returns-in-Err-clause-pixels : goal.returns-in-Err-clause-pixels
+returns-in-Err-clause-pixels c = returns-in-Err-clause-ok c
 
 pub returns-in-Err-clause-found : goal.returns-in-Err-clause-found
 returns-in-Err-clause-found c = λ lacks. absurd (c.in-Err.ensures.refused c.in_ok-refusal-in-Err.ensures.other lacks.pages lacks.file)
@@ -21,6 +24,15 @@ returns-clause-ok c =
     let here : slice_get pages (c.args.options.page - 1) ≡ Some (marked_page page) =
     sym (ap (λ (n : ℕ). slice_get pages (n - 1)) c.page.ensures.value) ∙ c.in_ok-page.ensures in
     paints c.args.files.now c.args.dvi.now c.args.options pages (units_of c.units.result) (marked_page page) c.in_ok-bitmap.bitmap c.in-Ok.ensures.ok
+    (λ f. c.units.ensures.value ∙ c.in-Ok.ensures.units f) here c.in_ok-bitmap.ensures
+
+pub returns-clause-pixels : goal.returns-clause-pixels
+returns-clause-pixels c =
+    let pages = c.in-Ok.opened.pages in
+    let page = c.in_ok-page.page in
+    let here : slice_get pages (c.args.options.page - 1) ≡ Some (marked_page page) =
+    sym (ap (λ (n : ℕ). slice_get pages (n - 1)) c.page.ensures.value) ∙ c.in_ok-page.ensures in
+    shows c.args.files.now c.args.dvi.now c.args.options pages (units_of c.units.result) (marked_page page) c.in_ok-bitmap.bitmap c.in-Ok.ensures.ok
     (λ f. c.units.ensures.value ∙ c.in-Ok.ensures.units f) here c.in_ok-bitmap.ensures
 
 pub returns-clause-found : goal.returns-clause-found

@@ -1,0 +1,89 @@
+"""The bitmaps of pages as bits, by the program of bindings/c, on the files of all examples and of cases of crates/rows_scripts: they are the rules of the listing that the
+tests' own reader gives, in bitmaps of whole bytes and not; or the line of a refusal. Each growth of memory is refused in turn."""
+import re
+import tempfile
+from functools import partial
+
+from steps.dvi_reader import list_file
+from steps.large_inputs import covered, painted_row
+from steps.library_build import lacking
+from steps.library_calls import ONE_SHEET
+from steps.library_growths import count_wrong, run_calls, write_dvi
+from steps.library_inputs import Room, all_inputs
+from steps.texts import first_difference
+
+TITLE = "the library for C: bitmaps of pages as bits"
+PROGRAM = "library"
+NEEDS_PROGRAM = True
+# Pixels an inch, width and height: rows of less than a byte, of whole bytes, and of one pixel more or less; words and one pixel more.
+SHEETS = (72, 1, 1), (72, 7, 9), (72, 8, 20), (100, 9, 40), (300, 64, 33), (300, 65, 120), (37, 131, 50), (1000, 257, 300)
+RULE = re.compile(r"^rule (-?\d+) (-?\d+) (\d+) (\d+)$", re.M)
+NO_PAGE = b"5 0 0\n"
+
+
+def bits_of(rules, dpi, width, height):
+    """The bytes of a bitmap: of each row the digits in groups of eight, the last one filled up with 0. Rules are (h, v, height, width)."""
+    spans, size = list(covered(rules, dpi)), -(-width // 8)
+    for at in range(height):
+        row = painted_row([columns for lines, columns in spans if at in lines], width)
+        yield int(row.ljust(8 * size, b"0"), 2).to_bytes(size, "big")
+
+
+def wanted(data, fonts, sheet):
+    """What is printed for the first page of a file."""
+    listing, accepted = list_file(data, {name.encode(): its for name, its in fonts.items()})
+    if not accepted:
+        return b"1 %d 0\n" % len(listing) + listing
+    pages = listing.decode().split("page ")[1:]
+    if not pages:
+        return NO_PAGE
+    bits = b"".join(bits_of([tuple(map(int, it)) for it in RULE.findall(pages[0])], *sheet))
+    return b"0 %d 0\n" % len(bits) + bits
+
+
+def bits_wrong(room, given, data, run):
+    """What is wrong with the bitmaps of a file."""
+    for dpi, width, height in SHEETS:
+        printed = run(["paint_bits", "1", str(dpi), str(width), str(height), "out.dvi", *room.fonts])
+        wrong = first_difference(f"{width} by {height} pixels at {dpi} dpi", printed, wanted(data, given.fonts, (dpi, width, height)))
+        if wrong:
+            return wrong
+    return count_wrong(run(["--refuse", "paint_bits", *ONE_SHEET, "out.dvi", *room.fonts]))
+
+
+def outcome(change, given, root, archive=None, *_programs):
+    """Paints the file of an input, if it has one."""
+    if lacking():
+        return lacking()
+    with tempfile.TemporaryDirectory(prefix="boxglue-library-") as path:
+        room = Room(path, given)
+        run = partial(run_calls, root, archive, room)
+        if not write_dvi(root, archive, room):
+            return None
+        with open(f"{path}/out.dvi", "rb") as it:
+            data = change(it.read())
+        room.write("out.dvi", data)
+        return bits_wrong(room, given, data, run)
+
+
+def numbers(root, archive=None, *_programs):
+    """Numbers out of their range, and a page that is not there."""
+    if lacking():
+        return lacking()
+    with tempfile.TemporaryDirectory(prefix="boxglue-library-") as path:
+        room = Room(path, next(it for it in all_inputs(root) if it.name == "one_rule_page.box"))
+        write_dvi(root, archive, room)
+        for words, status in ((("0", "72", "1", "1"), 6), (("1", "0", "1", "1"), 6), (("1", "10001", "1", "1"), 6), (("1", "72", "0", "1"), 6), (("1", "72", "1", "10001"), 6),
+                              (("2", "72", "1", "1"), 5)):
+            wrong = first_difference(" ".join(words), run_calls(root, archive, room, ["paint_bits", *words, "out.dvi"]), b"%d 0 0\n" % status)
+            if wrong:
+                return wrong
+    return None
+
+
+def cases(programs, root):
+    """The inputs, a file without its end, and numbers."""
+    for given in all_inputs(root):
+        yield given.name, partial(outcome, bytes, given, root, *programs)
+    yield "a_file_without_its_end", partial(outcome, lambda data: data[:-9], next(iter(all_inputs(root))), root, *programs)
+    yield "numbers", partial(numbers, root, *programs)
