@@ -18,6 +18,7 @@ use dvi_device::Device;
 use dvi_write::{DviWriter, WriteFault};
 use job_machine::{Answer, Command, Refusal, Register, Reply, Summary};
 use job_state::job_state::JobState;
+use node_core::BoxNode;
 use std::alloc::{AllocError, Global};
 use std::marker::Model;
 use tfm_core::FontFile;
@@ -97,7 +98,8 @@ impl<D: Device> Model for Job<D> {
 
 impl<D: Device> Job<D> {
     ghost use Rattle.std.specs.Prelude.{◌≡◌, ◌≢◌, ◌<◌, ◌≤◌, ◌+◌, ◌^◌, ◌++◌, [], true, List, IfOk, IfErr, IsOk, OnOk, OnErr, IfSome, Err, length};
-    ghost use Rattle.std.specs.Prelude.{vec_len, vec_capacity};
+    ghost use Rattle.std.specs.Prelude.{option_copied, vec_len, vec_capacity};
+    ghost use Rattle.job_machine.specs.State.{held_in};
     ghost use Rattle.job_machine.specs.Effects.{new_pages};
     ghost use Rattle.job_machine.specs.Machine.{Machine, first_machine};
     ghost use Rattle.dvi_write.specs.Layout.{unfinished_file, whole};
@@ -207,6 +209,13 @@ impl<D: Device> Job<D> {
             Err(fault) => return Err(write_refusal(fault)),
         };
         Ok(summary)
+    }
+
+    /// The box in a register; None if it is void.
+    pub fn box_in(&self, register: Register) -> Option<&BoxNode>
+        ensures { option_copied result ≡ held_in self.now.state.registers register }
+    {
+        self.kept.box_in(register)
     }
 
     /// Lends the device.
