@@ -558,6 +558,85 @@ uint32_t boxglue_run_replies(const uint8_t *script, size_t script_size,
                              uint8_t *dvi, size_t dvi_room,
                              struct boxglue_reply_sizes *sizes);
 
+/* What an item of a box is. */
+enum boxglue_item_kind {
+    /* A character of a font. */
+    BOXGLUE_ITEM_GLYPH = 1,
+    /* A kern between two characters, from the font. */
+    BOXGLUE_ITEM_FONT_KERN = 2,
+    /* A kern of a command. */
+    BOXGLUE_ITEM_KERN = 3,
+    BOXGLUE_ITEM_GLUE = 4,
+    BOXGLUE_ITEM_PENALTY = 5,
+    BOXGLUE_ITEM_RULE = 6,
+    BOXGLUE_ITEM_SPECIAL = 7,
+    BOXGLUE_ITEM_HBOX = 8,
+    BOXGLUE_ITEM_VBOX = 9
+};
+
+/* A number of scaled points of 128 bits: high times 2^64, plus low. It is high == 0 or, if negative, high == -1, wherever a page can be shipped. */
+struct boxglue_wide_dimen {
+    uint64_t low;
+    int64_t high;
+};
+
+/* A box or an item of a box, in scaled points. What its kind does not have is 0. */
+struct boxglue_item {
+    /* The number of boxes that contain it: 0 for the box itself. */
+    uint32_t level;
+    /* One of enum boxglue_item_kind. */
+    uint32_t kind;
+    /* The place, from the reference point of the outermost box: right grows to the right and down downward. Of a glyph, a kern, glue, a penalty and a special it is
+     * where the item starts, of a box its reference point, and of a rule its lower left corner. */
+    struct boxglue_wide_dimen right;
+    struct boxglue_wide_dimen down;
+    /* Of glue: the distance to the next item. */
+    struct boxglue_wide_dimen set_width;
+    /* The width of a glyph, a rule or a box, the amount of a kern, or the natural width of glue. A size of a rule that runs is that of its box. */
+    int32_t width;
+    int32_t height;
+    int32_t depth;
+    /* Of a box in a list: how far it is moved, down in a horizontal list and to the right in a vertical one. */
+    int32_t shift;
+    /* Of glue: stretch and shrink, with the order of each: 0 normal, 1 fil, 2 fill, 3 filll. */
+    int32_t stretch;
+    uint32_t stretch_order;
+    int32_t shrink;
+    uint32_t shrink_order;
+    /* Of a box: 0 if its glue has its natural width, 1 if glue of setting_order stretches, 2 if it shrinks, by ratio_num / ratio_den of its stretch or shrink. */
+    uint32_t setting;
+    uint32_t setting_order;
+    int64_t ratio_num;
+    int64_t ratio_den;
+    /* Of a glyph: the slot of its font, and its character. */
+    uint32_t slot;
+    uint32_t code;
+    int32_t penalty;
+    /* Of a rule: the sum of 1 if its width runs, 2 if its height does, and 4 if its depth does. */
+    uint32_t running;
+    /* Of a special: where its text begins in the text buffer, and its size in bytes. */
+    uint64_t text_start;
+    uint64_t text_size;
+};
+
+/* The number of items, and the bytes of the texts of the specials among them. */
+struct boxglue_item_sizes {
+    size_t items;
+    size_t text;
+};
+
+/* Lists the box in a register: an item for the box, and then its own, in order; an inner box comes before its items, which are one level deeper. The job is as it was.
+ *
+ * items takes the items, and text the texts of the specials, one after the other; *sizes takes their numbers. The rest of each buffer is as it was.
+ * A void register has no items.
+ *
+ * Returns 0, 4, 6 or 8, and the first of 8, 6 and 4 that applies. At 4 *sizes says what both buffers need, and nothing is written to them. Status 6 is for a register
+ * above 32767. At 6 and 8 *sizes is as it was. */
+uint32_t boxglue_job_items(struct boxglue_job *job, uint32_t register_number,
+                           struct boxglue_item *items, size_t item_room,
+                           uint8_t *text, size_t text_room,
+                           struct boxglue_item_sizes *sizes);
+
 /* Frees all memory of the job, whether it was finished or not. The handle is null then, and may get another job. A handle without a job stays as it is. */
 void boxglue_job_free(struct boxglue_job *job);
 
@@ -646,6 +725,11 @@ static inline struct boxglue_font_step *boxglue_font_steps_at(struct boxglue_fon
 
 static inline struct boxglue_reply *boxglue_replies_at(struct boxglue_reply *at, size_t size) {
     static struct boxglue_reply none;
+    return size ? at : &none;
+}
+
+static inline struct boxglue_item *boxglue_items_at(struct boxglue_item *at, size_t size) {
+    static struct boxglue_item none;
     return size ? at : &none;
 }
 
@@ -778,6 +862,16 @@ static inline uint32_t boxglue_job_run_or_null(struct boxglue_job *job,
                            count);
 }
 
+static inline uint32_t boxglue_job_items_or_null(struct boxglue_job *job, uint32_t register_number,
+                                                 struct boxglue_item *items, size_t item_room,
+                                                 uint8_t *text, size_t text_room,
+                                                 struct boxglue_item_sizes *sizes) {
+    return boxglue_job_items(job, register_number,
+                             boxglue_items_at(items, item_room), item_room,
+                             boxglue_room_at(text, text_room), text_room,
+                             sizes);
+}
+
 static inline uint32_t boxglue_run_replies_or_null(const void *script, size_t script_size,
                                                    const struct boxglue_font *fonts, size_t font_count,
                                                    struct boxglue_reply *replies, size_t reply_room,
@@ -803,6 +897,7 @@ static inline uint32_t boxglue_run_replies_or_null(const void *script, size_t sc
 #define boxglue_job_answers boxglue_job_answers_or_null
 #define boxglue_job_take boxglue_job_take_or_null
 #define boxglue_job_run boxglue_job_run_or_null
+#define boxglue_job_items boxglue_job_items_or_null
 #define boxglue_run_replies boxglue_run_replies_or_null
 
 #endif

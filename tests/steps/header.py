@@ -21,6 +21,7 @@ HEADER = "include/boxglue.h"
 EXPORTS = "crates/boxglue_c/src/lib.rt"
 CALLS = "crates/boxglue_calls/src"
 JOBS = f"{CALLS}/jobs"
+ITEMS = "crates/box_items/src"
 COUNTS = "crates/scaled_core/src/counts.rt"
 REFUSALS = "crates/boxglue_program/src/refusals.rt"
 STATUSES_OF_PYTHON = "bindings/python/boxglue/_status.py"
@@ -33,7 +34,8 @@ INTERFACE, DIGEST, GONE = "tests/interface.tsv", "sha256 ", "gone "
 CHANGED = ("1.2.0", "struct boxglue_dvi_font { int32_t number; int32_t size; size_t name_start; size_t name_size; };")
 RELEASED = r"(?m)^## (\d+\.\d+\.\d+), \d+ \w+ \d{4}$"
 TYPES = {"u8": "uint8_t", "u32": "uint32_t", "u64": "uint64_t", "i32": "int32_t", "i64": "int64_t", "usize": "size_t", "": "void", "*mut u8": "void *",
-         "JobHandle": "struct boxglue_job", "DviPage": "struct boxglue_page", "DviMark": "struct boxglue_mark", "ReplyRow": "struct boxglue_reply"}
+         "JobHandle": "struct boxglue_job", "DviPage": "struct boxglue_page", "DviMark": "struct boxglue_mark", "ReplyRow": "struct boxglue_reply",
+         "BoxItem": "struct boxglue_item"}
 NAMES = {"box_sizes": "box"}  # what Rust does not take as a name
 
 
@@ -131,6 +133,7 @@ def structs(root):
     """What is wrong with the structs."""
     sources = "".join(read(root, f"{CALLS}/{it}.rt") for it in ("runs", "given", "font_table", "mark_table", "faults", "font_rows"))
     sources += "".join(read(root, f"{JOBS}/{it}.rt") for it in ("handle", "rows", "whole"))
+    sources += "".join(read(root, f"{ITEMS}/{it}.rt") for it in ("place", "row", "writing"))
     counts = re.search(r"const COUNTS: usize = (\d+);", read(root, COUNTS))[1]
     wanted = {}
     for name, fields in re.findall(r"#\[repr\(C\)\]\s+(?:#\[derive\([^)]*\)\]\s+)?pub struct (\w+)(?:<'a>)? \{(.*?)\n\}", sources, flags=re.S):
@@ -164,14 +167,15 @@ def reply_kinds(root):
 
 
 def numbers_of_replies(root):
-    """What is wrong with the numbers of refusals, of their causes, and of kinds of boxes."""
+    """What is wrong with the numbers of refusals, of their causes, and of kinds of boxes and items."""
     rows = f"{JOBS}/rows.rt"
     faults = f"{CALLS}/faults.rt"
     wrong = (numbers(root, "boxglue_refusal", "BOXGLUE_REFUSAL_", REFUSALS, rows, faults, row=r"(?:Refusal::|const )(\w+)\S* (?:=> \(|u32 = )(\d+)"),
              numbers(root, "boxglue_dvi_cause", "BOXGLUE_DVI_", faults, row=r"\bDviCause::(\w+) => (\d+)"),
              numbers(root, "boxglue_tfm_cause", "BOXGLUE_TFM_", rows, row=r"\bTfmCause::(\w+) => (\d+)"),
              numbers(root, "boxglue_line_cause", "BOXGLUE_LINE_", rows, row=r"\bCause::(\w+) => (\d+)"),
-             numbers(root, "boxglue_box_kind", "BOXGLUE_BOX_", rows, row=r"\bKind::(\w+) => (\d+)"))
+             numbers(root, "boxglue_box_kind", "BOXGLUE_BOX_", rows, row=r"\bKind::(\w+) => (\d+)"),
+             numbers(root, "boxglue_item_kind", "BOXGLUE_ITEM_", f"{ITEMS}/row.rt", row=r"\bItemKind::(\w+) => (\d+)"))
     return "; ".join(it for it in wrong if it) or None
 
 

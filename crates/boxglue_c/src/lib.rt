@@ -5,6 +5,7 @@
 
 ghost use Rattle.std.specs.Prelude.{◌≡◌, ◌≢◌, None};
 ghost use Rattle.boxglue_program.specs.Reports.{any_bytes, written_bytes};
+ghost use Rattle.boxglue_calls.specs.Items.{HandsItems, KeepsUnlisted, RefusesRegister, item_outputs};
 ghost use Rattle.boxglue_calls.specs.MarkTables.{mark_outputs};
 ghost use Rattle.boxglue_calls.specs.Metrics.{metric_outputs};
 ghost use Rattle.boxglue_calls.specs.Pieces.{DoesCommands, FinishesKept, HandsAnswers, HandsBytes};
@@ -17,8 +18,8 @@ ghost use Rattle.boxglue_calls.specs.Calls.{RefusesSize, Runs, RunsInRows};
 
 use boxglue_calls::jobs::{JobHandle, ReplyRow, ReplySizes};
 use boxglue_calls::{
-    DviFont, DviMark, DviPage, Fault, Font, FontParameters, FontSizes, FontStep, GlyphTable,
-    Lengths, MarkSizes,
+    BoxItem, DviFont, DviMark, DviPage, Fault, Font, FontParameters, FontSizes, FontStep,
+    GlyphTable, ItemSizes, Lengths, MarkSizes,
 };
 use std::alloc::Global;
 
@@ -311,6 +312,29 @@ pub extern "C" fn boxglue_run_replies(
     ensures sizes { KeepsUndone result sizes.old sizes.new }
 {
     boxglue_calls::jobs::run_replies(alloc, script, fonts, replies, dvi, sizes)
+}
+
+/// Hands the items of the box in a register of a job over, as rows. They go into `items`, the texts of its specials into `text`, and the numbers of
+/// both into `sizes`.
+#[unsafe(no_mangle)]
+pub extern "C" fn boxglue_job_items(
+    alloc: Global,
+    job: &mut JobHandle,
+    register_number: u32,
+    items: &mut [BoxItem],
+    text: &mut [u8],
+    sizes: &mut ItemSizes,
+) -> u32
+    ensures no_job { NeedsJob job.old.value result }
+    ensures range { RefusesRegister job.old.value register_number result }
+    ensures done { OnJob (HandsItems register_number (item_outputs items.old text.old) (item_outputs items.new text.new) sizes.new)
+        job.old.value job.new.value result }
+    ensures same { job.new.value ≡ job.old.value }
+    ensures items { KeepsUnlisted result items.old items.new }
+    ensures text { KeepsUnlisted result text.old text.new }
+    ensures sizes { KeepsUnlisted result sizes.old sizes.new }
+{
+    boxglue_calls::jobs::items(alloc, job, register_number, items, text, sizes)
 }
 
 /// Gives all memory of a job back. The handle is null then.

@@ -9,6 +9,7 @@ pub mod Runs
 pub mod Metrics
 pub mod Calls
 pub mod Jobs
+pub mod Items
 pub mod Numbers
 pub mod Pieces
 pub mod Replies

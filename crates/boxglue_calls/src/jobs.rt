@@ -13,7 +13,7 @@ pub mod status;
 mod whole;
 
 pub use handle::JobHandle;
-pub use jobs::{answers, commands, end, finish, free, new, run, take};
+pub use jobs::{answers, commands, end, finish, free, items, new, run, take};
 pub use kept_job::KeptJob;
 pub(crate) use rows::refusal_cause;
 pub use rows::{BoxSizes, ReplyRow};

@@ -25,6 +25,7 @@ pub mod run_status;
 mod runs;
 pub mod status;
 
+pub use box_items::{BoxItem, ItemSizes, WideDimen};
 pub use checks::check;
 pub use edition::{is_proved, version};
 pub use faults::Fault;

@@ -94,6 +94,16 @@ pub const BOXGLUE_LINE_NAME: u32 = 7;
 pub const BOXGLUE_BOX_HORIZONTAL: u32 = 0;
 pub const BOXGLUE_BOX_VERTICAL: u32 = 1;
 
+pub const BOXGLUE_ITEM_GLYPH: u32 = 1;
+pub const BOXGLUE_ITEM_FONT_KERN: u32 = 2;
+pub const BOXGLUE_ITEM_KERN: u32 = 3;
+pub const BOXGLUE_ITEM_GLUE: u32 = 4;
+pub const BOXGLUE_ITEM_PENALTY: u32 = 5;
+pub const BOXGLUE_ITEM_RULE: u32 = 6;
+pub const BOXGLUE_ITEM_SPECIAL: u32 = 7;
+pub const BOXGLUE_ITEM_HBOX: u32 = 8;
+pub const BOXGLUE_ITEM_VBOX: u32 = 9;
+
 #[repr(C)]
 #[derive(Clone, Copy, Debug)]
 pub struct boxglue_font {
@@ -261,6 +271,48 @@ pub struct boxglue_reply_sizes {
     pub dvi: usize,
 }
 
+#[repr(C)]
+#[derive(Clone, Copy, Debug, Default)]
+pub struct boxglue_wide_dimen {
+    pub low: u64,
+    pub high: i64,
+}
+
+#[repr(C)]
+#[derive(Clone, Copy, Debug, Default)]
+pub struct boxglue_item {
+    pub level: u32,
+    pub kind: u32,
+    pub right: boxglue_wide_dimen,
+    pub down: boxglue_wide_dimen,
+    pub set_width: boxglue_wide_dimen,
+    pub width: i32,
+    pub height: i32,
+    pub depth: i32,
+    pub shift: i32,
+    pub stretch: i32,
+    pub stretch_order: u32,
+    pub shrink: i32,
+    pub shrink_order: u32,
+    pub setting: u32,
+    pub setting_order: u32,
+    pub ratio_num: i64,
+    pub ratio_den: i64,
+    pub slot: u32,
+    pub code: u32,
+    pub penalty: i32,
+    pub running: u32,
+    pub text_start: u64,
+    pub text_size: u64,
+}
+
+#[repr(C)]
+#[derive(Clone, Copy, Debug, Default)]
+pub struct boxglue_item_sizes {
+    pub items: usize,
+    pub text: usize,
+}
+
 extern "C" {
     pub fn boxglue_run(
         script: *const u8,
@@ -376,6 +428,15 @@ extern "C" {
         dvi: *mut u8,
         dvi_room: usize,
         sizes: *mut boxglue_reply_sizes,
+    ) -> u32;
+    pub fn boxglue_job_items(
+        job: *mut boxglue_job,
+        register_number: u32,
+        items: *mut boxglue_item,
+        item_room: usize,
+        text: *mut u8,
+        text_room: usize,
+        sizes: *mut boxglue_item_sizes,
     ) -> u32;
     pub fn boxglue_job_free(job: *mut boxglue_job);
 }

@@ -3,6 +3,7 @@
 ghost use Rattle.std.specs.Prelude.{◌≡◌, ◌≢◌, None, true, IfOk};
 ghost use Rattle.boxglue_calls.specs.Fonts.{are_named, files_of};
 ghost use Rattle.boxglue_calls.specs.Jobs.{IsNewJob};
+ghost use Rattle.boxglue_calls.specs.Items.{HandsItems, KeepsUnlisted, RefusesRegister, item_outputs};
 ghost use Rattle.boxglue_calls.specs.Pieces.{DoesCommands, FinishesKept, HandsAnswers, HandsBytes};
 ghost use Rattle.boxglue_calls.specs.Replies.{RepliesTo, RepliesToEnd, row_space};
 ghost use Rattle.boxglue_calls.specs.Calls.{IsStatusOfNew, KeepsWithoutJob, MakesJob, NeedsJob, OnJob, RefusesJob, RefusesNamesOfJob};
@@ -13,6 +14,7 @@ use crate::jobs::rows::ReplyRow;
 use crate::jobs::status::{JOB_EXISTS, NO_JOB};
 use crate::status::{ACCEPTED, BAD_FONT_NAME, OUT_OF_MEMORY};
 use crate::{Font, are_named, font_files};
+use box_items::{BoxItem, ItemSizes};
 use std::alloc::{AllocError, Global};
 
 /// A new job with these fonts, which have names.
@@ -105,6 +107,37 @@ pub fn take(alloc: Global, job: &mut JobHandle, dvi: &mut [u8], size: &mut usize
         return NO_JOB;
     };
     let status = kept.take(dvi, size);
+    put(alloc, job, kept);
+    status
+}
+
+/// Hands the items of the box in a register over, as rows: a row for the box, and then its items, an inner box before its own items. The rows go
+/// into `items`, the texts of its specials, one after the other, into `text`, and the numbers of both into `sizes`. A void register has no rows. It
+/// takes no memory, and the job is as it was.
+///
+/// Returns ACCEPTED; BUFFER_TOO_SMALL, and then `sizes` alone is written; NO_JOB, or OUT_OF_RANGE for a register above 32,767, and then nothing is
+/// written.
+pub fn items(
+    alloc: Global,
+    job: &mut JobHandle,
+    register: u32,
+    items: &mut [BoxItem],
+    text: &mut [u8],
+    sizes: &mut ItemSizes,
+) -> u32
+    ensures no_job { NeedsJob job.old.value result }
+    ensures range { RefusesRegister job.old.value register result }
+    ensures done { OnJob (HandsItems register (item_outputs items.old text.old) (item_outputs items.new text.new) sizes.new)
+        job.old.value job.new.value result }
+    ensures same { job.new.value ≡ job.old.value }
+    ensures items { KeepsUnlisted result items.old items.new }
+    ensures text { KeepsUnlisted result text.old text.new }
+    ensures sizes { KeepsUnlisted result sizes.old sizes.new }
+{
+    let Some(kept) = take_out(alloc, job) else {
+        return NO_JOB;
+    };
+    let status = kept.items(register, items, text, sizes);
     put(alloc, job, kept);
     status
 }

@@ -10,12 +10,14 @@ use crate::jobs::replied::reply_to_each;
 use crate::jobs::rows::{ReplyRow, bad_row, end_row};
 use crate::jobs::status::ANSWERS_LOST;
 use crate::run_status::{outcome_status, reply_status};
-use crate::status::{ACCEPTED, BUFFER_TOO_SMALL, OUT_OF_MEMORY, REFUSED};
+use crate::status::{ACCEPTED, BUFFER_TOO_SMALL, OUT_OF_MEMORY, OUT_OF_RANGE, REFUSED};
+use box_items::{BoxItem, ItemSizes, count_items, write_items};
 use boxglue_program::{
     Cause, FontFile, Line, Memory, ScriptFault, push_end_line, push_script_refusal, read_script,
     run_lines,
 };
 use job_core::Job;
+use job_machine::Register;
 use std::alloc::{AllocError, Global};
 use std::marker::Model;
 
@@ -65,7 +67,9 @@ fn kept_status(kept: bool, done: u32) -> u32
 }
 
 impl KeptJob {
-    ghost use Rattle.std.specs.Prelude.{◌≡◌, ◌≤◌, ◌⊎◌, ◌++◌, List, ℕ, [], length, IfOk, IfSome};
+    ghost use Rattle.std.specs.Prelude.{◌≡◌, ◌≢◌, ◌≤◌, ◌↔◌, ◌⊎◌, ◌++◌, List, ℕ, [], length, IfOk, IfSome};
+    ghost use Rattle.node_core.specs.declared.limits.TheConstants.{REGISTERS};
+    ghost use Rattle.boxglue_calls.specs.Items.{HandsItems, item_outputs};
     ghost use Rattle.boxglue_program.specs.Texts.{script_refusal_text};
     ghost use Rattle.boxglue_script.specs.Script.{IsScript};
     ghost use Rattle.boxglue_calls.specs.Jobs.{IsNewJob};
@@ -179,6 +183,35 @@ impl KeptJob {
             self.taken = bytes.len();
         }
         status
+    }
+
+    /// Hands the items of the box in a register over, as rows, with the texts of its specials.
+    pub fn items(
+        &self,
+        register: u32,
+        items: &mut [BoxItem],
+        text: &mut [u8],
+        sizes: &mut ItemSizes,
+    ) -> u32
+        ensures done { HandsItems register (item_outputs items.old text.old) (item_outputs items.new text.new) sizes.new self.now self.now result }
+        ensures range { result ≡ 6 ↔ REGISTERS ≤ register }
+        ensures job { result ≢ 8 }
+        ensures items { result ≡ 6 → items.new ≡ items.old }
+        ensures text { result ≡ 6 → text.new ≡ text.old }
+        ensures sizes { result ≡ 6 → sizes.new ≡ sizes.old }
+    {
+        let Some(register) = Register::try_new(u64::from(register)) else {
+            return OUT_OF_RANGE;
+        };
+        let Some(box_node) = self.job.box_in(register) else {
+            *sizes = ItemSizes { items: 0, text: 0 };
+            return ACCEPTED;
+        };
+        *sizes = count_items(box_node);
+        if write_items(box_node, items, text) {
+            return ACCEPTED;
+        }
+        BUFFER_TOO_SMALL
     }
 
     /// Writes the end of the file.
