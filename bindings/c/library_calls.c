@@ -14,6 +14,7 @@
  *     library_calls random COUNT SCRIPT DVI NAME=TFM
  *     library_calls pieces COUNT SCRIPT NAME=TFM
  *     library_calls frees SCRIPT [NAME=TFM ..]
+ *     library_calls items REGISTER SCRIPT [NAME=TFM ..]
  *     library_calls handles
  *     library_calls version
  *
@@ -25,6 +26,7 @@
  * `frees` frees jobs after each line of the script. With --refuse each growth of memory is refused in turn instead, and the ways in which the calls ended are counted.
  * Where something is wrong, a line on standard error says so, and the status of the program is 1. */
 #include "check_calls.h"
+#include "item_calls.h"
 #include "job_calls.h"
 #include "mark_calls.h"
 #include "metric_calls.h"
@@ -121,6 +123,13 @@ static void run_metrics(char **words, int count, int refuses) {
     }
 }
 
+static void run_items(char **words, int count) {
+    REQUIRE(count >= 2, "items needs REGISTER SCRIPT");
+    struct input script = read_file(words[1]);
+    struct fonts fonts = read_fonts(words + 2, count - 2);
+    print_items(&script, &fonts, number(words[0]));
+}
+
 static void run_job(char **words, int count, int refuses, int as_replies) {
     REQUIRE(count >= 2, "a job needs MOST SCRIPT");
     struct pieces pieces = {read_file(words[1]), read_fonts(words + 2, count - 2), number(words[0]), as_replies};
@@ -162,6 +171,7 @@ int main(int count, char **words) {
     if (!strcmp(words[0], "marks")) return run_on_file(words + 1, count - 1, refuses ? refuse_mark_growths : print_marks), 0;
     if (!strcmp(words[0], "check")) return run_on_file(words + 1, count - 1, refuses ? refuse_check_growths : print_check), 0;
     if (!strcmp(words[0], "metrics")) return run_metrics(words + 1, count - 1, refuses), 0;
+    if (!strcmp(words[0], "items")) return run_items(words + 1, count - 1), 0;
     if (!strcmp(words[0], "handles")) return require_handles(), 0;
     int call = RUN;
     while (strcmp(words[0], CALLS[call])) REQUIRE(++call <= REPLIES, "no call %s", words[0]);
