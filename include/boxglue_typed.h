@@ -55,7 +55,7 @@ typedef int32_t boxglue_sp;
 #define BOXGLUE_IN_LIST (-1)
 
 /* What a script cannot have. */
-enum boxglue_fault {
+enum boxglue_argument_fault {
     BOXGLUE_FAULT_NONE = 0,
     /* A number is out of its range. */
     BOXGLUE_FAULT_NUMBER = 1,
@@ -97,7 +97,7 @@ struct boxglue_typed {
     struct boxglue_job job;
     /* The reply to the last command that was run. */
     struct boxglue_reply reply;
-    /* What a script could not have in the last call, one of enum boxglue_fault, and where in a text. */
+    /* What a script could not have in the last call, one of enum boxglue_argument_fault, and where in a text. */
     uint32_t fault;
     size_t place;
 };
