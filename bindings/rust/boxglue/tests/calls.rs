@@ -20,10 +20,17 @@ fn a_file_that_is_cut() {
     }
 }
 
+/// A metric file of one character, `a`, of half its design size.
+fn metrics_of_a() -> Vec<u8> {
+    let counts = [14_u16, 2, 97, 97, 2, 1, 1, 1, 0, 0, 0, 0];
+    let words = [0_u32, 10 << 20, 1 << 24, 0, 1 << 19, 0, 0, 0];
+    counts.iter().flat_map(|it| it.to_be_bytes()).chain(words.iter().flat_map(|it| it.to_be_bytes())).collect()
+}
+
 #[test]
 fn checks_of_files() {
     let script = "font 0 plain\nuse 0\nhbox into 0\ntext a\nend\nship 0\n";
-    let metrics = std::fs::read(concat!(env!("CARGO_MANIFEST_DIR"), "/../../../examples/plain.tfm")).unwrap();
+    let metrics = metrics_of_a();
     let plain = [Font::new("plain", &metrics)];
     let dvi = run(script, &plain).unwrap().check().unwrap().dvi;
     assert_eq!(check(&dvi, &plain), Ok(None));
