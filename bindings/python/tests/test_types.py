@@ -1,11 +1,11 @@
 """The types of the package, checked by mypy where it is there."""
 import os
+import resource
 import re
 import shutil
 import subprocess
 import sys
 import tempfile
-import time
 import typing
 import unittest
 
@@ -99,13 +99,17 @@ class Types(unittest.TestCase):
             self.assertTrue(typing.get_type_hints(kind))
 
     def test_time_of_the_import(self):
-        """The import takes at most 0.4 of the time that Python itself takes to start: the least of some runs of each."""
+        """The import takes at most 0.4 of the processor's time that Python itself takes to start: the least of some runs of each, which other work hardly changes."""
+        def spent():
+            used = resource.getrusage(resource.RUSAGE_CHILDREN)
+            return used.ru_utime + used.ru_stime
+
         def least(code):
             times = []
             for _ in range(20):
-                began = time.perf_counter()
+                began = spent()
                 subprocess.run([sys.executable, "-c", code], env=env, check=True, timeout=60)
-                times.append(time.perf_counter() - began)
+                times.append(spent() - began)
             return min(times)
         with tempfile.TemporaryDirectory(prefix="boxglue-types-") as room:
             env = {**os.environ, "PYTHONPATH": os.path.dirname(os.path.dirname(boxglue.__file__)), "PYTHONPYCACHEPREFIX": room, "PYTHONDONTWRITEBYTECODE": ""}
