@@ -26,7 +26,7 @@ PROGRAMS = ("boxglue", "boxglue_c", "examples_scripts", "examples_jobs")
 BESIDE = ("tests_", "rows_", "examples_")
 # Calls that stay for callers in Rattle, though the program has them in another form or does not need them; `is_plain_body` tests the premise of `reuse`.
 # One that is reached after all is wrong here, too: a job that breaks by `breaks` beside `active_breaks` takes far more time, and no contract sees it.
-FOR_CALLERS = """tfm_core::scaled pack_core::offset break_core::breaks vert_core::append_box vert_core::lines vert_core::split ship_core::plan
+FOR_CALLERS = """pack_core::offset break_core::breaks vert_core::append_box vert_core::lines vert_core::split ship_core::plan
     move_core::is_plain_body boxglue_program::run_rest""".split()
 EMPTY = ["{", "}"]
 # A file with methods and functions, and how the exported ones are named.
