@@ -293,7 +293,7 @@ uint32_t boxglue_marks(const uint8_t *dvi, size_t dvi_size,
 
 /* Checks a DVI file, as boxglue_list does, and gives the reason of a refusal in numbers.
  *
- * *fault takes the reason, or zeros where the file is accepted.
+ * Writes the reason to *fault, or zeros if the file is accepted.
  * name takes the name of the font that is missing, if the refusal is BOXGLUE_REFUSAL_NO_FONT. The rest of the buffer is as it was. A name has at most 255 bytes.
  *
  * Returns 0, 1, 2, 3 or 4. At 2 the fault is BOXGLUE_REFUSAL_OUT_OF_MEMORY. At 4 fault->name_size says what the buffer needs. At 3 *fault is as it was. */
@@ -308,7 +308,7 @@ uint32_t boxglue_check(const uint8_t *dvi, size_t dvi_size,
  * *glyphs takes the characters 0 to 255, and *parameters the other numbers.
  * steps takes a step for each two characters between which the font puts a kern, or for which it has a ligature, in the order of the first one and then of the following
  * one; *count takes their number. The rest of the buffer is as it was. 65,536 steps always suffice, and most fonts have below 1,000.
- * *fault takes the reason of a refusal, which is BOXGLUE_REFUSAL_BAD_TFM or BOXGLUE_REFUSAL_DIMENSION_TOO_LARGE, or zeros where the file is accepted.
+ * Writes the reason of a refusal to *fault, BOXGLUE_REFUSAL_BAD_TFM or BOXGLUE_REFUSAL_DIMENSION_TOO_LARGE, or zeros if the file is accepted.
  *
  * Returns 0, 1, 2, 4 or 6. The size is tested first: 6 if it is none of these. At 1 only *fault is written, and at 4 only *count, which says what the buffer needs. At 2 and 6
  * nothing is written. */
@@ -592,7 +592,7 @@ struct boxglue_item {
     struct boxglue_wide_dimen down;
     /* Of glue: the distance to the next item. */
     struct boxglue_wide_dimen set_width;
-    /* The width of a glyph, a rule or a box, the amount of a kern, or the natural width of glue. A size of a rule that runs is that of its box. */
+    /* The width of a glyph, a rule or a box, the amount of a kern, or the natural width of glue. A running size of a rule is the size of its box. */
     int32_t width;
     int32_t height;
     int32_t depth;

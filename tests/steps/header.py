@@ -228,7 +228,8 @@ def rust(root):
 PRINT_PYTHON = """
 import ctypes, json
 from boxglue import MarkKind, ReplyKind, Status, _library, _replies
-NAMES = {"Font": "font", "DviFontRow": "dvi_font", "FontSizes": "font_sizes", "PageRow": "page", "MarkRow": "mark", "MarkSizes": "mark_sizes", "FaultRow": "fault", "BoxSizes": "box_sizes",
+NAMES = {"Font": "font", "DviFontRow": "dvi_font", "FontSizes": "font_sizes", "PageRow": "page", "MarkRow": "mark", "MarkSizes": "mark_sizes", "FaultRow": "fault", "Measure": "measure", "GlyphMetrics": "glyph", "GlyphTable": "glyph_table",
+         "FontParameters": "font_parameters", "StepRow": "font_step", "BoxSizes": "box_sizes",
          "ReplyRow": "reply", "ReplySizes": "reply_sizes", "JobHandle": "job", "c_int": "int32_t", "c_uint": "uint32_t", "c_long": "int64_t", "c_ulong": "size_t",
          "c_char": "uint8_t", "c_char_p": "const uint8_t *", "c_void_p": "void *"}
 def text(kind):

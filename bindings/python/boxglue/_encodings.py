@@ -24,7 +24,7 @@ _T1 = {
 class FontEncoding(Mapping[str, int]):
     """An encoding of fonts: the code of each character of Unicode that its fonts have.
 
-    `OT1` and `T1` are those of TeX's fonts. `text` takes any other mapping too, such as `{**boxglue.T1, "…": 0x85}`.
+    `OT1` and `T1` have the codes of TeX's fonts. `text` takes every mapping, such as `{**boxglue.T1, "…": 0x85}`.
     """
     __slots__ = "name", "_codes"
 

@@ -55,6 +55,27 @@ class FaultRow(Structure):
     _fields_ = [("number", c_uint32), ("cause", c_uint32), ("font", c_int32), ("place", c_uint64), ("name_size", c_size_t)]
 
 
+class Measure(Structure):
+    _fields_ = [("value", c_int32), ("is_unfit", c_uint32)]
+
+
+class GlyphMetrics(Structure):
+    _fields_ = [("is_there", c_uint32), ("width", c_int32), ("height", c_int32), ("depth", c_int32), ("italic", Measure)]
+
+
+class GlyphTable(Structure):
+    _fields_ = [("rows", GlyphMetrics * 256)]
+
+
+class FontParameters(Structure):
+    _fields_ = [("size", c_int32), ("design_size", c_int32), ("check_sum", c_uint32), *((name, c_int32) for name in ("slant", "space", "stretch", "shrink")),
+                *((name, Measure) for name in ("x_height", "quad", "extra_space"))]
+
+
+class StepRow(Structure):
+    _fields_ = [("character", c_uint32), ("following", c_uint32), ("kind", c_uint32), ("kern", c_int32), ("ligature", c_uint32)]
+
+
 class BoxSizes(Structure):
     _fields_ = [("width", c_int32), ("height", c_int32), ("depth", c_int32)]
 
@@ -84,6 +105,7 @@ _CALLS = {
     "fonts": [*_INPUT, POINTER(DviFontRow), c_size_t, *_OUTPUT, POINTER(FontSizes)],
     "marks": [*_INPUT, *_GIVEN, POINTER(PageRow), c_size_t, POINTER(MarkRow), c_size_t, *_OUTPUT, POINTER(MarkSizes)],
     "check": [*_INPUT, *_GIVEN, POINTER(FaultRow), *_OUTPUT],
+    "metrics": [*_INPUT, c_int32, POINTER(GlyphTable), POINTER(FontParameters), POINTER(StepRow), c_size_t, *_SIZE, POINTER(FaultRow)],
     "job_new": [POINTER(JobHandle), *_GIVEN],
     "job_run": [POINTER(JobHandle), *_INPUT, *_REPLIES, *_SIZE],
     "job_take": [POINTER(JobHandle), *_OUTPUT, *_SIZE],

@@ -68,7 +68,7 @@ class State:
         return next((it for it in self.fonts.values() if it and (it.name, it.size) == (name, size)), None)
 
     def free_slot(self) -> int:
-        """The first slot in which there is no font."""
+        """The first free slot."""
         for slot in range(SLOTS):
             if slot not in self.fonts:
                 return slot

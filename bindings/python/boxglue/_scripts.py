@@ -126,7 +126,7 @@ def glue(width: SupportsIndex, plus: Stretch, minus: Stretch) -> str:
 
 
 def glue_parameter(given: Glue | SupportsIndex) -> str:
-    """Glue that is a parameter. A number alone is a width."""
+    """Glue that is a parameter. A number without stretch and shrink is a width."""
     return glue(*given) if isinstance(given, Glue) else glue(given, 0, 0)
 
 

@@ -56,7 +56,7 @@ class Refused(BoxglueError):
         name: The name of the refusal (docs/REFUSALS.md), such as "NoFont".
         number: Its number, such as 4.
         line: The line of the command or of the bad line of a script.
-        place: The place in a DVI file where a rule is broken.
+        place: The place at which a DVI file breaks a rule.
         cause: The name of what is wrong there or in a metric file, such as "Word" after "BadScript".
         detail: What follows the name, such as "74 Trailer" after "BadDvi".
         command: The command that was refused, where a typed call sent it, such as "use 7".

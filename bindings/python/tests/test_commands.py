@@ -1,6 +1,7 @@
 """Tests of the typed calls of a job. What is wanted is from docs/COMMANDS.md and docs/FORMATS.md, or what the same script gives."""
 import re
 import shutil
+import struct
 import subprocess
 import threading
 import traceback
@@ -457,6 +458,23 @@ class Steps:
 
 
 class Encodings(unittest.TestCase):
+    def test_metrics_of_a_file(self):
+        """A metric file of two characters, `a` and `b`, of half and a quarter of the design size, with a kern of -1/8 between them (TFtoPL, 8 to 13)."""
+        counts = struct.pack(">12H", 18, 2, 97, 98, 3, 1, 1, 1, 1, 1, 0, 0)
+        words = (0, 10 << 20, 0x01000100, 0x02000000, 0, 1 << 19, 1 << 18, 0, 0, 0, 0x80628000)
+        metrics = counts + b"".join(it.to_bytes(4, "big") for it in words) + (-(1 << 17)).to_bytes(4, "big", signed=True)
+        found = _metrics.metrics_of(metrics, 65_536 * 5)
+        self.assertEqual((found.has(97), found.has(98), found.has(99)), (True, True, False))
+        self.assertEqual((found.step(97, 98), found.step(98, 97)), (Step(False, -65_536 * 5 // 8), None))
+        self.assertIsNone(_metrics.metrics_of(metrics[:8], None))
+        self.assertRaises(boxglue.OutOfRange, _metrics.metrics_of, metrics, -1)
+        with boxglue.Job({"two": metrics}) as job:
+            job.use(job.load("two"))
+            with job.hbox(into=0) as box:
+                self.assertRaises(boxglue.BadCharacter, job.text, "abc", missing="raise")
+                self.assertEqual(job.text("ab", missing="raise").items, 3)
+            self.assertEqual(box.width, 65_536 * (5 + 2.5 - 1.25))
+
     def lines(self, text, encoding=boxglue.T1, metrics=None, **words):
         """The commands of a text."""
         with mock.patch.object(_metrics, "metrics_of", lambda *_: metrics):
@@ -519,7 +537,7 @@ class Encodings(unittest.TestCase):
         for line in self.texmf("glyphlist.txt").splitlines():
             name, _, codes = line.strip().partition(";")
             names.setdefault(name, "".join(chr(int(it, 16)) for it in codes.split() if not line.startswith("#")))
-        # What the list has otherwise, for text: TeX's letters, its accent, which is no quote here, and characters without a name in Unicode's table.
+        # The list names some characters in its own way: TeX's letters, an accent that is not a quote here, and characters that Unicode's table does not name.
         names |= {"Delta": "Δ", "Omega": "Ω", "dotlessj": "ȷ", "grave": "ˋ", "visiblespace": "␣", "Germandbls": "ẞ"}
         for file, encoding, others in (("7t.enc", boxglue.OT1, {"'": "quoteright", "`": "quoteleft", '"': "quotedblright"}),
                                        ("ec.enc", boxglue.T1, {"'": "quoteright", "`": "quoteleft", "Đ": "Eth"})):

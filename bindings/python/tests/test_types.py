@@ -66,12 +66,12 @@ job.batch().ship(1).pages
 
 
 class Types(unittest.TestCase):
-    @unittest.skipUnless(shutil.which("mypy"), "there is no mypy on the path")
+    @unittest.skipUnless(shutil.which("mypy"), "mypy is not on the path")
     def test_package_and_client(self):
         done = self.checked(CLIENT, [os.path.dirname(boxglue.__file__)])
         self.assertEqual(done.returncode, 0, done.stdout)
 
-    @unittest.skipUnless(shutil.which("mypy"), "there is no mypy on the path")
+    @unittest.skipUnless(shutil.which("mypy"), "mypy is not on the path")
     def test_wrong_client(self):
         lines = {int(it) for it in re.findall(r"client\.py:(\d+): error", self.checked(WRONG).stdout)}
         self.assertEqual(lines, {*range(3, 11)})

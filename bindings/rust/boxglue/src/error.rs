@@ -157,7 +157,7 @@ pub enum Error {
     BadDimension,
     /// The command needs another list than the innermost one, which was dropped without its end. Nothing was sent.
     ListOpen,
-    /// The library gave another answer than the command has. No library of today does.
+    /// The library gave another answer than the command has, which this version never does.
     OtherAnswer(Answer),
     /// The commands were run, or the job was finished, and memory was refused for the text of the answers.
     AnswersLost,

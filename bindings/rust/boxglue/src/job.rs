@@ -186,7 +186,7 @@ impl Job {
     ///
     /// # Errors
     ///
-    /// None of today's library: a refusal is a reply.
+    /// This version returns none: a refusal is a reply.
     pub fn finish(&mut self) -> Result<Reply, Error> {
         let mut row = sys::boxglue_reply::default();
         // SAFETY: the handle has a job.
